@@ -1,0 +1,5 @@
+-- SHA-256 as FIPS 180-4 gives it, and a digest that is fed piece by piece.
+pub mod Words
+pub mod Block
+pub mod Digest
+pub mod State
