@@ -1,0 +1,2 @@
+-- Writers into lent bytes.
+pub mod Put
