@@ -3,3 +3,5 @@ pub mod Words
 pub mod Block
 pub mod Digest
 pub mod State
+pub mod Parts
+pub mod Pieces
