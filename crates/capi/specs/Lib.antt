@@ -1,0 +1,2 @@
+-- What the calls for Rust and C answer, and what the lent buffer then holds.
+pub mod Calls
