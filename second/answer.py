@@ -1,0 +1,70 @@
+"""answer.py NAME < stdin > stdout: what the case program NAME prints for these bytes."""
+
+import re
+import sys
+
+from rows import Refused, canonical, offered, read_json, read_message, read_text, text_of
+from sha256 import sha256
+
+LINE = re.compile(rb"(-|([0-9a-f]{2})+)( [0-9]+(,[0-9]+)*)?")
+LENGTH = re.compile(rb"0|[1-9][0-9]{0,3}")
+
+
+def digest_answer(line):
+    """A message in hex, then the lengths of pieces: the digest of the whole (01, "The text that is hashed")."""
+    if not LINE.fullmatch(line):
+        return b"bad line"
+    spelled, _, pieces = line.partition(b" ")
+    message = b"" if spelled == b"-" else bytes.fromhex(spelled.decode())
+    lengths = pieces.split(b",") if pieces else []
+    if not all(LENGTH.fullmatch(n) for n in lengths):
+        return b"bad line"
+    if len(message) > 8192 or sum(int(n) for n in lengths) > len(message):
+        return b"bad line"
+    return sha256(message).encode()
+
+
+def json_answer(line):
+    """The lowest of rows 1 to 4, or 0."""
+    try:
+        read_json(line)
+    except Refused as refusal:
+        return b"%d" % refusal.args
+    return b"0"
+
+
+def message_answer(line):
+    """The lowest of rows 1 to 8, or 0 and the canonical spelling."""
+    try:
+        return b"0 " + canonical(read_message(line))
+    except Refused as refusal:
+        return b"%d" % refusal.args
+
+
+def event_answer(line):
+    """A message offered (rows 1 to 10), or after `T ` a text read back alone (9, 5, 0)."""
+    if line.startswith(b"T "):
+        row, event = read_text(line[2:])
+        return b"%d" % row if row else b"0 " + text_of(event)
+    row, text = offered(line)
+    return b"%d" % row if text is None else b"%d %s %s" % (row, sha256(text).encode(), text)
+
+
+ANSWERS = {
+    "digest_cases": digest_answer,
+    "json_cases": json_answer,
+    "message_cases": message_answer,
+    "event_cases": event_answer,
+}
+
+
+def lines(data):
+    """0A ends a line; a last line without it counts if it is not empty."""
+    out = data.split(b"\n")
+    return out if out[-1] else out[:-1]
+
+
+if __name__ == "__main__":
+    answer = ANSWERS[sys.argv[1]]
+    for line in lines(sys.stdin.buffer.read()):
+        sys.stdout.buffer.write(answer(line) + b"\n")

@@ -1,0 +1,25 @@
+"""cases.py NAME > stdin: the stored input of the case program NAME, the same bytes at every run."""
+
+import sys
+
+import cases_digest
+import cases_event
+import cases_json
+import cases_message
+
+# The lines, and what stands after the last one: two files end without 0A.
+CASES = {
+    "digest_cases": (cases_digest.lines, b"\n"),
+    "json_cases": (cases_json.lines, b""),
+    "message_cases": (cases_message.lines, b""),
+    "event_cases": (cases_event.lines, b"\n"),
+}
+
+
+def stdin(name):
+    lines, end = CASES[name]
+    return b"\n".join(lines()) + end
+
+
+if __name__ == "__main__":
+    sys.stdout.buffer.write(stdin(sys.argv[1]))

@@ -1,0 +1,252 @@
+"""Rows 1 to 10 of 01, "Numbers the relay answers with", and the canonical spellings.
+
+A message that has its shape is ("EVENT", event), ("REQ", sub, filters) or ("CLOSE", sub). An event and a
+filter are dicts from field name to content: strings decoded, numbers as spelled, lists of them.
+"""
+
+import re
+
+from json_text import NotJson, NotUtf8, allowed, characters, parse, strings
+from sha256 import sha256
+
+MESSAGE_BYTES = 8192  # row 1
+TEXT_BYTES = 4096  # row 9
+
+# Shape: the JSON type of each field; [x] is a list of x. The order is that of the canonical spelling.
+STRING, NUMBER = "string", "number"
+EVENT = {
+    "id": STRING,
+    "pubkey": STRING,
+    "created_at": NUMBER,
+    "kind": NUMBER,
+    "tags": [[STRING]],
+    "content": STRING,
+    "sig": STRING,
+}
+LETTERS = "ABCDEFGHIJKLMNOPQRSTUVWXYZabcdefghijklmnopqrstuvwxyz"
+FILTER = {
+    "ids": [STRING],
+    "authors": [STRING],
+    "kinds": [NUMBER],
+    "since": NUMBER,
+    "until": NUMBER,
+    "limit": NUMBER,
+    **{"#" + letter: [STRING] for letter in LETTERS},
+}
+
+# Numbers: the least and the greatest value.
+TIME = (-9007199254740991, 9007199254740991)
+SMALL = (0, 65535)
+NUMBERS = {"created_at": TIME, "since": TIME, "until": TIME, "kind": SMALL, "kinds": SMALL, "limit": SMALL}
+
+# Hex: the number of characters.
+HEX = {"id": 64, "pubkey": 64, "ids": 64, "authors": 64, "sig": 128}
+
+# Counts: the least and the greatest.
+TAGS, TAG_STRINGS, FILTERS, MEMBERS, CONDITIONS, SUB = (0, 64), (1, 16), (1, 4), (1, 16), (0, 4), (1, 64)
+
+
+class Refused(Exception):
+    """Carries the number of the row."""
+
+
+def refuse_if(holds, row):
+    if holds:
+        raise Refused(row)
+
+
+def read_json(line):
+    """Rows 1 to 4: the value of a line of bytes."""
+    refuse_if(len(line) > MESSAGE_BYTES, 1)
+    try:
+        value = parse(characters(line))
+    except NotUtf8:
+        raise Refused(2)
+    except NotJson:
+        raise Refused(3)
+    refuse_if(not all(allowed(s) for s in strings(value)), 4)
+    return value
+
+
+# Row 5, "Shape".
+
+
+def content(value, form):
+    """The content of a value that must have this form."""
+    kind, inner = value
+    if isinstance(form, list):
+        refuse_if(kind != "array", 5)
+        return [content(item, form[0]) for item in inner]
+    refuse_if(kind != form, 5)
+    return inner
+
+
+def record(value, forms):
+    """The fields of an object, each at most once, no others."""
+    out = {}
+    for name, inner in content(value, "object"):
+        refuse_if(name not in forms or name in out, 5)
+        out[name] = content(inner, forms[name])
+    return out
+
+
+def shape(value):
+    items = content(value, "array")
+    refuse_if(not items, 5)
+    word = content(items[0], STRING)
+    rest = items[1:]
+    if word == "EVENT" and len(rest) == 1:
+        event = record(rest[0], EVENT)
+        refuse_if(len(event) != len(EVENT), 5)
+        return word, event
+    if word == "REQ" and rest:
+        return word, content(rest[0], STRING), [record(f, FILTER) for f in rest[1:]]
+    if word == "CLOSE" and len(rest) == 1:
+        return word, content(rest[0], STRING)
+    raise Refused(5)
+
+
+# Rows 6 to 8.
+
+
+def members(records, rules):
+    """The single contents of the fields that have a rule, each with its rule."""
+    for fields in records:
+        for name in fields:
+            if name in rules:
+                inner = fields[name]
+                for one in inner if isinstance(inner, list) else [inner]:
+                    yield one, rules[name]
+
+
+def good_number(spelled, limits):
+    """01, "Numbers". Without needless zeros, more than 17 characters are out of every range."""
+    plain = re.fullmatch(r"-?(0|[1-9][0-9]*)", spelled) and spelled != "-0"
+    return plain and len(spelled) <= 17 and within(int(spelled), limits)
+
+
+def good_hex(s, length):
+    """01, "Hex"."""
+    return len(s) == length and all(c in "0123456789abcdef" for c in s)
+
+
+def within(count, limits):
+    return limits[0] <= count <= limits[1]
+
+
+def counts_of_event(event):
+    yield len(event["tags"]), TAGS
+    for tag in event["tags"]:
+        yield len(tag), TAG_STRINGS
+
+
+def counts_of_filter(fields):
+    for inner in fields.values():
+        if isinstance(inner, list):
+            yield len(inner), MEMBERS
+    yield sum(name[0] == "#" for name in fields), CONDITIONS
+
+
+def counts(message):
+    """01, "Counts". A string's length is in code points."""
+    if message[0] == "EVENT":
+        yield from counts_of_event(message[1])
+    else:
+        yield len(message[1]), SUB
+    if message[0] == "REQ":
+        yield len(message[2]), FILTERS
+        for fields in message[2]:
+            yield from counts_of_filter(fields)
+
+
+def test_parts(records, all_counts):
+    """Rows 6 to 8, each over the whole before the next."""
+    refuse_if(not all(good_number(n, limits) for n, limits in members(records, NUMBERS)), 6)
+    refuse_if(not all(good_hex(s, length) for s, length in members(records, HEX)), 7)
+    refuse_if(not all(within(n, limits) for n, limits in all_counts), 8)
+
+
+def test_message(message):
+    """Rows 6 to 8 of a message that has its shape."""
+    records = []
+    if message[0] == "EVENT":
+        records = [message[1]]
+    if message[0] == "REQ":
+        records = message[2]
+    test_parts(records, counts(message))
+
+
+def read_message(line):
+    """Rows 1 to 8: the message, or Refused."""
+    message = shape(read_json(line))
+    test_message(message)
+    return message
+
+
+# Spellings: no white space, seven escapes, numbers in shortest decimal.
+
+ESCAPES = {"\n": "\\n", '"': '\\"', "\\": "\\\\", "\r": "\\r", "\t": "\\t", "\b": "\\b", "\f": "\\f"}
+
+
+def spelled(inner, form):
+    if isinstance(form, list):
+        return "[" + ",".join(spelled(one, form[0]) for one in inner) + "]"
+    if form == NUMBER:
+        return str(int(inner))
+    return '"' + "".join(ESCAPES.get(c, c) for c in inner) + '"'
+
+
+def spelled_record(fields, forms):
+    """The fields that are present, in the order of forms."""
+    present = (name for name in forms if name in fields)
+    return "{" + ",".join('"%s":%s' % (name, spelled(fields[name], forms[name])) for name in present) + "}"
+
+
+def canonical(message):
+    """An accepted message in bytes."""
+    parts = ['"' + message[0] + '"']
+    if message[0] == "EVENT":
+        parts.append(spelled_record(message[1], EVENT))
+    else:
+        parts.append(spelled(message[1], STRING))
+    if message[0] == "REQ":
+        parts += [spelled_record(fields, FILTER) for fields in message[2]]
+    return ("[" + ",".join(parts) + "]").encode()
+
+
+# The text that is hashed.
+
+IN_TEXT = ["pubkey", "created_at", "kind", "tags", "content"]
+
+
+def text_of(event):
+    """01, "The text that is hashed": [0,pubkey,created_at,kind,tags,content], in bytes."""
+    return ("[0," + ",".join(spelled(event[name], EVENT[name]) for name in IN_TEXT) + "]").encode()
+
+
+def offered(line):
+    """An offer's rows 1 to 10: the number, and the text if none of rows 1 to 9 refuses it, else None."""
+    try:
+        message = shape(read_json(line))
+        refuse_if(message[0] != "EVENT", 5)
+        test_message(message)
+        event = message[1]
+        text = text_of(event)
+        refuse_if(len(text) > TEXT_BYTES, 9)
+    except Refused as refusal:
+        return refusal.args[0], None
+    return (0 if event["id"] == sha256(text) else 10), text
+
+
+def read_text(text):
+    """01, "A text read back alone": the number (9, 5 or 0), and the event if it is 0."""
+    if len(text) > TEXT_BYTES:
+        return 9, None
+    try:
+        items = content(read_json(text), "array")
+        refuse_if(len(items) != 1 + len(IN_TEXT), 5)
+        event = {name: content(item, EVENT[name]) for name, item in zip(IN_TEXT, items[1:])}
+        test_parts([event], counts_of_event(event))
+    except Refused:
+        return 5, None
+    return (0, event) if text_of(event) == text else (5, None)

@@ -1,0 +1,219 @@
+"""Compares this program with hashlib and json, with 01's own cases, and with the rows that cases are made for.
+
+Exits 1 on a difference.
+"""
+
+import hashlib
+import json
+import random
+import sys
+from functools import cache
+
+import cases_digest
+import cases_event
+import cases_message
+from answer import ANSWERS, lines
+from cases import stdin
+from json_text import NotUtf8, characters
+from rows import text_of
+from sha256 import sha256
+from spell import damaged, raw
+
+A = "a" * 64
+failures = []
+stored = cache(lambda name: lines(stdin(name)))
+digest_answer, json_answer, message_answer, event_answer = (
+    cache(ANSWERS[name]) for name in ("digest_cases", "json_cases", "message_cases", "event_cases")
+)
+
+
+def same(what, got, want):
+    if got != want:
+        failures.append(what)
+        print("%s: got %r, want %r" % (what, got, want))
+
+
+def row_of(answer):
+    return int(answer.split(b" ")[0])
+
+
+def test_digest():
+    for message, digest in cases_digest.VECTORS:
+        same("vector", sha256(message), digest)
+    rng = random.Random(5)
+    for length in list(range(300)) + [rng.randrange(5000) for _ in range(50)]:
+        message = rng.randbytes(length)
+        same("digest of %s" % message.hex(), sha256(message), hashlib.sha256(message).hexdigest())
+    bad = set(cases_digest.bad_lines())
+    for line in bad:
+        same("line %r" % line[:80], digest_answer(line), b"bad line")
+    for line in stored("digest_cases"):
+        if line not in bad:
+            message = bytes.fromhex(line.split(b" ")[0].decode().replace("-", ""))
+            same("line %r" % line[:80], digest_answer(line), hashlib.sha256(message).hexdigest().encode())
+
+
+def test_utf8():
+    rng = random.Random(6)
+    for _ in range(20000):
+        data = damaged(rng, chr(rng.choice([rng.randrange(0xD800), rng.randrange(0xE000, 0x110000)])).encode() * 2)
+        data = rng.choice([data, rng.randbytes(3)])
+        try:
+            want = data.decode()
+        except UnicodeDecodeError:
+            want = None
+        try:
+            got = characters(data)
+        except NotUtf8:
+            got = None
+        same("UTF-8 %r" % data, got, want)
+
+
+def refused_constant(word):
+    raise ValueError
+
+
+def library_value(text):
+    """A text read by json: numbers are all 0, an object is a dict with the list of its names and values."""
+    return json.loads(
+        text,
+        parse_int=lambda spelled: 0,
+        parse_float=lambda spelled: 0,
+        parse_constant=refused_constant,
+        object_pairs_hook=lambda pairs: {"members": [part for pair in pairs for part in pair]},
+    )
+
+
+def depth_of(value):
+    inner = value["members"] if isinstance(value, dict) else value
+    return 1 + max(map(depth_of, inner), default=0) if isinstance(inner, list) else 0
+
+
+def strings_of(value):
+    inner = value["members"] if isinstance(value, dict) else value
+    if isinstance(inner, list):
+        return [s for item in inner for s in strings_of(item)]
+    return [inner] if isinstance(inner, str) else []
+
+
+def library_row(line):
+    """Rows 1 to 4 by Python's own libraries."""
+    if len(line) > 8192:
+        return 1
+    try:
+        text = line.decode()
+    except UnicodeDecodeError:
+        return 2
+    try:
+        value = library_value(text)
+    except (ValueError, RecursionError):
+        return 3
+    if depth_of(value) > 8:
+        return 3
+    found = "".join(s + "." for s in strings_of(value))
+    good = all(0xD800 > ord(c) >= 0x20 or ord(c) > 0xDFFF or c in "\b\t\n\f\r" for c in found)
+    return 0 if good else 4
+
+
+def test_json():
+    for name in ("json_cases", "message_cases"):
+        for line in stored(name):
+            same("JSON %r" % line[:200], row_of(json_answer(line)), library_row(line))
+
+
+# From 01 ("Cases on either side", "Shape", "Counts") and from its readings.
+KNOWN = [
+    (5, "{}"),
+    (0, '["REQ","s",{}]'),
+    (0, '["CLOSE","s"]'),
+    (3, ""),
+    (3, "\r"),
+    (3, '\ufeff["CLOSE","s"]'),
+    (6, '["REQ","s",{"kinds":[65536]}]'),
+    (0, '["REQ","s",{"kinds":[65535]}]'),
+    (6, '["REQ","s",{"kinds":[1e3]}]'),
+    (8, '["REQ","s",{"kinds":[]}]'),
+    (0, '["REQ","%s",{}]' % ("é" * 64)),
+    (8, '["REQ","%s",{}]' % ("é" * 65)),
+    (6, '["REQ","s",{},{},{},{},{"limit":-0}]'),
+    (8, '["REQ","s"]'),
+    (5, '["REQ"]'),
+    (5, '["REQ",{}]'),
+    (8, '["CLOSE",""]'),
+    (7, '["REQ","s",{"ids":[""]}]'),
+    (0, '["REQ","s",{"ids":["%s"]}]' % ("\\u0061" * 64)),
+    (3, '["REQ","s",{"limit":01}]'),
+    (4, '["CLOSE","\\u0001"]'),
+    (3, '["CLOSE","\x01"]'),
+    (2, '["CLOSE","\udced\udca0\udc80"]'),
+]
+
+
+def test_messages():
+    for row, text in KNOWN + list(cases_message.labelled()):
+        same("message %s" % text[:300], row_of(message_answer(raw(text))), row)
+    for line in stored("message_cases"):
+        answer = message_answer(line)
+        if row_of(answer) == 0:
+            same("canonical %r" % line[:200], json.loads(answer[2:]), json.loads(line))
+            same("twice %r" % line[:200], message_answer(answer[2:]), answer)
+    filters = '{"#z":["1"],"#a":["2"],"#Z":["3"],"limit":1,"until":2,"since":3,"kinds":[4]}'
+    same(
+        "order of filter fields",
+        message_answer(('["REQ","a\\/\\u0062\\u000a",%s]' % filters).encode()),
+        b'0 ["REQ","a/b\\n",{"kinds":[4],"since":3,"until":2,"limit":1,"#Z":["3"],"#a":["2"],"#z":["1"]}]',
+    )
+
+
+def test_events():
+    starred = cases_event.made(created_at=-7200, kind=1, tags=[["d", "t\n1"]], content='a"b')
+    same("01's text", text_of(starred).decode(), '[0,"%s",-7200,1,[["d","t\\n1"]],"a\\"b"]' % A)
+    same("01's 100 bytes", len(text_of(starred)), 100)
+    same("01's 80 bytes", len(text_of(cases_event.made())), 80)
+    for row, line in cases_event.labelled():
+        same("event %s" % line[:300], row_of(event_answer(raw(line))), row)
+    for line in stored("event_cases"):
+        answer = event_answer(line)
+        if line.startswith(b"T "):
+            same("text %r" % line[:300], answer, library_text_answer(line[2:]))
+        elif row_of(answer) in (0, 10):
+            event = json.loads(line)[1]
+            body = [0] + [event[name] for name in ("pubkey", "created_at", "kind", "tags", "content")]
+            text = json.dumps(body, ensure_ascii=False, separators=(",", ":")).encode()
+            digest = hashlib.sha256(text).hexdigest()
+            row = 0 if event["id"] == digest else 10
+            same("offer %r" % line[:300], answer, b"%d %s %s" % (row, digest.encode(), text))
+
+
+def library_text_answer(text):
+    """A text read back, by json."""
+    try:
+        value = json.loads(text) if len(text) <= 4096 else 9
+        if value == 9 or json.dumps(value, ensure_ascii=False, separators=(",", ":")).encode() != text:
+            return b"9" if value == 9 else b"5"
+        zero, pubkey, time, kind, tags, content = value
+        strings = [pubkey, content] + [s for tag in tags for s in tag]
+        good = (
+            [type(n) for n in (zero, time, kind)] == [int] * 3
+            and type(tags) is list
+            and all(type(tag) is list for tag in tags)
+            and all(type(s) is str for s in strings)
+            and zero == 0
+            and abs(time) < 2**53
+            and kind in range(65536)
+            and len(pubkey) == 64
+            and set(pubkey) <= set("0123456789abcdef")
+            and len(tags) <= 64
+            and all(len(tag) in range(1, 17) for tag in tags)
+            and not any(ord(c) < 32 and c not in "\b\t\n\f\r" for s in strings for c in s)
+        )
+    except (ValueError, TypeError, RecursionError):
+        return b"5"
+    return b"0 " + text if good else b"5"
+
+
+if __name__ == "__main__":
+    for test in (test_digest, test_utf8, test_json, test_messages, test_events):
+        test()
+    print("selftest: %d differences" % len(failures))
+    sys.exit(1 if failures else 0)
