@@ -1,5 +1,6 @@
 // SHA-256 (FIPS 180-4), whole or fed piece by piece. Contracts cite specs/: Words, Block and Digest are the standard's sections,
-// State is what the calls answer for any state.
+// State is what the calls answer for any state. Theorems over these: Pieces, that any pieces have the digest of the whole, and
+// Vectors, the standard's examples.
 ghost use mathlib.Core.Path.{_≡_};
 ghost use Prim.Native.Nat.{_+_, _<_, _≤_, _^_};
 ghost use mathlib.Core.List.{[], _++_};
