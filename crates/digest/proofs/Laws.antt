@@ -1,10 +1,10 @@
 -- Laws of lists that a loop fills from the front, and of a message that lies in two parts. Assumes nothing.
-use mathlib.Core.Path.{_≡_, refl, ap, sym, _∙_}
+use mathlib.Core.Path.{_≡_, refl, ap, _∙_}
 use mathlib.Core.List.{List, [], _∷_, _++_, append-nil}
 use Prim.Native.Nat.{ℕ, zero, suc, _+_, _-_, _*_, _≤_, _<_}
 use native.Mathlib.Omega.{arith}
 use lib.ListN.{length, take, drop, set, replicate, length-append, List·getD-append}
-use lib.Seq.{take-suc-set, take-suc, length-take-le, getD-take, getD-drop, getD-append-add, drop-append-add}
+use lib.Seq.{take-suc-set, length-take-le, getD-take, getD-drop, getD-append-add, drop-append-add}
 use Rattle.digest.specs.Block.{at, wordAt, next}
 
 -- the first n elements, one more of them

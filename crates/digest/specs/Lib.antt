@@ -5,3 +5,4 @@ pub mod Digest
 pub mod State
 pub mod Parts
 pub mod Pieces
+pub mod Vectors

@@ -1,5 +1,5 @@
 -- A message fed piece by piece has the state, and the digest, of the whole. Assumes nothing.
-use mathlib.Core.Path.{_≡_, refl, ap, sym, _∙_}
+use mathlib.Core.Path.{_≡_, _∙_}
 use mathlib.Core.List.{List, [], _∷_, _++_, append-assoc, append-nil}
 use Prim.Native.Nat.{ℕ, _+_, _≤_, _<_}
 use native.Mathlib.Decide.{decLe}
@@ -10,8 +10,6 @@ use Rattle.digest.specs.declared.Answer.{Answer}
 use Rattle.digest.specs.declared.Answer.the-variants.{Done, TooLong}
 use Rattle.digest.specs.declared.Sha256.{Sha256}
 use Rattle.digest.specs.declared.Updated.{Updated}
-use Rattle.digest.specs.declared.Finished.{Finished}
-use Rattle.digest.specs.declared.Digest.{Digest}
 use Rattle.digest.specs.Block.{H0}
 use Rattle.digest.specs.Digest.{padding, padded, hashed, rest, digestBytes, digest}
 use Rattle.digest.specs.State.{most, waiting, stateAfter, stateOf, updated, finished, digested}

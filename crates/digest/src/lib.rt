@@ -1,13 +1,14 @@
 // SHA-256 (FIPS 180-4), whole or fed piece by piece. Contracts cite specs/: Words, Block and Digest are the standard's sections,
-// State is what the calls answer for any state.
+// State is what the calls answer for any state. Theorems over these: Pieces, that any pieces have the digest of the whole, and
+// Vectors, the standard's examples.
 ghost use mathlib.Core.Path.{_≡_};
-ghost use Prim.Native.Nat.{ℕ, _+_, _*_, _<_, _≤_, _/_, _^_};
-ghost use mathlib.Core.List.{List, [], _++_};
+ghost use Prim.Native.Nat.{_+_, _<_, _≤_, _^_};
+ghost use mathlib.Core.List.{[], _++_};
 ghost use lib.ListN.{length, take, drop, getD};
 ghost use Rattle.digest.specs.Words.{Ch, Maj, Σ0, Σ1, σ0, σ1};
 ghost use Rattle.digest.specs.Block.{wordAt, round, rounds, words, schedule, compress};
-ghost use Rattle.digest.specs.Digest.{zeros, padding, hashed, hashAfter, rest, digestBytes};
-ghost use Rattle.digest.specs.State.{most, firstBytes, stateOf, stateAfter, updated, finished, digested};
+ghost use Rattle.digest.specs.Digest.{zeros, padding, hashed, digestBytes};
+ghost use Rattle.digest.specs.State.{most, firstBytes, stateOf, updated, finished, digested};
 
 // The most bytes that a digest takes: 2^61 - 1 (01, "The text that is hashed").
 const MOST: u64 = 0x1fff_ffff_ffff_ffff;

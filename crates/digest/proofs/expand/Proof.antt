@@ -1,10 +1,9 @@
 -- The array's first words are the schedule's, one more after each turn. Assumes nothing.
 use borrow.Author.Needs.{needs}
-use mathlib.Core.Path.{_≡_, refl, ap, sym, _∙_}
+use mathlib.Core.Path.{_≡_, refl, sym, _∙_}
 use Prim.Native.Nat.{ℕ, _≤_, _+_, _-_}
 use native.Mathlib.Omega.{arith}
 use native.Mathlib.Numerals.{add-one}
-use mathlib.Core.List.{List}
 use lib.ListN.{length, take, drop, length-set, length-replicate}
 use lib.Seq.{take-all}
 use Rattle.digest.specs.Block.{words, next, schedule}

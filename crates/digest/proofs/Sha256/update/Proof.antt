@@ -30,7 +30,7 @@ returns-3 c =
     let k = simp length-map at (g .0 .1 .1 .1 .0 .1 .0 .1) in
     let m = length-message (s .block) d n (omega arith) in
     let e : 64 * blocks (take n (s .block) ++ d) ≡ (n + length d) - (n + length d) % 64 = omega (arith, m) in
-    sym (update-done s d (omega arith) ∙ rw (e, c .window .ensures, c .before .absorb .ensures))
+    sym (update-done s d (omega arith) ∙ rw e (simp (c .window .ensures, c .before .absorb .ensures)))
 
 pub update-spec : {M : Type 1} → statement M
 update-spec =
