@@ -1,0 +1,107 @@
+-- What ends where: a byte that is taken lies within the text, so what begins with one ends behind its beginning, and the characters of a
+-- string never run out of fuel.
+use mathlib.Core.Path.{_≡_, refl, sym, ap, _∙_}
+use mathlib.Core.List.{List, [], _∷_}
+use mathlib.Core.Bool.{Bool, true, false, cond}
+use Prim.Native.Nat.{ℕ, zero, suc, _+_, _<_, _≤_}
+use native.Mathlib.Nat.{add-zero}
+use native.Mathlib.Numerals.{add-one}
+use native.Mathlib.Omega.{arith}
+use lib.ListN.{length, getD}
+use Rattle.json.specs.Grammar.{case, classOf, oneAt, hexAt, escapedAt, charAt, charsUpTo, charsAt}
+use Rattle.json.specs.declared.Class.{Class}
+use Rattle.json.specs.declared.Class.the-variants.{Plain, Hex, Short, Byte}
+use Rattle.json.specs.declared.Out.{Out}
+use Rattle.json.specs.declared.Out.the-variants.{End, Bad}
+use Rattle.json.proofs.Bytes.{class-within}
+
+-- where o ends, it ends behind `at`, and within a text of length `size`
+abbrev pub Ends : ℕ → ℕ → Out → Type 0
+Ends at size o = (n : ℕ) → o ≡ End n → (at < n) × (n ≤ size)
+
+pub ends-bad : {A : Type 0} {n : ℕ} → Bad ≡ End n → A
+ends-bad e = absurd (let z : _≡_ {A = ℕ} 0 1 = cc in omega arith)
+
+module _ (at size : ℕ) where
+  -- one thing, or another
+  pub ends-or : (o z : Out) → Ends at size o → Ends at size z → Ends at size (case o End z)
+  ends-or (End m) z a b n e = a n e
+  ends-or Bad z a b n e = b n e
+
+  -- one thing, and then another
+  pub ends-then : (o : Out) (f : ℕ → Out) → Ends at size o → ((m : ℕ) → Ends m size (f m)) → Ends at size (case o f Bad)
+  ends-then (End m) f a b n e = let p = a m refl in let q = b m n e in omega arith
+  ends-then Bad f a b n e = ends-bad e
+
+  -- one thing and then another, or a third
+  pub ends-if : (o : Out) (f : ℕ → Out) (z : Out) → Ends at size o → ((m : ℕ) → Ends m size (f m)) → Ends at size z → Ends at size (case o f z)
+  ends-if (End m) f z a b c n e = let p = a m refl in let q = b m n e in omega arith
+  ends-if Bad f z a b c n e = c n e
+
+module _ (s : List ℕ) where
+  pub one-ends : (class : Class) (at : ℕ) → classOf class 0 ≡ false → Ends at (length s) (oneAt s class at)
+  unfolding oneAt
+  one-ends class at z = go (classOf class (getD s at 0)) refl
+    where
+      go : (b : Bool) → classOf class (getD s at 0) ≡ b → Ends at (length s) (cond b (End (at + 1)) Bad)
+      go true q n e = let h = class-within class s at z q in let w : at + 1 ≡ n = cc in omega arith
+      go false q n e = ends-bad e
+
+  pub hex-ends : (at : ℕ) → Ends at (length s) (hexAt s at)
+  unfolding hexAt classOf
+  hex-ends at = ends-then at _ _ _ (one-ends Hex at refl) λ a. ends-then a _ _ _ (one-ends Hex a refl) λ b. ends-then b _ _ _ (one-ends Hex b refl) λ c. one-ends Hex c refl
+
+  pub escaped-ends : (at : ℕ) → Ends at (length s) (escapedAt s at)
+  unfolding escapedAt classOf
+  escaped-ends at = ends-then at _ _ _ (one-ends (Byte 0x5C) at refl) λ n. ends-if n _ _ _ _ (one-ends (Byte 0x75) n refl) hex-ends (one-ends Short n refl)
+
+  pub char-ends : (at : ℕ) → Ends at (length s) (charAt s at)
+  unfolding charAt classOf
+  char-ends at = ends-or at _ _ _ (one-ends Plain at refl) (escaped-ends at)
+
+  -- ---- *char: where there is a character it goes on, and else it stops; the fuel is enough
+  enough : (f at : ℕ) → length s ≤ f + at → charsUpTo (suc f) s at ≡ charsUpTo f s at
+  unfolding charsUpTo
+  enough zero at h = go (charAt s at) refl
+    where
+      go : (o : Out) → charAt s at ≡ o → case o (λ n. n) at ≡ at
+      go (End n) e = let q = char-ends at n e in omega arith
+      go Bad e = refl
+  enough (suc f) at h = go (charAt s at) refl λ n k. enough f n k
+    where
+      go : (o : Out) → charAt s at ≡ o → ((n : ℕ) → length s ≤ f + n → charsUpTo (suc f) s n ≡ charsUpTo f s n) → case o (charsUpTo (suc f) s) at ≡ case o (charsUpTo f s) at
+      go (End n) e ih = let q = char-ends at n e in ih n (omega arith)
+      go Bad e ih = refl
+
+  pub chars-more : (at n : ℕ) → charAt s at ≡ End n → charsAt s n ≡ charsAt s at
+  unfolding charsAt charsUpTo
+  chars-more at n e = go (length s) refl
+    where
+      go : (k : ℕ) → length s ≡ k → charsUpTo k s n ≡ charsUpTo k s at
+      go zero q = let h = char-ends at n e in absurd (omega arith)
+      go (suc f) q = let h = char-ends at n e in enough f n (omega arith) ∙ rw e
+
+  pub chars-none : (at : ℕ) → charAt s at ≡ Bad → charsAt s at ≡ at
+  unfolding charsAt charsUpTo
+  chars-none at e = go (length s)
+    where
+      go : (k : ℕ) → charsUpTo k s at ≡ at
+      go zero = refl
+      go (suc f) = rw e
+
+  -- ---- the same by the byte that stands there
+  module _ (at : ℕ) where
+    pub char-plain : classOf Plain (getD s at 0) ≡ true → charAt s at ≡ End (at + 1)
+    unfolding charAt oneAt
+    char-plain e = rw e
+
+    pub char-escaped : classOf Plain (getD s at 0) ≡ false → charAt s at ≡ escapedAt s at
+    unfolding charAt oneAt
+    char-escaped e = rw e
+
+    pub chars-past : length s ≤ at → charsAt s at ≡ at
+    chars-past h = go (charAt s at) refl
+      where
+        go : (o : Out) → charAt s at ≡ o → charsAt s at ≡ at
+        go (End n) e = let q = char-ends at n e in absurd (omega arith)
+        go Bad e = chars-none at e

@@ -1,0 +1,24 @@
+use mathlib.Core.Path.{refl, _∙_}
+use borrow.Author.Needs.{needs}
+use Rattle.json.specs.Grammar.{classOf, escapedAt}
+use Rattle.json.proofs.escaped.Statement.{statement}
+use Rattle.json.proofs.escaped.Tie as tie
+
+pub escaped-spec : {M : Type 1} → statement M
+unfolding classOf escapedAt
+escaped-spec =
+    tie.close
+    (tie.spec
+    (λ c κs. refl)
+    (search needs)
+    (λ c κs. refl)
+    (search needs)
+    (search needs)
+    (search needs)
+    (λ c κs. refl)
+    (search needs)
+    (λ c. let d = c .before .before .before .before in
+    c .hex4 .ensures ∙ simp (← d .before .before .before .before .one .ensures, d .before .before .n .given .1, ← d .one2 .ensures, c .before .before .m .given .1))
+    (λ c. let d = c .before .before .before in
+    c .one3 .ensures ∙ simp (← d .before .before .before .before .one .ensures, d .before .before .n .given .1, ← d .one2 .ensures, c .before .enum-told .given .1))
+    (λ c. simp (← c .before .before .one .ensures, c .enum-told2 .given .1)))

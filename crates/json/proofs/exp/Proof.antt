@@ -1,0 +1,19 @@
+use mathlib.Core.Path.{refl, _∙_}
+use borrow.Author.Needs.{needs}
+use Rattle.json.specs.Grammar.{classOf, expAt}
+use Rattle.json.proofs.exp.Statement.{statement}
+use Rattle.json.proofs.exp.Tie as tie
+
+pub exp-spec : {M : Type 1} → statement M
+unfolding classOf expAt
+exp-spec =
+    tie.close
+    (tie.spec
+    (λ c κs. refl)
+    (search needs)
+    (λ c κs. refl)
+    (search needs)
+    (search needs)
+    (λ c. let d = c .before .before .before in
+    c .digits .ensures ∙ simp (← d .before .before .one .ensures, d .n .given .1, ← c .before .opt .ensures))
+    (λ c. simp (← c .before .before .one .ensures, c .enum-told .given .1)))

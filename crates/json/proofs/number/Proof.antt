@@ -1,0 +1,24 @@
+use mathlib.Core.Path.{refl, _∙_}
+use borrow.Author.Needs.{needs}
+use Rattle.json.specs.Grammar.{classOf, numberAt}
+use Rattle.json.proofs.number.Statement.{statement}
+use Rattle.json.proofs.number.Tie as tie
+
+pub number-spec : {M : Type 1} → statement M
+unfolding classOf numberAt
+number-spec =
+    tie.close
+    (tie.spec
+    (λ c κs. refl)
+    (search needs)
+    (search needs)
+    (search needs)
+    (search needs)
+    (search needs)
+    (search needs)
+    (search needs)
+    (λ c. let d = c .before .before .before .before in let e = d .before .before .before .before in
+    c .exp .ensures ∙ simp (← e .before .opt .ensures, ← e .int .ensures, d .before .before .n .given .1, ← d .frac .ensures, c .before .before .m .given .1))
+    (λ c. let d = c .before .before in let e = d .before .before .before .before in
+    simp (← e .before .opt .ensures, ← e .int .ensures, d .before .before .n .given .1, ← d .frac .ensures, c .enum-told .given .1))
+    (λ c. simp (← c .before .before .before .opt .ensures, ← c .before .before .int .ensures, c .enum-told2 .given .1)))

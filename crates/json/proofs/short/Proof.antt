@@ -1,0 +1,10 @@
+use Rattle.json.specs.Grammar.{classOf}
+use Rattle.json.proofs.Bytes.{tests}
+use Rattle.json.proofs.short.Statement.{statement}
+use Rattle.json.proofs.short.Tie as tie
+
+pub short-spec : {M : Type 1} → statement M
+unfolding classOf
+short-spec =
+    tie.close
+    (tie.spec (λ c. search tests) (λ c. search tests) (λ c. search tests) (λ c. search tests) (λ c. search tests) (λ c. search tests) (λ c. search tests) (λ c. search tests))

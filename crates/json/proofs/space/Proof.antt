@@ -1,0 +1,8 @@
+use mathlib.Core.Path.{refl}
+use Rattle.json.specs.Grammar.{classOf}
+use Rattle.json.proofs.space.Statement.{statement}
+use Rattle.json.proofs.space.Tie as tie
+
+pub space-spec : {M : Type 1} → statement M
+unfolding classOf
+space-spec = tie.close (tie.spec (λ c κs. refl) (λ c. c .skip .ensures))

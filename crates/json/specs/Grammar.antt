@@ -1,0 +1,173 @@
+-- RFC 8259, sections 2 to 7, but for the values that hold values (Tree.antt): for each rule a function from a place in the text to the
+-- place after what stands there. Past the end stands 0, which no rule takes.
+use Prim.Native.Nat.{ℕ, zero, suc, _+_}
+use mathlib.Core.List.{List, [], _∷_}
+use mathlib.Core.Bool.{Bool, true, false, cond, _&&_, _||_}
+use lib.ListN.{length, getD, drop}
+use lib.Dec.{eqb, leb, ltb}
+use Rattle.json.specs.declared.Class.{Class}
+use Rattle.json.specs.declared.Class.the-variants.{Space, Digit, Plain, Hex, Short, Exponent, Sign, Byte}
+use Rattle.json.specs.declared.Out.{Out}
+use Rattle.json.specs.declared.Out.the-variants.{End, Bad}
+use Rattle.json.specs.declared.Kind.{Kind}
+use Rattle.json.specs.declared.Kind.the-variants.{Str, Num, Word, None}
+use Rattle.json.specs.declared.Start.{Start}
+use Rattle.json.specs.declared.Start.the-variants.{Leaf, Empty, Many}
+use Rattle.json.specs.declared.Next.{Next}
+use Rattle.json.specs.declared.Next.the-variants.{More, Done, Wrong}
+
+-- f of the end, or z where there is none
+abbrev pub case : {A : Type 0} → Out → (ℕ → A) → A → A
+case (End n) f z = f n
+case Bad f z = z
+
+-- ---- bytes
+-- %xlow-high
+abbrev pub within : ℕ → ℕ → ℕ → Bool
+within low high b = leb low b && leb b high
+
+unfoldable pub classOf : Class → ℕ → Bool
+-- ws: %x20 / %x09 / %x0A / %x0D
+classOf Space b = eqb b 0x20 || (eqb b 0x09 || (eqb b 0x0A || eqb b 0x0D))
+-- DIGIT = %x30-39
+classOf Digit b = within 0x30 0x39 b
+-- unescaped = %x20-21 / %x23-5B / %x5D-10FFFF, of which from %x80 on each byte of the UTF-8 is taken
+classOf Plain b = within 0x20 0x21 b || (within 0x23 0x5B b || leb 0x5D b)
+-- HEXDIG = DIGIT / "A" / "B" / "C" / "D" / "E" / "F", in either case
+classOf Hex b = within 0x30 0x39 b || (within 0x41 0x46 b || within 0x61 0x66 b)
+-- after escape: %x22 / %x5C / %x2F / %x62 / %x66 / %x6E / %x72 / %x74
+classOf Short b = eqb b 0x22 || (eqb b 0x5C || (eqb b 0x2F || (eqb b 0x62 || (eqb b 0x66 || (eqb b 0x6E || (eqb b 0x72 || eqb b 0x74))))))
+-- e = %x65 / %x45
+classOf Exponent b = eqb b 0x65 || eqb b 0x45
+-- minus / plus
+classOf Sign b = eqb b 0x2D || eqb b 0x2B
+classOf (Byte c) b = eqb b c
+
+-- *class: how many bytes of the class the list begins with
+unfoldable pub run : Class → List ℕ → ℕ
+run class [] = 0
+run class (b ∷ l) = cond (classOf class b) (suc (run class l)) 0
+
+-- *class: the place after the bytes of the class
+unfoldable pub past : Class → List ℕ → ℕ → ℕ
+past class s at = at + run class (drop at s)
+
+-- class
+unfoldable pub oneAt : List ℕ → Class → ℕ → Out
+oneAt s class at = cond (classOf class (getD s at 0)) (End (at + 1)) Bad
+
+-- [ class ]
+abbrev pub optAt : List ℕ → Class → ℕ → ℕ
+optAt s class at = case (oneAt s class at) (λ n. n) at
+
+-- ---- section 2: ws and the six structural characters
+-- ws
+abbrev pub wsAt : List ℕ → ℕ → ℕ
+wsAt s at = past Space s at
+
+-- a structural character, with the ws after it (the ws before it belongs to what stands before)
+unfoldable pub tokenAt : List ℕ → ℕ → ℕ → Out
+tokenAt s b at = case (oneAt s (Byte b) at) (λ n. End (wsAt s n)) Bad
+
+-- ---- section 3: the literal names
+abbrev pub noZero : List ℕ → Bool
+noZero [] = true
+noZero (b ∷ w) = ltb 0 b && noZero w
+
+-- the bytes of w
+unfoldable pub wordAt : List ℕ → List ℕ → ℕ → Out
+wordAt s [] at = End at
+wordAt s (b ∷ w) at = case (oneAt s (Byte b) at) (wordAt s w) Bad
+
+-- false = %x66.61.6c.73.65
+abbrev pub falseName : List ℕ
+falseName = 0x66 ∷ 0x61 ∷ 0x6C ∷ 0x73 ∷ 0x65 ∷ []
+
+-- null = %x6e.75.6c.6c
+abbrev pub nullName : List ℕ
+nullName = 0x6E ∷ 0x75 ∷ 0x6C ∷ 0x6C ∷ []
+
+-- true = %x74.72.75.65
+abbrev pub trueName : List ℕ
+trueName = 0x74 ∷ 0x72 ∷ 0x75 ∷ 0x65 ∷ []
+
+-- false / null / true
+unfoldable pub literalAt : List ℕ → ℕ → Out
+literalAt s at = case (wordAt s falseName at) End (case (wordAt s nullName at) End (wordAt s trueName at))
+
+-- ---- section 6: number = [ minus ] int [ frac ] [ exp ]
+-- 1*DIGIT
+unfoldable pub digitsAt : List ℕ → ℕ → Out
+digitsAt s at = case (oneAt s Digit at) (λ n. End (past Digit s n)) Bad
+
+-- int = zero / ( digit1-9 *DIGIT )
+unfoldable pub intAt : List ℕ → ℕ → Out
+intAt s at = case (oneAt s (Byte 0x30) at) End (digitsAt s at)
+
+-- [ frac ], frac = decimal-point 1*DIGIT
+unfoldable pub fracAt : List ℕ → ℕ → Out
+fracAt s at = case (oneAt s (Byte 0x2E) at) (digitsAt s) (End at)
+
+-- [ exp ], exp = e [ minus / plus ] 1*DIGIT
+unfoldable pub expAt : List ℕ → ℕ → Out
+expAt s at = case (oneAt s Exponent at) (λ n. digitsAt s (optAt s Sign n)) (End at)
+
+unfoldable pub numberAt : List ℕ → ℕ → Out
+numberAt s at = case (intAt s (optAt s (Byte 0x2D) at)) (λ n. case (fracAt s n) (expAt s) Bad) Bad
+
+-- ---- section 7: string = quotation-mark *char quotation-mark
+-- 4HEXDIG
+unfoldable pub hexAt : List ℕ → ℕ → Out
+hexAt s at = case (oneAt s Hex at) (λ a. case (oneAt s Hex a) (λ b. case (oneAt s Hex b) (oneAt s Hex) Bad) Bad) Bad
+
+-- escape ( one of eight / %x75 4HEXDIG )
+unfoldable pub escapedAt : List ℕ → ℕ → Out
+escapedAt s at = case (oneAt s (Byte 0x5C) at) (λ n. case (oneAt s (Byte 0x75) n) (hexAt s) (oneAt s Short n)) Bad
+
+-- char = unescaped / escape ( .. )
+unfoldable pub charAt : List ℕ → ℕ → Out
+charAt s at = case (oneAt s Plain at) End (escapedAt s at)
+
+-- *char, of at most f characters
+unfoldable pub charsUpTo : ℕ → List ℕ → ℕ → ℕ
+charsUpTo zero s at = at
+charsUpTo (suc f) s at = case (charAt s at) (charsUpTo f s) at
+
+-- *char: a text has no more characters than bytes
+unfoldable pub charsAt : List ℕ → ℕ → ℕ
+charsAt s at = charsUpTo (length s) s at
+
+unfoldable pub stringAt : List ℕ → ℕ → Out
+stringAt s at = case (oneAt s (Byte 0x22) at) (λ n. oneAt s (Byte 0x22) (charsAt s n)) Bad
+
+-- what may stand between quotation marks: *char and no more
+abbrev pub isSpelling : List ℕ → Bool
+isSpelling p = eqb (charsAt p 0) (length p)
+
+-- ---- section 3: values that hold no value
+-- false / null / true / number / string, its kind and the place after it
+unfoldable pub scalarAt : List ℕ → ℕ → Kind
+scalarAt s at = case (stringAt s at) Str (case (numberAt s at) Num (case (literalAt s at) Word None))
+
+-- ---- sections 4 and 5: objects and arrays, whose items are members with their names, and values
+-- end-object, end-array
+abbrev pub closeOf : Bool → ℕ
+closeOf true = 0x7D
+closeOf false = 0x5D
+
+-- after begin-object or begin-array: what closes it, or the first item
+abbrev pub openedAt : List ℕ → ℕ → Bool → Start
+openedAt s at named = case (tokenAt s (closeOf named) at) (λ n. Empty n named) (Many at named)
+
+-- begin-array, begin-object, or what begins with neither
+abbrev pub startAt : List ℕ → ℕ → Start
+startAt s at = case (tokenAt s 0x5B at) (λ n. openedAt s n false) (case (tokenAt s 0x7B at) (λ n. openedAt s n true) Leaf)
+
+-- member = string name-separator value: the place of the value
+abbrev pub headAt : List ℕ → ℕ → Bool → Out
+headAt s at true = case (stringAt s at) (λ n. tokenAt s 0x3A (wsAt s n)) Bad
+headAt s at false = End at
+
+-- after an item: value-separator and the next item's place, or what closes
+abbrev pub nextAt : List ℕ → ℕ → Bool → Next
+nextAt s at named = case (tokenAt s 0x2C at) More (case (tokenAt s (closeOf named) at) Done Wrong)
