@@ -1,3 +1,5 @@
 pub mod Lists
 pub mod Held
 pub mod Room
+pub mod Law
+pub mod Relays
