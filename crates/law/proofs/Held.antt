@@ -47,10 +47,10 @@ module _ (E : Events) (L : Laws E) where
   place-key i j (keyed k) (keyed m) p = inr (key-eq k m .1 cc)
 
   -- one key, one place; and events of one place have one id or one key
-  key-shares : (e h : Event) → T (hasKey E e h) → place h ≡ place e
+  pub key-shares : (e h : Event) → T (hasKey E e h) → place h ≡ place e
   key-shares e h t = key-place (idOf h) (idOf e) (classOf h) (classOf e) t
 
-  place-shares : (e h : Event) → place h ≡ place e → (idOf h ≡ idOf e) ⊎ T (hasKey E e h)
+  pub place-shares : (e h : Event) → place h ≡ place e → (idOf h ≡ idOf e) ⊎ T (hasKey E e h)
   place-shares e h p = place-key (idOf h) (idOf e) (classOf h) (classOf e) p
 
   -- a is b, or stands at the place of b and is newer
@@ -67,6 +67,26 @@ module _ (E : Events) (L : Laws E) where
 
   abbrev pub Covered : Event → Table E → Type 0
   Covered s t = (e : Event) × (e ∈ t) × Beats e s
+
+  -- ---- a stored event
+
+  -- e is stored: no held event has its id, and none with its key is newer
+  module _ (e : Event) (t : Table E) (noId : T (not (any (hasId E e) t))) (noNewer : T (not (any (hasKeyNewer E e) t))) where
+    pub other-id : (x : Event) → x ∈ t → idOf x ≢ idOf e
+    other-id x m q = any-no (hasId E e) m noId (id-eq (idOf x) (idOf e) .1 q)
+
+    beats-replaced : (u : Event) → u ∈ t → T (hasKey E e u) → Beats e u
+    beats-replaced u m h = (sym (key-shares e u h), inr (⊎-elim (λ n. absurd (any-no (hasKeyNewer E e) m noNewer (and-both (hasKey E e u) (newer u e) h n))) (λ n. n) (total u e (other-id u m))))
+
+    pub store-covers : (s : Event) → Covered s t → Covered s (store (hasKey E e) e t)
+    store-covers s (u, m, b) = go (either (hasKey E e u))
+      where
+        go : T (hasKey E e u) ⊎ T (not (hasKey E e u)) → Covered s (store (hasKey E e) e t)
+        go (inl h) = (e, store-in (hasKey E e) e t, beats-trans e u s (beats-replaced u m h) b)
+        go (inr h) = (u, store-keeps (hasKey E e) e m (T-not (hasKey E e u) h), b)
+
+    store-once : Once place t → Once place (store (hasKey E e) e t)
+    store-once o = store-pairwise (hasKey E e) e (λ x y. place x ≢ place y) t (λ x y m k h ne q. ne (key-shares e x h ∙ q)) (λ x m nk p. ⊎-elim (other-id x m) nk (place-shares e x p)) o
 
   -- ---- the invariant
 
@@ -109,19 +129,9 @@ module _ (E : Events) (L : Laws E) where
         → Right S (some e ∷ rest) t → Right S rest (store (hasKey E e) e t)
     add e rest t se le noId noNewer r = record {
       from = λ x m. ⊎-elim (λ q. rw q (se, le)) (r .from x) (store-from (hasKey E e) e t m);
-      best = λ s ss st. ⊎-elim (λ v. ⊎-elim (λ q. inr (e, store-in (hasKey E e) e t, (ap place (sym q), inl (sym q)))) inl (valid-cases v)) (λ c. inr (moved s c (either (hasKey E e (c .0))))) (r .best s ss st);
-      once = store-pairwise (hasKey E e) e (λ x y. place x ≢ place y) t (λ x y m k h ne q. ne (key-shares e x h ∙ q)) (λ x m nk p. ⊎-elim (other x m) nk (place-shares e x p)) (r .once);
+      best = λ s ss st. ⊎-elim (λ v. ⊎-elim (λ q. inr (e, store-in (hasKey E e) e t, (ap place (sym q), inl (sym q)))) inl (valid-cases v)) (λ c. inr (store-covers e t noId noNewer s c)) (r .best s ss st);
+      once = store-once e t noId noNewer (r .once);
     }
-      where
-        other : (x : Event) → x ∈ t → idOf x ≢ idOf e
-        other x m q = any-no (hasId E e) m noId (id-eq (idOf x) (idOf e) .1 q)
-
-        over : (u : Event) → u ∈ t → T (hasKey E e u) → Beats e u
-        over u m h = (sym (key-shares e u h), inr (⊎-elim (λ n. absurd (any-no (hasKeyNewer E e) m noNewer (and-both (hasKey E e u) (newer u e) h n))) (λ n. n) (total u e (other u m))))
-
-        moved : (s : Event) (c : Covered s t) → T (hasKey E e (c .0)) ⊎ T (not (hasKey E e (c .0))) → Covered s (store (hasKey E e) e t)
-        moved s (u, m, b) (inl h) = (e, store-in (hasKey E e) e t, beats-trans e u s (over u m h) b)
-        moved s (u, m, b) (inr h) = (u, store-keeps (hasKey E e) e m (T-not (hasKey E e u) h), b)
 
     step : (e : Event) (rest : List (Offer E)) (t : Table E) → S e → Right S (some e ∷ rest) t → Right S rest (put t (some e))
     step e rest t se r = go (isEphemeral (classOf e)) (any (hasId E e) t) (any (hasKeyNewer E e) t) refl refl refl

@@ -3,3 +3,4 @@ pub mod Held
 pub mod Room
 pub mod Law
 pub mod Relays
+pub mod Order
