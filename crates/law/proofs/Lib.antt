@@ -4,3 +4,5 @@ pub mod Room
 pub mod Law
 pub mod Relays
 pub mod Order
+pub mod Distinct
+pub mod Signature

@@ -3,3 +3,5 @@ pub mod Lists
 pub mod Table
 pub mod Claims
 pub mod Event
+pub mod Signature
+pub mod Machine
