@@ -6,3 +6,4 @@ pub mod Relays
 pub mod Order
 pub mod Distinct
 pub mod Signature
+pub mod Machine
