@@ -7,3 +7,4 @@ pub mod Order
 pub mod Distinct
 pub mod Signature
 pub mod Machine
+pub mod Cells

@@ -5,3 +5,4 @@ pub mod Claims
 pub mod Event
 pub mod Signature
 pub mod Machine
+pub mod Cells
