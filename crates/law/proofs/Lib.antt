@@ -8,3 +8,4 @@ pub mod Distinct
 pub mod Signature
 pub mod Machine
 pub mod Cells
+pub mod Wrong
