@@ -27,7 +27,10 @@ drop-sets-before n b i (x ∷ w) h = drop-sets-before n (set b i x) (suc i) w (o
 -- stores from byte n on are stores to the part that begins there
 pub drop-sets : (n : ℕ) (b : List ℕ) (i : ℕ) (w : List ℕ) → drop n (sets b (n + i) w) ≡ sets (drop n b) i w
 drop-sets n b i [] = refl
-drop-sets n b i (x ∷ w) = ap (λ k. drop n (sets (set b (n + i) x) k w)) (sym (add-suc n i)) ∙ drop-sets n (set b (n + i) x) (suc i) w ∙ ap (λ c. sets c (suc i) w) (drop-set-add n b i x)
+drop-sets n b i (x ∷ w) =
+    ap (λ k. drop n (sets (set b (n + i) x) k w)) (sym (add-suc n i))
+    ∙ drop-sets n (set b (n + i) x) (suc i) w
+    ∙ ap (λ c. sets c (suc i) w) (drop-set-add n b i x)
 
 module _ (size : ℕ) where
   -- ---- reading
@@ -64,7 +67,9 @@ module _ (size : ℕ) where
     pub cells-behind : (n : ℕ) (b : List ℕ) → suc n * size ≤ length b → cells size (suc n) (sets b (n * size) w) ≡ cells size n b ++ (w ∷ [])
     cells-behind zero b k =
         let e : 0 * size ≡ 0 = omega arith in
-        ap (λ j. take size (sets b j w) ∷ []) e ∙ ap (λ c. take size c ∷ []) (first-written b (omega arith)) ∙ ap (_∷ []) (take-at w (drop size b) size full)
+        ap (λ j. take size (sets b j w) ∷ []) e
+        ∙ ap (λ c. take size c ∷ []) (first-written b (omega arith))
+        ∙ ap (_∷ []) (take-at w (drop size b) size full)
     cells-behind (suc n) b k =
         let e : suc n * size ≡ size + n * size = omega arith in
         ap (λ j. cells size (suc (suc n)) (sets b j w)) e
@@ -84,8 +89,13 @@ module _ (size : ℕ) where
     stored-over n b k t =
         let xs = map read (cells size n b) in
         let i : find p xs < n = omega (arith, find-lt p xs t, length-map (cells size n b) read, length-cells n b) in
-        ap (map read) (cells-over w full n (find p xs) b i k) ∙ map-set (cells size n b) (find p xs) ∙ sym (store-over p (read w) xs t)
+        ap (map read) (cells-over w full n (find p xs) b i k)
+        ∙ map-set (cells size n b) (find p xs)
+        ∙ sym (store-over p (read w) xs t)
 
     pub stored-behind : (n : ℕ) (b : List ℕ) → suc n * size ≤ length b → T (not (any p (map read (cells size n b)))) →
         map read (cells size (suc n) (sets b (n * size) w)) ≡ store p (read w) (map read (cells size n b))
-    stored-behind n b k t = ap (map read) (cells-behind w full n b k) ∙ map-append read (cells size n b) (w ∷ []) ∙ sym (store-behind p (read w) (map read (cells size n b)) t)
+    stored-behind n b k t =
+        ap (map read) (cells-behind w full n b k)
+        ∙ map-append read (cells size n b) (w ∷ [])
+        ∙ sym (store-behind p (read w) (map read (cells size n b)) t)

@@ -8,8 +8,10 @@ use Prim.Native.Nat.{ℕ}
 use native.Mathlib.Omega.{arith}
 use lib.Dec.{T, T-not}
 use Rattle.law.specs.Lists.{_∈_, any, store, Once}
-use Rattle.law.specs.Table.{Class, ephemeral, regular, keyed, Events, Laws, isEphemeral, shareKey, isStored, firstOf, Table, Offer, hasId, hasKey, hasKeyNewer, Valid, IdPremise, WinsAs, Wins}
-use Rattle.law.proofs.Lists.{either, and-both, and-left, and-right, any-yes, any-no, store-in, store-keeps, store-from, store-pairwise, once-same}
+use Rattle.law.specs.Table.{Class, ephemeral, regular, keyed, Events, Laws, isEphemeral, shareKey, isStored, firstOf}
+use Rattle.law.specs.Table.{Table, Offer, hasId, hasKey, hasKeyNewer, Valid, IdPremise, WinsAs, Wins}
+use Rattle.law.proofs.Lists.{either, and-both, and-left, and-right, any-yes, any-no, once-same}
+use Rattle.law.proofs.Lists.{store-in, store-keeps, store-from, store-pairwise}
 
 -- where an event stands: a regular one at its id, one with a key at its key
 pub data Place (Id Key : Type 0) : Type 0 where
@@ -76,7 +78,10 @@ module _ (E : Events) (L : Laws E) where
     other-id x m q = any-no (hasId E e) m noId (id-eq (idOf x) (idOf e) .1 q)
 
     beats-replaced : (u : Event) → u ∈ t → T (hasKey E e u) → Beats e u
-    beats-replaced u m h = (sym (key-shares e u h), inr (⊎-elim (λ n. absurd (any-no (hasKeyNewer E e) m noNewer (and-both (hasKey E e u) (newer u e) h n))) (λ n. n) (total u e (other-id u m))))
+    beats-replaced u m h = (sym (key-shares e u h), inr (⊎-elim (λ n. absurd (not-newer n)) (λ n. n) (total u e (other-id u m))))
+      where
+        not-newer : T (newer u e) → ⊥
+        not-newer n = any-no (hasKeyNewer E e) m noNewer (and-both (hasKey E e u) (newer u e) h n)
 
     pub store-covers : (s : Event) → Covered s t → Covered s (store (hasKey E e) e t)
     store-covers s (u, m, b) = go (either (hasKey E e u))
@@ -86,7 +91,9 @@ module _ (E : Events) (L : Laws E) where
         go (inr h) = (u, store-keeps (hasKey E e) e m (T-not (hasKey E e u) h), b)
 
     store-once : Once place t → Once place (store (hasKey E e) e t)
-    store-once o = store-pairwise (hasKey E e) e (λ x y. place x ≢ place y) t (λ x y m k h ne q. ne (key-shares e x h ∙ q)) (λ x m nk p. ⊎-elim (other-id x m) nk (place-shares e x p)) o
+    store-once o = store-pairwise (hasKey E e) e (λ x y. place x ≢ place y) t
+        (λ x y m k h ne q. ne (key-shares e x h ∙ q))
+        (λ x m nk p. ⊎-elim (other-id x m) nk (place-shares e x p)) o
 
   -- ---- the invariant
 
@@ -104,12 +111,16 @@ module _ (E : Events) (L : Laws E) where
   valid-cases {s} {e} v = ⊎-elim (λ (q : some s ≡ some e). inl cc) (λ w. inr w) (List·Memᴰ·cases-cons v)
 
   pub valid-skip : {s : Event} {os : List (Offer E)} → Valid E s (none ∷ os) → Valid E s os
-  valid-skip {s} v = ⊎-elim (λ (q : some s ≡ none). let z : _≡_ {A = ℕ} 0 1 = cc in absurd (omega arith)) (λ w. w) (List·Memᴰ·cases-cons v)
+  valid-skip {s} v = ⊎-elim
+      (λ (q : some s ≡ none). let z : _≡_ {A = ℕ} 0 1 = cc in absurd (omega arith))
+      (λ w. w)
+      (List·Memᴰ·cases-cons v)
 
   -- an offer, and a list of offers, to a table that always has room
   abbrev pub put : Table E → Offer E → Table E
   put t none = t
-  put t (some e) = cond (isStored (firstOf (isEphemeral (classOf e)) (any (hasId E e) t) (any (hasKeyNewer E e) t) false)) (store (hasKey E e) e t) t
+  put t (some e) =
+      cond (isStored (firstOf (isEphemeral (classOf e)) (any (hasId E e) t) (any (hasKeyNewer E e) t) false)) (store (hasKey E e) e t) t
 
   abbrev pub puts : Table E → List (Offer E) → Table E
   puts t [] = t
@@ -117,7 +128,8 @@ module _ (E : Events) (L : Laws E) where
 
   module _ (S : Event → Type 0) (ids : (e f : Event) → S e → S f → idOf e ≡ idOf f → e ≡ f) where
     -- the next offer leaves the table as it is
-    keep : (e : Event) (rest : List (Offer E)) (t : Table E) → Right S (some e ∷ rest) t → (Lasting e → Covered e t) → Right S rest t
+    keep : (e : Event) (rest : List (Offer E)) (t : Table E) → Right S (some e ∷ rest) t → (Lasting e → Covered e t)
+        → Right S rest t
     keep e rest t r c = record {
       from = r .from;
       best = λ s ss st. ⊎-elim (λ v. ⊎-elim (λ q. inr (rw q (c (rw q at st)))) inl (valid-cases v)) inr (r .best s ss st);
@@ -125,13 +137,17 @@ module _ (E : Events) (L : Laws E) where
     }
 
     -- the next offer is stored
-    add : (e : Event) (rest : List (Offer E)) (t : Table E) → S e → Lasting e → T (not (any (hasId E e) t)) → T (not (any (hasKeyNewer E e) t))
+    add : (e : Event) (rest : List (Offer E)) (t : Table E) → S e → Lasting e
+        → T (not (any (hasId E e) t)) → T (not (any (hasKeyNewer E e) t))
         → Right S (some e ∷ rest) t → Right S rest (store (hasKey E e) e t)
     add e rest t se le noId noNewer r = record {
       from = λ x m. ⊎-elim (λ q. rw q (se, le)) (r .from x) (store-from (hasKey E e) e t m);
-      best = λ s ss st. ⊎-elim (λ v. ⊎-elim (λ q. inr (e, store-in (hasKey E e) e t, (ap place (sym q), inl (sym q)))) inl (valid-cases v)) (λ c. inr (store-covers e t noId noNewer s c)) (r .best s ss st);
+      best = λ s ss st. ⊎-elim (λ v. ⊎-elim (itself s) inl (valid-cases v)) (λ c. inr (store-covers e t noId noNewer s c)) (r .best s ss st);
       once = store-once e t noId noNewer (r .once);
     }
+      where
+        itself : (s : Event) → s ≡ e → Valid E s rest ⊎ Covered s (store (hasKey E e) e t)
+        itself s q = inr (e, store-in (hasKey E e) e t, (ap place (sym q), inl (sym q)))
 
     step : (e : Event) (rest : List (Offer E)) (t : Table E) → S e → Right S (some e ∷ rest) t → Right S rest (put t (some e))
     step e rest t se r = go (isEphemeral (classOf e)) (any (hasId E e) t) (any (hasKeyNewer E e) t) refl refl refl
@@ -145,17 +161,26 @@ module _ (E : Events) (L : Laws E) where
             keep e rest t r (λ st. (u, m, (ap place same, inl same)))
         go false false true p q n =
             let (u, m, h) = any-yes (hasKeyNewer E e) t (rw n tt) in
-            keep e rest t r (λ st. (u, m, (key-shares e u (and-left (hasKey E e u) (newer u e) h), inr (and-right (hasKey E e u) (newer u e) h))))
+            let beats : Beats u e = (key-shares e u (and-left (hasKey E e u) (newer u e) h), inr (and-right (hasKey E e u) (newer u e) h)) in
+            keep e rest t r (λ st. (u, m, beats))
         go false false false p q n = add e rest t se (rw p tt) (rw q tt) (rw n tt) r
 
     steps : (os : List (Offer E)) (t : Table E) → ((e : Event) → Valid E e os → S e) → Right S os t → Right S [] (puts t os)
     steps [] t sees r = r
-    steps (none ∷ os) t sees r = steps os t (λ e v. sees e (List·Memᴰ·tail v)) (record { from = r .from; best = λ s ss st. ⊎-elim (λ v. inl (valid-skip v)) inr (r .best s ss st); once = r .once })
+    steps (none ∷ os) t sees r = steps os t (λ e v. sees e (List·Memᴰ·tail v)) (record {
+      from = r .from;
+      best = λ s ss st. ⊎-elim (λ v. inl (valid-skip v)) inr (r .best s ss st);
+      once = r .once;
+    })
     steps (some e ∷ os) t sees r = steps os (put t (some e)) (λ f v. sees f (List·Memᴰ·tail v)) (step e os t (sees e (List·Memᴰ·head refl)) r)
 
   -- a list of offers to a fresh table leaves a table that is right for its valid events
   pub right : (os : List (Offer E)) → IdPremise E os → Right (λ e. Valid E e os) [] (puts [] os)
-  right os ids = steps (λ e. Valid E e os) ids os [] (λ e v. v) (record { from = λ e m. absurd (List·Memᴰ·not-nil m); best = λ s ss st. inl ss; once = tt })
+  right os ids = steps (λ e. Valid E e os) ids os [] (λ e v. v) (record {
+    from = λ e m. absurd (List·Memᴰ·not-nil m);
+    best = λ s ss st. inl ss;
+    once = tt;
+  })
 
   -- ---- what is held
 
@@ -187,14 +212,20 @@ module _ (E : Events) (L : Laws E) where
             ⊎-elim (λ w. absurd (ne (sym w ∙ same))) (λ n. rw same at n) b
 
     -- a winner is not beaten by another event that is held
-    unbeaten : (e u : Event) → Valid E e os → (c : Class Key) → classOf e ≡ c → WinsAs E c e os → u ∈ t → T (hasKey E e u) → T (newer u e) → ⊥
+    unbeaten : (e u : Event) → Valid E e os → (c : Class Key) → classOf e ≡ c → WinsAs E c e os
+        → u ∈ t → T (hasKey E e u) → T (newer u e) → ⊥
     unbeaten e u v ephemeral p w m k n = w
     unbeaten e u v regular p w m k n = regular-no-key (classOf u) (rw p at k)
-    unbeaten e u v (keyed x) p w m k n = irreflexive u (transitive u e u n (w u (r .from u m .0) (key-keyed (classOf u) x (rw p at k)) (λ i. irreflexive u (rw (← i) at n))))
+    unbeaten e u v (keyed x) p w m k n =
+        let back : T (newer e u) = w u (r .from u m .0) (key-keyed (classOf u) x (rw p at k)) (λ i. irreflexive u (rw (← i) at n)) in
+        irreflexive u (transitive u e u n back)
 
     pub wins-held : (e : Event) → Wins E e os → e ∈ t
     wins-held e (v, w) = go (covers r e v (wins-lasts (classOf e) e os w))
       where
         go : Covered e t → e ∈ t
         go (u, m, (q, inl i)) = Memᴰ·cast (sym i) m
-        go (u, m, (q, inr n)) = ⊎-elim (λ i. Memᴰ·cast (sym (ids u e (r .from u m .0) v i)) m) (λ k. absurd (unbeaten e u v (classOf e) refl w m k n)) (place-shares e u q)
+        go (u, m, (q, inr n)) = ⊎-elim
+            (λ i. Memᴰ·cast (sym (ids u e (r .from u m .0) v i)) m)
+            (λ k. absurd (unbeaten e u v (classOf e) refl w m k n))
+            (place-shares e u q)

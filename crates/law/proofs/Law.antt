@@ -6,7 +6,8 @@ use Prim.Native.Nat.{ℕ, _≤_, _<_}
 use native.Mathlib.Omega.{arith}
 use lib.ListN.{length}
 use Rattle.law.specs.Lists.{_∈_}
-use Rattle.law.specs.Table.{Class, ephemeral, regular, keyed, Events, Laws, Table, Offer, run, NoneLacks, Valid, IdPremise, WinsAs, Wins, SameHeld, slotsNeeded}
+use Rattle.law.specs.Table.{Class, ephemeral, regular, keyed, Events, Laws, Table, Offer, run, NoneLacks}
+use Rattle.law.specs.Table.{Valid, IdPremise, WinsAs, Wins, SameHeld, slotsNeeded}
 use Rattle.law.specs.Claims.{Settled, HeldSet, Beginnings, OrderFree, RoomLaw, Enough, EnoughLaw}
 use Rattle.law.proofs.Lists.{once-weaker}
 use Rattle.law.proofs.Held.{place, beats-trans, Lasting, Covered, Right, covers, puts, right, held-wins, wins-held}
@@ -29,7 +30,8 @@ module _ (E : Events) (L : Laws E) where
   pub ids-among : {os ps : List (Offer E)} → ((e : Event) → Valid E e os → Valid E e ps) → IdPremise E ps → IdPremise E os
   ids-among sub ids e f ve vf q = ids e f (sub e ve) (sub f vf) q
 
-  pub wins-among : {os ps : List (Offer E)} → ((e : Event) → Valid E e os → Valid E e ps) → (e : Event) → Valid E e os → Wins E e ps → Wins E e os
+  pub wins-among : {os ps : List (Offer E)} → ((e : Event) → Valid E e os → Valid E e ps)
+      → (e : Event) → Valid E e os → Wins E e ps → Wins E e os
   wins-among {os} {ps} sub e v (_, w) = (v, go (classOf e) w)
     where
       go : (c : Class Key) → WinsAs E c e ps → WinsAs E c e os
@@ -65,7 +67,9 @@ module _ (E : Events) (L : Laws E) where
   held-set N os ids fit = enough-law N os os ids (enough-itself os) fit
 
   pub beginning-fits : (N : ℕ) (os ps : List (Offer E)) → NoneLacks E N (os ++ ps) → NoneLacks E N os
-  beginning-fits N os ps fit = short-fits E L N os (omega (arith, fits-run E L N (os ++ ps) fit .1, puts-grow E L ps (puts E L [] os), ap length (puts-append E L os ps [])))
+  beginning-fits N os ps fit =
+      let grown = puts-grow E L ps (puts E L [] os) in
+      short-fits E L N os (omega (arith, fits-run E L N (os ++ ps) fit .1, grown, ap length (puts-append E L os ps [])))
 
   pub beginnings : Beginnings E
   beginnings N os ps ids fit = held-set N os (ids-among (λ e v. Memᴰ·append-left ps v) ids) (beginning-fits N os ps fit)

@@ -4,8 +4,9 @@ pub mod Room
 pub mod Law
 pub mod Relays
 pub mod Order
-pub mod Distinct
+pub mod Sound
 pub mod Signature
 pub mod Machine
 pub mod Cells
-pub mod Wrong
+pub mod WrongRelays
+pub mod Examples

@@ -127,7 +127,8 @@ module _ {A : Type 0} (p : A → Bool) where
         → ((x : A) → x ∈ xs → (T (p x) → ⊥) → R x a)
         → Pairwise R xs → Pairwise R (store p a xs)
     store-pairwise R [] takes left o = (λ y m. absurd (List·Memᴰ·not-nil m), tt)
-    store-pairwise R (x ∷ xs) takes left o = go (p x) refl (store-pairwise R xs (λ y z m k. takes y z (List·Memᴰ·tail m) (List·Memᴰ·tail k)) (λ y m. left y (List·Memᴰ·tail m)) (o .1))
+    store-pairwise R (x ∷ xs) takes left o =
+        go (p x) refl (store-pairwise R xs (λ y z m k. takes y z (List·Memᴰ·tail m) (List·Memᴰ·tail k)) (λ y m. left y (List·Memᴰ·tail m)) (o .1))
       where
         go : (b : Bool) → p x ≡ b → Pairwise R (store p a xs) → Pairwise R (cond b (a ∷ xs) (x ∷ store p a xs))
         go true e h = (λ y m. takes x y (List·Memᴰ·head refl) (List·Memᴰ·tail m) (rw e tt) (o .0 y m), o .1)
@@ -153,8 +154,10 @@ module _ {A : Type 0} (p : A → Bool) where
 
 module _ {A B : Type 0} (f : A → B) where
   pub once-same : {x y : A} {xs : List A} → Once f xs → x ∈ xs → y ∈ xs → f x ≡ f y → x ≡ y
-  once-same {y} o (List·Memᴰ·head e) k p = ⊎-elim (λ q. e ∙ sym q) (λ j. absurd (o .0 y j (ap f (sym e) ∙ p))) (List·Memᴰ·cases-cons k)
-  once-same {x} o (List·Memᴰ·tail m) k p = ⊎-elim (λ q. absurd (o .0 x m (ap f (sym q) ∙ sym p))) (λ j. once-same (o .1) m j p) (List·Memᴰ·cases-cons k)
+  once-same {y} o (List·Memᴰ·head e) k p =
+      ⊎-elim (λ q. e ∙ sym q) (λ j. absurd (o .0 y j (ap f (sym e) ∙ p))) (List·Memᴰ·cases-cons k)
+  once-same {x} o (List·Memᴰ·tail m) k p =
+      ⊎-elim (λ q. absurd (o .0 x m (ap f (sym q) ∙ sym p))) (λ j. once-same (o .1) m j p) (List·Memᴰ·cases-cons k)
 
   pub once-weaker : (xs : List A) → Once f xs → Once (λ (x : A). x) xs
   once-weaker [] o = tt
@@ -174,12 +177,14 @@ module _ {A : Type 0} where
   without-from : {x y : A} {xs : List A} (m : x ∈ xs) → y ∈ without m → y ∈ xs
   unfolding without
   without-from (List·Memᴰ·head e) k = List·Memᴰ·tail k
-  without-from (List·Memᴰ·tail m) k = ⊎-elim (λ e. List·Memᴰ·head e) (λ j. List·Memᴰ·tail (without-from m j)) (List·Memᴰ·cases-cons k)
+  without-from (List·Memᴰ·tail m) k =
+      ⊎-elim (λ e. List·Memᴰ·head e) (λ j. List·Memᴰ·tail (without-from m j)) (List·Memᴰ·cases-cons k)
 
   without-keeps : {x y : A} {xs : List A} (m : x ∈ xs) → y ∈ xs → y ≢ x → y ∈ without m
   unfolding without
   without-keeps (List·Memᴰ·head e) k ne = ⊎-elim (λ q. absurd (ne (q ∙ sym e))) (λ j. j) (List·Memᴰ·cases-cons k)
-  without-keeps (List·Memᴰ·tail m) k ne = ⊎-elim (λ q. List·Memᴰ·head q) (λ j. List·Memᴰ·tail (without-keeps m j ne)) (List·Memᴰ·cases-cons k)
+  without-keeps (List·Memᴰ·tail m) k ne =
+      ⊎-elim (λ q. List·Memᴰ·head q) (λ j. List·Memᴰ·tail (without-keeps m j ne)) (List·Memᴰ·cases-cons k)
 
   module _ {B : Type 0} (f : A → B) where
     without-once : {x : A} {xs : List A} (m : x ∈ xs) → Once f xs → Once f (without m)
@@ -190,7 +195,8 @@ module _ {A : Type 0} where
     without-other : {x : A} {xs : List A} (m : x ∈ xs) → Once f xs → (y : A) → y ∈ without m → f y ≢ f x
     unfolding without
     without-other (List·Memᴰ·head e) o y k q = o .0 y k (ap f (sym e) ∙ sym q)
-    without-other (List·Memᴰ·tail m) o y k q = ⊎-elim (λ e. o .0 _ m (ap f (sym e) ∙ q)) (λ j. without-other m (o .1) y j q) (List·Memᴰ·cases-cons k)
+    without-other (List·Memᴰ·tail m) o y k q =
+        ⊎-elim (λ e. o .0 _ m (ap f (sym e) ∙ q)) (λ j. without-other m (o .1) y j q) (List·Memᴰ·cases-cons k)
 
 -- ---- the count of different entries
 

@@ -11,7 +11,7 @@ use Rattle.law.specs.Lists.{_∈_}
 use Rattle.law.specs.Table.{Events, Laws, isNoRoom, Offer, verdict, after, run, verdicts, lacks, NoneLacks, Valid, IdPremise, Held}
 use Rattle.law.specs.Claims.{Settled, Relay, told, whole, moment, end, Tells, Exchange, both, Fits}
 use Rattle.law.specs.Signature.{Slot, signed, event, unsigned}
-use Rattle.law.specs.Machine.{Machine, Faithful, Fresh, view, judged, runOn, answersOn, lacksOn, NoneLacksOn, HeldSetOn, BeginningsOn, OrderFreeOn, RoomLawOn, EnoughLawOn, SignatureStaysOn, RelayOn, toldOn, momentOn, endOn, FitsOn, TellsOn, ExchangeOn, bothOn, RelaysAgreeOn, RelaysFitOn}
+use Rattle.law.specs.Machine.{Machine, Faithful, Passes, Fresh, view, judged, runOn, answersOn, lacksOn, NoneLacksOn, HeldSetOn, BeginningsOn, OrderFreeOn, RoomLawOn, EnoughLawOn, SignatureStaysOn, RelayOn, toldOn, momentOn, endOn, FitsOn, TellsOn, ExchangeOn, bothOn, RelaysAgreeOn, RelaysFitOn}
 use Rattle.law.proofs.Law.{held-set, beginnings, order-free, room-law, enough-law}
 use Rattle.law.proofs.Relays.{relays-agree, relays-fit}
 use Rattle.law.proofs.Signature.{run-event, lacks-event, signature-stays}
@@ -74,8 +74,9 @@ module _ (E : Events) (Sig : Type 0) (M : Machine E Sig) (F : Faithful E Sig M) 
     pub room-law-on : RoomLawOn E Sig M
     room-law-on b os f ids = rw (lacks-is b os f) (room-law E L (capacity b) (judged E Sig M os) ids)
 
-    -- ---- two relays
+  -- ---- two relays
 
+  module _ (L : Laws E) (P : Passes E Sig M) where
     abbrev relay : RelayOn E Sig M → Relay E
     relay A = record {
       capacity = capacity (A .table);
@@ -111,7 +112,7 @@ module _ (E : Events) (Sig : Type 0) (M : Machine E Sig) (F : Faithful E Sig M) 
         os = toldOn E Sig M A
 
         passes : (o : Offering) (s : Slot E Sig) → s ∈ slots b → AsParts o s → judge o ≡ some s
-        passes o s m p = F .passes b o s (good-run (B .history ++ B .early) (B .table) (B .fresh .good)) m p
+        passes o s m p = P b o s (good-run (B .history ++ B .early) (B .table) (B .fresh .good)) m p
 
         valid-held : Valid E e (judged E Sig M os) → Held E e (view E Sig M b)
         valid-held v =

@@ -10,7 +10,7 @@ use lib.ListN.{length, length-map}
 use Rattle.law.specs.Lists.{_∈_, any, store}
 use Rattle.law.specs.Table.{Events, Laws, isNoRoom, isStored, firstOf, isEphemeral, Table, Offer, hasId, hasKey, hasKeyNewer, verdict, after, run, verdicts, lacks}
 use Rattle.law.specs.Signature.{Slot, signed, event, unsigned, SignatureStays}
-use Rattle.law.proofs.Distinct.{later-beats}
+use Rattle.law.proofs.Sound.{later-beats}
 
 module _ {A B : Type 0} (f : A → B) where
   any-map : (p : B → Bool) (xs : List A) → any p (map f xs) ≡ any (λ x. p (f x)) xs

@@ -34,13 +34,16 @@ pub record Machine (E : Events) (Sig : Type 0) : Type 1 where
 module _ (E : Events) (Sig : Type 0) (M : Machine E Sig) where
   open Machine M using (State, Offering, Answer, answer, next, verdictOf, capacity, slots, judge, AsParts, Good)
 
-  -- One offer does what the definition says. A slot that is held passes rows 1 to 10 when it is offered as parts.
+  -- one offer does what the definition says
   pub record Faithful : Type 0 where
     pub good : (b : State) (o : Offering) → Good b → Good (next b o)
     pub keeps : (b : State) (o : Offering) → Good b → capacity (next b o) ≡ capacity b
     pub says : (b : State) (o : Offering) → Good b → verdictOf (answer b o) ≡ verdict (signed E Sig) (capacity b) (slots b) (judge o)
     pub does : (b : State) (o : Offering) → Good b → slots (next b o) ≡ after (signed E Sig) (capacity b) (slots b) (judge o)
-    pub passes : (b : State) (o : Offering) (s : Slot E Sig) → Good b → s ∈ slots b → AsParts o s → judge o ≡ some s
+
+  -- a held slot that is offered as parts passes rows 1 to 10 again
+  abbrev pub Passes : Type 0
+  Passes = (b : State) (o : Offering) (s : Slot E Sig) → Good b → s ∈ slots b → AsParts o s → judge o ≡ some s
 
   -- 01: "A fresh table is one just formatted .. its C is 0."
   pub record Fresh (b : State) : Type 0 where
