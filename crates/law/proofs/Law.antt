@@ -1,16 +1,15 @@
 -- The claims of demand 3 on one list of offers.
-use mathlib.Core.Path.{_≡_, refl, sym, ap, _∙_}
-use mathlib.Core.Logic.{_↔_, inl, inr, ⊎-elim}
-use mathlib.Core.List.{List, [], _∷_, _++_, Memᴰ·append-left}
-use Prim.Native.Nat.{ℕ, _≤_, _<_}
+use mathlib.Core.Path.{_≡_, sym, ap, _∙_}
+use mathlib.Core.Logic.{inr}
+use mathlib.Core.List.{List, [], _++_, Memᴰ·append-left}
+use Prim.Native.Nat.{ℕ}
 use native.Mathlib.Omega.{arith}
 use lib.ListN.{length}
-use Rattle.law.specs.Lists.{_∈_}
 use Rattle.law.specs.Table.{Class, ephemeral, regular, keyed, Events, Laws, Table, Offer, run, NoneLacks}
 use Rattle.law.specs.Table.{Valid, IdPremise, WinsAs, Wins, SameHeld, slotsNeeded}
 use Rattle.law.specs.Claims.{Settled, HeldSet, Beginnings, OrderFree, RoomLaw, Enough, EnoughLaw}
 use Rattle.law.proofs.Lists.{once-weaker}
-use Rattle.law.proofs.Held.{place, beats-trans, Lasting, Covered, Right, covers, puts, right, held-wins, wins-held}
+use Rattle.law.proofs.Held.{place, beats-trans, Right, covers, puts, right, held-wins, wins-held}
 use Rattle.law.proofs.Room.{puts-grow, puts-append, lacks-long, fits-run, short-fits, right-count, puts-count}
 
 module _ (E : Events) (L : Laws E) where

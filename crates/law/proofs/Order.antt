@@ -1,9 +1,9 @@
 -- The tests on bytes, keys and events mean equality and a strict order.
 use mathlib.Core.Path.{_≡_, refl, sym, ap, _∙_}
-use mathlib.Core.Bool.{Bool, true, false, not, _||_, _&&_}
+use mathlib.Core.Bool.{Bool, not, _||_, _&&_}
 use mathlib.Core.Logic.{_↔_, _⊎_, inl, inr, ⊎-elim, _≢_}
 use mathlib.Core.List.{List, [], _∷_}
-use Prim.Native.Nat.{ℕ, _≤_, _<_}
+use Prim.Native.Nat.{ℕ}
 use native.Mathlib.Omega.{arith}
 use lib.Dec.{T, T-not, not-T, eqb, eqb→eq, eqb-refl, ltb, ltb→lt, lt→ltb, nltb→le}
 use lib.IntN.{ℤ, pos, negsuc}
@@ -35,16 +35,19 @@ module _ {A : Type 0} (lt : A → A → Bool) (o : Strict lt) where
   lexical a b r = lt a b || (not (lt b a) && r)
 
   pub lexical-cases : (a b : A) (r : Bool) → T (lexical a b r) → T (lt a b) ⊎ ((a ≡ b) × T r)
-  lexical-cases a b r t = ⊎-elim inl (λ u. ⊎-elim inl (λ s. inr (same u s, and-right (not (lt b a)) r u)) (o .total a b)) (or-cases (lt a b) (not (lt b a) && r) t)
+  lexical-cases a b r t = ⊎-elim inl (λ u. go u (o .total a b)) (or-cases (lt a b) (not (lt b a) && r) t)
     where
-      same : T (not (lt b a) && r) → (a ≡ b) ⊎ T (lt b a) → a ≡ b
-      same u s = ⊎-elim (λ q. q) (λ l. absurd (T-not (lt b a) (and-left (not (lt b a)) r u) l)) s
+      go : T (not (lt b a) && r) → T (lt a b) ⊎ ((a ≡ b) ⊎ T (lt b a)) → T (lt a b) ⊎ ((a ≡ b) × T r)
+      go u (inl l) = inl l
+      go u (inr (inl q)) = inr (q, and-right (not (lt b a)) r u)
+      go u (inr (inr l)) = absurd (T-not (lt b a) (and-left (not (lt b a)) r u) l)
 
   pub lexical-first : (a b : A) (r : Bool) → T (lt a b) → T (lexical a b r)
   lexical-first a b r t = or-left (lt a b) (not (lt b a) && r) t
 
   pub lexical-then : (a b : A) (r : Bool) → a ≡ b → T r → T (lexical a b r)
-  lexical-then a b r q t = or-right (lt a b) (not (lt b a) && r) (and-both (not (lt b a)) r (not-T (lt b a) (λ l. o .irreflexive b (rw q at l))) t)
+  lexical-then a b r q t =
+      or-right (lt a b) (not (lt b a) && r) (and-both (not (lt b a)) r (not-T (lt b a) (λ l. o .irreflexive b (rw q at l))) t)
 
   pub lexical-trans : (a b c : A) (r s u : Bool) → (T r → T s → T u) → T (lexical a b r) → T (lexical b c s) → T (lexical a c u)
   lexical-trans a b c r s u k p q = go (lexical-cases a b r p) (lexical-cases b c s q)
@@ -59,8 +62,13 @@ strict-ℕ : Strict ltb
 strict-ℕ = record {
   irreflexive = λ a t. omega (arith, ltb→lt a a t);
   transitive = λ a b c t u. lt→ltb a c (omega (arith, ltb→lt a b t, ltb→lt b c u));
-  total = λ a b. ⊎-elim inl (λ n. inr (⊎-elim (λ t. inr t) (λ m. inl (omega (arith, nltb→le a b n, nltb→le b a m))) (either (ltb b a)))) (either (ltb a b));
+  total = λ a b. go a b (either (ltb a b)) (either (ltb b a));
 }
+  where
+    go : (a b : ℕ) → T (ltb a b) ⊎ T (not (ltb a b)) → T (ltb b a) ⊎ T (not (ltb b a)) → T (ltb a b) ⊎ ((a ≡ b) ⊎ T (ltb b a))
+    go a b (inl t) u = inl t
+    go a b (inr n) (inl t) = inr (inr t)
+    go a b (inr n) (inr m) = inr (inl (omega (arith, nltb→le a b n, nltb→le b a m)))
 
 pub strict-times : Strict earlier
 strict-times = record { irreflexive = irr; transitive = trans; total = tri }
@@ -140,30 +148,48 @@ pub same-key : (a b : Key) → T (sameKey a b) ↔ (a ≡ b)
 same-key a b = (to, λ q. rw q (self b))
   where
     to : T (sameKey a b) → a ≡ b
-    to t =
-        let r = and-right (eqb (a .kind) (b .kind)) (sameBytes (a .pubkey) (b .pubkey) && sameBytes (a .d) (b .d)) t in
-        let p = eqb→eq (a .kind) (b .kind) (and-left (eqb (a .kind) (b .kind)) (sameBytes (a .pubkey) (b .pubkey) && sameBytes (a .d) (b .d)) t) in
-        let q = same-bytes (a .pubkey) (b .pubkey) .0 (and-left (sameBytes (a .pubkey) (b .pubkey)) (sameBytes (a .d) (b .d)) r) in
-        let s = same-bytes (a .d) (b .d) .0 (and-right (sameBytes (a .pubkey) (b .pubkey)) (sameBytes (a .d) (b .d)) r) in
-        λ i. record { kind = p i; pubkey = q i; d = s i }
+    to t = go (eqb (a .kind) (b .kind)) (sameBytes (a .pubkey) (b .pubkey)) (sameBytes (a .d) (b .d))
+        (eqb→eq (a .kind) (b .kind)) (same-bytes (a .pubkey) (b .pubkey) .0) (same-bytes (a .d) (b .d) .0) t
+      where
+        go : (x y z : Bool) → (T x → a .kind ≡ b .kind) → (T y → a .pubkey ≡ b .pubkey) → (T z → a .d ≡ b .d) → T (x && (y && z)) → a ≡ b
+        go x y z k p d t =
+            let u = and-right x (y && z) t in
+            λ i. record { kind = k (and-left x (y && z) t) i; pubkey = p (and-left y z u) i; d = d (and-right y z u) i }
 
     self : (k : Key) → T (sameKey k k)
-    self k = and-both (eqb (k .kind) (k .kind)) _ (eqb-refl (k .kind)) (and-both (sameBytes (k .pubkey) (k .pubkey)) _ (same-bytes (k .pubkey) (k .pubkey) .1 refl) (same-bytes (k .d) (k .d) .1 refl))
+    self k =
+        let p = same-bytes (k .pubkey) (k .pubkey) .1 refl in
+        let d = same-bytes (k .d) (k .d) .1 refl in
+        and-both (eqb (k .kind) (k .kind)) _ (eqb-refl (k .kind)) (and-both (sameBytes (k .pubkey) (k .pubkey)) _ p d)
 
 -- ---- newer
 
 module _ (time : List ℕ → ℤ) where
+  abbrev timeOf : Event → ℤ
+  timeOf e = time (e .text)
+
   -- later, or of one time and of lower id
-  pub newer-means : (e f : Event) → T (newer time e f) ↔ (T (earlier (time (f .text)) (time (e .text))) ⊎ ((time (f .text) ≡ time (e .text)) × T (lower (e .id) (f .id))))
+  pub newer-means : (e f : Event) →
+      T (newer time e f) ↔ (T (earlier (time (f .text)) (time (e .text))) ⊎ ((time (f .text) ≡ time (e .text)) × T (lower (e .id) (f .id))))
   newer-means e f = (
-    lexical-cases earlier strict-times (time (f .text)) (time (e .text)) (lower (e .id) (f .id)),
-    ⊎-elim (lexical-first earlier strict-times (time (f .text)) (time (e .text)) (lower (e .id) (f .id))) (λ p. lexical-then earlier strict-times (time (f .text)) (time (e .text)) (lower (e .id) (f .id)) (p .0) (p .1)),
+    lexical-cases earlier strict-times (timeOf f) (timeOf e) (lower (e .id) (f .id)),
+    ⊎-elim
+        (lexical-first earlier strict-times (timeOf f) (timeOf e) (lower (e .id) (f .id)))
+        (λ p. lexical-then earlier strict-times (timeOf f) (timeOf e) (lower (e .id) (f .id)) (p .0) (p .1)),
   )
 
+  newer-irreflexive : (a : Event) → T (newer time a a) → ⊥
+  newer-irreflexive a t = ⊎-elim (strict-times .irreflexive (timeOf a)) (λ p. strict-bytes .irreflexive (a .id) (p .1)) (newer-means a a .0 t)
+
+  newer-transitive : (a b c : Event) → T (newer time a b) → T (newer time b c) → T (newer time a c)
+  newer-transitive a b c t u =
+      lexical-trans earlier strict-times (timeOf c) (timeOf b) (timeOf a) (lower (b .id) (c .id)) (lower (a .id) (b .id)) (lower (a .id) (c .id))
+      (λ x y. strict-bytes .transitive (a .id) (b .id) (c .id) y x) u t
+
   newer-total : (a b : Event) → a .id ≢ b .id → T (newer time a b) ⊎ T (newer time b a)
-  newer-total a b ne = go (strict-times .total (time (b .text)) (time (a .text))) (strict-bytes .total (a .id) (b .id))
+  newer-total a b ne = go (strict-times .total (timeOf b) (timeOf a)) (strict-bytes .total (a .id) (b .id))
     where
-      go : T (earlier (time (b .text)) (time (a .text))) ⊎ ((time (b .text) ≡ time (a .text)) ⊎ T (earlier (time (a .text)) (time (b .text))))
+      go : T (earlier (timeOf b) (timeOf a)) ⊎ ((timeOf b ≡ timeOf a) ⊎ T (earlier (timeOf a) (timeOf b)))
           → T (lower (a .id) (b .id)) ⊎ ((a .id ≡ b .id) ⊎ T (lower (b .id) (a .id))) → T (newer time a b) ⊎ T (newer time b a)
       go (inl t) r = inl (newer-means a b .1 (inl t))
       go (inr (inr t)) r = inr (newer-means b a .1 (inl t))
@@ -175,7 +201,7 @@ pub laws : (class : List ℕ → Class Key) (time : List ℕ → ℤ) → Laws (
 laws class time = record {
   id-eq = same-bytes;
   key-eq = same-key;
-  irreflexive = λ a t. ⊎-elim (strict-times .irreflexive (time (a .text))) (λ p. strict-bytes .irreflexive (a .id) (p .1)) (newer-means time a a .0 t);
-  transitive = λ a b c t u. lexical-trans earlier strict-times (time (c .text)) (time (b .text)) (time (a .text)) (lower (b .id) (c .id)) (lower (a .id) (b .id)) (lower (a .id) (c .id)) (λ x y. strict-bytes .transitive (a .id) (b .id) (c .id) y x) u t;
+  irreflexive = newer-irreflexive time;
+  transitive = newer-transitive time;
   total = newer-total time;
 }

@@ -1,15 +1,14 @@
 -- The claims of demand 3 on two relays.
-use mathlib.Core.Path.{_≡_, refl, sym, ap, _∙_}
+use mathlib.Core.Path.{_≡_, ap, _∙_}
 use mathlib.Core.Logic.{_↔_, _⊎_, inl, inr, ⊎-elim, ⊎-swap}
-use mathlib.Core.List.{List, [], _∷_, _++_, append-nil, append-assoc, List·Memᴰ·append-cases, Memᴰ·append-left, Memᴰ·append-right}
+use mathlib.Core.List.{List, [], _++_, append-nil, append-assoc, List·Memᴰ·append-cases, Memᴰ·append-left, Memᴰ·append-right}
 use Prim.Native.Nat.{ℕ, _≤_}
 use native.Mathlib.Omega.{arith}
 use lib.ListN.{length}
-use Rattle.law.specs.Lists.{_∈_}
-use Rattle.law.specs.Table.{Events, Laws, Table, Offer, run, NoneLacks, Valid, IdPremise, Held, Wins, SameHeld, slotsNeeded}
+use Rattle.law.specs.Table.{Events, Laws, Offer, run, NoneLacks, Valid, IdPremise, Held, slotsNeeded}
 use Rattle.law.specs.Claims.{Settled, Enough, Relay, told, whole, moment, end, Tells, Exchange, both, Fits, RelaysAgree, RelaysFit}
 use Rattle.law.proofs.Held.{puts}
-use Rattle.law.proofs.Room.{puts-grow, puts-append, fits-run, short-fits, puts-count}
+use Rattle.law.proofs.Room.{puts-grow, puts-append, fits-run, short-fits}
 use Rattle.law.proofs.Law.{settled-same, ids-among, wins-among, enough-count, enough-law, held-set, beginning-fits}
 
 module _ (E : Events) (L : Laws E) where
@@ -24,7 +23,10 @@ module _ (E : Events) (L : Laws E) where
       let s = held-set E L M os (ids-among E L osub ids) fit in
       record {
         among = λ e v. ⊎-elim (gsub e) (λ z. osub e (s .held e .0 (held e .0 z) .0)) (List·Memᴰ·append-cases gs v);
-        winners = λ e w. ⊎-elim (λ g. Memᴰ·append-left zs g) (λ o. Memᴰ·append-right gs (held e .1 (s .held e .1 (wins-among E L osub e o w)))) (parts e (w .0));
+        winners = λ e w. ⊎-elim
+            (λ g. Memᴰ·append-left zs g)
+            (λ o. Memᴰ·append-right gs (held e .1 (s .held e .1 (wins-among E L osub e o w))))
+            (parts e (w .0));
       }
 
   -- A tells at its history's end, early or late in B's list
@@ -39,13 +41,18 @@ module _ (E : Events) (L : Laws E) where
     to-B′ e = rw at-history at (to-B e)
 
     enough-B : NoneLacks E (A .capacity) (A .history) → Enough E (whole E B) all
-    enough-B fit = told-enough (A .capacity) (B .history) (told E B) (A .history) all ids fit bsub asub (λ e v. ⊎-swap (parts e v)) to-B′
+    enough-B fit = told-enough (A .capacity) (B .history) (told E B) (A .history) all ids fit
+        bsub asub (λ e v. ⊎-swap (parts e v)) to-B′
 
     early-sub : NoneLacks E (A .capacity) (A .history) → (e : Event) → Valid E e (B .history ++ B .early) → Valid E e all
-    early-sub fit e v = ⊎-elim (bsub e) (λ z. enough-B fit .among e (Memᴰ·append-right (B .history) (Memᴰ·append-left (B .late) z))) (List·Memᴰ·append-cases (B .history) v)
+    early-sub fit e v = ⊎-elim
+        (bsub e)
+        (λ z. enough-B fit .among e (Memᴰ·append-right (B .history) (Memᴰ·append-left (B .late) z)))
+        (List·Memᴰ·append-cases (B .history) v)
 
     enough-A : NoneLacks E (A .capacity) (A .history) → NoneLacks E (B .capacity) (B .history ++ B .early) → Enough E (whole E A) all
-    enough-A fit fit′ = told-enough (B .capacity) (A .history) (told E A) (B .history ++ B .early) all ids fit′ asub (early-sub fit)
+    enough-A fit fit′ = told-enough (B .capacity) (A .history) (told E A) (B .history ++ B .early) all ids fit′
+        asub (early-sub fit)
         (λ e v. ⊎-elim inl (λ b. inr (Memᴰ·append-left (B .early) b)) (parts e v)) to-A
 
     moment-fits : Fits E B → NoneLacks E (B .capacity) (B .history ++ B .early)
@@ -58,14 +65,19 @@ module _ (E : Events) (L : Laws E) where
           enough-law E L (B .capacity) (whole E B) all ids (enough-B past) fit′,
         )
 
-    fit-both : slotsNeeded E all ≤ A .capacity → slotsNeeded E all ≤ B .capacity → length (puts E L [] (A .history)) ≤ slotsNeeded E all → Fits E A × Fits E B
+    fit-both : slotsNeeded E all ≤ A .capacity → slotsNeeded E all ≤ B .capacity → length (puts E L [] (A .history)) ≤ slotsNeeded E all
+        → Fits E A × Fits E B
     fit-both le le′ few =
         let past = short-fits E L (A .capacity) (A .history) (omega arith) in
-        let fit′ : Fits E B = short-fits E L (B .capacity) (whole E B) (omega (arith, enough-count E L (whole E B) all ids (enough-B past))) in
-        (short-fits E L (A .capacity) (whole E A) (omega (arith, enough-count E L (whole E A) all ids (enough-A past (moment-fits fit′)))), fit′)
+        let needB = enough-count E L (whole E B) all ids (enough-B past) in
+        let fitB : Fits E B = short-fits E L (B .capacity) (whole E B) (omega (arith, needB)) in
+        let needA = enough-count E L (whole E A) all ids (enough-A past (moment-fits fitB)) in
+        (short-fits E L (A .capacity) (whole E A) (omega (arith, needA)), fitB)
 
   history-few : (os ps all : List (Offer E)) → IdPremise E all → Enough E (os ++ ps) all → length (puts E L [] os) ≤ slotsNeeded E all
-  history-few os ps all ids n = omega (arith, enough-count E L (os ++ ps) all ids n, puts-grow E L ps (puts E L [] os), ap length (puts-append E L os ps []))
+  history-few os ps all ids n =
+      let grown = puts-grow E L ps (puts E L [] os) in
+      omega (arith, enough-count E L (os ++ ps) all ids n, grown, ap length (puts-append E L os ps []))
 
   module _ (A B : Relay E) (x : Exchange E A B) (ids : IdPremise E (both E A B)) where
     asub : (e : Event) → Valid E e (A .history) → Valid E e (both E A B)
@@ -80,7 +92,9 @@ module _ (E : Events) (L : Laws E) where
     settled-both : Fits E A → Fits E B → Settled E (end E A) (both E A B) × Settled E (end E B) (both E A B)
     settled-both fit fit′ = ⊎-elim
         (λ p. agree A B (both E A B) ids asub bsub parts (x .to-A) (x .to-B) p fit fit′)
-        (λ p. let s = agree B A (both E A B) ids bsub asub (λ e v. ⊎-swap (parts e v)) (x .to-B) (x .to-A) p fit′ fit in (s .1, s .0))
+        (λ p.
+        let s = agree B A (both E A B) ids bsub asub (λ e v. ⊎-swap (parts e v)) (x .to-B) (x .to-A) p fit′ fit in
+        (s .1, s .0))
         (x .at-an-end)
 
     few-A : length (puts E L [] (A .history)) ≤ slotsNeeded E (both E A B)
@@ -95,7 +109,9 @@ module _ (E : Events) (L : Laws E) where
     fits : slotsNeeded E (both E A B) ≤ A .capacity → slotsNeeded E (both E A B) ≤ B .capacity → Fits E A × Fits E B
     fits le le′ = ⊎-elim
         (λ p. fit-both A B (both E A B) ids asub bsub parts (x .to-A) (x .to-B) p le le′ few-A)
-        (λ p. let s = fit-both B A (both E A B) ids bsub asub (λ e v. ⊎-swap (parts e v)) (x .to-B) (x .to-A) p le′ le few-B in (s .1, s .0))
+        (λ p.
+        let s = fit-both B A (both E A B) ids bsub asub (λ e v. ⊎-swap (parts e v)) (x .to-B) (x .to-A) p le′ le few-B in
+        (s .1, s .0))
         (x .at-an-end)
 
   pub relays-agree : RelaysAgree E
@@ -105,10 +121,14 @@ module _ (E : Events) (L : Laws E) where
 
   -- a relay that lacks no room holds no more than its capacity
   count-fits : (A : Relay E) (os : List (Offer E)) → Fits E A → Settled E (end E A) os → slotsNeeded E os ≤ A .capacity
-  count-fits A os fit s = omega (arith, s .count, ap length (fits-run E L (A .capacity) (whole E A) fit .0), fits-run E L (A .capacity) (whole E A) fit .1)
+  count-fits A os fit s =
+      let (q, le) = fits-run E L (A .capacity) (whole E A) fit in
+      omega (arith, s .count, ap length q, le)
 
   pub relays-fit : RelaysFit E
   relays-fit A B x ids = (
-    λ f. let s = settled-both A B x ids (f .0) (f .1) in (count-fits A (both E A B) (f .0) (s .0), count-fits B (both E A B) (f .1) (s .1)),
+    λ f.
+        let s = settled-both A B x ids (f .0) (f .1) in
+        (count-fits A (both E A B) (f .0) (s .0), count-fits B (both E A B) (f .1) (s .1)),
     λ le. fits A B x ids (le .0) (le .1),
   )

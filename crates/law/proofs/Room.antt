@@ -2,16 +2,19 @@
 use mathlib.Core.Path.{_≡_, refl, sym, ap, _∙_}
 use mathlib.Core.Bool.{Bool, true, false, cond, not, _||_, _&&_}
 use mathlib.Core.Logic.{_↔_, _⊎_, inl, inr, ⊎-elim}
-use mathlib.Core.Option.{Option, none, some}
+use mathlib.Core.Option.{none, some}
 use mathlib.Core.List.{List, [], _∷_, _++_, List·Memᴰ·head, List·Memᴰ·tail, List·Memᴰ·not-nil, List·Memᴰ·cases-cons}
 use Prim.Native.Nat.{ℕ, suc, _+_, _≤_, _<_}
 use native.Mathlib.Omega.{arith}
 use lib.Dec.{T, T-not, leb, leb→le, nleb→lt}
 use lib.ListN.{length}
 use Rattle.law.specs.Lists.{_∈_, any, store, different}
-use Rattle.law.specs.Table.{Class, ephemeral, regular, keyed, Events, Laws, isEphemeral, isNoRoom, isStored, firstOf, Table, Offer, hasId, hasKey, hasKeyNewer, verdict, after, run, verdicts, lacks, NoneLacks, Valid, IdPremise, idIfRegular, keyIfKeyed, regularIds, keys, slotsNeeded}
+use Rattle.law.specs.Table.{Class, ephemeral, regular, keyed, Events, Laws, isEphemeral, isNoRoom, isStored, firstOf}
+use Rattle.law.specs.Table.{Table, Offer, hasId, hasKey, hasKeyNewer, verdict, after, run, verdicts, lacks, NoneLacks}
+use Rattle.law.specs.Table.{Valid, IdPremise, idIfRegular, keyIfKeyed, regularIds, keys, slotsNeeded}
 use Rattle.law.proofs.Lists.{store-length, count-law}
-use Rattle.law.proofs.Held.{Place, own, shared, placeOf, place, Lasting, Right, covers, valid-cases, valid-skip, put, puts, right}
+use Rattle.law.proofs.Held.{Place, own, shared, placeOf, place, Lasting, Right, covers, right}
+use Rattle.law.proofs.Held.{valid-cases, valid-skip, put, puts}
 
 module _ (E : Events) (L : Laws E) where
   open Events E using (Event, Id, Key, idOf, classOf, sameId, sameKey)
@@ -21,9 +24,11 @@ module _ (E : Events) (L : Laws E) where
 
   put-grows : (t : Table E) (o : Offer E) → length t ≤ length (put E L t o)
   put-grows t none = omega arith
-  put-grows t (some e) = go (isStored (firstOf (isEphemeral (classOf e)) (any (hasId E e) t) (any (hasKeyNewer E e) t) false)) (any (hasKey E e) t) (store-length (hasKey E e) e t)
+  put-grows t (some e) =
+      go (isStored (firstOf (isEphemeral (classOf e)) (any (hasId E e) t) (any (hasKeyNewer E e) t) false)) (any (hasKey E e) t) (store-length (hasKey E e) e t)
     where
-      go : (s k : Bool) → length (store (hasKey E e) e t) ≡ cond k (length t) (suc (length t)) → length t ≤ length (cond s (store (hasKey E e) e t) t)
+      go : (s k : Bool) → length (store (hasKey E e) e t) ≡ cond k (length t) (suc (length t))
+          → length t ≤ length (cond s (store (hasKey E e) e t) t)
       go true true h = omega arith
       go true false h = omega arith
       go false k h = omega arith
@@ -44,13 +49,15 @@ module _ (E : Events) (L : Laws E) where
     after-put : (t : Table E) (o : Offer E) → length t ≤ N → Outcome (isNoRoom (verdict E N t o)) (after E N t o) (put E L t o)
     unfolding verdict after
     after-put t none h = inr (tt, refl, h)
-    after-put t (some e) h = go (isEphemeral (classOf e)) (any (hasId E e) t) (any (hasKeyNewer E e) t) (any (hasKey E e) t) (leb N (length t)) refl (store-length (hasKey E e) e t)
+    after-put t (some e) h =
+        go (isEphemeral (classOf e)) (any (hasId E e) t) (any (hasKeyNewer E e) t) (any (hasKey E e) t) (leb N (length t)) refl (store-length (hasKey E e) e t)
       where
         u : Table E
         u = store (hasKey E e) e t
 
         go : (a b c k f : Bool) → leb N (length t) ≡ f → length u ≡ cond k (length t) (suc (length t))
-            → Outcome (isNoRoom (firstOf a b c (not k && f))) (cond (isStored (firstOf a b c (not k && f))) u t) (cond (isStored (firstOf a b c false)) u t)
+            → Outcome (isNoRoom (firstOf a b c (not k && f)))
+            (cond (isStored (firstOf a b c (not k && f))) u t) (cond (isStored (firstOf a b c false)) u t)
         go true b c k f p q = inr (tt, refl, h)
         go false true c k f p q = inr (tt, refl, h)
         go false false true k f p q = inr (tt, refl, h)
@@ -117,7 +124,8 @@ module _ (E : Events) (L : Laws E) where
   placeIn-keeps regular i ps m = List·Memᴰ·tail m
   placeIn-keeps (keyed k) i ps m = List·Memᴰ·tail m
 
-  placeIn-from : (c : Class Key) (i : Id) (ps : List (Place Id Key)) (z : Place Id Key) → z ∈ placeIn c i ps → (T (not (isEphemeral c)) × (placeOf i c ≡ z)) ⊎ (z ∈ ps)
+  placeIn-from : (c : Class Key) (i : Id) (ps : List (Place Id Key)) (z : Place Id Key) → z ∈ placeIn c i ps
+      → (T (not (isEphemeral c)) × (placeOf i c ≡ z)) ⊎ (z ∈ ps)
   placeIn-from ephemeral i ps z m = inr m
   placeIn-from regular i ps z m = ⊎-elim (λ q. inl (tt, sym q)) inr (List·Memᴰ·cases-cons m)
   placeIn-from (keyed k) i ps z m = ⊎-elim (λ q. inl (tt, sym q)) inr (List·Memᴰ·cases-cons m)
@@ -182,7 +190,8 @@ module _ (E : Events) (L : Laws E) where
   places-needed (some e ∷ os) = go (classOf e) (places-needed os)
     where
       go : (c : Class Key) → different samePlace (places os) ≡ slotsNeeded E os
-          → different samePlace (placeIn c (idOf e) (places os)) ≡ different sameId (idIfRegular E c (idOf e) (regularIds E os)) + different sameKey (keyIfKeyed E c (keys E os))
+          → different samePlace (placeIn c (idOf e) (places os))
+          ≡ different sameId (idIfRegular E c (idOf e) (regularIds E os)) + different sameKey (keyIfKeyed E c (keys E os))
       go ephemeral h = h
       go regular h = rw (any-own (idOf e) os) (count-left (any (sameId (idOf e)) (regularIds E os)) _ _ _ h)
       go (keyed k) h = rw (any-shared k os) (count-right (any (sameKey k) (keys E os)) _ _ _ h)
@@ -190,7 +199,8 @@ module _ (E : Events) (L : Laws E) where
   -- a table that is right for the valid events of a list has as many slots as they need
   pub right-count : (os : List (Offer E)) (t : Table E) → Right E L (λ e. Valid E e os) [] t → length t ≡ slotsNeeded E os
   right-count os t r =
-      count-law (place E L) samePlace place-eq (places os) t (r .once) (λ x m. places-has os x (r .from x m .0) (r .from x m .1)) (λ z m. stood z (places-from os z m))
+      count-law (place E L) samePlace place-eq (places os) t (r .once)
+      (λ x m. places-has os x (r .from x m .0) (r .from x m .1)) (λ z m. stood z (places-from os z m))
       ∙ places-needed os
     where
       stood : (z : Place Id Key) → Stood z os → (x : Event) × (x ∈ t) × (place E L x ≡ z)

@@ -2,12 +2,13 @@
 use mathlib.Core.Path.{_≡_, refl, sym, ap, _∙_}
 use mathlib.Core.Bool.{Bool, true, false, cond, not}
 use mathlib.Core.Logic.{_⊎_, inl, inr, ⊎-elim, _≢_}
-use mathlib.Core.Option.{Option, none, some}
+use mathlib.Core.Option.{none, some}
 use mathlib.Core.List.{List, [], _∷_, _++_, List·Memᴰ·head, List·Memᴰ·tail, List·Memᴰ·not-nil}
 use Prim.Native.Nat.{ℕ}
 use lib.Dec.{T}
 use Rattle.law.specs.Lists.{_∈_, any, store, Pairwise, Once}
-use Rattle.law.specs.Table.{Class, ephemeral, regular, keyed, Events, Laws, isEphemeral, shareKey, isStored, firstOf, Table, Offer, hasId, hasKey, hasKeyNewer, lacksSlot, Distinct, verdict, after, run, Valid}
+use Rattle.law.specs.Table.{Class, ephemeral, regular, keyed, Events, Laws, isEphemeral, shareKey, isStored, firstOf}
+use Rattle.law.specs.Table.{Table, Offer, hasId, hasKey, hasKeyNewer, lacksSlot, Distinct, verdict, after, run, Valid}
 use Rattle.law.proofs.Lists.{store-from, store-pairwise, once-same}
 use Rattle.law.proofs.Held.{place, place-shares, Beats, Lasting, Covered, other-id, store-covers}
 
@@ -19,7 +20,8 @@ module _ (E : Events) where
   unfolding run after
   run-from N [] t x m = inl m
   run-from N (none ∷ os) t x m = ⊎-elim inl (λ v. inr (List·Memᴰ·tail v)) (run-from N os t x m)
-  run-from N (some e ∷ os) t x m = ⊎-elim (go (isStored (verdict E N t (some e)))) (λ v. inr (List·Memᴰ·tail v)) (run-from N os (after E N t (some e)) x m)
+  run-from N (some e ∷ os) t x m =
+      ⊎-elim (go (isStored (verdict E N t (some e)))) (λ v. inr (List·Memᴰ·tail v)) (run-from N os (after E N t (some e)) x m)
     where
       go : (b : Bool) → x ∈ cond b (store (hasKey E e) e t) t → (x ∈ t) ⊎ Valid E x (some e ∷ os)
       go true k = ⊎-elim (λ q. inr (List·Memᴰ·head (ap some q))) inl (store-from (hasKey E e) e t k)
@@ -31,11 +33,13 @@ module _ (E : Events) (L : Laws E) where
 
   -- what holds of the table as it was and of the table with e stored holds afterwards
   stored-or-not : (P : Table E → Type 0) (N : ℕ) (t : Table E) (e : Event) → P t
-      → (Lasting E L e → T (not (any (hasId E e) t)) → T (not (any (hasKeyNewer E e) t)) → P (store (hasKey E e) e t)) → P (after E N t (some e))
+      → (Lasting E L e → T (not (any (hasId E e) t)) → T (not (any (hasKeyNewer E e) t)) → P (store (hasKey E e) e t))
+      → P (after E N t (some e))
   unfolding after verdict
   stored-or-not P N t e p s = go (isEphemeral (classOf e)) (any (hasId E e) t) (any (hasKeyNewer E e) t) (lacksSlot E N t e) s
     where
-      go : (a b c l : Bool) → (T (not a) → T (not b) → T (not c) → P (store (hasKey E e) e t)) → P (cond (isStored (firstOf a b c l)) (store (hasKey E e) e t) t)
+      go : (a b c l : Bool) → (T (not a) → T (not b) → T (not c) → P (store (hasKey E e) e t))
+          → P (cond (isStored (firstOf a b c l)) (store (hasKey E e) e t) t)
       go true b c l s = p
       go false true c l s = p
       go false false true l s = p
@@ -66,8 +70,12 @@ module _ (E : Events) (L : Laws E) where
   distinct-after N t none d = d
   distinct-after N t (some e) d = stored-or-not (Distinct E) N t e d (λ le noId noNewer. record {
     lasting = λ x m. ⊎-elim (λ q. rw q le) (d .lasting x) (store-from (hasKey E e) e t m);
-    ids = store-pairwise (hasKey E e) e (λ x y. idOf x ≢ idOf y) t (λ x y m k h ne q. other-id E L e t noId noNewer y k (sym q)) (λ x m nk. other-id E L e t noId noNewer x m) (d .ids);
-    keys = store-pairwise (hasKey E e) e (λ x y. T (hasKey E x y) → ⊥) t (λ x y m k h no′ u. no′ (same-keys (classOf x) (classOf e) (classOf y) h u)) (λ x m nk u. nk (swap-keys (classOf e) (classOf x) u)) (d .keys);
+    ids = store-pairwise (hasKey E e) e (λ x y. idOf x ≢ idOf y) t
+        (λ x y m k h ne q. other-id E L e t noId noNewer y k (sym q))
+        (λ x m nk. other-id E L e t noId noNewer x m) (d .ids);
+    keys = store-pairwise (hasKey E e) e (λ x y. T (hasKey E x y) → ⊥) t
+        (λ x y m k h no′ u. no′ (same-keys (classOf x) (classOf e) (classOf y) h u))
+        (λ x m nk u. nk (swap-keys (classOf e) (classOf x) u)) (d .keys);
   })
 
   pub distinct-run : (N : ℕ) (os : List (Offer E)) (t : Table E) → Distinct E t → Distinct E (run E N t os)
@@ -88,7 +96,9 @@ module _ (E : Events) (L : Laws E) where
   unfolding run after
   run-covers N [] t x c = c
   run-covers N (none ∷ os) t x c = run-covers N os t x c
-  run-covers N (some e ∷ os) t x c = run-covers N os (after E N t (some e)) x (stored-or-not (Covered E L x) N t e c (λ le noId noNewer. store-covers E L e t noId noNewer x c))
+  run-covers N (some e ∷ os) t x c =
+      run-covers N os (after E N t (some e)) x
+      (stored-or-not (Covered E L x) N t e c (λ le noId noNewer. store-covers E L e t noId noNewer x c))
 
   run-append : (N : ℕ) (os ps : List (Offer E)) (t : Table E) → run E N t (os ++ ps) ≡ run E N (run E N t os) ps
   unfolding run
@@ -96,7 +106,8 @@ module _ (E : Events) (L : Laws E) where
   run-append N (o ∷ os) ps t = run-append N os ps (after E N t o)
 
   -- of two events of one place, held one after the other, the later is the same or newer
-  pub later-beats : (N : ℕ) (os ps : List (Offer E)) (x y : Event) → x ∈ run E N [] os → y ∈ run E N [] (os ++ ps) → place E L x ≡ place E L y → Beats E L y x
+  pub later-beats : (N : ℕ) (os ps : List (Offer E)) (x y : Event) → x ∈ run E N [] os → y ∈ run E N [] (os ++ ps)
+      → place E L x ≡ place E L y → Beats E L y x
   later-beats N os ps x y m k p =
       let c : Covered E L x (run E N [] (os ++ ps)) = rw run-append (run-covers N ps (run E N [] os) x (x, m, (refl, inl refl))) in
       let o = distinct-places (run E N [] (os ++ ps)) (distinct-run N (os ++ ps) [] distinct-fresh) in

@@ -1,18 +1,18 @@
 -- Relays that do not meet the claims: 01, "How far each promise must reach".
 use mathlib.Core.Path.{_≡_, refl, sym, ap, ap₂, _∙_}
 use mathlib.Core.Bool.{Bool, true, false, cond, not, _||_, _&&_}
-use mathlib.Core.Logic.{_↔_, _⊎_, inl, inr, ⊎-elim, _≢_}
-use mathlib.Core.Option.{Option, none, some}
-use mathlib.Core.List.{List, [], _∷_, map, List·Memᴰ·head, List·Memᴰ·tail, List·Memᴰ·not-nil, List·Memᴰ·cases-cons, List·Memᴰ·eq-of-singleton}
-use Prim.Native.Nat.{ℕ, zero, suc, _+_, _≤_, _<_}
+use mathlib.Core.Logic.{_⊎_, inl, inr, ⊎-elim, _≢_}
+use mathlib.Core.Option.{some}
+use mathlib.Core.List.{List, [], _∷_, List·Memᴰ·head, List·Memᴰ·tail, List·Memᴰ·not-nil, List·Memᴰ·cases-cons, List·Memᴰ·eq-of-singleton}
+use Prim.Native.Nat.{ℕ, _+_, _≤_}
 use native.Mathlib.Omega.{arith}
 use lib.Dec.{T, not-T, leb, leb→le}
 use lib.ListN.{length, length-map}
-use Rattle.law.specs.Lists.{_∈_}
-use Rattle.law.specs.Table.{Class, regular, Events, Laws, Verdict, stored, duplicate, firstOf, Offer, verdict, after, Valid, IdPremise, Held, slotsNeeded}
+use Rattle.law.specs.Table.{regular, Events, Laws, stored, duplicate, firstOf}
+use Rattle.law.specs.Table.{verdict, after, Valid, IdPremise, Held, slotsNeeded}
 use Rattle.law.specs.Claims.{Settled}
 use Rattle.law.specs.Signature.{Slot, signed, event, unsigned}
-use Rattle.law.specs.Machine.{Machine, Faithful, Fresh, view, judged, runOn, lacksOn, NoneLacksOn, HeldSetOn, RoomLawOn}
+use Rattle.law.specs.Machine.{Machine, Faithful, Fresh, view, judged, runOn, lacksOn, HeldSetOn, RoomLawOn}
 use Rattle.law.proofs.Signature.{signed-laws}
 
 -- ---- lists of one and of two regular events
@@ -72,7 +72,7 @@ module _ (E : Events) where
 
 module _ (E : Events) (Sig : Type 0) (M : Machine E Sig) where
   open Events E using (Event, idOf, classOf)
-  open Machine M using (State, Offering, answer, next, verdictOf, capacity, slots, judge, Good)
+  open Machine M using (State, Offering, answer, next, verdictOf, capacity, slots, judge)
 
   -- an offer of a regular event
   pub record OfRegular (o : Offering) (e : Event) : Type 0 where
@@ -87,52 +87,70 @@ module _ (E : Events) (Sig : Type 0) (M : Machine E Sig) where
   judged-two o p e f v w = ap₂ (λ j k. unsigned E Sig j ∷ unsigned E Sig k ∷ []) (v .valid) (w .valid)
 
   module _ (held : HeldSetOn E Sig M) (room : RoomLawOn E Sig M) where
-    -- a list that needs no more than the capacity lacks no room, so it leaves the held set
-    settles : (b : State) (os : List Offering) → Fresh E Sig M b → IdPremise E (judged E Sig M os) → slotsNeeded E (judged E Sig M os) ≤ capacity b → Settled E (view E Sig M (runOn E Sig M b os)) (judged E Sig M os)
+    -- a list that needs no more slots than there are leaves the held set
+    settles : (b : State) (os : List Offering) → Fresh E Sig M b → IdPremise E (judged E Sig M os)
+        → slotsNeeded E (judged E Sig M os) ≤ capacity b → Settled E (view E Sig M (runOn E Sig M b os)) (judged E Sig M os)
     settles b os f ids le = held b os f ids (not-T (lacksOn E Sig M b os) (λ t. omega (arith, room b os f ids .0 t)))
 
-    -- after one offer of a regular event to a fresh table, that event alone is held
-    one-held : (b : State) (o : Offering) (e : Event) → Fresh E Sig M b → 1 ≤ capacity b → OfRegular o e → Settled E (view E Sig M (next b o)) (some e ∷ [])
-    unfolding runOn
-    one-held b o e f le v = rw (judged-one o e v) at (settles b (o ∷ []) f (rw (judged-one o e v) (one-ids E e)) (rw (judged-one o e v, one-needed E e (v .kind)) le))
+    module _ (b : State) (f : Fresh E Sig M b) where
+      -- after one offer of a regular event that event alone is held
+      one-held : (o : Offering) (e : Event) → OfRegular o e → 1 ≤ capacity b → Settled E (view E Sig M (next b o)) (some e ∷ [])
+      unfolding runOn
+      one-held o e v le =
+          let q = judged-one o e v in
+          rw q at (settles b (o ∷ []) f (rw q (one-ids E e)) (rw (q, one-needed E e (v .kind)) le))
 
-    -- "a relay that refuses everything or stores nothing", whatever it answers
-    pub stores-nothing : ((b : State) (o : Offering) → slots (next b o) ≡ slots b) → (b : State) (o : Offering) (e : Event) → Fresh E Sig M b → 1 ≤ capacity b → OfRegular o e → ⊥
-    stores-nothing idle b o e f le v =
-        let s = one-held b o e f le v in
-        let m : Held E e (view E Sig M (next b o)) = s .held e .1 (List·Memᴰ·head refl, rw (v .kind) tt) in
-        List·Memᴰ·not-nil (rw (idle b o, f .empty) at m)
+      both-held : (o p : Offering) (e g : Event) → OfRegular o e → OfRegular p g → idOf e ≢ idOf g → 2 ≤ capacity b
+          → Settled E (view E Sig M (next (next b o) p)) (some e ∷ some g ∷ [])
+      unfolding runOn
+      both-held o p e g v w ne le =
+          let q = judged-two o p e g v w in
+          rw q at (settles b (o ∷ p ∷ []) f (rw q (two-ids E e g ne)) (rw q (omega (arith, two-needed E e g (v .kind) (w .kind)))))
 
-    -- "one that stores the first offer and only acknowledges later ones"
-    pub stores-first-only : ((b : State) (o : Offering) → slots b ≢ [] → slots (next b o) ≡ slots b) → (b : State) (o p : Offering) (e g : Event) → Fresh E Sig M b → 2 ≤ capacity b → OfRegular o e → OfRegular p g → idOf e ≢ idOf g → ⊥
-    unfolding runOn
-    stores-first-only idle b o p e g f le v w ne =
-        let s = one-held b o e f (omega arith) v in
-        let full : slots (next b o) ≢ [] = λ q. List·Memᴰ·not-nil (rw q at (s .held e .1 (List·Memᴰ·head refl, rw (v .kind) tt))) in
-        let t = rw (judged-two o p e g v w) at (settles b (o ∷ p ∷ []) f (rw (judged-two o p e g v w) (two-ids E e g ne)) (rw (judged-two o p e g v w) (omega (arith, two-needed E e g (v .kind) (w .kind))))) in
-        let m = t .held g .1 (List·Memᴰ·tail (List·Memᴰ·head refl), rw (w .kind) tt) in
-        let k : Held E g (view E Sig M (next b o)) = rw (idle (next b o) p full) at m in
-        ne (ap idOf (sym (same-event E (s .held g .0 k .0))))
+      -- "a relay that refuses everything or stores nothing", whatever it answers
+      pub stores-nothing : (o : Offering) (e : Event) → OfRegular o e → 1 ≤ capacity b
+          → ((b : State) (o : Offering) → slots (next b o) ≡ slots b) → ⊥
+      stores-nothing o e v le idle =
+          let s = one-held o e v le in
+          let m : Held E e (view E Sig M (next b o)) = s .held e .1 (List·Memᴰ·head refl, rw (v .kind) tt) in
+          List·Memᴰ·not-nil (rw (idle b o, f .empty) at m)
 
-    -- "a made-up held count": C is the number of different ids of regular events and of different keys, and nothing else
-    pub made-up-count : (b : State) (os : List Offering) → Fresh E Sig M b → IdPremise E (judged E Sig M os) → slotsNeeded E (judged E Sig M os) ≤ capacity b → (n : ℕ) → n ≢ slotsNeeded E (judged E Sig M os) → length (slots (runOn E Sig M b os)) ≢ n
-    made-up-count b os f ids le n ne q = ne (sym q ∙ sym (length-map (slots (runOn E Sig M b os)) (event E Sig)) ∙ settles b os f ids le .count)
+      -- "one that stores the first offer and only acknowledges later ones"
+      pub stores-first-only : (o p : Offering) (e g : Event) → OfRegular o e → OfRegular p g → idOf e ≢ idOf g → 2 ≤ capacity b
+          → ((b : State) (o : Offering) → slots b ≢ [] → slots (next b o) ≡ slots b) → ⊥
+      stores-first-only o p e g v w ne le idle =
+          let s = one-held o e v (omega arith) in
+          let t = both-held o p e g v w ne le in
+          let full : slots (next b o) ≢ [] = λ q. List·Memᴰ·not-nil (rw q at (s .held e .1 (List·Memᴰ·head refl, rw (v .kind) tt))) in
+          let m = t .held g .1 (List·Memᴰ·tail (List·Memᴰ·head refl), rw (w .kind) tt) in
+          let k : Held E g (view E Sig M (next b o)) = rw (idle (next b o) p full) at m in
+          ne (ap idOf (sym (same-event E (s .held g .0 k .0))))
 
-    -- a count that no offer changes
-    pub constant-count : ((b : State) (o : Offering) → length (slots (next b o)) ≡ length (slots b)) → (b : State) (o : Offering) (e : Event) → Fresh E Sig M b → 1 ≤ capacity b → OfRegular o e → ⊥
-    constant-count idle b o e f le v =
-        let c = one-held b o e f le v .count in
-        omega (arith, c, one-needed E e (v .kind), length-map (slots (next b o)) (event E Sig), idle b o, ap length (f .empty))
+      -- "a made-up held count": one that no offer changes, and any other than the slots needed
+      pub constant-count : (o : Offering) (e : Event) → OfRegular o e → 1 ≤ capacity b
+          → ((b : State) (o : Offering) → length (slots (next b o)) ≡ length (slots b)) → ⊥
+      constant-count o e v le idle =
+          let c = one-held o e v le .count in
+          omega (arith, c, one-needed E e (v .kind), length-map (slots (next b o)) (event E Sig), idle b o, ap length (f .empty))
+
+      pub made-up-count : (os : List Offering) → IdPremise E (judged E Sig M os) → slotsNeeded E (judged E Sig M os) ≤ capacity b
+          → (n : ℕ) → n ≢ slotsNeeded E (judged E Sig M os) → length (slots (runOn E Sig M b os)) ≢ n
+      made-up-count os ids le n ne q =
+          ne (sym q ∙ sym (length-map (slots (runOn E Sig M b os)) (event E Sig)) ∙ settles b os f ids le .count)
 
   -- "one verdict .. for all": the first offer of a regular event is stored, and the second is a duplicate
-  pub one-verdict : Faithful E Sig M → Laws E → (b : State) (o : Offering) (e : Event) → Fresh E Sig M b → 1 ≤ capacity b → OfRegular o e →
-      ((b c : State) (o p : Offering) → verdictOf (answer b o) ≡ verdictOf (answer c p)) → ⊥
-  one-verdict F L b o e f le v same =
+  pub one-verdict : Faithful E Sig M → Laws E → (b : State) → Fresh E Sig M b → (o : Offering) (e : Event) → OfRegular o e → 1 ≤ capacity b
+      → ((b c : State) (o p : Offering) → verdictOf (answer b o) ≡ verdictOf (answer c p)) → ⊥
+  one-verdict F L b f o e v le same =
       let S : Events = signed E Sig in
       let x : Slot E Sig = (e, v .signature) in
-      let first : verdictOf (answer b o) ≡ stored = F .says b o (f .good) ∙ ap₂ (verdict S (capacity b)) (f .empty) (v .valid) ∙ fresh-stored S (capacity b) x le (v .kind) in
-      let one : slots (next b o) ≡ x ∷ [] = F .does b o (f .good) ∙ ap₂ (after S (capacity b)) (f .empty) (v .valid) ∙ fresh-table S (capacity b) x le (v .kind) in
-      let second : verdictOf (answer (next b o) o) ≡ duplicate = F .says (next b o) o (F .good b o (f .good)) ∙ ap₂ (verdict S (capacity (next b o))) one (v .valid) ∙ again-duplicate S (signed-laws E Sig L) (capacity (next b o)) x (v .kind) in
+      let first : verdictOf (answer b o) ≡ stored =
+      F .says b o (f .good) ∙ ap₂ (verdict S (capacity b)) (f .empty) (v .valid) ∙ fresh-stored S (capacity b) x le (v .kind) in
+      let one : slots (next b o) ≡ x ∷ [] =
+      F .does b o (f .good) ∙ ap₂ (after S (capacity b)) (f .empty) (v .valid) ∙ fresh-table S (capacity b) x le (v .kind) in
+      let again = again-duplicate S (signed-laws E Sig L) (capacity (next b o)) x (v .kind) in
+      let second : verdictOf (answer (next b o) o) ≡ duplicate =
+      F .says (next b o) o (F .good b o (f .good)) ∙ ap₂ (verdict S (capacity (next b o))) one (v .valid) ∙ again in
       let clash : stored ≡ duplicate = sym first ∙ same b (next b o) o o ∙ second in
       let z : _≡_ {A = ℕ} 0 1 = cc in
       omega arith

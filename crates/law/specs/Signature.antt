@@ -1,7 +1,7 @@
 -- Slots: an event with the signature that was stored with it.
 -- 01: "Offers with one id and one text but other signatures are the same event": the tests look at the event alone.
 use mathlib.Core.Path.{_≡_}
-use mathlib.Core.Option.{Option, none, some}
+use mathlib.Core.Option.{none, some}
 use mathlib.Core.List.{List, [], _++_}
 use Prim.Native.Nat.{ℕ}
 use Rattle.law.specs.Lists.{_∈_}
@@ -33,4 +33,5 @@ module _ (E : Events) (Sig : Type 0) where
 
   -- 01: "the signature first stored stays"
   abbrev pub SignatureStays : Type 0
-  SignatureStays = (N : ℕ) (os ps : List (Offer signed)) (e : E .Event) (s r : Sig) → (e, s) ∈ run signed N [] os → (e, r) ∈ run signed N [] (os ++ ps) → r ≡ s
+  SignatureStays = (N : ℕ) (os ps : List (Offer signed)) (e : E .Event) (s r : Sig) →
+      (e, s) ∈ run signed N [] os → (e, r) ∈ run signed N [] (os ++ ps) → r ≡ s
