@@ -10,8 +10,8 @@ use lib.ListN.{replicate}
 use Rattle.law.specs.Lists.{_∈_}
 use Rattle.law.specs.Table.{Class, ephemeral, regular, keyed, Events}
 use Rattle.law.specs.Table.{Verdict, refused, wasEphemeral, duplicate, older, stored, noRoom}
-use Rattle.law.specs.Table.{Table, Offer, verdict, after, run, verdicts, lacks, Valid, Held, slotsNeeded}
-use Rattle.law.specs.Claims.{Settled, Relay, moment, end, Tells, Exchange}
+use Rattle.law.specs.Table.{Table, Offer, verdict, after, run, verdicts, lacks, Valid, Held, IdPremise, slotsNeeded}
+use Rattle.law.specs.Claims.{Settled, Relay, moment, end, Tells, Exchange, both, Fits}
 use Rattle.law.specs.Event.{Event, Key, newer, events}
 use Rattle.law.specs.Signature.{signed}
 use Rattle.law.specs.Machine.{Machine, Faithful, Passes}
@@ -118,6 +118,15 @@ four-fit : lacks Toy 4 [] offers ≡ false
 unfolding verdicts verdict after
 four-fit = refl
 
+-- without the id premise the order would matter: of two regular events with one id the first stays
+first-of-one-id : run Toy 2 [] (some (event 1 (0 ∷ 1 ∷ [])) ∷ some (event 1 (0 ∷ 2 ∷ [])) ∷ []) ≡ event 1 (0 ∷ 1 ∷ []) ∷ []
+unfolding run after verdict
+first-of-one-id = refl
+
+second-of-one-id : run Toy 2 [] (some (event 1 (0 ∷ 2 ∷ [])) ∷ some (event 1 (0 ∷ 1 ∷ [])) ∷ []) ≡ event 1 (0 ∷ 2 ∷ []) ∷ []
+unfolding run after verdict
+second-of-one-id = refl
+
 -- ---- Two relays
 
 -- Whatever the histories, there is an exchange: relay A is told what relay B holds, and then B what A holds.
@@ -157,7 +166,7 @@ example-B : end Toy (relayB Toy 4 4 historyA historyB) ≡ event 2 (0 ∷ []) �
 unfolding run after verdict
 example-B = refl
 
--- If neither moment had to be the end of a history, an event could come from nowhere: each relay is told of an event that no history has.
+-- Were neither moment the end of a history, an event could come from nowhere: each relay is told of one that no history has.
 abbrev nowhere : Relay Toy
 nowhere = record { capacity = 2; history = []; early = note 1 ∷ []; late = [] }
 
@@ -165,9 +174,15 @@ each-told : Tells Toy nowhere nowhere
 unfolding run after verdict
 each-told e = all-told Toy (event 1 (0 ∷ []) ∷ []) e
 
-not-settled : Settled Toy (end Toy nowhere) [] → ⊥
-unfolding run after verdict
-not-settled s = List·Memᴰ·not-nil (s .held (event 1 (0 ∷ [])) .0 (List·Memᴰ·head refl) .0)
+abbrev AgreeAnytime : Type 0
+AgreeAnytime = (A B : Relay Toy) → Tells Toy B A → Tells Toy A B → IdPremise Toy (both Toy A B) → Fits Toy A → Fits Toy B →
+    Settled Toy (end Toy A) (both Toy A B)
+
+an-end-is-needed : AgreeAnytime → ⊥
+unfolding run verdicts after verdict
+an-end-is-needed agree =
+    let s = agree nowhere nowhere each-told each-told (λ e f v. absurd (List·Memᴰ·not-nil v)) tt tt in
+    List·Memᴰ·not-nil (s .held (event 1 (0 ∷ [])) .0 (List·Memᴰ·head refl) .0)
 
 -- ---- A relay that is faithful: the definition itself
 

@@ -1,3 +1,4 @@
+-- Law and Relays prove the claims of specs/Claims, Machine those of specs/Machine, and Order the laws of events at bytes.
 pub mod Lists
 pub mod Held
 pub mod Room
@@ -8,5 +9,5 @@ pub mod Sound
 pub mod Signature
 pub mod Machine
 pub mod Cells
-pub mod WrongRelays
 pub mod Examples
+pub mod WrongRelays

@@ -7,13 +7,23 @@ use mathlib.Core.List.{List, [], _∷_, _++_, List·Memᴰ·head, List·Memᴰ·
 use Prim.Native.Nat.{ℕ}
 use lib.Dec.{T}
 use Rattle.law.specs.Lists.{_∈_, any, store, Pairwise, Once}
-use Rattle.law.specs.Table.{Class, ephemeral, regular, keyed, Events, Laws, isEphemeral, shareKey, isStored, firstOf}
+use Rattle.law.specs.Table.{Class, ephemeral, regular, keyed, Events, Laws, isEphemeral, shareKey, stored, isStored, firstOf}
 use Rattle.law.specs.Table.{Table, Offer, hasId, hasKey, hasKeyNewer, lacksSlot, Distinct, verdict, after, run, Valid}
 use Rattle.law.proofs.Lists.{store-from, store-pairwise, once-same}
 use Rattle.law.proofs.Held.{place, place-shares, Beats, Lasting, Covered, other-id, store-covers}
 
 module _ (E : Events) where
   open Events E using (Event)
+
+  -- a stored event, and any other offer
+  pub after-stored : (N : ℕ) (t : Table E) (e : Event) → verdict E N t (some e) ≡ stored → after E N t (some e) ≡ store (hasKey E e) e t
+  unfolding after
+  after-stored N t e p = rw p
+
+  pub after-other : (N : ℕ) (t : Table E) (o : Offer E) → isStored (verdict E N t o) ≡ false → after E N t o ≡ t
+  unfolding after
+  after-other N t none p = refl
+  after-other N t (some e) p = rw p
 
   -- what is held was held before or is a valid event of the list
   pub run-from : (N : ℕ) (os : List (Offer E)) (t : Table E) (x : Event) → x ∈ run E N t os → (x ∈ t) ⊎ Valid E x os

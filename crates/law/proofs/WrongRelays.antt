@@ -9,7 +9,7 @@ use native.Mathlib.Omega.{arith}
 use lib.Dec.{T, not-T, leb, leb→le}
 use lib.ListN.{length, length-map}
 use Rattle.law.specs.Table.{regular, Events, Laws, stored, duplicate, firstOf}
-use Rattle.law.specs.Table.{verdict, after, Valid, IdPremise, Held, slotsNeeded}
+use Rattle.law.specs.Table.{Offer, verdict, after, Valid, IdPremise, Held, slotsNeeded}
 use Rattle.law.specs.Claims.{Settled}
 use Rattle.law.specs.Signature.{Slot, signed, event, unsigned}
 use Rattle.law.specs.Machine.{Machine, Faithful, Fresh, view, judged, runOn, lacksOn, HeldSetOn, RoomLawOn}
@@ -40,6 +40,10 @@ module _ (E : Events) where
       go (inl p) (inr r) = absurd (ne (ap idOf (sym p) ∙ q ∙ ap idOf r))
       go (inr p) (inl r) = absurd (ne (ap idOf (sym r) ∙ sym q ∙ ap idOf p))
       go (inr p) (inr r) = p ∙ sym r
+
+  -- "one .. id for all": no list with two valid events then meets the id premise; row 10 shuts it out, by FIPS 180-4
+  pub one-id : ((e f : Event) → idOf e ≡ idOf f) → (os : List (Offer E)) (e f : Event) → Valid E e os → Valid E f os → e ≢ f → IdPremise E os → ⊥
+  one-id same os e f v w ne ids = ne (ids e f v w (same e f))
 
   two-needed : (e f : Event) → classOf e ≡ regular → classOf f ≡ regular → slotsNeeded E (some e ∷ some f ∷ []) ≤ 2
   two-needed e f c d = rw (c, d) (go (sameId (idOf e) (idOf f)))

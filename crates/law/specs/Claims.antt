@@ -1,4 +1,5 @@
--- The claims of demand 3 on lists of offers, for any record of events. proofs/Law and proofs/Relays prove them.
+-- The claims of demand 3 on lists of offers, for any record of events; proofs/Law and proofs/Relays have the proofs.
+-- Quotes are from demand 3 where nothing else is said.
 use mathlib.Core.Path.{_≡_}
 use mathlib.Core.Logic.{_↔_, _⊎_}
 use mathlib.Core.List.{List, [], _++_}
@@ -6,7 +7,8 @@ use Prim.Native.Nat.{ℕ, _≤_, _<_}
 use lib.Dec.{T}
 use lib.ListN.{length}
 use Rattle.law.specs.Lists.{Once}
-use Rattle.law.specs.Table.{Events, Table, Offer, run, lacks, NoneLacks, Valid, IdPremise, Held, Wins, SameValid, SameHeld, slotsNeeded}
+use Rattle.law.specs.Table.{Events, Table, Offer, run, lacks, Valid, Held, SameValid, slotsNeeded}
+use Rattle.law.specs.Table.{NoneLacks, IdPremise, Wins, SameHeld}
 
 module _ (E : Events) where
   open Events E using (Event)
@@ -19,7 +21,7 @@ module _ (E : Events) where
     pub held : (e : Event) → Held E e t ↔ Wins E e os
     -- "Each is held once."
     pub once : Once (λ (e : Event). e) t
-    -- C is the number of different ids of regular events and of different keys
+    -- C is the number of different ids of regular events and of different keys, so equal sets are held "in as many slots"
     pub count : length t ≡ slotsNeeded E os
 
   -- "Suppose none lacked room and no two valid events .. share an id .. Then at the list's end .."
@@ -37,11 +39,11 @@ module _ (E : Events) where
       NoneLacks E M ps × SameHeld E (run E M [] ps) (run E N [] os) × (length (run E M [] ps) ≡ length (run E N [] os))
 
   -- "Given the id premise alone, some offer of a list lacks room exactly when its distinct valid regular ids and distinct valid keys
-  -- together outnumber the slots."
+  -- together outnumber the slots." 01: "some offer gives 12 exactly when the sum is over N"
   abbrev pub RoomLaw : Type 0
   RoomLaw = (N : ℕ) (os : List (Offer E)) → IdPremise E os → T (lacks E N [] os) ↔ (N < slotsNeeded E os)
 
-  -- Which lists leave the set of another list ps: those with some valid events of ps, among them all that win in ps.
+  -- a list that leaves the set of another list ps: its valid events are some of those of ps, among them all that win in ps
   pub record Enough (os ps : List (Offer E)) : Type 0 where
     pub among : (e : Event) → Valid E e os → Valid E e ps
     pub winners : (e : Event) → Wins E e ps → Valid E e os
@@ -51,8 +53,8 @@ module _ (E : Events) where
 
   -- ---- Two relays
 
-  -- 01: "Two relays have a table and a list each, their capacities alike or not." The list is the history and then the offers of the
-  -- exchange: the early ones up to the moment at which this relay's table is taken for the other, and the late ones after it.
+  -- 01: "Two relays have a table and a list each, their capacities alike or not. A relay's history is its list before the exchange."
+  -- The offers of the exchange are early up to the moment at which this relay's table is taken for the other, and late after it.
   pub record Relay : Type 0 where
     pub capacity : ℕ
     pub history : List (Offer E)
@@ -62,34 +64,38 @@ module _ (E : Events) where
   abbrev pub told : Relay → List (Offer E)
   told A = A .early ++ A .late
 
+  -- 01: "Then each list goes on with offers .. of what the other relay holds"
   abbrev pub whole : Relay → List (Offer E)
   whole A = A .history ++ told A
 
-  -- the table at the moment, "at the end of that relay's history or later", and at the end
+  -- what a relay holds 01: "at one moment, at the end of that relay's history or later"
   abbrev pub moment : Relay → Table E
   moment A = run E (A .capacity) [] (A .history ++ A .early)
 
+  -- and at the end of its list
   abbrev pub end : Relay → Table E
   end A = run E (A .capacity) [] (whole A)
 
-  -- the valid events told to A are the events that B holds at one moment: "each such event at least once, in any order .. and nothing else"
+  -- the valid events told to A are those that B holds at its moment, 01: "each .. at least once, in any order .. and nothing else"
   abbrev pub Tells : Relay → Relay → Type 0
   Tells B A = (e : Event) → Valid E e (told A) ↔ Held E e (moment B)
 
   pub record Exchange (A B : Relay) : Type 0 where
     pub to-A : Tells B A
     pub to-B : Tells A B
-    -- "At least one of the two moments is the end of its relay's history"
+    -- 01: "At least one of the two moments is the end of its relay's history"
     pub at-an-end : (A .early ≡ []) ⊎ (B .early ≡ [])
 
-  -- "if neither lacks room and the id premise holds over both histories"
+  -- "both histories"
   abbrev pub both : Relay → Relay → List (Offer E)
   both A B = A .history ++ B .history
 
+  -- it does not lack room
   abbrev pub Fits : Relay → Type 0
   Fits A = NoneLacks E (A .capacity) (whole A)
 
-  -- 01: "Both end with the set that demand 3 gives for the valid events of both histories together."
+  -- "Two relays that offer each other, as parts, all they hold end with equal sets, if neither lacks room and the id premise holds over
+  -- both histories." 01: "Both end with the set that demand 3 gives for the valid events of both histories together."
   abbrev pub RelaysAgree : Type 0
   RelaysAgree = (A B : Relay) → Exchange A B → IdPremise E (both A B) → Fits A → Fits B →
       Settled (end A) (both A B) × Settled (end B) (both A B) × SameHeld E (end A) (end B)

@@ -1,4 +1,5 @@
 -- The claims of demand 3 for a relay in any form, as a table in bytes, of which one fact is known for each single offer.
+-- Quotes are from 01.
 use mathlib.Core.Path.{_≡_}
 use mathlib.Core.Bool.{Bool, not}
 use mathlib.Core.Logic.{_↔_, _⊎_}
@@ -45,18 +46,20 @@ module _ (E : Events) (Sig : Type 0) (M : Machine E Sig) where
   abbrev pub Passes : Type 0
   Passes = (b : State) (o : Offering) (s : Slot E Sig) → Good b → s ∈ slots b → AsParts o s → judge o ≡ some s
 
-  -- 01: "A fresh table is one just formatted .. its C is 0."
+  -- "A fresh table is one just formatted .. its C is 0."
   pub record Fresh (b : State) : Type 0 where
     pub good : Good b
     pub empty : slots b ≡ []
 
-  -- the events held, and the valid events of a list
+  -- the events held
   abbrev pub view : State → Table E
   view b = map (event E Sig) (slots b)
 
+  -- the valid events of a list
   abbrev pub judged : List Offering → List (Offer E)
   judged os = map (unsigned E Sig) (map judge os)
 
+  -- each offer is made to the table the last one left, and "Nobody else writes the table meanwhile."
   unfoldable pub runOn : State → List Offering → State
   runOn b [] = b
   runOn b (o ∷ os) = runOn (next b o) os
@@ -74,7 +77,8 @@ module _ (E : Events) (Sig : Type 0) (M : Machine E Sig) where
   -- ---- The claims of specs/Claims, in the same order
 
   abbrev pub HeldSetOn : Type 0
-  HeldSetOn = (b : State) (os : List Offering) → Fresh b → IdPremise E (judged os) → NoneLacksOn b os → Settled E (view (runOn b os)) (judged os)
+  HeldSetOn = (b : State) (os : List Offering) → Fresh b → IdPremise E (judged os) → NoneLacksOn b os →
+      Settled E (view (runOn b os)) (judged os)
 
   abbrev pub BeginningsOn : Type 0
   BeginningsOn = (b : State) (os ps : List Offering) → Fresh b → IdPremise E (judged (os ++ ps)) → NoneLacksOn b (os ++ ps) →
@@ -86,19 +90,21 @@ module _ (E : Events) (Sig : Type 0) (M : Machine E Sig) where
       NoneLacksOn c ps × SameHeld E (view (runOn c ps)) (view (runOn b os)) × (length (slots (runOn c ps)) ≡ length (slots (runOn b os)))
 
   abbrev pub RoomLawOn : Type 0
-  RoomLawOn = (b : State) (os : List Offering) → Fresh b → IdPremise E (judged os) → T (lacksOn b os) ↔ (capacity b < slotsNeeded E (judged os))
+  RoomLawOn = (b : State) (os : List Offering) → Fresh b → IdPremise E (judged os) →
+      T (lacksOn b os) ↔ (capacity b < slotsNeeded E (judged os))
 
   abbrev pub EnoughLawOn : Type 0
-  EnoughLawOn = (b : State) (os ps : List Offering) → Fresh b → IdPremise E (judged ps) → Enough E (judged os) (judged ps) → NoneLacksOn b os →
-      Settled E (view (runOn b os)) (judged ps)
+  EnoughLawOn = (b : State) (os ps : List Offering) → Fresh b → IdPremise E (judged ps) → Enough E (judged os) (judged ps) →
+      NoneLacksOn b os → Settled E (view (runOn b os)) (judged ps)
 
-  -- 01: "the signature first stored stays"
+  -- "the signature first stored stays"
   abbrev pub SignatureStaysOn : Type 0
   SignatureStaysOn = (b : State) (os ps : List Offering) (e : E .Event) (s r : Sig) → Fresh b →
       (e, s) ∈ slots (runOn b os) → (e, r) ∈ slots (runOn b (os ++ ps)) → r ≡ s
 
   -- ---- Two relays
 
+  -- as in specs/Claims, with the fresh table for its capacity
   pub record RelayOn : Type 0 where
     pub table : State
     pub fresh : Fresh table
