@@ -68,7 +68,7 @@ offers =
     ∷ none
     ∷ tile 5 8 4
     ∷ note 1
-    ∷ some (event 3 [])
+    ∷ some (event 11 [])
     ∷ tile 6 8 4
     ∷ tile 4 8 4
     ∷ tile 2 7 4

@@ -14,7 +14,8 @@ use Rattle.law.proofs.Law.{settled-same, ids-among, wins-among, enough-
 module _ (E : Events) (L : Laws E) where
   open Events E using (Event)
 
-  -- A relay that was offered gs, and then told, as zs, what another held after os, was offered enough of all, if gs and os have all of it.
+  -- A relay that was offered gs and then told, as zs, what another relay holds after os has been offered enough, if gs and os together
+  -- have all valid events.
   told-enough : (M : ℕ) (gs zs os all : List (Offer E)) → IdPremise E all → NoneLacks E M os
       → ((e : Event) → Valid E e gs → Valid E e all) → ((e : Event) → Valid E e os → Valid E e all)
       → ((e : Event) → Valid E e all → Valid E e gs ⊎ Valid E e os)
@@ -29,7 +30,7 @@ module _ (E : Events) (L : Laws E) where
             (parts e (w .0));
       }
 
-  -- A tells at its history's end, early or late in B's list
+  -- A's moment is the end of its history, and B's is any
   module _ (A B : Relay E) (all : List (Offer E)) (ids : IdPremise E all)
       (asub : (e : Event) → Valid E e (A .history) → Valid E e all) (bsub : (e : Event) → Valid E e (B .history) → Valid E e all)
       (parts : (e : Event) → Valid E e all → Valid E e (A .history) ⊎ Valid E e (B .history))
