@@ -12,7 +12,8 @@ use Rattle.law.specs.Claims.{Relay, told, whole, moment, end, Tells, Exc
 use Rattle.law.specs.Signature.{Slot, signed, event, unsigned}
 use Rattle.law.specs.Machine.{Machine, Faithful, Passes, Fresh, view, judged, runOn, answersOn, lacksOn}
 use Rattle.law.specs.Machine.{HeldSetOn, BeginningsOn, OrderFreeOn, RoomLawOn, EnoughLawOn, SignatureStaysOn}
-use Rattle.law.specs.Machine.{RelayOn, toldOn, momentOn, endOn, FitsOn, TellsOn, ExchangeOn, RelaysAgreeOn, RelaysFitOn}
+use Rattle.law.specs.Machine.{RelayOn, toldOn, momentOn, endOn, FitsOn, TellsOn, ExchangeOn}
+use Rattle.law.specs.Machine.{RelaysAgreeOn, RelaysFitOn, Demand3On}
 use Rattle.law.proofs.Law.{held-set, beginnings, order-free, room-law, enough-law}
 use Rattle.law.proofs.Relays.{relays-agree, relays-fit}
 use Rattle.law.proofs.Signature.{run-event, lacks-event, signature-stays}
@@ -165,3 +166,13 @@ module _ (E : Events) (Sig : Type 0) (M : Machine E Sig) (F : Faithful E Sig M) 
 
     pub relays-fit-on : RelaysFitOn E Sig M
     relays-fit-on A B x ids = rw (fits-is A, fits-is B) (relays-fit E L (relay A) (relay B) (exchange-is A B x) ids)
+
+    pub demand-3-on : Demand3On E Sig M
+    demand-3-on = record {
+      held-set = held-set-on L;
+      beginnings = beginnings-on L;
+      order-free = order-free-on L;
+      signature-stays = signature-stays-on L;
+      relays-agree = relays-agree-on;
+      room-law = room-law-on L;
+    }

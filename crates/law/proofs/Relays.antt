@@ -6,17 +6,18 @@ use Prim.Native.Nat.{ℕ, _≤_}
 use native.Mathlib.Omega.{arith}
 use lib.ListN.{length}
 use Rattle.law.specs.Table.{Events, Laws, Offer, run, NoneLacks, Valid, IdPremise, Held, slotsNeeded}
-use Rattle.law.specs.Claims.{Settled, Enough, Relay, told, whole, moment, end, Tells, Exchange, both, Fits, RelaysAgree, RelaysFit}
+use Rattle.law.specs.Claims.{Settled, Enough, Relay, told, whole, moment, end, Tells, Exchange, both, Fits, RelaysAgree, RelaysFit, Demand3}
 use Rattle.law.proofs.Held.{puts}
 use Rattle.law.proofs.Room.{puts-grow, puts-append, fits-run, short-fits}
-use Rattle.law.proofs.Law.{settled-same, ids-among, wins-among, enough-count, enough-law, held-set, beginning-fits}
+use Rattle.law.proofs.Law.{settled-same, ids-among, wins-among, enough-count, beginning-fits}
+use Rattle.law.proofs.Law.{held-set, beginnings, order-free, room-law, enough-law}
 
 module _ (E : Events) (L : Laws E) where
   open Events E using (Event)
 
   -- A relay that was offered gs and then told, as zs, what another relay holds after os has been offered enough, if gs and os together
   -- have all valid events.
-  told-enough : (M : ℕ) (gs zs os all : List (Offer E)) → IdPremise E all → NoneLacks E M os
+  pub told-enough : (M : ℕ) (gs zs os all : List (Offer E)) → IdPremise E all → NoneLacks E M os
       → ((e : Event) → Valid E e gs → Valid E e all) → ((e : Event) → Valid E e os → Valid E e all)
       → ((e : Event) → Valid E e all → Valid E e gs ⊎ Valid E e os)
       → ((e : Event) → Valid E e zs ↔ Held E e (run E M [] os)) → Enough E (gs ++ zs) all
@@ -133,3 +134,12 @@ module _ (E : Events) (L : Laws E) where
         (count-fits A (both E A B) (f .0) (s .0), count-fits B (both E A B) (f .1) (s .1)),
     λ le. fits A B x ids (le .0) (le .1),
   )
+
+  pub demand-3 : Demand3 E
+  demand-3 = record {
+    held-set = held-set E L;
+    beginnings = beginnings E L;
+    order-free = order-free E L;
+    relays-agree = relays-agree;
+    room-law = room-law E L;
+  }

@@ -104,3 +104,12 @@ module _ (E : Events) where
   abbrev pub RelaysFit : Type 0
   RelaysFit = (A B : Relay) → Exchange A B → IdPremise E (both A B) →
       (Fits A × Fits B) ↔ ((slotsNeeded E (both A B) ≤ A .capacity) × (slotsNeeded E (both A B) ≤ B .capacity))
+
+  -- ---- All of it, in the order of demand 3
+
+  pub record Demand3 : Type 0 where
+    pub held-set : HeldSet
+    pub beginnings : Beginnings
+    pub order-free : OrderFree
+    pub relays-agree : RelaysAgree
+    pub room-law : RoomLaw

@@ -145,3 +145,13 @@ module _ (E : Events) (Sig : Type 0) (M : Machine E Sig) where
   abbrev pub RelaysFitOn : Type 0
   RelaysFitOn = (A B : RelayOn) → ExchangeOn A B → IdPremise E (bothOn A B) →
       (FitsOn A × FitsOn B) ↔ ((slotsNeeded E (bothOn A B) ≤ capacity (A .table)) × (slotsNeeded E (bothOn A B) ≤ capacity (B .table)))
+
+  -- ---- All of it, in the order of demand 3
+
+  pub record Demand3On : Type 0 where
+    pub held-set : HeldSetOn
+    pub beginnings : BeginningsOn
+    pub order-free : OrderFreeOn
+    pub signature-stays : SignatureStaysOn
+    pub relays-agree : RelaysAgreeOn
+    pub room-law : RoomLawOn
