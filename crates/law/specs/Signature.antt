@@ -1,0 +1,37 @@
+-- Slots: an event with the signature that was stored with it.
+-- 01: "Offers with one id and one text but other signatures are the same event": the tests look at the event alone.
+use mathlib.Core.Path.{_≡_}
+use mathlib.Core.Option.{none, some}
+use mathlib.Core.List.{List, [], _++_}
+use Prim.Native.Nat.{ℕ}
+use Rattle.law.specs.Lists.{_∈_}
+use Rattle.law.specs.Table.{Events, Offer, run}
+
+module _ (E : Events) (Sig : Type 0) where
+  abbrev pub Slot : Type 0
+  Slot = E .Event × Sig
+
+  abbrev pub signed : Events
+  signed = record {
+    Event = Slot;
+    Id = E .Id;
+    Key = E .Key;
+    idOf = λ s. E .idOf (s .0);
+    classOf = λ s. E .classOf (s .0);
+    sameId = E .sameId;
+    sameKey = E .sameKey;
+    newer = λ s r. E .newer (s .0) (r .0);
+  }
+
+  -- "signatures aside"
+  abbrev pub event : Slot → E .Event
+  event s = s .0
+
+  abbrev pub unsigned : Offer signed → Offer E
+  unsigned none = none
+  unsigned (some s) = some (s .0)
+
+  -- 01: "the signature first stored stays"
+  abbrev pub SignatureStays : Type 0
+  SignatureStays = (N : ℕ) (os ps : List (Offer signed)) (e : E .Event) (s r : Sig) →
+      (e, s) ∈ run signed N [] os → (e, r) ∈ run signed N [] (os ++ ps) → r ≡ s
