@@ -84,3 +84,33 @@ puts-then {d} {s} {t} {i} {r} {r′} {o} {o′} a p =
         let e : length o ≤ r = omega arith in
         let f : length (put d i s) ≤ i + length s = simp length-put (omega arith) in
         put-out o r t e ∙ a .bytes ∙ sym (put-out (put d i s) (i + length s) t f) ∙ put-more d i s t
+
+pub puts-out : (d : List ℕ) (i : ℕ) (s : List ℕ) → length d ≤ i → Puts d i s (length d) d
+puts-out d i s h = record { next = omega arith; bytes = sym (put-out d i s h) }
+
+pub puts-one : (d : List ℕ) (i b : ℕ) → i < length d → Puts d i (b ∷ []) (i + 1) (set d i b)
+unfolding put
+puts-one d i b h = record { next = omega arith; bytes = refl }
+
+-- a loop of writers has come to index at of o: whoever puts the rest there has put the whole s into d at i
+pub record Rest (d : List ℕ) (i : ℕ) (s o : List ℕ) (at : ℕ) (rest : List ℕ) : Type 0 where
+  pub same : length o ≡ length d
+  pub inside : at ≤ length o
+  pub gives : {r : ℕ} {o′ : List ℕ} → Puts o at rest r o′ → Puts d i s r o′
+
+pub rest-start : (d : List ℕ) (i : ℕ) (s : List ℕ) → i ≤ length d → Rest d i s d i s
+rest-start d i s h = record { same = refl; inside = h; gives = λ p. p }
+
+module _ {d : List ℕ} {i : ℕ} {s o : List ℕ} {at : ℕ} {rest : List ℕ} (w : Rest d i s o at rest) where
+  pub rest-turn : {p more : List ℕ} {r : ℕ} {o′ : List ℕ} → Puts o at p r o′ → rest ≡ p ++ more → Rest d i s o′ r more
+  rest-turn {p} {more} {r} {o′} a e =
+      let l : length o′ ≡ length o = ap length (a .bytes) ∙ length-put o at p in
+      record { same = l ∙ w .same; inside = omega (arith, a .next); gives = λ q. w .gives (rw e (puts-then a q)) }
+
+  pub rest-end : rest ≡ [] → Puts d i s at o
+  rest-end e = w .gives (rw e (puts-none o at (w .inside)))
+
+  pub rest-full : length o ≤ at → Puts d i s at o
+  rest-full h =
+      let e : length o ≡ at = omega (arith, w .inside) in
+      w .gives (rw e at (puts-out o at rest h))
