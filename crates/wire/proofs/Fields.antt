@@ -1,24 +1,25 @@
 -- Laws of fields: what is written is read, what a put leaves, two's complement, and a turn of the loops that read and write.
-use mathlib.Core.Bool.{true, false}
+use mathlib.Core.Bool.{Bool, true, false, cond}
 use mathlib.Core.Path.{_≡_, refl, sym, ap, _∙_}
 use mathlib.Core.List.{List, [], _∷_, _++_}
 use Prim.Native.Nat.{ℕ, zero, suc, _+_, _-_, _*_, _/_, _%_, _^_, _≤_, _<_, min}
-use native.Mathlib.Nat.{div-add-mod', div-lt-iff-lt-mul, pow-suc, pow-le-pow-right, mod-lt, zero-add, suc-add}
+use native.Mathlib.Nat.{div-add-mod', div-lt-iff-lt-mul, pow-suc, pow-le-pow-right, one-le-pow, lt-of-lt-of-le, mod-lt, zero-add, suc-add}
+use native.Mathlib.Decide.{decLe, decLt}
 use native.Mathlib.Numerals.{add-one}
 use native.Mathlib.Omega.{arith}
 use borrow.Author.Tests.{ltb-true}
 use lib.Arith.{digits-lt}
 use lib.Bits.{bitAnd, bitOr, and-mask, or-shifted-r}
-use lib.Dec.{lit<}
+use lib.Dec.{lit<, ltb}
 use lib.IntN.{ℤ, pos, negsuc}
-use lib.ListN.{length, take, drop, getD}
-use lib.Seq.{drop-cons, take-nil, drop-nil, take-all}
+use lib.ListN.{length, take, drop, getD, length-take, length-drop, drop-of-length-le, List·getD-eq-default}
+use lib.Seq.{drop-cons, take-nil, drop-nil, take-all, getD-take, getD-drop}
 use lib.Signed.{ltZ, mag}
 use mir.Facts.{toZ-pos, toZ-neg, toZ-ofZ}
 use mir.Syntax.{w64}
 use mir.Val.{toZ, ofZ, SFits}
 use Rattle.wire.specs.Put.{put}
-use Rattle.wire.specs.Field.{le, leBytes, fieldAt, signed, unsigned}
+use Rattle.wire.specs.Field.{le, leBytes, fieldAt, Field, signed, unsigned}
 use Rattle.wire.proofs.Laws.{part-put, take-put, drop-put}
 
 -- n comes back from its k bytes, and bytes from their number
@@ -65,6 +66,20 @@ pub field-after : (d : List ℕ) (i k at : ℕ) (s : List ℕ) → at + length s
 unfolding fieldAt
 field-after d i k at s h = ap (λ (l : List ℕ). le (take k l)) (drop-put d at s i h)
 
+-- a field's number gives its bytes back
+pub field-bytes : (s : List ℕ) (i k : ℕ) → i + k ≤ length s → ((j : ℕ) → getD s j 0 < 256) → leBytes k (fieldAt s i k) ≡ take k (drop i s)
+unfolding fieldAt
+field-bytes s i k h small =
+    let l : List ℕ = take k (drop i s) in
+    let e : length l ≡ k = rw (length-take, length-drop) (omega arith) in
+    ap (λ (n : ℕ). leBytes n (le l)) (sym e) ∙ leBytes-le l bytes
+  where
+    bytes : (j : ℕ) → getD (take k (drop i s)) j 0 < 256
+    bytes j = elim (decLt j k) [
+      | yes p ↦ rw (getD-take k (drop i s) j 0 p, getD-drop i s j 0) (small (i + j))
+      | no p ↦ rw (List·getD-eq-default (take k (drop i s)) 0 {n = j} (rw length-take (omega arith))) (lit< tt)
+    ]
+
 -- ---- the loops
 pub le-turn : (k x : ℕ) → 0 < k → leBytes k x ≡ (x % 256 ∷ []) ++ leBytes (k - 1) (x / 256)
 unfolding leBytes
@@ -101,10 +116,34 @@ pub field-none : (s : List ℕ) (at k : ℕ) → k ≡ 0 → 0 ≡ fieldAt s at 
 unfolding fieldAt le
 field-none s at k e = rw e
 
+-- the end of s cuts a field off
+pub field-past : (s : List ℕ) (at k : ℕ) → length s ≤ at → Field s at k 0
+unfolding fieldAt le
+field-past s at k h = record { is = rw (drop-of-length-le s h, take-nil {A = ℕ} k); small = one-le-pow k 256 (lit< tt) }
+
+pub field-cut : {s : List ℕ} {at k m r : ℕ} → m ≡ min k (length s - at) → Field s at m r → Field s at k r
+unfolding fieldAt
+field-cut {s} {at} {k} {m} {r} e f =
+    let g : m ≤ k = omega arith in
+    record { is = f .is ∙ ap le (cut (drop at s) k m (e ∙ rw length-drop)); small = lt-of-lt-of-le (f .small) (pow-le-pow-right (lit< tt) g) }
+  where
+    cut : (l : List ℕ) (k m : ℕ) → m ≡ min k (length l) → take m l ≡ take k l
+    cut l k m e = elim (decLe k (length l)) [
+      | yes h ↦ let z : m ≡ k = omega arith in rw z
+      | no h ↦ take-all m l (omega arith) ∙ sym (take-all k l (omega arith))
+    ]
+
 -- ---- two's complement
 pub signed-unsigned : (x : ℤ) → mag x < 2 ^ 63 → signed (unsigned x) ≡ x
 signed-unsigned (pos n) h = toZ-pos w64 h
 signed-unsigned (negsuc n) h = toZ-neg w64 n h
+
+pub unsigned-signed : (n : ℕ) → n < 2 ^ 64 → unsigned (signed n) ≡ n
+unsigned-signed n h = go (ltb n (2 ^ 63)) refl
+  where
+    go : (t : Bool) → ltb n (2 ^ 63) ≡ t → unsigned (cond t (pos n) (negsuc (2 ^ 64 - suc n))) ≡ n
+    go true e = refl
+    go false e = omega arith
 
 -- the lower 63 bits, as a signed number
 pub low : (b : ℕ) → toZ w64 (bitAnd b (2 ^ 63 - 1)) ≡ pos (b % 2 ^ 63)

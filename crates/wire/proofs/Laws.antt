@@ -1,12 +1,13 @@
 -- Laws of `put`: a turn of the loop that copies, its end, two puts in a row, what a put leaves, and a chain of puts.
 use mathlib.Core.Path.{_≡_, refl, sym, ap, ap₂, _∙_}
 use mathlib.Core.List.{List, [], _∷_, _++_, append-assoc}
-use Prim.Native.Nat.{ℕ, suc, _+_, _≤_, _<_}
+use Prim.Native.Nat.{ℕ, zero, suc, _+_, _-_, _≤_, _<_}
 use native.Mathlib.Nat.{add-zero, zero-add}
 use native.Mathlib.Numerals.{add-one}
 use native.Mathlib.Decide.{decLe}
 use native.Mathlib.Omega.{arith}
-use lib.ListN.{length, take, drop, getD, set, length-append, length-set}
+use borrow.Author.Tests.{lt-ltb, le-ltb, le-leb, lt-leb, eq-eqb, ne-eqb}
+use lib.ListN.{length, take, drop, getD, set, replicate, length-append, length-set}
 use lib.Seq.{sets, sets-eq, length-sets, drop-cons, drop-length, take-set-le, set-out, drop-set-lt, drop-at, take-at, length-take-le}
 use Rattle.wire.specs.Put.{put, Puts}
 
@@ -114,3 +115,13 @@ module _ {d : List ℕ} {i : ℕ} {s o : List ℕ} {at : ℕ} {rest : List ℕ} 
   rest-full h =
       let e : length o ≡ at = omega (arith, w .inside) in
       w .gives (rw e at (puts-out o at rest h))
+
+pub zeros-turn : (k : ℕ) → 0 < k → replicate {A = ℕ} k 0 ≡ (0 ∷ []) ++ replicate (k - 1) 0
+zeros-turn zero h = absurd (omega arith)
+zeros-turn (suc k) h = let e : suc k - 1 ≡ k = omega arith in rw e
+
+pub zeros-none : (k : ℕ) → k ≤ 0 → replicate {A = ℕ} k 0 ≡ []
+zeros-none k h = let e : k ≡ 0 = omega arith in rw e
+
+-- what a test says of numbers, for `search`
+pub ruleset tests = (lt-ltb, le-ltb, le-leb, lt-leb, eq-eqb, ne-eqb)

@@ -159,6 +159,12 @@ fn field(s: &[u8], at: usize, n: usize) -> u64
     x
 }
 
+fn least(a: usize, b: usize) -> usize
+    ensures { λ r. ⌜ r ≡ min a b ⌝ }
+{
+    if a < b { a } else { b }
+}
+
 // The same of any place and of up to 8 bytes; bytes past the end of `s` do not count.
 pub fn le_at(s: &[u8], at: usize, n: usize) -> u64
     ensures { λ r. ⌜ Field (now (s .entry)) at (min n 8) r ⌝ }
@@ -166,15 +172,9 @@ pub fn le_at(s: &[u8], at: usize, n: usize) -> u64
     if s.len() <= at {
         return 0;
     }
+    let k = least(n, 8);
     let room = s.len() - at;
-    let mut k = n;
-    if 8 < k {
-        k = 8;
-    }
-    if room < k {
-        k = room;
-    }
-    field(s, at, k)
+    field(s, at, least(k, room))
 }
 
 // Two's complement: the number that 64 bits stand for, and its bits.
