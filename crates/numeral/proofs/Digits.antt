@@ -6,8 +6,8 @@ use Prim.Native.Nat.{ℕ, zero, suc, _+_, _-_, _*_, _/_, _%_, _^_, _<_, _≤_}
 use native.Mathlib.Nat.{div-lt-iff-lt-mul, pow-suc}
 use native.Mathlib.Decide.{decLt}
 use native.Mathlib.Omega.{arith}
-use borrow.Author.Tests.{lt-ltb, le-ltb, le-leb, ltb-false, ltb-true}
-use lib.Dec.{ltb, leb, lit<}
+use borrow.Author.Tests.{lt-ltb, le-ltb, le-leb, ltb-false}
+use lib.Dec.{ltb, lit<}
 use lib.ListN.{length, getD, length-append}
 use Rattle.numeral.specs.Decimal.{digitsIn, digits}
 use Rattle.numeral.specs.Whole.{isDigit, allDigits, valueFrom, valueOf}

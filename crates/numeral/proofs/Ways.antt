@@ -1,13 +1,13 @@
 -- A law for each way out of the code.
 use mathlib.Core.Path.{_≡_, refl, sym, ap, _∙_}
-use mathlib.Core.Bool.{Bool, true, false, cond, _&&_}
-use mathlib.Core.List.{List, [], _∷_, _++_, append-assoc, append-nil}
+use mathlib.Core.Bool.{Bool, true, false, cond}
+use mathlib.Core.List.{List, [], _∷_, _++_, append-assoc}
 use Prim.Native.Nat.{ℕ, zero, suc, _+_, _-_, _*_, _/_, _%_, _^_, _<_, _≤_, min}
 use native.Mathlib.Decide.{decLe}
 use native.Mathlib.Omega.{arith}
 use native.Mathlib.Numerals.{add-one}
-use borrow.Author.Tests.{lt-ltb, le-ltb, le-leb, lt-leb, eq-eqb, ne-eqb, ltb-true, ltb-false, eqb-true, eqb-false}
-use lib.Dec.{ltb, leb, eqb, lit≤}
+use borrow.Author.Tests.{lt-ltb, le-ltb, le-leb, lt-leb, eq-eqb, ne-eqb, ltb-true}
+use lib.Dec.{eqb}
 use lib.IntN.{ℤ, pos, negsuc, negℤ, natAbs, _-ℤ_, +ℤ-idl}
 use lib.ListN.{length, take, drop, getD, set, length-set, length-drop, drop-of-length-le}
 use lib.Seq.{drop-cons, drop-set-lt, getD-set-same, take-all}
@@ -23,10 +23,10 @@ use Rattle.numeral.specs.Decimal.{digits, decimal}
 use Rattle.numeral.specs.Whole.{isDigit, allDigits, valueFrom, valueOf, isNatural, widest, malformed, whole, naturalOf, negativeOf, wholeOf, isWithin, answerOf}
 use Rattle.numeral.specs.Sum.{over, digitsSum, naturalSum, aboveOf, belowOf}
 use Rattle.numeral.specs.declared.Whole.{Whole}
-use Rattle.numeral.specs.declared.Whole.the-variants.{Value, Large, Malformed}
+use Rattle.numeral.specs.declared.Whole.the-variants.{Value, Malformed}
 use Rattle.numeral.specs.declared.Natural.{Natural}
 use Rattle.numeral.specs.declared.Natural.the-variants.{Sum, NotOne}
-use Rattle.numeral.proofs.Digits.{digits-one, digits-split, digits-length, one-length, some-digit, digits-20, digit-is}
+use Rattle.numeral.proofs.Digits.{digits-one, digits-split, digits-length, one-length, some-digit, digit-is}
 
 pub ruleset tests = (lt-ltb, le-ltb, le-leb, lt-leb, eq-eqb, ne-eqb)
 

@@ -1,10 +1,9 @@
 -- Worked values.
 use mathlib.Core.Path.{_≡_, refl}
-use mathlib.Core.List.{List, [], _∷_}
-use Prim.Native.Nat.{ℕ}
+use mathlib.Core.List.{[], _∷_}
 use lib.IntN.{pos, negsuc}
 use Rattle.numeral.specs.Decimal.{digitsIn, digits, decimal}
-use Rattle.numeral.specs.Whole.{Read, malformed, whole, isDigit, allDigits, valueFrom, isNatural, naturalOf, negativeOf, wholeOf, isWithin, answerOf}
+use Rattle.numeral.specs.Whole.{malformed, whole, isDigit, allDigits, valueFrom, isNatural, naturalOf, negativeOf, wholeOf, isWithin, answerOf}
 use Rattle.numeral.specs.declared.Whole.the-variants.{Value, Large}
 
 -- -7200, 0 and 9007199254740991

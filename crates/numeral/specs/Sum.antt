@@ -1,7 +1,7 @@
 -- What the functions that read digits hand on: the number, cut off above the widest.
 use mathlib.Core.Bool.{cond}
 use mathlib.Core.List.{List}
-use Prim.Native.Nat.{ℕ, suc, min}
+use Prim.Native.Nat.{ℕ, min}
 use lib.Dec.{eqb, ltb}
 use lib.IntN.{pos, negℤ}
 use Rattle.numeral.specs.Whole.{allDigits, valueFrom, valueOf, isNatural, widest}

@@ -89,6 +89,10 @@ puts-then {d} {s} {t} {i} {r} {r′} {o} {o′} a p =
 pub puts-out : (d : List ℕ) (i : ℕ) (s : List ℕ) → length d ≤ i → Puts d i s (length d) d
 puts-out d i s h = record { next = omega arith; bytes = sym (put-out d i s h) }
 
+-- from the start of a buffer that has room
+pub puts-whole : {d s o : List ℕ} {r : ℕ} → length s ≤ length d → Puts d 0 s r o → (r ≡ length s) × (o ≡ s ++ drop (length s) d)
+puts-whole {d} {s} h p = (omega (arith, p .next), p .bytes ∙ put-over d s h)
+
 pub puts-one : (d : List ℕ) (i b : ℕ) → i < length d → Puts d i (b ∷ []) (i + 1) (set d i b)
 unfolding put
 puts-one d i b h = record { next = omega arith; bytes = refl }

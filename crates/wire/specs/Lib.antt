@@ -2,3 +2,4 @@
 pub mod Put
 pub mod Escape
 pub mod Field
+pub mod Examples

@@ -5,7 +5,7 @@ use Prim.Native.Nat.{_≤_}
 use borrow.Author.Needs.{needs}
 use lib.ListN.{length, length-set}
 use native.Mathlib.Omega.{arith}
-use Rattle.numeral.proofs.Digits.{some-digit, digits-20}
+use Rattle.numeral.proofs.Digits.{digits-20}
 use Rattle.numeral.proofs.Ways.{Made, made-turn, made-end}
 use Rattle.numeral.proofs.put_natural.Statement.{statement}
 use Rattle.numeral.proofs.put_natural.Tie as tie
