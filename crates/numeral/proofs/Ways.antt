@@ -28,8 +28,6 @@ use Rattle.numeral.specs.declared.Natural.{Natural}
 use Rattle.numeral.specs.declared.Natural.the-variants.{Sum, NotOne}
 use Rattle.numeral.proofs.Digits.{digits-one, digits-split, digits-length, one-length, some-digit, digit-is}
 
-pub ruleset tests = (lt-ltb, le-ltb, le-leb, lt-leb, eq-eqb, ne-eqb)
-
 -- ---- digits read
 not-low : (x : ℕ) → x < 48 → isDigit x ≡ false
 unfolding isDigit

@@ -1,7 +1,7 @@
 -- What the functions that read digits hand on: the number, cut off above the widest.
 use mathlib.Core.Bool.{cond}
 use mathlib.Core.List.{List}
-use Prim.Native.Nat.{ℕ, min}
+use Prim.Native.Nat.{ℕ, suc, min}
 use lib.Dec.{eqb, ltb}
 use lib.IntN.{pos, negℤ}
 use Rattle.numeral.specs.Whole.{allDigits, valueFrom, valueOf, isNatural, widest}
@@ -12,7 +12,7 @@ use Rattle.numeral.specs.declared.Natural.the-variants.{Sum, NotOne}
 
 -- the first number that is too large
 abbrev pub over : ℕ
-over = 9007199254740992
+over = suc widest
 
 unfoldable pub digitsSum : ℕ → List ℕ → Natural
 digitsSum v l = cond (allDigits l) (Sum (min (valueFrom v l) over)) NotOne

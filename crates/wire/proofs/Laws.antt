@@ -1,4 +1,4 @@
--- Laws of `put`: a turn of the loop that copies, its end, two puts in a row, what a put leaves, and a chain of puts.
+-- Laws of `put`: a turn of the loop that copies, its end, two puts in a row, what a put leaves, a chain of puts, and loops of writers.
 use mathlib.Core.Path.{_≡_, refl, sym, ap, ap₂, _∙_}
 use mathlib.Core.List.{List, [], _∷_, _++_, append-assoc}
 use Prim.Native.Nat.{ℕ, zero, suc, _+_, _-_, _≤_, _<_}
