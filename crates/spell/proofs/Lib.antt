@@ -1,2 +1,3 @@
--- Characters and steps; lists in loops; what other crates may cite.
+-- Characters and steps over the decoded bytes, and lists that a loop passes.
 mod Chars
+mod Loops

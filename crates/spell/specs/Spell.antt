@@ -114,7 +114,7 @@ characterCount l = points (decode l)
 
 -- lower-case hex (01): 0-9 and a-f
 abbrev pub isHex : ℕ → Bool
-isHex x = cond (leb x 0x39) (leb 0x30 x) (leb 0x61 x && leb x 0x66)
+isHex x = (leb 0x30 x && leb x 0x39) || (leb 0x61 x && leb x 0x66)
 
 unfoldable pub allHex : List ℕ → Bool
 allHex [] = true

@@ -356,10 +356,15 @@ pub fn characters(p: &[u8]) -> usize
 fn is_hex_digit(x: u8) -> bool
     ensures { λ r. ⌜ r ≡ isHex x ⌝ }
 {
-    if x <= b'9' {
-        return b'0' <= x;
+    if x < b'0' {
+        false
+    } else if x <= b'9' {
+        true
+    } else if x < b'a' {
+        false
+    } else {
+        x <= b'f'
     }
-    b'a' <= x && x <= b'f'
 }
 
 // Whether a spelling decodes to n characters of lower-case hex.
@@ -381,7 +386,7 @@ pub fn is_hex(p: &[u8], n: usize) -> bool
         k = x.taken;
         left -= 1;
     }
-    left == 0
+    0 == left
 }
 
 // How many bytes a spelling decodes to.
