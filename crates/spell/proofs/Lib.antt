@@ -1,3 +1,4 @@
--- Characters and steps over the decoded bytes, and lists that a loop passes.
+-- Characters and steps over the decoded bytes, lists that a loop passes, and writers.
 mod Chars
 mod Loops
+mod Writes
