@@ -9,7 +9,7 @@ use borrow.Author.Tests.{eq-eqb, ne-eqb}
 use lib.Dec.{eqb, eqb·suc-suc, eqb·suc-zero}
 use lib.ListN.{length, getD, drop}
 use lib.Seq.{drop-cons}
-use Rattle.spell.specs.Spell.{sameBytes, isTail, points, isHex, allHex}
+use Rattle.spell.specs.Spell.{sameBytes, isTail, points, isHex, all}
 
 -- the elements from i on
 pub byte-turn : (s : List ℕ) (i : ℕ) → i < length s → drop i s ≡ getD s i 0 ∷ drop (i + 1) s
@@ -62,23 +62,23 @@ unfolding points
 point-end e = rw e
 
 -- one turn of the test for n characters of hex
-module _ {b : Bool} (n : ℕ) {k : List ℕ} (inv : b ≡ (eqb (length k) n && allHex k)) where
+module _ {b : Bool} (n : ℕ) {k : List ℕ} (inv : b ≡ (eqb (length k) n && all isHex k)) where
   pub hex-end : k ≡ [] → b ≡ eqb 0 n
-  unfolding allHex
+  unfolding all
   hex-end p = inv ∙ rw p (and-true (eqb 0 n))
 
   module _ {x : ℕ} {l : List ℕ} (p : k ≡ x ∷ l) where
     pub hex-long : n ≡ 0 → b ≡ false
-    unfolding allHex
+    unfolding all
     hex-long z = inv ∙ rw (p, z, eqb·suc-zero (length l))
 
     pub hex-bad : isHex x ≡ false → b ≡ false
-    unfolding allHex
-    hex-bad e = inv ∙ rw (p, allHex, e) (and-false (eqb (suc (length l)) n))
+    unfolding all
+    hex-bad e = inv ∙ rw (p, all, e) (and-false (eqb (suc (length l)) n))
 
-    pub hex-good : isHex x ≡ true → (n ≡ 0 → ⊥) → b ≡ (eqb (length l) (n - 1) && allHex l)
-    unfolding allHex
-    hex-good e z = inv ∙ rw (p, allHex, e) (ap (λ (t : Bool). t && allHex l) (go n z))
+    pub hex-good : isHex x ≡ true → (n ≡ 0 → ⊥) → b ≡ (eqb (length l) (n - 1) && all isHex l)
+    unfolding all
+    hex-good e z = inv ∙ rw (p, all, e) (ap (λ (t : Bool). t && all isHex l) (go n z))
       where
         go : (n : ℕ) → (n ≡ 0 → ⊥) → eqb (suc (length l)) n ≡ eqb (length l) (n - 1)
         go zero z = absurd (z refl)

@@ -7,7 +7,7 @@ use denote.Ref.{now}
 use borrow.Author.Tests.{not-true, not-false}
 use lib.Dec.{eqb}
 use lib.ListN.{length}
-use Rattle.spell.specs.Spell.{isHexOf, allHex}
+use Rattle.spell.specs.Spell.{isHexOf, isHex, all}
 use Rattle.spell.specs.Steps.{leftOf, Within}
 use Rattle.spell.proofs.Chars.{begin, left-over, left-some}
 use Rattle.spell.proofs.Loops.{hex-end, hex-long, hex-bad, hex-good}
@@ -15,7 +15,7 @@ use Rattle.spell.proofs.is_hex.Statement.{statement}
 use Rattle.spell.proofs.is_hex.Tie as tie
 
 abbrev Inv-loop : tie.InvT-loop
-Inv-loop p n i₀ k₀ left₀ i k left = (isHexOf n p ≡ (eqb (length (leftOf p i k)) left && allHex (leftOf p i k))) × Within p i k
+Inv-loop p n i₀ k₀ left₀ i k left = (isHexOf n p ≡ (eqb (length (leftOf p i k)) left && all isHex (leftOf p i k))) × Within p i k
 
 abbrev μ-loop : tie.MeasureT-loop
 μ-loop p n i₀ k₀ left₀ i k left = length (leftOf p i k)
