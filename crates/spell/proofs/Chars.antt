@@ -232,7 +232,7 @@ module _ (p : List ℕ) (i : ℕ) {b : Bool} (inv : b ≡ any isRefused (chars (
   refused-none h = inv ∙ rw (over p i h)
 
 -- no spelling decodes to more bytes than it has: a character has no more than spell it, and one that the end cuts off no more than are there
-choose : {A : Type 0} (P : A → Type 0) (b : Bool) {x y : A} → (b ≡ true → P x) → (b ≡ false → P y) → P (cond b x y)
+pub choose : {A : Type 0} (P : A → Type 0) (b : Bool) {x y : A} → (b ≡ true → P x) → (b ≡ false → P y) → P (cond b x y)
 choose P true p q = p refl
 choose P false p q = q refl
 
