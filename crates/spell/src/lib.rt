@@ -27,18 +27,18 @@ fn hex_val(x: u8) -> u32
     ensures { λ r. ⌜ r ≡ hexVal x ⌝ }
     ensures { λ r. ⌜ r ≤ 15 ⌝ }
 {
-    if x < b'0' {
+    if x < 0x30 {
         0
-    } else if x <= b'9' {
-        (x - b'0') as u32
-    } else if x < b'A' {
+    } else if x <= 0x39 {
+        (x - 0x30) as u32
+    } else if x < 0x41 {
         0
-    } else if x <= b'F' {
-        (x - b'A' + 10) as u32
-    } else if x < b'a' {
+    } else if x <= 0x46 {
+        (x - 0x41 + 10) as u32
+    } else if x < 0x61 {
         0
-    } else if x <= b'f' {
-        (x - b'a' + 10) as u32
+    } else if x <= 0x66 {
+        (x - 0x61 + 10) as u32
     } else {
         0
     }
