@@ -11,9 +11,9 @@ use lib.ListN.{length, getD, drop, List·getD-eq-default, drop-of-length-le}
 use lib.Dec.{ltb}
 use lib.Seq.{drop-cons}
 use borrow.Author.Tests.{lt-ltb, le-ltb, le-leb, lt-leb, eq-eqb, ne-eqb, ltb-true}
-use Rattle.json.specs.Grammar.{case, noZero, classOf, run, past, oneAt, wordAt}
+use Rattle.json.specs.Grammar.{case, noZero, classOf, run, past, oneAt, wordAt, digitsAt}
 use Rattle.json.specs.declared.Class.{Class}
-use Rattle.json.specs.declared.Class.the-variants.{Byte}
+use Rattle.json.specs.declared.Class.the-variants.{Digit, Byte}
 use Rattle.json.specs.declared.Out.the-variants.{End, Bad}
 
 pub ruleset tests = (lt-ltb, le-ltb, le-leb, lt-leb, eq-eqb, ne-eqb)
@@ -46,6 +46,17 @@ module _ (class : Class) (s : List ℕ) (at : ℕ) where
 pub byte-not-zero : (b : ℕ) → 0 < b → classOf (Byte b) 0 ≡ false
 unfolding classOf
 byte-not-zero b h = ne-eqb 0 b (λ e. omega arith)
+
+digit-not-zero : classOf Digit 0 ≡ false
+unfolding classOf
+digit-not-zero = refl
+
+pub digits-are : (s : List ℕ) (at : ℕ) → classOf Digit (getD s at 0) ≡ true → digitsAt s at ≡ End (past Digit s at)
+unfolding digitsAt oneAt
+digits-are s at e =
+    let h = class-within Digit s at digit-not-zero e in
+    let q = past-more Digit s at h e in
+    rw (e, q)
 
 -- ---- the bytes of a word
 module _ (s w : List ℕ) (k i : ℕ) where

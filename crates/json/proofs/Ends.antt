@@ -2,12 +2,13 @@
 -- string never run out of fuel.
 use mathlib.Core.Path.{_≡_, refl, sym, ap, _∙_}
 use mathlib.Core.List.{List, [], _∷_}
-use mathlib.Core.Bool.{Bool, true, false, cond}
+use mathlib.Core.Bool.{Bool, true, false, cond, false≢true}
 use Prim.Native.Nat.{ℕ, zero, suc, _+_, _<_, _≤_}
 use native.Mathlib.Nat.{add-zero}
 use native.Mathlib.Numerals.{add-one}
 use native.Mathlib.Omega.{arith}
 use lib.ListN.{length, getD}
+use borrow.Author.Tests.{eqb-true}
 use Rattle.json.specs.Grammar.{case, classOf, oneAt, hexAt, escapedAt, charAt, charsUpTo, charsAt}
 use Rattle.json.specs.declared.Class.{Class}
 use Rattle.json.specs.declared.Class.the-variants.{Plain, Hex, Short, Byte}
@@ -15,12 +16,17 @@ use Rattle.json.specs.declared.Out.{Out}
 use Rattle.json.specs.declared.Out.the-variants.{End, Bad}
 use Rattle.json.proofs.Bytes.{class-within}
 
+pub ends-bad : {A : Type 0} {n : ℕ} → Bad ≡ End n → A
+ends-bad e = absurd (let z : _≡_ {A = ℕ} 0 1 = cc in omega arith)
+
+-- ---- what a `case` that ends went through
+pub then-end : {n : ℕ} (o : Out) (f : ℕ → Out) → case o f Bad ≡ End n → (m : ℕ) × (o ≡ End m) × (f m ≡ End n)
+then-end (End m) f e = (m, refl, e)
+then-end Bad f e = ends-bad e
+
 -- where o ends, it ends behind `at`, and within a text of length `size`
 abbrev pub Ends : ℕ → ℕ → Out → Type 0
 Ends at size o = (n : ℕ) → o ≡ End n → (at < n) × (n ≤ size)
-
-pub ends-bad : {A : Type 0} {n : ℕ} → Bad ≡ End n → A
-ends-bad e = absurd (let z : _≡_ {A = ℕ} 0 1 = cc in omega arith)
 
 module _ (at size : ℕ) where
   -- one thing, or another
@@ -46,6 +52,37 @@ module _ (s : List ℕ) where
       go : (b : Bool) → classOf class (getD s at 0) ≡ b → Ends at (length s) (cond b (End (at + 1)) Bad)
       go true q n e = let h = class-within class s at z q in let w : at + 1 ≡ n = cc in omega arith
       go false q n e = ends-bad e
+
+  pub one-is : (class : Class) (at : ℕ) {n : ℕ} → oneAt s class at ≡ End n → (classOf class (getD s at 0) ≡ true) × (at + 1 ≡ n)
+  unfolding oneAt
+  one-is class at {n} e = go (classOf class (getD s at 0)) e
+    where
+      go : (b : Bool) → cond b (End (at + 1)) Bad ≡ End n → (b ≡ true) × (at + 1 ≡ n)
+      go true q = (refl, cc)
+      go false q = ends-bad q
+
+  pub one-of : (class : Class) (at : ℕ) → classOf class (getD s at 0) ≡ true → oneAt s class at ≡ End (at + 1)
+  unfolding oneAt
+  one-of class at e = rw e
+
+  pub one-not : (class : Class) (at : ℕ) → classOf class (getD s at 0) ≡ false → oneAt s class at ≡ Bad
+  unfolding oneAt
+  one-not class at e = rw e
+
+  pub byte-is : (b at : ℕ) {n : ℕ} → oneAt s (Byte b) at ≡ End n → getD s at 0 ≡ b
+  unfolding classOf
+  byte-is b at e = eqb-true _ _ (one-is (Byte b) at e .0)
+
+  -- the byte b is of no class that lacks it, and a byte of such a class is not b
+  pub byte-not : (b : ℕ) (class : Class) (at : ℕ) {n : ℕ} → classOf class b ≡ false → oneAt s (Byte b) at ≡ End n → oneAt s class at ≡ Bad
+  byte-not b class at z e = one-not class at (ap (classOf class) (byte-is b at e) ∙ z)
+
+  pub not-byte : (b : ℕ) (class : Class) (at : ℕ) {n : ℕ} → classOf class b ≡ false → oneAt s class at ≡ End n → oneAt s (Byte b) at ≡ Bad
+  not-byte b class at z e = go (oneAt s (Byte b) at) refl
+    where
+      go : (o : Out) → oneAt s (Byte b) at ≡ o → o ≡ Bad
+      go (End m) q = absurd (false≢true (sym z ∙ sym (ap (classOf class) (byte-is b at q)) ∙ one-is class at e .0))
+      go Bad q = refl
 
   pub hex-ends : (at : ℕ) → Ends at (length s) (hexAt s at)
   unfolding hexAt classOf

@@ -4,7 +4,7 @@ ghost use mathlib.Core.Path.{_≡_};
 ghost use Prim.Native.Nat.{_<_};
 ghost use mathlib.Core.Bool.{true, false};
 ghost use lib.ListN.{getD};
-ghost use Rattle.json.specs.Grammar.{within, classOf, past, wsAt, oneAt, optAt, tokenAt, wordAt, literalAt, digitsAt, intAt, fracAt, expAt, numberAt, hexAt, escapedAt, charsAt, stringAt, isSpelling, scalarAt, closeOf, openedAt, startAt, headAt, nextAt};
+ghost use Rattle.json.specs.Grammar.{case, within, classOf, past, wsAt, oneAt, tokenAt, wordAt, literalAt, digitsAt, intAt, fracAt, expAt, numberAt, hexAt, escapedAt, charsAt, stringAt, isSpelling, scalarAt, closeOf, openedAt, startAt, headAt, nextAt};
 ghost use Rattle.json.specs.Tree.{endOf, onLeaf, treeAt, isText};
 ghost use Rattle.json.specs.Grammar.{noZero};
 
@@ -97,12 +97,23 @@ fn one(s: &[u8], at: usize, class: Class) -> Out
     }
 }
 
-// The place after a byte of a class, if there is one.
-fn opt(s: &[u8], at: usize, class: Class) -> usize
-    requires { ⌜ classOf class 0 ≡ false ⌝ }
-    ensures { λ r. ⌜ r ≡ optAt (now (s .entry)) class at ⌝ }
+// The byte b: `one` again, small enough to be compiled in place.
+fn this(s: &[u8], at: usize, b: u8) -> Out
+    requires { ⌜ 0 < b ⌝ }
+    ensures { λ r. ⌜ r ≡ oneAt (now (s .entry)) (Class.Byte b) at ⌝ }
 {
-    match one(s, at, class) {
+    if byte(s, at) == b {
+        Out::End(at + 1)
+    } else {
+        Out::Bad
+    }
+}
+
+// The place after what may be missing at a place.
+fn or(o: Out, at: usize) -> usize
+    ensures { λ r. ⌜ r ≡ case o (λ n. n) at ⌝ }
+{
+    match o {
         Out::End(n) => n,
         Out::Bad => at,
     }
@@ -120,7 +131,7 @@ fn token(s: &[u8], at: usize, b: u8) -> Out
     requires { ⌜ 0 < b ⌝ }
     ensures { λ r. ⌜ r ≡ tokenAt (now (s .entry)) b at ⌝ }
 {
-    match one(s, at, Class::Byte(b)) {
+    match this(s, at, b) {
         Out::End(n) => Out::End(space(s, n)),
         Out::Bad => Out::Bad,
     }
@@ -134,7 +145,7 @@ fn word(s: &[u8], at: usize, w: &[u8]) -> Out
     let mut i = at;
     let mut k: usize = 0;
     while k < w.len() {
-        let Out::End(n) = one(s, i, Class::Byte(w[k])) else {
+        let Out::End(n) = this(s, i, w[k]) else {
             return Out::Bad;
         };
         i = n;
@@ -158,16 +169,17 @@ fn literal(s: &[u8], at: usize) -> Out
 fn digits(s: &[u8], at: usize) -> Out
     ensures { λ r. ⌜ r ≡ digitsAt (now (s .entry)) at ⌝ }
 {
-    match one(s, at, Class::Digit) {
-        Out::End(n) => Out::End(skip(s, n, Class::Digit)),
-        Out::Bad => Out::Bad,
+    if between(0x30, 0x39, byte(s, at)) {
+        Out::End(skip(s, at, Class::Digit))
+    } else {
+        Out::Bad
     }
 }
 
 fn int(s: &[u8], at: usize) -> Out
     ensures { λ r. ⌜ r ≡ intAt (now (s .entry)) at ⌝ }
 {
-    match one(s, at, Class::Byte(b'0')) {
+    match this(s, at, b'0') {
         Out::End(n) => Out::End(n),
         Out::Bad => digits(s, at),
     }
@@ -176,7 +188,7 @@ fn int(s: &[u8], at: usize) -> Out
 fn frac(s: &[u8], at: usize) -> Out
     ensures { λ r. ⌜ r ≡ fracAt (now (s .entry)) at ⌝ }
 {
-    match one(s, at, Class::Byte(b'.')) {
+    match this(s, at, b'.') {
         Out::End(n) => digits(s, n),
         Out::Bad => Out::End(at),
     }
@@ -186,7 +198,7 @@ fn exp(s: &[u8], at: usize) -> Out
     ensures { λ r. ⌜ r ≡ expAt (now (s .entry)) at ⌝ }
 {
     match one(s, at, Class::Exponent) {
-        Out::End(n) => digits(s, opt(s, n, Class::Sign)),
+        Out::End(n) => digits(s, or(one(s, n, Class::Sign), n)),
         Out::Bad => Out::End(at),
     }
 }
@@ -194,7 +206,7 @@ fn exp(s: &[u8], at: usize) -> Out
 fn number(s: &[u8], at: usize) -> Out
     ensures { λ r. ⌜ r ≡ numberAt (now (s .entry)) at ⌝ }
 {
-    match int(s, opt(s, at, Class::Byte(b'-'))) {
+    match int(s, or(this(s, at, b'-'), at)) {
         Out::End(n) => match frac(s, n) {
             Out::End(m) => exp(s, m),
             Out::Bad => Out::Bad,
@@ -223,8 +235,8 @@ fn hex4(s: &[u8], at: usize) -> Out
 fn escaped(s: &[u8], at: usize) -> Out
     ensures { λ r. ⌜ r ≡ escapedAt (now (s .entry)) at ⌝ }
 {
-    match one(s, at, Class::Byte(b'\\')) {
-        Out::End(n) => match one(s, n, Class::Byte(b'u')) {
+    match this(s, at, b'\\') {
+        Out::End(n) => match this(s, n, b'u') {
             Out::End(m) => hex4(s, m),
             Out::Bad => one(s, n, Class::Short),
         },
@@ -254,8 +266,8 @@ fn chars(s: &[u8], at: usize) -> usize
 pub fn string(s: &[u8], at: usize) -> Out
     ensures { λ r. ⌜ r ≡ stringAt (now (s .entry)) at ⌝ }
 {
-    match one(s, at, Class::Byte(b'"')) {
-        Out::End(n) => one(s, chars(s, n), Class::Byte(b'"')),
+    match this(s, at, b'"') {
+        Out::End(n) => this(s, chars(s, n), b'"'),
         Out::Bad => Out::Bad,
     }
 }

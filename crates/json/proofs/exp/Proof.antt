@@ -14,6 +14,7 @@ exp-spec =
     (λ c κs. refl)
     (search needs)
     (search needs)
-    (λ c. let d = c .before .before .before in
-    c .digits .ensures ∙ simp (← d .before .before .one .ensures, d .n .given .1, ← c .before .opt .ensures))
+    (search needs)
+    (λ c. let d = c .before .before .before .before in
+    c .digits .ensures ∙ simp (← d .before .before .one .ensures, d .n .given .1, ← c .before .before .one2 .ensures, ← c .before .or .ensures))
     (λ c. simp (← c .before .before .one .ensures, c .enum-told .given .1)))

@@ -2,7 +2,6 @@ use mathlib.Core.Path.{ap, _∙_}
 use borrow.Author.Needs.{needs}
 use Rattle.json.specs.Grammar.{tokenAt}
 use Rattle.json.specs.declared.Out.the-variants.{End}
-use Rattle.json.proofs.Bytes.{byte-not-zero}
 use Rattle.json.proofs.token.Statement.{statement}
 use Rattle.json.proofs.token.Tie as tie
 
@@ -11,9 +10,9 @@ unfolding tokenAt
 token-spec =
     tie.close
     (tie.spec
-    (λ c κs. byte-not-zero _ (c .before .pre))
     (search needs)
     (search needs)
     (search needs)
-    (λ c. ap End (c .space .ensures) ∙ simp (← c .before .before .before .before .one .ensures, c .before .before .n .given .1))
-    (λ c. simp (← c .before .before .one .ensures, c .enum-told .given .1)))
+    (search needs)
+    (λ c. ap End (c .space .ensures) ∙ simp (← c .before .before .before .before .this .ensures, c .before .before .n .given .1))
+    (λ c. simp (← c .before .before .this .ensures, c .enum-told .given .1)))

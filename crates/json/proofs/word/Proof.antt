@@ -5,7 +5,7 @@ use native.Mathlib.Omega.{arith}
 use borrow.Author.Needs.{needs}
 use lib.ListN.{length, drop}
 use Rattle.json.specs.Grammar.{wordAt}
-use Rattle.json.proofs.Bytes.{byte-not-zero, no-zero, word-out, word-step}
+use Rattle.json.proofs.Bytes.{no-zero, word-out, word-step}
 use Rattle.json.proofs.word.Statement.{statement}
 use Rattle.json.proofs.word.Tie as tie
 
@@ -19,12 +19,12 @@ loop-again : tie.Need-loop-again Inv-loop μ-loop
 loop-again c =
     let d = c .before .before .before in
     let h = d .before .before .loop-test .taken in
-    (omega arith, sym (word-step _ _ _ _ h ∙ simp (← d .one .ensures, c .before .n .given .1)) ∙ d .before .before .before .loop .inv .1)
+    (omega arith, sym (word-step _ _ _ _ h ∙ simp (← d .this .ensures, c .before .n .given .1)) ∙ d .before .before .before .loop .inv .1)
 
 returns : tie.Need-returns Inv-loop μ-loop
 returns c =
     let d = c .before .before in
-    sym (word-step _ _ _ _ (d .before .before .loop-test .taken) ∙ simp (← d .one .ensures, c .enum-told .given .1)) ∙ d .before .before .before .loop .inv .1
+    sym (word-step _ _ _ _ (d .before .before .loop-test .taken) ∙ simp (← d .this .ensures, c .enum-told .given .1)) ∙ d .before .before .before .loop .inv .1
 
 pub word-spec : {M : Type 1} → statement M
 word-spec =
@@ -35,7 +35,7 @@ word-spec =
     (λ c. (search needs, refl))
     (search needs)
     (λ c κs. let d = c .before .before .before .before .before in
-    byte-not-zero _ (no-zero (d .args .w .now) (c .before .before .loop .k) (d .pre) (c .before .loop-test .taken)))
+    no-zero (d .args .w .now) (c .before .before .loop .k) (d .pre) (c .before .loop-test .taken))
     (search needs)
     (search needs)
     returns
