@@ -9,7 +9,7 @@ use lib.Dec.{ltb, leb, eqb}
 use lib.ListN.{length, getD, drop}
 use Rattle.spell.specs.declared.Char.{Char}
 use Rattle.spell.specs.Spell.{shortOf, charOf, chars, charsFrom, bytesOf, joined, decode, isSurrogate, isControl, isRefused, any, refuses, sameBytes, isTail, points, characterCount, isHex, all, isHexOf, notSlash, isText}
-use Rattle.spell.specs.Escape.{letterOf, escOne, escape}
+use Rattle.wire.specs.Escape.{letterOf, escOne, escape}
 use Rattle.spell.proofs.Chars.{and-left, and-right, char-raw, char-short, first, choose, decode-few}
 
 -- sameBytes is equality

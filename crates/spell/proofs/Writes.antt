@@ -9,7 +9,7 @@ use lib.Dec.{eqb}
 use lib.ListN.{length, length-append}
 use Rattle.wire.specs.Put.{put, Puts}
 use Rattle.wire.proofs.Laws.{puts-then}
-use Rattle.spell.specs.Escape.{letterOf, escOne, escape}
+use Rattle.wire.specs.Escape.{letterOf, escOne, escape}
 use Rattle.spell.proofs.Chars.{either}
 
 -- s from at on into d is t from o on into e

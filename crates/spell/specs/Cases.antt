@@ -3,7 +3,7 @@ use mathlib.Core.Bool.{true, false}
 use mathlib.Core.Path.{_≡_, refl}
 use mathlib.Core.List.{[], _∷_}
 use Rattle.spell.specs.Spell.{hexVal, four, fourAt, shortOf, isPair, pairOf, unicodeOf, charOf, charsFrom, utf8Of, bytesOf, joined, decode, isRefused, any, refuses, sameBytes, points, characterCount, isHex, all, isHexOf}
-use Rattle.spell.specs.Escape.{letterOf, escOne, escape}
+use Rattle.wire.specs.Escape.{letterOf, escOne, escape}
 
 -- \" \\ \/ \b \f \n \r \t
 short :

@@ -5,7 +5,7 @@ ghost use Prim.Native.Nat.{_≤_, _<_};
 ghost use lib.ListN.{length, getD, drop};
 ghost use Rattle.wire.specs.Put.{Puts};
 ghost use Rattle.spell.specs.Spell.{hexVal, four, fourAt, shortOf, isPair, pairOf, unicodeOf, utf8Of, bytesOf, isSurrogate, isControl, isRefused, refuses, decode, sameBytes, isTail, characterCount, isHex, isHexOf};
-ghost use Rattle.spell.specs.Escape.{letterOf, escOne, escape};
+ghost use Rattle.wire.specs.Escape.{letterOf, escOne, escape};
 ghost use Rattle.spell.specs.Steps.{Sized, Begins, Within, Stepped};
 
 // One character of a spelling, and how many bytes spell it: a byte of the decoded string (raw), which stands as it is or after a

@@ -6,7 +6,7 @@ use borrow.Author.Needs.{needs}
 use denote.Ref.{now}
 use lib.ListN.{length, length-append}
 use Rattle.spell.specs.Spell.{decode}
-use Rattle.spell.specs.Escape.{escOne, escape}
+use Rattle.wire.specs.Escape.{escOne, escape}
 use Rattle.spell.specs.Steps.{leftOf, Within}
 use Rattle.spell.proofs.Chars.{begin, left-over, decode-few}
 use Rattle.spell.proofs.Writes.{escape-turn, escape-end, escape-few}

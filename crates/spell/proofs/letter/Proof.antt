@@ -1,7 +1,7 @@
 -- An arm for each letter, and the rest.
 use mathlib.Core.Path.{_≡_, refl, sym, ap, _∙_}
 use Rattle.spell.proofs.Chars.{tests}
-use Rattle.spell.specs.Escape.{letterOf}
+use Rattle.wire.specs.Escape.{letterOf}
 use Rattle.spell.proofs.letter.Statement.{statement}
 use Rattle.spell.proofs.letter.Tie as tie
 

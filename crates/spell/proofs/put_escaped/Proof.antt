@@ -5,7 +5,7 @@ use borrow.Author.Needs.{needs}
 use denote.Ref.{now}
 use lib.ListN.{length}
 use Rattle.spell.specs.Spell.{decode}
-use Rattle.spell.specs.Escape.{escape}
+use Rattle.wire.specs.Escape.{escape}
 use Rattle.spell.specs.Steps.{leftOf, Within}
 use Rattle.spell.proofs.Chars.{begin, left-over}
 use Rattle.spell.proofs.Writes.{Rest, rest-all, rest-turn, rest-none, escape-turn, escape-end}
