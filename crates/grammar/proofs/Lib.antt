@@ -1,0 +1,3 @@
+mod Terms
+mod Numbers
+mod Strings
