@@ -16,7 +16,7 @@ use Rattle.json.specs.declared.Out.{Out}
 use Rattle.json.specs.declared.Out.the-variants.{End, Bad}
 use Rattle.json.proofs.Bytes.{both, past-none}
 use Rattle.json.proofs.Ends.{ends-bad, then-end, one-is, one-not, byte-not, not-byte}
-use Rattle.grammar.specs.Rfc.{opt, Star, none, more, byte, one, digits, int, frac, exp, number}
+use Rattle.grammar.specs.Rfc.{opt, byte, one, digits, int, frac, exp, number}
 use Rattle.grammar.proofs.Terms.{same-end, one-sound, one-taken, one-bad, star-sound, star-past}
 
 -- a digit that is not zero
@@ -128,7 +128,7 @@ module _ (s : List ℕ) where
   frac-first at n t (inr (m, o, r)) = byte-not s 0x2E Digit at refl (one-taken s (Byte 0x2E) at m o)
 
   -- a digit from 1 on is a digit, and not zero
-  first-digit : (at n : ℕ) → byte s (within 0x31 0x39) at n → one s Digit at n × (oneAt s (Byte 0x30) at ≡ Bad)
+  pub first-digit : (at n : ℕ) → byte s (within 0x31 0x39) at n → one s Digit at n × (oneAt s (Byte 0x30) at ≡ Bad)
   unfolding classOf
   first-digit at n (h, o, e) =
       let x = getD s at 0 in

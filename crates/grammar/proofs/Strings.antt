@@ -9,8 +9,8 @@ use Rattle.json.specs.declared.Class.{Class}
 use Rattle.json.specs.declared.Class.the-variants.{Plain, Hex, Short, Byte}
 use Rattle.json.specs.declared.Out.the-variants.{End, Bad}
 use Rattle.json.proofs.Ends.{byte-not, chars-none}
-use Rattle.json.proofs.Spelled.{Char, plain, short, code, Chars, stop, more as next, chars-sound, chars-taken, string-parts}
-use Rattle.grammar.specs.Rfc.{_⨾_, _∣_, Star, none, more, one, char, string}
+use Rattle.json.proofs.Spelled.{Char, plain, short, code, Chars, stop as last, more, chars-sound, chars-taken, string-parts}
+use Rattle.grammar.specs.Rfc.{_⨾_, _∣_, Star, stop, step, one, char, string}
 use Rattle.grammar.proofs.Terms.{one-sound, one-taken}
 
 module _ (s : List ℕ) where
@@ -30,8 +30,8 @@ module _ (s : List ℕ) where
       )
 
   chars-rule : (at n : ℕ) → Chars s at n → Star (char s) at n
-  chars-rule at n stop = none
-  chars-rule at n (next {m = m} c r) = more (char-rule at m c) (chars-rule m n r)
+  chars-rule at n last = stop
+  chars-rule at n (more {m = m} c r) = step (char-rule at m c) (chars-rule m n r)
 
   pub string-sound : (at n : ℕ) → stringAt s at ≡ End n → string s at n
   unfolding classOf
@@ -50,8 +50,8 @@ module _ (s : List ℕ) where
           code p (one-taken s (Byte 0x75) a b u) (one-taken s Hex b c h) (one-taken s Hex c d i) (one-taken s Hex d f j) (one-taken s Hex f n k)
 
   rule-chars : (at n : ℕ) → Star (char s) at n → Chars s at n
-  rule-chars at n none = stop
-  rule-chars at n (more {m = m} c r) = next (rule-char at m c) (rule-chars m n r)
+  rule-chars at n stop = last
+  rule-chars at n (step {m = m} c r) = more (rule-char at m c) (rule-chars m n r)
 
   pub string-taken : (at n : ℕ) → string s at n → stringAt s at ≡ End n
   unfolding stringAt charAt escapedAt classOf

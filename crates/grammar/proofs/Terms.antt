@@ -15,7 +15,7 @@ use Rattle.json.specs.declared.Out.{Out}
 use Rattle.json.specs.declared.Out.the-variants.{End, Bad}
 use Rattle.json.proofs.Bytes.{both, class-within, past-more, past-none, byte-not-zero}
 use Rattle.json.proofs.Ends.{then-end, one-is, one-of, byte-is}
-use Rattle.grammar.specs.Rfc.{Star, none, more, one, ws, token, name}
+use Rattle.grammar.specs.Rfc.{Star, stop, step, one, ws, token, name}
 
 pub same-end : {m n : ℕ} → End m ≡ End n → m ≡ n
 same-end e = cc
@@ -42,8 +42,8 @@ module _ (s : List ℕ) where
     step-sound : (at : ℕ) (b : Bool) → classOf class (getD s at 0) ≡ b → (at < length s → Star (one s class) (at + 1) (past class s (at + 1))) → Star (one s class) at (past class s at)
     step-sound at true q rest =
         let h = class-within class s at z q in
-        more (h, q, refl) (rw (past-more class s at h q) at (rest h))
-    step-sound at false q rest = rw (past-none class s at q) none
+        step (h, q, refl) (rw (past-more class s at h q) at (rest h))
+    step-sound at false q rest = rw (past-none class s at q) stop
 
     run-sound : (k at : ℕ) → length s ≤ k + at → Star (one s class) at (past class s at)
     run-sound zero at h = step-sound at (classOf class (getD s at 0)) refl (λ l. absurd (omega arith))
@@ -53,12 +53,12 @@ module _ (s : List ℕ) where
     star-sound at n e = rw (← e) (run-sound (length s) at (omega arith))
 
   pub star-past : (class : Class) (at n : ℕ) → Star (one s class) at n → past class s at ≡ past class s n
-  star-past class at n none = refl
-  star-past class at n (more {m = m} o r) = sym (past-more class s at (o .0) (o .1)) ∙ ap (past class s) (o .2) ∙ star-past class m n r
+  star-past class at n stop = refl
+  star-past class at n (step {m = m} o r) = sym (past-more class s at (o .0) (o .1)) ∙ ap (past class s) (o .2) ∙ star-past class m n r
 
   pub star-from : (class : Class) (at n : ℕ) → Star (one s class) at n → at ≤ n
-  star-from class at n none = omega arith
-  star-from class at n (more {m = m} o r) = let h = star-from class m n r in let q = o .2 in omega arith
+  star-from class at n stop = omega arith
+  star-from class at n (step {m = m} o r) = let h = star-from class m n r in let q = o .2 in omega arith
 
   -- ---- structural characters, the ws before which may be known already
   pub token-sound : (b m at n : ℕ) → 0 < b → ws s m at → tokenAt s b at ≡ End n → token s b m n

@@ -29,8 +29,8 @@ abbrev pub opt : Rule → Rule
 opt R at n = (at ≡ n) ⊎ R at n
 
 pub data Star (R : ℕ → ℕ → Type 0) : ℕ → ℕ → Type 0 where
-  none : {at : ℕ} → Star R at at
-  more : {at m n : ℕ} → R at m → Star R m n → Star R at n
+  stop : {at : ℕ} → Star R at at
+  step : {at m n : ℕ} → R at m → Star R m n → Star R at n
 
 module _ (s : List ℕ) where
   -- one byte for which p holds
