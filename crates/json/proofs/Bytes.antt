@@ -68,7 +68,7 @@ module _ (s w : List ℕ) (k i : ℕ) where
   unfolding wordAt
   word-step h = rw (add-one, drop-cons w k 0)
 
-both : (a b : Bool) → (a && b) ≡ true → (a ≡ true) × (b ≡ true)
+pub both : (a b : Bool) → (a && b) ≡ true → (a ≡ true) × (b ≡ true)
 both true b e = (refl, e)
 both false b e = absurd (false≢true e)
 

@@ -67,7 +67,7 @@ module _ (s : List ℕ) where
   chars-taken at n stop = refl
   chars-taken at n (more {m = m} c r) = chars-taken m n r ∙ chars-more s at m (char-taken at m c)
 
-  chars-from : (at n : ℕ) → Chars s at n → at ≤ n
+  pub chars-from : (at n : ℕ) → Chars s at n → at ≤ n
   chars-from at n stop = omega arith
   chars-from at n (more {m = m} c r) = let p = char-ends s at m (char-taken at m c) in let q = chars-from m n r in omega arith
 

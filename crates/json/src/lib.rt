@@ -11,8 +11,8 @@ ghost use Rattle.json.specs.Grammar.{noZero};
 // The most brackets and braces that may be open at once.
 const DEPTH: usize = 8;
 
-// The classes of bytes that the rules name; `Byte` is one byte.
-enum Class {
+// The classes of bytes that the rules name; `Byte` is one byte. Public for the proofs of other crates: no call takes one.
+pub enum Class {
     Space,
     Digit,
     Plain,

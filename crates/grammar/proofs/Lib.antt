@@ -1,0 +1,8 @@
+-- Same has the theorem; the others are its parts.
+mod Terms
+mod Numbers
+mod Strings
+mod Sound
+mod Firsts
+mod Complete
+pub mod Same
