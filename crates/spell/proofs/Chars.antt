@@ -1,0 +1,224 @@
+-- The facts of tests, as `search` uses them; what a character is by its first bytes; one turn over the characters and over the decoded bytes.
+use mathlib.Core.Bool.{Bool, true, false, cond, _&&_}
+use mathlib.Core.Path.{_≡_, refl, sym, _∙_, ap}
+use mathlib.Core.List.{List, [], _∷_, _++_}
+use Prim.Native.Nat.{ℕ, zero, suc, pred, _+_, _-_, _/_, _%_, _≤_, _<_}
+use native.Mathlib.Omega.{arith}
+use native.Mathlib.Numerals.{add-one}
+use borrow.Author.Tests.{lt-ltb, le-ltb, le-leb, lt-leb, eq-eqb, ne-eqb, leb-true}
+use lib.Dec.{ltb, leb, eqb}
+use lib.ListN.{length, getD, take, drop, length-drop, length-append, drop-of-length-le, List·getD-append}
+use lib.Seq.{take-all, drop-cons, drop-drop, drop-nil, drop-append-le, drop-at, getD-drop}
+use Rattle.spell.specs.declared.Char.{Char}
+use Rattle.spell.specs.declared.Step.{Step}
+use Rattle.spell.specs.Spell.{isPair, unicodeOf, pairOf, fourAt, shortOf, charOf, charsFrom, chars, utf8Of, bytesOf, joined, decode, isRefused, any}
+use Rattle.spell.specs.Steps.{Sized, Begins, leftOf, Within, Stepped}
+
+pub ruleset tests = (lt-ltb, le-ltb, le-leb, lt-leb, eq-eqb, ne-eqb)
+
+pub and-left : (a b : Bool) → (a && b) ≡ true → a ≡ true
+and-left true b e = refl
+and-left false b e = e
+
+pub and-right : (a b : Bool) → (a && b) ≡ true → b ≡ true
+and-right true b e = e
+and-right false b e = absurd (let z : _≡_ {A = ℕ} 0 1 = cc in omega arith)
+
+pub pair-bounds : (u x y v : ℕ) → isPair u x y v ≡ true → (0xd800 ≤ u) × (u ≤ 0xdbff) × (0xdc00 ≤ v) × (v ≤ 0xdfff)
+unfolding isPair
+pair-bounds u x y v e =
+    let low = leb 0xdc00 v && leb v 0xdfff in
+    let high = and-left (leb 0xd800 u && leb u 0xdbff) (eqb x 0x5c && (eqb y 0x75 && low)) e in
+    let after = and-right (leb 0xd800 u && leb u 0xdbff) (eqb x 0x5c && (eqb y 0x75 && low)) e in
+    let lows = and-right (eqb y 0x75) low (and-right (eqb x 0x5c) (eqb y 0x75 && low) after) in
+    (leb-true _ _ (and-left _ (leb u 0xdbff) high), leb-true _ _ (and-right (leb 0xd800 u) _ high), leb-true _ _ (and-left _ (leb v 0xdfff) lows), leb-true _ _ (and-right (leb 0xdc00 v) _ lows))
+
+-- what a character is by its first bytes
+module _ (l : List ℕ) {x : ℕ} (ex : x ≡ getD l 0 0) (r : Char) where
+  pub char-raw : (x ≡ 0x5c → ⊥) → r ≡ record { code = x; raw = true; width = 1 } → r ≡ charOf l
+  unfolding charOf
+  char-raw n e = e ∙ rw (ex, ne-eqb (getD l 0 0) 0x5c (λ q. n (ex ∙ q)))
+
+module _ (l : List ℕ) (ex : getD l 0 0 ≡ 0x5c) {y : ℕ} (ey : y ≡ getD l 1 0) (r : Char) where
+  pub char-short : (y ≡ 0x75 → ⊥) → r ≡ record { code = shortOf y; raw = true; width = 2 } → r ≡ charOf l
+  unfolding charOf
+  char-short n e = e ∙ rw (ey, eq-eqb (getD l 0 0) 0x5c ex, ne-eqb (getD l 1 0) 0x75 (λ q. n (ey ∙ q)))
+
+  pub char-unicode : y ≡ 0x75 → {u z w v : ℕ} → u ≡ fourAt l 2 → z ≡ getD l 6 0 → w ≡ getD l 7 0 → v ≡ fourAt l 8 → r ≡ unicodeOf u z w v → r ≡ charOf l
+  unfolding charOf
+  char-unicode q eu ez ew ev e = e ∙ rw (eu, ez, ew, ev, eq-eqb (getD l 0 0) 0x5c ex, eq-eqb (getD l 1 0) 0x75 (sym ey ∙ q))
+
+-- the byte at i begins what is left from i on, and that is the part `&p[i..]`
+module _ (p : List ℕ) (i : ℕ) where
+  pub here : getD p i 0 ≡ getD (drop i p) 0 0
+  here = let e : i + 0 ≡ i = omega arith in sym (getD-drop i p 0 0 ∙ ap (λ (n : ℕ). getD p n 0) e)
+
+  pub rest : take (length p - i) (drop i p) ≡ drop i p
+  rest = take-all (length p - i) (drop i p) (simp length-drop (omega arith))
+
+  pub rest-begins : {r : Char} → Begins (take (length p - i) (drop i p)) r → Begins (drop i p) r
+  rest-begins b = rw rest at b
+
+  pub rest-here : {x : ℕ} → getD p i 0 ≡ x → getD (take (length p - i) (drop i p)) 0 0 ≡ x
+  rest-here e = rw rest (sym here ∙ e)
+
+-- what holds of both sides holds of the choice
+pub either : {A : Type 0} (P : A → Type 0) (b : Bool) {x y : A} → P x → P y → P (cond b x y)
+either P true p q = p
+either P false p q = q
+
+-- a code point has one to four octets, by its range
+module _ (n : ℕ) where
+  pub utf8-1 : n < 0x80 → utf8Of n ≡ n ∷ []
+  unfolding utf8Of
+  utf8-1 h = search tests
+
+  pub utf8-2 : 0x80 ≤ n → n < 0x800 → utf8Of n ≡ (0xc0 + n / 0x40) ∷ (0x80 + n % 0x40) ∷ []
+  unfolding utf8Of
+  utf8-2 h k = search tests
+
+  pub utf8-3 : 0x80 ≤ n → 0x800 ≤ n → n < 0x10000 → utf8Of n ≡ (0xe0 + n / 0x1000) ∷ (0x80 + n / 0x40 % 0x40) ∷ (0x80 + n % 0x40) ∷ []
+  unfolding utf8Of
+  utf8-3 h k l = search tests
+
+  pub utf8-4 : 0x80 ≤ n → 0x800 ≤ n → 0x10000 ≤ n → utf8Of n ≡ (0xf0 + n / 0x40000) ∷ (0x80 + n / 0x1000 % 0x40) ∷ (0x80 + n / 0x40 % 0x40) ∷ (0x80 + n % 0x40) ∷ []
+  unfolding utf8Of
+  utf8-4 h k l = search tests
+
+pub bytes-some : (c : Char) → 1 ≤ length (bytesOf c)
+unfolding bytesOf utf8Of
+bytes-some c =
+    let P : List ℕ → Type 0 = λ l. 1 ≤ length l in
+    either P (c .raw) (omega arith) (either P (ltb (c .code) 0x80) (omega arith) (either P (ltb (c .code) 0x800) (omega arith) (either P (ltb (c .code) 0x10000) (omega arith) (omega arith))))
+
+pub bytes-few : (c : Char) → length (bytesOf c) ≤ 4
+unfolding bytesOf utf8Of
+bytes-few c =
+    let P : List ℕ → Type 0 = λ l. length l ≤ 4 in
+    either P (c .raw) (omega arith) (either P (ltb (c .code) 0x80) (omega arith) (either P (ltb (c .code) 0x800) (omega arith) (either P (ltb (c .code) 0x10000) (omega arith) (omega arith))))
+
+char-some : (l : List ℕ) → 1 ≤ charOf l .width
+unfolding charOf unicodeOf
+char-some l =
+    let P : Char → Type 0 = λ c. 1 ≤ c .width in
+    either P (eqb (getD l 0 0) 0x5c) (either P (eqb (getD l 1 0) 0x75) (either P (isPair (fourAt l 2) (getD l 6 0) (getD l 7 0) (fourAt l 8)) (omega arith) (omega arith)) (omega arith)) (omega arith)
+
+-- one turn over the characters
+skip : (k : ℕ) (l : List ℕ) → charsFrom k l ≡ chars (drop k l)
+unfolding charsFrom
+skip zero l = refl
+skip (suc k) [] = refl
+skip (suc k) (x ∷ l) = skip k l
+
+by-width : (w x : ℕ) (l : List ℕ) → 1 ≤ w → charsFrom (pred w) l ≡ chars (drop w (x ∷ l))
+by-width zero x l h = absurd (omega arith)
+by-width (suc w) x l h = skip w l
+
+pub first : (l : List ℕ) → 1 ≤ length l → chars l ≡ charOf l ∷ chars (drop (charOf l .width) l)
+unfolding charsFrom
+first [] h = absurd (omega arith)
+first (x ∷ l) h = ap (λ (r : List Char). charOf (x ∷ l) ∷ r) (by-width (charOf (x ∷ l) .width) x l (char-some (x ∷ l)))
+
+module _ (p : List ℕ) (i : ℕ) where
+  pub turn : i < length p → (c : Char) → c ≡ charOf (drop i p) → chars (drop i p) ≡ c ∷ chars (drop (i + c .width) p)
+  turn h c e = rw e (first (drop i p) (simp length-drop (omega arith)) ∙ rw drop-drop)
+
+  pub over : length p ≤ i → chars (drop i p) ≡ []
+  unfolding charsFrom
+  over h = rw (drop-of-length-le p {i = i} h)
+
+-- one step over the decoded bytes
+module _ (p : List ℕ) (i k : ℕ) where
+  pub left-over : length p ≤ i → leftOf p i k ≡ []
+  unfolding leftOf decode joined
+  left-over h = rw (over p i h) (drop-nil k)
+
+  pub begin : Within p i 0
+  begin = record { below = omega (arith, bytes-some (charOf (drop i p))) }
+
+  pub within-few : Within p i k → k < 4
+  within-few w = omega (arith, bytes-few (charOf (drop i p)))
+
+  module _ (c : Char) (e : c ≡ charOf (drop i p)) (h : i < length p) (w : Within p i k) where
+    pub decode-turn : decode (drop i p) ≡ bytesOf c ++ decode (drop (i + c .width) p)
+    unfolding decode joined
+    decode-turn = rw (turn p i h c e)
+
+    below : k < length (bytesOf c)
+    below = rw e (w .below)
+
+    pub left-turn : leftOf p i k ≡ getD (bytesOf c) k 0 ∷ drop (suc k) (bytesOf c) ++ decode (drop (i + c .width) p)
+    unfolding leftOf
+    left-turn = let l = below in rw (decode-turn, drop-append-le k (bytesOf c) _ (omega arith), drop-cons (bytesOf c) k 0 l)
+
+-- an element of a list, where both are known by equations
+pub at-index : {l m : List ℕ} (k j : ℕ) {x : ℕ} → l ≡ m → k ≡ j → x ≡ getD m j 0 → x ≡ getD l k 0
+at-index k j e q f = f ∙ rw (e, q)
+
+raw-bytes : (c : Char) → c .raw ≡ true → bytesOf c ≡ c .code ∷ []
+unfolding bytesOf
+raw-bytes c e = rw e
+
+utf8-bytes : (c : Char) → c .raw ≡ false → bytesOf c ≡ utf8Of (c .code)
+unfolding bytesOf
+utf8-bytes c e = rw e
+
+-- the ways out of `advance`
+module _ (p : List ℕ) (i k : ℕ) (c : Char) (e : c ≡ charOf (drop i p)) (h : i < length p) (w : Within p i k) where
+  left-at : {l : List ℕ} → bytesOf c ≡ l → leftOf p i k ≡ getD l k 0 ∷ drop (suc k) l ++ decode (drop (i + c .width) p)
+  left-at q = rw q at (left-turn p i k c e h w)
+
+  below-at : {l : List ℕ} → bytesOf c ≡ l → k < length l
+  below-at q = rw q at (below p i k c e h w)
+
+  pub utf8-below : c .raw ≡ false → k < length (utf8Of (c .code))
+  utf8-below r = below-at (utf8-bytes c r)
+
+  pub step-raw : c .raw ≡ true → Stepped p i k (record { byte = c .code; at = i + c .width; taken = 0 })
+  unfolding leftOf
+  step-raw r =
+      let q = raw-bytes c r in
+      let z : k ≡ 0 = omega (arith, below-at q) in
+      record { left = left-at q ∙ rw z; within = begin p (i + c .width) k }
+
+  module _ (r : c .raw ≡ false) {x n : ℕ} (ex : x ≡ getD (utf8Of (c .code)) k 0) (en : n ≡ length (utf8Of (c .code))) where
+    pub step-in : k + 1 < n → Stepped p i k (record { byte = x; at = i; taken = k + 1 })
+    unfolding leftOf
+    step-in l =
+        let q = utf8-bytes c r in
+        let m : suc k ≤ length (utf8Of (c .code)) = omega arith in
+        let d : decode (drop i p) ≡ utf8Of (c .code) ++ decode (drop (i + c .width) p) = rw q at (decode-turn p i k c e h w) in
+        record {
+          left = left-at q ∙ rw (ex, add-one, d, drop-append-le (suc k) (utf8Of (c .code)) (decode (drop (i + c .width) p)) m);
+          within = record { below = rw (← e, q) (omega arith) };
+        }
+
+    pub step-out : n ≤ k + 1 → Stepped p i k (record { byte = x; at = i + c .width; taken = 0 })
+    unfolding leftOf
+    step-out l =
+        let q = utf8-bytes c r in
+        let m : length (utf8Of (c .code)) ≤ suc k = omega arith in
+        record { left = left-at q ∙ rw (ex, drop-of-length-le (utf8Of (c .code)) {i = suc k} m); within = begin p (i + c .width) k }
+
+-- the character's bounds, where it is raw and where not
+module _ {c : Char} (s : Sized c) where
+  pub raw-small : c .raw ≡ true → c .code ≤ 0xff
+  raw-small e = rw e at (s .small)
+
+  pub code-small : c .raw ≡ false → c .code ≤ 0x10ffff
+  code-small e = rw e at (s .small)
+
+-- row 4, a character a turn
+module _ (p : List ℕ) (i : ℕ) {b : Bool} (inv : b ≡ any isRefused (chars (drop i p))) where
+  module _ (h : i < length p) (c : Char) (e : c ≡ charOf (drop i p)) where
+    pub refused-here : isRefused c ≡ true → b ≡ true
+    unfolding any
+    refused-here f = inv ∙ rw (turn p i h c e, any, f)
+
+    pub refused-later : isRefused c ≡ false → b ≡ any isRefused (chars (drop (i + c .width) p))
+    unfolding any
+    refused-later f = inv ∙ rw (turn p i h c e, any, f)
+
+  pub refused-none : length p ≤ i → b ≡ false
+  unfolding any
+  refused-none h = inv ∙ rw (over p i h)

@@ -1,0 +1,2 @@
+-- Characters and steps; lists in loops; what other crates may cite.
+mod Chars

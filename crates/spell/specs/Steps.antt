@@ -1,0 +1,33 @@
+-- What the private functions promise each other: a character is small, and a step over the decoded bytes.
+use mathlib.Core.Bool.{cond}
+use mathlib.Core.Path.{_≡_}
+use mathlib.Core.List.{List, _∷_}
+use Prim.Native.Nat.{ℕ, _≤_, _<_}
+use lib.ListN.{length, drop}
+use Rattle.spell.specs.declared.Char.{Char}
+use Rattle.spell.specs.declared.Step.{Step}
+use Rattle.spell.specs.Spell.{charOf, bytesOf, decode}
+
+-- a character's width and its code are within bounds, and the code of a raw one is a byte
+pub record Sized (c : Char) : Type 0 where
+  pub some : 1 ≤ c .width
+  pub few : c .width ≤ 12
+  pub small : c .code ≤ cond (c .raw) 0xff 0x10ffff
+
+-- c begins the spelling l
+pub record Begins (l : List ℕ) (c : Char) : Type 0 where
+  pub is : c ≡ charOf l
+  pub sized : Sized c
+
+-- what is left of the decoded bytes after k bytes of the character that begins at i
+unfoldable pub leftOf : List ℕ → ℕ → ℕ → List ℕ
+leftOf p i k = drop k (decode (drop i p))
+
+-- k bytes are fewer than the character at i has
+pub record Within (p : List ℕ) (i k : ℕ) : Type 0 where
+  pub below : k < length (bytesOf (charOf (drop i p)))
+
+-- from i and k on the next byte is r's, and what is left after it begins at r's place
+pub record Stepped (p : List ℕ) (i k : ℕ) (r : Step) : Type 0 where
+  pub left : leftOf p i k ≡ r .byte ∷ leftOf p (r .at) (r .taken)
+  pub within : Within p (r .at) (r .taken)

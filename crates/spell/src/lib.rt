@@ -1,0 +1,401 @@
+// Strings as they are spelled between their quotes: what they decode to, compared, measured and written.
+ghost use mathlib.Core.Path.{_≡_};
+ghost use Prim.Native.Nat.{_≤_, _<_};
+ghost use lib.ListN.{length, getD, drop};
+ghost use Rattle.spell.specs.Spell.{hexVal, four, fourAt, shortOf, isPair, pairOf, unicodeOf, utf8Of, bytesOf, isSurrogate, isControl, isRefused, refuses, decode, sameBytes, isTail, characterCount, isHex, isHexOf};
+ghost use Rattle.spell.specs.Steps.{Sized, Begins, Within, Stepped};
+
+// One character of a spelling, and how many bytes spell it: a byte of the decoded string (raw), which stands as it is or after a
+// backslash, or the code point of an escape with u.
+pub struct Char {
+    pub code: u32,
+    pub raw: bool,
+    pub width: usize,
+}
+
+// The byte at a place, and 0 past the end.
+fn byte(s: &[u8], i: usize) -> u8
+    ensures { λ r. ⌜ r ≡ getD (now (s .entry)) i 0 ⌝ }
+{
+    if i < s.len() { s[i] } else { 0 }
+}
+
+fn hex_val(x: u8) -> u32
+    ensures { λ r. ⌜ r ≡ hexVal x ⌝ }
+    ensures { λ r. ⌜ r ≤ 15 ⌝ }
+{
+    if x < b'0' {
+        0
+    } else if x <= b'9' {
+        (x - b'0') as u32
+    } else if x < b'A' {
+        0
+    } else if x <= b'F' {
+        (x - b'A' + 10) as u32
+    } else if x < b'a' {
+        0
+    } else if x <= b'f' {
+        (x - b'a' + 10) as u32
+    } else {
+        0
+    }
+}
+
+fn hex4(a: u8, b: u8, c: u8, d: u8) -> u32
+    ensures { λ r. ⌜ r ≡ four a b c d ⌝ }
+    ensures { λ r. ⌜ r ≤ 0xffff ⌝ }
+{
+    hex_val(a) * 4096 + hex_val(b) * 256 + hex_val(c) * 16 + hex_val(d)
+}
+
+fn hex_at(p: &[u8], k: usize) -> u32
+    requires { ⌜ k < 16 ⌝ }
+    ensures { λ r. ⌜ r ≡ fourAt (now (p .entry)) k ⌝ }
+    ensures { λ r. ⌜ r ≤ 0xffff ⌝ }
+{
+    hex4(byte(p, k), byte(p, k + 1), byte(p, k + 2), byte(p, k + 3))
+}
+
+fn short(y: u8) -> u8
+    ensures { λ r. ⌜ r ≡ shortOf y ⌝ }
+{
+    match y {
+        b'b' => 0x8,
+        b'f' => 0xc,
+        b'n' => 0xa,
+        b'r' => 0xd,
+        b't' => 0x9,
+        _ => y,
+    }
+}
+
+fn is_surrogate(n: u32) -> bool
+    ensures { λ r. ⌜ r ≡ isSurrogate n ⌝ }
+{
+    0xd800 <= n && n <= 0xdfff
+}
+
+fn is_control(n: u32) -> bool
+    ensures { λ r. ⌜ r ≡ isControl n ⌝ }
+{
+    if 0x20 <= n {
+        return false;
+    }
+    match n {
+        0x8 => false,
+        0x9 => false,
+        0xa => false,
+        0xc => false,
+        0xd => false,
+        _ => true,
+    }
+}
+
+// Whether \u with the digits of u, the bytes x and y, and the digits of v are a pair of surrogates.
+fn is_pair(u: u32, x: u8, y: u8, v: u32) -> bool
+    ensures { λ r. ⌜ r ≡ isPair u x y v ⌝ }
+{
+    if u < 0xd800 {
+        return false;
+    }
+    if 0xdbff < u {
+        return false;
+    }
+    if x != b'\\' {
+        return false;
+    }
+    if y != b'u' {
+        return false;
+    }
+    0xdc00 <= v && v <= 0xdfff
+}
+
+// The code point of a pair of surrogates.
+fn pair_code(u: u32, v: u32) -> u32
+    requires { ⌜ (0xd800 ≤ u) × (u ≤ 0xdbff) × (0xdc00 ≤ v) × (v ≤ 0xdfff) ⌝ }
+    ensures { λ r. ⌜ r ≡ pairOf u v ⌝ }
+    ensures { λ r. ⌜ r ≤ 0x10ffff ⌝ }
+{
+    0x10000 + (u - 0xd800) * 0x400 + (v - 0xdc00)
+}
+
+// The character of \u and the digits of u, after which the bytes x and y stand, and then the digits of v.
+fn unicode(u: u32, x: u8, y: u8, v: u32) -> Char
+    requires { ⌜ u ≤ 0xffff ⌝ }
+    ensures { λ r. ⌜ r ≡ unicodeOf u x y v ⌝ }
+    ensures { λ r. ⌜ Sized r ⌝ }
+{
+    if is_pair(u, x, y, v) {
+        let code = pair_code(u, v);
+        return Char {
+            code,
+            raw: false,
+            width: 12,
+        };
+    }
+    Char {
+        code: u,
+        raw: false,
+        width: 6,
+    }
+}
+
+// The character that begins with a backslash.
+fn escape_of(p: &[u8]) -> Char
+    requires { ⌜ getD (now p) 0 0 ≡ 0x5c ⌝ }
+    ensures { λ r. ⌜ Begins (now (p .entry)) r ⌝ }
+{
+    let y = byte(p, 1);
+    if y != b'u' {
+        let code = short(y) as u32;
+        return Char {
+            code,
+            raw: true,
+            width: 2,
+        };
+    }
+    unicode(hex_at(p, 2), byte(p, 6), byte(p, 7), hex_at(p, 8))
+}
+
+// The character at a place.
+fn char_at(p: &[u8], i: usize) -> Char
+    requires { ⌜ i < length (now p) ⌝ }
+    ensures { λ r. ⌜ Begins (drop i (now (p .entry))) r ⌝ }
+{
+    let x = p[i];
+    if x != b'\\' {
+        let code = x as u32;
+        return Char {
+            code,
+            raw: true,
+            width: 1,
+        };
+    }
+    escape_of(&p[i..])
+}
+
+// How many octets a code point has in UTF-8.
+fn octets(n: u32) -> usize
+    ensures { λ r. ⌜ r ≡ length (utf8Of n) ⌝ }
+{
+    if n < 0x80 {
+        1
+    } else if n < 0x800 {
+        2
+    } else if n < 0x10000 {
+        3
+    } else {
+        4
+    }
+}
+
+// The k-th of them.
+fn octet(n: u32, k: usize) -> u8
+    requires { ⌜ n ≤ 0x10ffff ⌝ }
+    requires { ⌜ k < length (utf8Of n) ⌝ }
+    ensures { λ r. ⌜ r ≡ getD (utf8Of n) k 0 ⌝ }
+{
+    if n < 0x80 {
+        n as u8
+    } else if n < 0x800 {
+        if k == 0 {
+            (0xc0 + n / 0x40) as u8
+        } else {
+            (0x80 + n % 0x40) as u8
+        }
+    } else if n < 0x10000 {
+        if k == 0 {
+            (0xe0 + n / 0x1000) as u8
+        } else if k == 1 {
+            (0x80 + n / 0x40 % 0x40) as u8
+        } else {
+            (0x80 + n % 0x40) as u8
+        }
+    } else if k == 0 {
+        (0xf0 + n / 0x40000) as u8
+    } else if k == 1 {
+        (0x80 + n / 0x1000 % 0x40) as u8
+    } else if k == 2 {
+        (0x80 + n / 0x40 % 0x40) as u8
+    } else {
+        (0x80 + n % 0x40) as u8
+    }
+}
+
+// A byte of the decoded string, and where what is left after it begins: how many bytes of the character at which place are taken.
+pub struct Step {
+    pub byte: u8,
+    pub at: usize,
+    pub taken: usize,
+}
+
+// The byte after k bytes of the character at i.
+fn advance(p: &[u8], i: usize, k: usize) -> Step
+    requires { ⌜ i < length (now p) ⌝ }
+    requires { ⌜ Within (now p) i k ⌝ }
+    ensures { λ r. ⌜ Stepped (now (p .entry)) i k r ⌝ }
+{
+    let c = char_at(p, i);
+    let code = c.code;
+    let at = i + c.width;
+    if c.raw {
+        return Step {
+            byte: code as u8,
+            at,
+            taken: 0,
+        };
+    }
+    let byte = octet(code, k);
+    if k + 1 < octets(code) {
+        return Step {
+            byte,
+            at: i,
+            taken: k + 1,
+        };
+    }
+    Step { byte, at, taken: 0 }
+}
+
+fn is_refused(c: Char) -> bool
+    ensures { λ r. ⌜ r ≡ isRefused c ⌝ }
+{
+    let code = c.code;
+    if is_surrogate(code) {
+        return true;
+    }
+    is_control(code)
+}
+
+// Row 4: whether a spelling has a character that no string may have.
+pub fn refused(p: &[u8]) -> bool
+    ensures { λ r. ⌜ r ≡ refuses (now (p .entry)) ⌝ }
+{
+    let mut i = 0;
+    while i < p.len() {
+        let c = char_at(p, i);
+        if is_refused(c) {
+            return true;
+        }
+        i += c.width;
+    }
+    false
+}
+
+// Whether two spellings decode alike.
+pub fn same(p: &[u8], q: &[u8]) -> bool
+    ensures { λ r. ⌜ r ≡ sameBytes (decode (now (p .entry))) (decode (now (q .entry))) ⌝ }
+{
+    let mut i = 0;
+    let mut k = 0;
+    let mut j = 0;
+    let mut m = 0;
+    while i < p.len() {
+        if q.len() <= j {
+            return false;
+        }
+        let x = advance(p, i, k);
+        let y = advance(q, j, m);
+        if x.byte != y.byte {
+            return false;
+        }
+        i = x.at;
+        k = x.taken;
+        j = y.at;
+        m = y.taken;
+    }
+    if j < q.len() { false } else { true }
+}
+
+// Whether a spelling decodes to the bytes of `word`.
+pub fn spells(p: &[u8], word: &[u8]) -> bool
+    ensures { λ r. ⌜ r ≡ sameBytes (decode (now (p .entry))) (now (word .entry)) ⌝ }
+{
+    let mut i = 0;
+    let mut k = 0;
+    let mut j = 0;
+    while i < p.len() {
+        if word.len() <= j {
+            return false;
+        }
+        let x = advance(p, i, k);
+        let b = x.byte;
+        if b != word[j] {
+            return false;
+        }
+        i = x.at;
+        k = x.taken;
+        j += 1;
+    }
+    if j < word.len() { false } else { true }
+}
+
+fn is_tail(x: u8) -> bool
+    ensures { λ r. ⌜ r ≡ isTail x ⌝ }
+{
+    0x80 <= x && x <= 0xbf
+}
+
+// How many characters a spelling decodes to.
+pub fn characters(p: &[u8]) -> usize
+    ensures { λ r. ⌜ r ≡ characterCount (now (p .entry)) ⌝ }
+{
+    let mut i = 0;
+    let mut k = 0;
+    let mut n: usize = 0;
+    while i < p.len() {
+        let x = advance(p, i, k);
+        i = x.at;
+        k = x.taken;
+        if !is_tail(x.byte) {
+            n += 1;
+        }
+    }
+    n
+}
+
+fn is_hex_digit(x: u8) -> bool
+    ensures { λ r. ⌜ r ≡ isHex x ⌝ }
+{
+    if x <= b'9' {
+        return b'0' <= x;
+    }
+    b'a' <= x && x <= b'f'
+}
+
+// Whether a spelling decodes to n characters of lower-case hex.
+pub fn is_hex(p: &[u8], n: usize) -> bool
+    ensures { λ r. ⌜ r ≡ isHexOf n (now (p .entry)) ⌝ }
+{
+    let mut i = 0;
+    let mut k = 0;
+    let mut left = n;
+    while i < p.len() {
+        if left == 0 {
+            return false;
+        }
+        let x = advance(p, i, k);
+        if !is_hex_digit(x.byte) {
+            return false;
+        }
+        i = x.at;
+        k = x.taken;
+        left -= 1;
+    }
+    left == 0
+}
+
+// How many bytes a spelling decodes to.
+pub fn decoded_len(p: &[u8]) -> usize
+    ensures { λ r. ⌜ r ≡ length (decode (now (p .entry))) ⌝ }
+{
+    let mut i = 0;
+    let mut k = 0;
+    let mut n: usize = 0;
+    while i < p.len() {
+        let x = advance(p, i, k);
+        i = x.at;
+        k = x.taken;
+        n += 1;
+    }
+    n
+}
