@@ -1,0 +1,3 @@
+-- Rows 1 to 4 of 01 over a whole text.
+pub mod Strings
+pub mod Rows
