@@ -1,0 +1,2 @@
+-- Laws has the laws of the walk.
+pub mod Laws
