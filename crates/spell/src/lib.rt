@@ -4,7 +4,7 @@ ghost use mathlib.Core.List.{[], _∷_};
 ghost use Prim.Native.Nat.{_≤_, _<_};
 ghost use lib.ListN.{length, getD, drop};
 ghost use Rattle.wire.specs.Put.{Puts};
-ghost use Rattle.spell.specs.Spell.{hexVal, four, fourAt, shortOf, isPair, pairOf, unicodeOf, utf8Of, bytesOf, isSurrogate, isControl, isRefused, refuses, decode, sameBytes, isTail, characterCount, isHex, isHexOf};
+ghost use Rattle.spell.specs.Spell.{hexVal, four, fourAt, shortOf, isPair, pairOf, unicodeOf, utf8Of, bytesOf, isSurrogate, isControl, isRefused, refuses, decode, sameBytes, isTail, characters, isHex, isHexOf};
 ghost use Rattle.spell.specs.Escape.{letterOf, escOne, escape};
 ghost use Rattle.spell.specs.Steps.{Sized, Begins, Within, Stepped};
 
@@ -340,7 +340,7 @@ fn is_tail(x: u8) -> bool
 
 // How many characters a spelling decodes to.
 pub fn characters(p: &[u8]) -> usize
-    ensures { λ r. ⌜ r ≡ characterCount (now (p .entry)) ⌝ }
+    ensures { λ r. ⌜ r ≡ characters (now (p .entry)) ⌝ }
 {
     let mut i = 0;
     let mut k = 0;
