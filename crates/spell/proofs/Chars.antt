@@ -3,15 +3,16 @@ use mathlib.Core.Bool.{Bool, true, false, cond, _&&_}
 use mathlib.Core.Path.{_≡_, refl, sym, _∙_, ap}
 use mathlib.Core.List.{List, [], _∷_, _++_}
 use Prim.Native.Nat.{ℕ, zero, suc, pred, _+_, _-_, _/_, _%_, _≤_, _<_}
+use native.Mathlib.Decide.{decLe}
 use native.Mathlib.Omega.{arith}
 use native.Mathlib.Numerals.{add-one}
-use borrow.Author.Tests.{lt-ltb, le-ltb, le-leb, lt-leb, eq-eqb, ne-eqb, leb-true}
+use borrow.Author.Tests.{lt-ltb, le-ltb, le-leb, lt-leb, eq-eqb, ne-eqb, leb-true, eqb-true}
 use lib.Dec.{ltb, leb, eqb}
-use lib.ListN.{length, getD, take, drop, length-drop, length-append, drop-of-length-le, List·getD-append}
+use lib.ListN.{length, getD, take, drop, length-drop, length-append, drop-of-length-le, List·getD-append, List·getD-eq-default}
 use lib.Seq.{take-all, drop-cons, drop-drop, drop-nil, drop-append-le, drop-at, getD-drop}
 use Rattle.spell.specs.declared.Char.{Char}
 use Rattle.spell.specs.declared.Step.{Step}
-use Rattle.spell.specs.Spell.{isPair, unicodeOf, pairOf, fourAt, shortOf, charOf, charsFrom, chars, utf8Of, bytesOf, joined, decode, isRefused, any}
+use Rattle.spell.specs.Spell.{hexVal, four, isPair, unicodeOf, pairOf, fourAt, shortOf, charOf, charsFrom, chars, utf8Of, bytesOf, joined, decode, isRefused, any}
 use Rattle.spell.specs.Steps.{Sized, Begins, leftOf, Within, Stepped}
 
 pub ruleset tests = (lt-ltb, le-ltb, le-leb, lt-leb, eq-eqb, ne-eqb)
@@ -91,11 +92,15 @@ bytes-some c =
     let P : List ℕ → Type 0 = λ l. 1 ≤ length l in
     either P (c .raw) (omega arith) (either P (ltb (c .code) 0x80) (omega arith) (either P (ltb (c .code) 0x800) (omega arith) (either P (ltb (c .code) 0x10000) (omega arith) (omega arith))))
 
-pub bytes-few : (c : Char) → length (bytesOf c) ≤ 4
-unfolding bytesOf utf8Of
-bytes-few c =
+utf8-few : (n : ℕ) → length (utf8Of n) ≤ 4
+unfolding utf8Of
+utf8-few n =
     let P : List ℕ → Type 0 = λ l. length l ≤ 4 in
-    either P (c .raw) (omega arith) (either P (ltb (c .code) 0x80) (omega arith) (either P (ltb (c .code) 0x800) (omega arith) (either P (ltb (c .code) 0x10000) (omega arith) (omega arith))))
+    either P (ltb n 0x80) (omega arith) (either P (ltb n 0x800) (omega arith) (either P (ltb n 0x10000) (omega arith) (omega arith)))
+
+bytes-few : (c : Char) → length (bytesOf c) ≤ 4
+unfolding bytesOf
+bytes-few c = let P : List ℕ → Type 0 = λ l. length l ≤ 4 in either P (c .raw) (omega arith) (utf8-few (c .code))
 
 char-some : (l : List ℕ) → 1 ≤ charOf l .width
 unfolding charOf unicodeOf
@@ -154,6 +159,9 @@ module _ (p : List ℕ) (i k : ℕ) where
 -- an element of a list, where both are known by equations
 pub at-index : {l m : List ℕ} (k j : ℕ) {x : ℕ} → l ≡ m → k ≡ j → x ≡ getD m j 0 → x ≡ getD l k 0
 at-index k j e q f = f ∙ rw (e, q)
+
+pub left-some : (p : List ℕ) (i k : ℕ) → i < length p → Within p i k → leftOf p i k ≡ getD (bytesOf (charOf (drop i p))) k 0 ∷ drop (suc k) (bytesOf (charOf (drop i p))) ++ decode (drop (i + charOf (drop i p) .width) p)
+left-some p i k h w = left-turn p i k (charOf (drop i p)) refl h w
 
 raw-bytes : (c : Char) → c .raw ≡ true → bytesOf c ≡ c .code ∷ []
 unfolding bytesOf
@@ -222,3 +230,90 @@ module _ (p : List ℕ) (i : ℕ) {b : Bool} (inv : b ≡ any isRefused (chars (
   pub refused-none : length p ≤ i → b ≡ false
   unfolding any
   refused-none h = inv ∙ rw (over p i h)
+
+-- no spelling decodes to more bytes than it has: a character has no more than spell it, and one that the end cuts off no more than are there
+pub choose : {A : Type 0} (P : A → Type 0) (b : Bool) {x y : A} → (b ≡ true → P x) → (b ≡ false → P y) → P (cond b x y)
+choose P true p q = p refl
+choose P false p q = q refl
+
+digit-few : (x : ℕ) → hexVal x ≤ 15
+unfolding hexVal
+digit-few x =
+    let P : ℕ → Type 0 = λ n. n ≤ 15 in
+    either P (ltb x 0x30) (omega arith) (choose P (leb x 0x39) (λ e. omega (arith, leb-true x 0x39 e)) (λ _.
+    either P (ltb x 0x41) (omega arith) (choose P (leb x 0x46) (λ e. omega (arith, leb-true x 0x46 e)) (λ _.
+    either P (ltb x 0x61) (omega arith) (choose P (leb x 0x66) (λ e. omega (arith, leb-true x 0x66 e)) (λ _. omega arith))))))
+
+four-few : (l : List ℕ) (k : ℕ) → fourAt l k ≤ 0xffff
+unfolding fourAt four
+four-few l k = omega (arith, digit-few (getD l k 0), digit-few (getD l (k + 1) 0), digit-few (getD l (k + 2) 0), digit-few (getD l (k + 3) 0))
+
+four-none : (l : List ℕ) → length l ≤ 2 → fourAt l 2 ≡ 0
+unfolding fourAt four hexVal
+four-none l h =
+    let at : (n : ℕ) → 2 ≤ n → getD l n 0 ≡ 0 = λ n m. List·getD-eq-default l 0 (omega arith) in
+    rw (at 2 (omega arith), at 3 (omega arith), at 4 (omega arith), at 5 (omega arith))
+
+char-fits : (l : List ℕ) → length (bytesOf (charOf l)) ≤ charOf l .width
+unfolding charOf unicodeOf bytesOf
+char-fits l =
+    let P : Char → Type 0 = λ c. length (bytesOf c) ≤ c .width in
+    either P (eqb (getD l 0 0) 0x5c)
+    (either P (eqb (getD l 1 0) 0x75)
+    (either P (isPair (fourAt l 2) (getD l 6 0) (getD l 7 0) (fourAt l 8)) (omega (arith, utf8-few (pairOf (fourAt l 2) (fourAt l 8)))) (omega (arith, utf8-few (fourAt l 2))))
+    (omega arith))
+    (omega arith)
+
+three-few : (n : ℕ) → n ≤ 0xffff → length (utf8Of n) ≤ 3
+unfolding utf8Of
+three-few n h =
+    let P : List ℕ → Type 0 = λ l. length l ≤ 3 in
+    either P (ltb n 0x80) (omega arith) (either P (ltb n 0x800) (omega arith) (rw (lt-ltb n 0x10000 (omega arith)) (omega arith)))
+
+pair-long : (l : List ℕ) (u y v : ℕ) → isPair u (getD l 6 0) y v ≡ true → 7 ≤ length l
+unfolding isPair
+pair-long l u y v e = go (decLe 7 (length l))
+  where
+    slash : getD l 6 0 ≡ 0x5c
+    slash =
+        let low = eqb y 0x75 && (leb 0xdc00 v && leb v 0xdfff) in
+        eqb-true _ _ (and-left (eqb (getD l 6 0) 0x5c) low (and-right (leb 0xd800 u && leb u 0xdbff) (eqb (getD l 6 0) 0x5c && low) e))
+
+    go : Dec (7 ≤ length l) → 7 ≤ length l
+    go (yes h) = h
+    go (no h) = absurd (omega (arith, slash, List·getD-eq-default l 0 {n = 6} (omega arith)))
+
+char-there : (l : List ℕ) → 1 ≤ length l → length (bytesOf (charOf l)) ≤ length l
+unfolding charOf unicodeOf bytesOf utf8Of
+char-there l h =
+    let P : Char → Type 0 = λ c. length (bytesOf c) ≤ length l in
+    either P (eqb (getD l 0 0) 0x5c)
+    (either P (eqb (getD l 1 0) 0x75)
+    (choose P (isPair (fourAt l 2) (getD l 6 0) (getD l 7 0) (fourAt l 8))
+    (λ e. omega (arith, pair-long l _ _ _ e, utf8-few (pairOf (fourAt l 2) (fourAt l 8))))
+    (λ _. single (decLe 3 (length l))))
+    h)
+    h
+  where
+    single : Dec (3 ≤ length l) → length (utf8Of (fourAt l 2)) ≤ length l
+    single (yes m) = omega (arith, three-few (fourAt l 2) (four-few l 2))
+    single (no m) = rw (four-none l (omega arith)) h
+
+decode-first : (l : List ℕ) → 1 ≤ length l → decode l ≡ bytesOf (charOf l) ++ decode (drop (charOf l .width) l)
+unfolding decode joined
+decode-first l h = rw (first l h)
+
+pub decode-few : (l : List ℕ) → length (decode l) ≤ length l
+unfolding decode joined charsFrom
+decode-few l = go (length l) l (omega arith)
+  where
+    go : (n : ℕ) (l : List ℕ) → length l ≤ n → length (decode l) ≤ length l
+    go zero [] h = omega arith
+    go zero (x ∷ l) h = absurd (omega arith)
+    go (suc n) [] h = omega arith
+    go (suc n) (x ∷ l) h =
+        let c = charOf (x ∷ l) in
+        let t = drop (c .width) (x ∷ l) in
+        let s : length t ≤ n = simp length-drop (omega (arith, char-some (x ∷ l))) in
+        rw (decode-first (x ∷ l) (omega arith), length-append (bytesOf c) (decode t))
+        (omega (arith, go n t s, length-drop (c .width) (x ∷ l), char-fits (x ∷ l), char-there (x ∷ l) (omega arith)))

@@ -2,3 +2,4 @@
 pub mod Spell
 pub mod Escape
 pub mod Steps
+pub mod Cases

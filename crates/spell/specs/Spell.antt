@@ -109,17 +109,24 @@ unfoldable pub points : List ℕ → ℕ
 points [] = 0
 points (x ∷ s) = cond (isTail x) (points s) (suc (points s))
 
-unfoldable pub characterCount : List ℕ → ℕ
-characterCount l = points (decode l)
+unfoldable pub characters : List ℕ → ℕ
+characters l = points (decode l)
 
 -- lower-case hex (01): 0-9 and a-f
-abbrev pub isHex : ℕ → Bool
-isHex x = cond (leb x 0x39) (leb 0x30 x) (leb 0x61 x && leb x 0x66)
+unfoldable pub isHex : ℕ → Bool
+isHex x = (leb 0x30 x && leb x 0x39) || (leb 0x61 x && leb x 0x66)
 
-unfoldable pub allHex : List ℕ → Bool
-allHex [] = true
-allHex (x ∷ s) = isHex x && allHex s
+unfoldable pub all : (ℕ → Bool) → List ℕ → Bool
+all f [] = true
+all f (x ∷ s) = f x && all f s
 
 -- a spelling decodes to n characters of lower-case hex
 unfoldable pub isHexOf : ℕ → List ℕ → Bool
-isHexOf n l = eqb (length (decode l)) n && allHex (decode l)
+isHexOf n l = eqb (length (decode l)) n && all isHex (decode l)
+
+-- for laws: a byte that is no backslash, and one that may stand in a string by row 4
+unfoldable pub notSlash : ℕ → Bool
+notSlash x = not (eqb x 0x5c)
+
+unfoldable pub isText : ℕ → Bool
+isText x = ltb x 0x100 && not (isControl x)

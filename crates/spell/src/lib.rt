@@ -1,8 +1,11 @@
 // Strings as they are spelled between their quotes: what they decode to, compared, measured and written.
 ghost use mathlib.Core.Path.{_≡_};
+ghost use mathlib.Core.List.{[], _∷_};
 ghost use Prim.Native.Nat.{_≤_, _<_};
 ghost use lib.ListN.{length, getD, drop};
-ghost use Rattle.spell.specs.Spell.{hexVal, four, fourAt, shortOf, isPair, pairOf, unicodeOf, utf8Of, bytesOf, isSurrogate, isControl, isRefused, refuses, decode, sameBytes, isTail, characterCount, isHex, isHexOf};
+ghost use Rattle.wire.specs.Put.{Puts};
+ghost use Rattle.spell.specs.Spell.{hexVal, four, fourAt, shortOf, isPair, pairOf, unicodeOf, utf8Of, bytesOf, isSurrogate, isControl, isRefused, refuses, decode, sameBytes, isTail, characters, isHex, isHexOf};
+ghost use Rattle.spell.specs.Escape.{letterOf, escOne, escape};
 ghost use Rattle.spell.specs.Steps.{Sized, Begins, Within, Stepped};
 
 // One character of a spelling, and how many bytes spell it: a byte of the decoded string (raw), which stands as it is or after a
@@ -24,18 +27,18 @@ fn hex_val(x: u8) -> u32
     ensures { λ r. ⌜ r ≡ hexVal x ⌝ }
     ensures { λ r. ⌜ r ≤ 15 ⌝ }
 {
-    if x < b'0' {
+    if x < 0x30 {
         0
-    } else if x <= b'9' {
-        (x - b'0') as u32
-    } else if x < b'A' {
+    } else if x <= 0x39 {
+        (x - 0x30) as u32
+    } else if x < 0x41 {
         0
-    } else if x <= b'F' {
-        (x - b'A' + 10) as u32
-    } else if x < b'a' {
+    } else if x <= 0x46 {
+        (x - 0x41 + 10) as u32
+    } else if x < 0x61 {
         0
-    } else if x <= b'f' {
-        (x - b'a' + 10) as u32
+    } else if x <= 0x66 {
+        (x - 0x61 + 10) as u32
     } else {
         0
     }
@@ -337,7 +340,7 @@ fn is_tail(x: u8) -> bool
 
 // How many characters a spelling decodes to.
 pub fn characters(p: &[u8]) -> usize
-    ensures { λ r. ⌜ r ≡ characterCount (now (p .entry)) ⌝ }
+    ensures { λ r. ⌜ r ≡ characters (now (p .entry)) ⌝ }
 {
     let mut i = 0;
     let mut k = 0;
@@ -356,10 +359,15 @@ pub fn characters(p: &[u8]) -> usize
 fn is_hex_digit(x: u8) -> bool
     ensures { λ r. ⌜ r ≡ isHex x ⌝ }
 {
-    if x <= b'9' {
-        return b'0' <= x;
+    if x < b'0' {
+        false
+    } else if x <= b'9' {
+        true
+    } else if x < b'a' {
+        false
+    } else {
+        x <= b'f'
     }
-    b'a' <= x && x <= b'f'
 }
 
 // Whether a spelling decodes to n characters of lower-case hex.
@@ -381,7 +389,7 @@ pub fn is_hex(p: &[u8], n: usize) -> bool
         k = x.taken;
         left -= 1;
     }
-    left == 0
+    0 == left
 }
 
 // How many bytes a spelling decodes to.
@@ -398,4 +406,108 @@ pub fn decoded_len(p: &[u8]) -> usize
         n += 1;
     }
     n
+}
+
+// One byte into `out` at `at`, if it fits; the index after it.
+fn put_byte(out: &mut [u8], at: usize, b: u8) -> usize
+    ensures { λ r. ⌜ Puts (now (out .entry)) at (b ∷ []) r (now (out .exit)) ⌝ }
+{
+    let n = out.len();
+    if at < n {
+        out[at] = b;
+        return at + 1;
+    }
+    n
+}
+
+// The bytes that a spelling decodes to, into `out` from `at` on; the index after them.
+pub fn put_decoded(out: &mut [u8], at: usize, p: &[u8]) -> usize
+    ensures { λ r. ⌜ Puts (now (out .entry)) at (decode (now (p .entry))) r (now (out .exit)) ⌝ }
+{
+    let mut o = at;
+    let mut i = 0;
+    let mut k = 0;
+    while i < p.len() {
+        let x = advance(p, i, k);
+        o = put_byte(out, o, x.byte);
+        i = x.at;
+        k = x.taken;
+    }
+    let n = out.len();
+    if n < o {
+        return n;
+    }
+    o
+}
+
+// The letter after the backslash, and 0 where the byte stands as it is.
+fn letter(b: u8) -> u8
+    ensures { λ r. ⌜ r ≡ letterOf b ⌝ }
+{
+    match b {
+        0x0a => b'n',
+        0x22 => b'"',
+        0x5c => b'\\',
+        0x0d => b'r',
+        0x09 => b't',
+        0x08 => b'b',
+        0x0c => b'f',
+        _ => 0,
+    }
+}
+
+fn one_len(b: u8) -> usize
+    ensures { λ r. ⌜ r ≡ length (escOne b) ⌝ }
+{
+    if letter(b) == 0 {
+        return 1;
+    }
+    2
+}
+
+// How long a spelling is once it is decoded and escaped.
+pub fn escaped_len(p: &[u8]) -> usize
+    ensures { λ r. ⌜ r ≡ length (escape (decode (now (p .entry)))) ⌝ }
+{
+    let mut i = 0;
+    let mut k = 0;
+    let mut n: usize = 0;
+    while i < p.len() {
+        let x = advance(p, i, k);
+        i = x.at;
+        k = x.taken;
+        n += one_len(x.byte);
+    }
+    n
+}
+
+fn put_one(out: &mut [u8], at: usize, b: u8) -> usize
+    ensures { λ r. ⌜ Puts (now (out .entry)) at (escOne b) r (now (out .exit)) ⌝ }
+{
+    let c = letter(b);
+    if c == 0 {
+        return put_byte(out, at, b);
+    }
+    let o = put_byte(out, at, b'\\');
+    put_byte(out, o, c)
+}
+
+// What a spelling decodes to, escaped as in the text that is hashed, into `out` from `at` on; the index after it.
+pub fn put_escaped(out: &mut [u8], at: usize, p: &[u8]) -> usize
+    ensures { λ r. ⌜ Puts (now (out .entry)) at (escape (decode (now (p .entry)))) r (now (out .exit)) ⌝ }
+{
+    let mut o = at;
+    let mut i = 0;
+    let mut k = 0;
+    while i < p.len() {
+        let x = advance(p, i, k);
+        o = put_one(out, o, x.byte);
+        i = x.at;
+        k = x.taken;
+    }
+    let n = out.len();
+    if n < o {
+        return n;
+    }
+    o
 }

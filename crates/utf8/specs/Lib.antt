@@ -1,2 +1,4 @@
 -- RFC 3629.
 pub mod Utf8
+pub mod Abnf
+pub mod Cases

@@ -1,0 +1,85 @@
+-- What a loop over the decoded bytes knows of the list left, an element a turn: a comparison, a count of characters, hex.
+use mathlib.Core.Bool.{Bool, true, false, cond, _&&_, and-true, and-false}
+use mathlib.Core.Path.{_≡_, refl, sym, _∙_, ap}
+use mathlib.Core.List.{List, [], _∷_}
+use Prim.Native.Nat.{ℕ, zero, suc, _+_, _-_, _≤_, _<_}
+use native.Mathlib.Omega.{arith}
+use native.Mathlib.Numerals.{add-one, sub-one}
+use borrow.Author.Tests.{eq-eqb, ne-eqb}
+use lib.Dec.{eqb, eqb·suc-suc, eqb·suc-zero}
+use lib.ListN.{length, getD, drop}
+use lib.Seq.{drop-cons}
+use Rattle.spell.specs.Spell.{sameBytes, isTail, points, isHex, all}
+
+-- the elements from i on
+pub byte-turn : (s : List ℕ) (i : ℕ) → i < length s → drop i s ≡ getD s i 0 ∷ drop (i + 1) s
+byte-turn s i h = rw (add-one, drop-cons s i 0)
+
+-- one turn of a comparison
+module _ {b : Bool} {k l : List ℕ} (inv : b ≡ sameBytes k l) where
+  pub both-end : k ≡ [] → l ≡ [] → b ≡ true
+  unfolding sameBytes
+  both-end p q = inv ∙ rw (p, q)
+
+  pub first-ends : {y : ℕ} {l′ : List ℕ} → k ≡ [] → l ≡ y ∷ l′ → b ≡ false
+  unfolding sameBytes
+  first-ends p q = inv ∙ rw (p, q)
+
+  pub second-ends : {x : ℕ} {k′ : List ℕ} → k ≡ x ∷ k′ → l ≡ [] → b ≡ false
+  unfolding sameBytes
+  second-ends p q = inv ∙ rw (p, q)
+
+  module _ {x y : ℕ} {k′ l′ : List ℕ} (p : k ≡ x ∷ k′) (q : l ≡ y ∷ l′) where
+    pub differ : (x ≡ y → ⊥) → b ≡ false
+    unfolding sameBytes
+    differ n = inv ∙ rw (p, q, sameBytes, ne-eqb x y n)
+
+    pub agree : x ≡ y → b ≡ sameBytes k′ l′
+    unfolding sameBytes
+    agree e = inv ∙ rw (p, q, sameBytes, eq-eqb x y e)
+
+-- one turn of the count of characters
+pub points-few : (l : List ℕ) → points l ≤ length l
+unfolding points
+points-few [] = omega arith
+points-few (x ∷ l) = go (isTail x) (points-few l)
+  where
+    go : (b : Bool) → points l ≤ length l → cond b (points l) (suc (points l)) ≤ suc (length l)
+    go true h = omega arith
+    go false h = omega arith
+
+module _ {x : ℕ} {k l : List ℕ} (p : k ≡ x ∷ l) where
+  pub point-passed : isTail x ≡ true → points k ≡ points l
+  unfolding points
+  point-passed e = rw (p, points, e)
+
+  pub point-counted : isTail x ≡ false → points k ≡ suc (points l)
+  unfolding points
+  point-counted e = rw (p, points, e)
+
+pub point-end : {k : List ℕ} → k ≡ [] → points k ≡ 0
+unfolding points
+point-end e = rw e
+
+-- one turn of the test for n characters of hex
+module _ {b : Bool} (n : ℕ) {k : List ℕ} (inv : b ≡ (eqb (length k) n && all isHex k)) where
+  pub hex-end : k ≡ [] → b ≡ eqb 0 n
+  unfolding all
+  hex-end p = inv ∙ rw p (and-true (eqb 0 n))
+
+  module _ {x : ℕ} {l : List ℕ} (p : k ≡ x ∷ l) where
+    pub hex-long : n ≡ 0 → b ≡ false
+    unfolding all
+    hex-long z = inv ∙ rw (p, z, eqb·suc-zero (length l))
+
+    pub hex-bad : isHex x ≡ false → b ≡ false
+    unfolding all
+    hex-bad e = inv ∙ rw (p, all, e) (and-false (eqb (suc (length l)) n))
+
+    pub hex-good : isHex x ≡ true → (n ≡ 0 → ⊥) → b ≡ (eqb (length l) (n - 1) && all isHex l)
+    unfolding all
+    hex-good e z = inv ∙ rw (p, all, e) (ap (λ (t : Bool). t && all isHex l) (go n z))
+      where
+        go : (n : ℕ) → (n ≡ 0 → ⊥) → eqb (suc (length l)) n ≡ eqb (length l) (n - 1)
+        go zero z = absurd (z refl)
+        go (suc n) z = eqb·suc-suc (length l) n ∙ rw sub-one

@@ -1,0 +1,41 @@
+-- The invariant: the bytes counted and those left are all.
+use mathlib.Core.Path.{_≡_, refl, sym, ap, _∙_}
+use Prim.Native.Nat.{_+_}
+use native.Mathlib.Omega.{arith}
+use borrow.Author.Needs.{needs}
+use denote.Ref.{now}
+use lib.ListN.{length}
+use Rattle.spell.specs.Spell.{decode}
+use Rattle.spell.specs.Steps.{leftOf, Within}
+use Rattle.spell.proofs.Chars.{begin, left-over, decode-few}
+use Rattle.spell.proofs.decoded_len.Statement.{statement}
+use Rattle.spell.proofs.decoded_len.Tie as tie
+
+abbrev Inv-loop : tie.InvT-loop
+Inv-loop p i₀ k₀ n₀ i k n = (n + length (leftOf p i k) ≡ length (decode p)) × Within p i k
+
+abbrev μ-loop : tie.MeasureT-loop
+μ-loop p i₀ k₀ n₀ i k n = length (leftOf p i k)
+
+returns : tie.Need-returns Inv-loop μ-loop
+returns c = let l = c .before .loop in omega (arith, ap length (left-over (now (c .before .before .before .args .p)) (l .i) (l .k) (c .loop-test .left)))
+
+loop-again : tie.Need-loop-again Inv-loop μ-loop
+loop-again c = (omega (arith, ap length (c .advance .ensures .left)), c .advance .ensures .within)
+
+add-n : tie.Need-add-n Inv-loop μ-loop
+add-n c = omega (arith, ap length (c .advance .ensures .left), decode-few (now (c .before .before .before .before .args .p)))
+
+pub decoded-len-spec : {M : Type 1} → statement M
+unfolding leftOf
+decoded-len-spec =
+    tie.close
+    (tie.spec
+    Inv-loop
+    μ-loop
+    (λ c. (omega arith, begin _ 0 0))
+    (λ c κs. search needs)
+    add-n
+    (λ c. omega (arith, ap length (c .advance .ensures .left)))
+    loop-again
+    returns)

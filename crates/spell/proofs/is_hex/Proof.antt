@@ -1,0 +1,57 @@
+-- The invariant: the answer is the same for what is left and the count left.
+use mathlib.Core.Path.{_≡_, refl, sym, ap, _∙_}
+use mathlib.Core.Bool.{_&&_}
+use native.Mathlib.Omega.{arith}
+use borrow.Author.Needs.{needs}
+use denote.Ref.{now}
+use borrow.Author.Tests.{not-true, not-false}
+use lib.Dec.{eqb}
+use lib.ListN.{length}
+use Rattle.spell.specs.Spell.{isHexOf, isHex, all}
+use Rattle.spell.specs.Steps.{leftOf, Within}
+use Rattle.spell.proofs.Chars.{begin, left-over, left-some}
+use Rattle.spell.proofs.Loops.{hex-end, hex-long, hex-bad, hex-good}
+use Rattle.spell.proofs.is_hex.Statement.{statement}
+use Rattle.spell.proofs.is_hex.Tie as tie
+
+abbrev Inv-loop : tie.InvT-loop
+Inv-loop p n i₀ k₀ left₀ i k left = (isHexOf n p ≡ (eqb (length (leftOf p i k)) left && all isHex (leftOf p i k))) × Within p i k
+
+abbrev μ-loop : tie.MeasureT-loop
+μ-loop p n i₀ k₀ left₀ i k left = length (leftOf p i k)
+
+returns : tie.Need-returns Inv-loop μ-loop
+returns c =
+    let l = c .before .before .loop in
+    sym (hex-long (l .left) (l .inv .0) (left-some (now (c .before .before .before .before .args .p)) (l .i) (l .k) (c .before .loop-test .taken) (l .inv .1)) (c .if1 .taken))
+
+returns-2 : tie.Need-returns-2 Inv-loop μ-loop
+returns-2 c =
+    let l = c .before .before .before .before .before .loop in
+    sym (hex-bad (l .left) (l .inv .0) (c .before .before .advance .ensures .left) (sym (c .before .is-hex-digit .ensures) ∙ not-true _ (c .if2 .taken)))
+
+loop-again : tie.Need-loop-again Inv-loop μ-loop
+loop-again c =
+    let a = c .before .before in
+    let l = a .before .before .before .loop in
+    (hex-good (l .left) (l .inv .0) (a .advance .ensures .left) (sym (c .before .is-hex-digit .ensures) ∙ not-false _ (c .if2 .left)) (a .before .if1 .left), a .advance .ensures .within)
+
+returns-3 : tie.Need-returns-3 Inv-loop μ-loop
+returns-3 c = let l = c .before .loop in sym (hex-end (l .left) (l .inv .0) (left-over (now (c .before .before .before .args .p)) (l .i) (l .k) (c .loop-test .left)))
+
+pub is-hex-spec : {M : Type 1} → statement M
+unfolding leftOf isHexOf
+is-hex-spec =
+    tie.close
+    (tie.spec
+    Inv-loop
+    μ-loop
+    (λ c. (refl, begin _ 0 0))
+    returns
+    (λ c κs. search needs)
+    (λ c κs. search needs)
+    returns-2
+    (λ c. search needs)
+    (λ c. omega (arith, ap length (c .before .before .advance .ensures .left)))
+    loop-again
+    returns-3)

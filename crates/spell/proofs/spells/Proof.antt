@@ -1,0 +1,67 @@
+-- The invariant: the answer is the same for what is left of both.
+use mathlib.Core.Path.{_≡_, refl, sym, ap, _∙_}
+use Prim.Native.Nat.{_+_}
+use native.Mathlib.Omega.{arith}
+use borrow.Author.Needs.{needs}
+use denote.Ref.{now}
+use lib.ListN.{length, drop, drop-of-length-le}
+use Rattle.spell.specs.Spell.{decode, sameBytes}
+use Rattle.spell.specs.Steps.{leftOf, Within}
+use Rattle.spell.proofs.Chars.{begin, left-over, left-some}
+use Rattle.spell.proofs.Loops.{byte-turn, both-end, first-ends, second-ends, differ, agree}
+use Rattle.spell.proofs.spells.Statement.{statement}
+use Rattle.spell.proofs.spells.Tie as tie
+
+abbrev Inv-loop : tie.InvT-loop
+Inv-loop p word i₀ k₀ j₀ i k j = (sameBytes (decode p) word ≡ sameBytes (leftOf p i k) (drop j word)) × Within p i k
+
+abbrev μ-loop : tie.MeasureT-loop
+μ-loop p word i₀ k₀ j₀ i k j = length (leftOf p i k)
+
+returns : tie.Need-returns Inv-loop μ-loop
+returns c =
+    let l = c .before .before .loop in
+    let s = c .before .before .before .before .before .args in
+    sym (second-ends (l .inv .0) (left-some (now (s .p)) (l .i) (l .k) (c .before .loop-test .taken) (l .inv .1)) (drop-of-length-le (now (s .word)) (c .if1 .taken)))
+
+returns-2 : tie.Need-returns-2 Inv-loop μ-loop
+returns-2 c =
+    let a = c .before .before in
+    let l = a .before .before .before in
+    sym (differ (l .loop .inv .0) (a .advance .ensures .left) (byte-turn (now (l .before .before .before .args .word)) (l .loop .j) (a .before .if1 .left)) (c .if2 .taken))
+
+loop-again : tie.Need-loop-again Inv-loop μ-loop
+loop-again c =
+    let a = c .before .before in
+    let l = a .before .before .before in
+    (agree (l .loop .inv .0) (a .advance .ensures .left) (byte-turn (now (l .before .before .before .args .word)) (l .loop .j) (a .before .if1 .left)) (c .if2 .left), a .advance .ensures .within)
+
+returns-3 : tie.Need-returns-3 Inv-loop μ-loop
+returns-3 c =
+    let l = c .before .before .loop in
+    let s = c .before .before .before .before .before .args in
+    sym (first-ends (l .inv .0) (left-over (now (s .p)) (l .i) (l .k) (c .before .loop-test .left)) (byte-turn (now (s .word)) (l .j) (c .if3 .taken)))
+
+returns-4 : tie.Need-returns-4 Inv-loop μ-loop
+returns-4 c =
+    let l = c .before .before .loop in
+    let s = c .before .before .before .before .before .args in
+    sym (both-end (l .inv .0) (left-over (now (s .p)) (l .i) (l .k) (c .before .loop-test .left)) (drop-of-length-le (now (s .word)) (c .if3 .left)))
+
+pub spells-spec : {M : Type 1} → statement M
+unfolding leftOf
+spells-spec =
+    tie.close
+    (tie.spec
+    Inv-loop
+    μ-loop
+    (λ c. (refl, begin _ 0 0))
+    returns
+    (λ c κs. search needs)
+    (λ c. search needs)
+    returns-2
+    (λ c. search needs)
+    (λ c. omega (arith, ap length (c .before .before .advance .ensures .left)))
+    loop-again
+    returns-3
+    returns-4)
