@@ -1,5 +1,7 @@
 // Times the proved library beside plain Rust on the same input, in one run, and measures the stack of its calls.
 // Built and started by bench/run.
+mod messages;
+mod plain_json;
 mod plain_sha256;
 mod stack;
 
@@ -8,6 +10,7 @@ use std::time::Instant;
 
 extern "C" {
     fn plavdrosa_digest(bytes: *const u8, len: usize, out: *mut u8, out_len: usize) -> u8;
+    fn plavdrosa_text_row(bytes: *const u8, len: usize) -> u8;
 }
 
 fn proved_digest(bytes: &[u8]) -> [u8; 32] {
@@ -15,6 +18,10 @@ fn proved_digest(bytes: &[u8]) -> [u8; 32] {
     let row = unsafe { plavdrosa_digest(bytes.as_ptr(), bytes.len(), out.as_mut_ptr(), 32) };
     assert_eq!(row, 0);
     out
+}
+
+fn proved_text_row(bytes: &[u8]) -> u8 {
+    unsafe { plavdrosa_text_row(bytes.as_ptr(), bytes.len()) }
 }
 
 // Nanoseconds a call of each, the best of many short batches taken in turn, so that other work on the machine spoils few of them.
@@ -39,7 +46,7 @@ pub fn race<F: FnMut(), G: FnMut()>(mut f: F, mut g: G) -> (f64, f64) {
 }
 
 fn row(name: &str, proved: f64, plain: f64) {
-    println!("{name:<44} {proved:>12.0} {plain:>12.0} {:>7.2}", proved / plain);
+    println!("{name:<54} {proved:>12.0} {plain:>12.0} {:>7.2}", proved / plain);
 }
 
 fn bytes_of(n: usize, mut seed: u64) -> Vec<u8> {
@@ -75,7 +82,38 @@ fn digest() {
     println!("stack of a digest call: {used} bytes");
 }
 
+fn text_row() {
+    let cases = include_bytes!("../crates/json_cases/stdin");
+    for line in cases.split(|&b| b == b'\n') {
+        assert_eq!(proved_text_row(line), plain_json::text_row(line), "{}", String::from_utf8_lossy(line));
+    }
+    let timed = |name: &str, text: &[u8]| {
+        assert_eq!((proved_text_row(text), plain_json::text_row(text)), (0, 0));
+        let (proved, plain) = race(
+            || {
+                black_box(proved_text_row(black_box(text)));
+            },
+            || {
+                black_box(plain_json::text_row(black_box(text)));
+            },
+        );
+        row(&format!("rows 1 to 4, {name}, {} bytes", text.len()), proved, plain);
+    };
+    for (name, make) in messages::KINDS {
+        timed(name, &make(8192));
+    }
+    for size in [1024, 2048, 4096, 8192] {
+        timed("an EVENT with tags", &messages::event(size));
+    }
+    let text = messages::deep(8192);
+    let used = stack::used(|| {
+        black_box(proved_text_row(black_box(&text)));
+    });
+    println!("stack of rows 1 to 4: {used} bytes");
+}
+
 fn main() {
-    println!("{:<44} {:>12} {:>12} {:>7}", "", "proved, ns", "plain, ns", "ratio");
+    println!("{:<54} {:>12} {:>12} {:>7}", "", "proved, ns", "plain, ns", "ratio");
     digest();
+    text_row();
 }

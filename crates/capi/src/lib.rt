@@ -1,5 +1,6 @@
 // The calls that Rust or C link (`rt staticlib capi`): numbers and byte slices only, each slice a pointer and a length.
 ghost use mathlib.Core.Path.{_≡_};
+ghost use Rattle.rows.specs.Rows.{textRow};
 ghost use Rattle.capi.specs.Calls.{digestRow, digestOut};
 
 // The SHA-256 of `bytes` into the first 32 bytes of `out`: 0, 8 or 13.
@@ -21,4 +22,12 @@ pub extern "C" fn plavdrosa_digest(bytes: &[u8], out: &mut [u8]) -> u8
             0
         }
     }
+}
+
+// The lowest of rows 1 to 4 that holds of a text, or 0.
+#[no_mangle]
+pub extern "C" fn plavdrosa_text_row(bytes: &[u8]) -> u8
+    ensures { λ r. ⌜ r ≡ textRow (now (bytes .entry)) ⌝ }
+{
+    rows::text_row(bytes)
 }

@@ -109,8 +109,8 @@ unfoldable pub points : List ℕ → ℕ
 points [] = 0
 points (x ∷ s) = cond (isTail x) (points s) (suc (points s))
 
-unfoldable pub characterCount : List ℕ → ℕ
-characterCount l = points (decode l)
+unfoldable pub characters : List ℕ → ℕ
+characters l = points (decode l)
 
 -- lower-case hex (01): 0-9 and a-f
 unfoldable pub isHex : ℕ → Bool

@@ -4,8 +4,13 @@ ghost use mathlib.Core.List.{[], _∷_};
 ghost use Prim.Native.Nat.{_≤_, _<_};
 ghost use lib.ListN.{length, getD, drop};
 ghost use Rattle.wire.specs.Put.{Puts};
+<<<<<<< HEAD
 ghost use Rattle.spell.specs.Spell.{hexVal, four, fourAt, shortOf, isPair, pairOf, unicodeOf, utf8Of, bytesOf, isSurrogate, isControl, isRefused, refuses, decode, sameBytes, isTail, characterCount, isHex, isHexOf};
 ghost use Rattle.wire.specs.Escape.{letterOf, escOne, escape};
+=======
+ghost use Rattle.spell.specs.Spell.{hexVal, four, fourAt, shortOf, isPair, pairOf, unicodeOf, utf8Of, bytesOf, isSurrogate, isControl, isRefused, refuses, decode, sameBytes, isTail, characters, isHex, isHexOf};
+ghost use Rattle.spell.specs.Escape.{letterOf, escOne, escape};
+>>>>>>> rows
 ghost use Rattle.spell.specs.Steps.{Sized, Begins, Within, Stepped};
 
 // One character of a spelling, and how many bytes spell it: a byte of the decoded string (raw), which stands as it is or after a
@@ -340,7 +345,7 @@ fn is_tail(x: u8) -> bool
 
 // How many characters a spelling decodes to.
 pub fn characters(p: &[u8]) -> usize
-    ensures { λ r. ⌜ r ≡ characterCount (now (p .entry)) ⌝ }
+    ensures { λ r. ⌜ r ≡ characters (now (p .entry)) ⌝ }
 {
     let mut i = 0;
     let mut k = 0;

@@ -6,7 +6,7 @@ use borrow.Author.Needs.{needs}
 use denote.Ref.{now}
 use borrow.Author.Tests.{not-true, not-false}
 use lib.ListN.{length}
-use Rattle.spell.specs.Spell.{decode, characterCount, points}
+use Rattle.spell.specs.Spell.{decode, characters, points}
 use Rattle.spell.specs.Steps.{leftOf, Within}
 use Rattle.spell.proofs.Chars.{begin, left-over, decode-few}
 use Rattle.spell.proofs.Loops.{points-few, point-passed, point-counted, point-end}
@@ -20,7 +20,7 @@ abbrev μ-loop : tie.MeasureT-loop
 μ-loop p i₀ k₀ n₀ i k n = length (leftOf p i k)
 
 returns : tie.Need-returns Inv-loop μ-loop
-unfolding characterCount
+unfolding characters
 returns c = let l = c .before .loop in omega (arith, point-end (left-over (now (c .before .before .before .args .p)) (l .i) (l .k) (c .loop-test .left)))
 
 loop-again : tie.Need-loop-again Inv-loop μ-loop
@@ -40,7 +40,7 @@ add-n c =
     omega (arith, point-counted (a .advance .ensures .left) (sym (c .before .is-tail .ensures) ∙ not-true _ (c .if1 .taken)), points-few (decode p), decode-few p)
 
 pub characters-spec : {M : Type 1} → statement M
-unfolding leftOf characterCount
+unfolding leftOf characters
 characters-spec =
     tie.close
     (tie.spec

@@ -1,0 +1,60 @@
+// JSON texts of a size, each of one kind.
+
+// A text of `open`, as many of `piece` as fit with a comma between them, and `close`.
+fn filled(size: usize, open: &str, piece: &str, close: &str) -> Vec<u8> {
+    let mut s = open.to_string() + piece;
+    while s.len() + 1 + piece.len() + close.len() <= size {
+        s.push(',');
+        s.push_str(piece);
+    }
+    (s + close).into_bytes()
+}
+
+// One string of as many of `piece` as fit.
+fn string(size: usize, piece: &str) -> Vec<u8> {
+    format!("[\"{}\"]", piece.repeat((size - 4) / piece.len())).into_bytes()
+}
+
+pub fn ascii(size: usize) -> Vec<u8> {
+    string(size, "a tile of floor 3, read by cart 17 ")
+}
+
+pub fn high(size: usize) -> Vec<u8> {
+    string(size, "é€𝄞жあ😀ßñ")
+}
+
+pub fn digits(size: usize) -> Vec<u8> {
+    format!("[{}]", "1234567890".repeat((size - 2) / 10)).into_bytes()
+}
+
+pub fn deep(size: usize) -> Vec<u8> {
+    filled(size, "[", "[[[[[[[]]]]]]]", "]")
+}
+
+pub fn members(size: usize) -> Vec<u8> {
+    filled(size, "{", "\"ab\":1,\"c\":\"d\"", "}")
+}
+
+pub fn escapes(size: usize) -> Vec<u8> {
+    string(size, "\\n\\u00e9\\\"\\ud83d\\ude00\\t")
+}
+
+// An EVENT as clients send it.
+pub fn event(size: usize) -> Vec<u8> {
+    let hex = "0123456789abcdef".repeat(4);
+    let open = format!(
+        "[\"EVENT\",{{\"id\":\"{hex}\",\"pubkey\":\"{hex}\",\"created_at\":1700000000,\"kind\":30078,\"tags\":["
+    );
+    let close = format!("],\"content\":\"the shelf by the door has moved\\n\",\"sig\":\"{hex}{hex}\"}}]");
+    filled(size, &open, "[\"e\",\"5c83da77af1dec6d7289834998ad7aafbd9e2191396d75ec3cc27f5a77226f36\",\"wss://r\"]", &close)
+}
+
+pub const KINDS: [(&str, fn(usize) -> Vec<u8>); 7] = [
+    ("one ASCII string", ascii),
+    ("two- to four-byte UTF-8", high),
+    ("one run of digits", digits),
+    ("eight brackets open", deep),
+    ("small members", members),
+    ("strings of escapes", escapes),
+    ("an EVENT with tags", event),
+];

@@ -1,0 +1,34 @@
+-- 01, "Numbers the relay answers with": the lowest of rows 1 to 4 that holds of a text, or 0.
+use Prim.Native.Nat.{ℕ}
+use mathlib.Core.List.{List}
+use mathlib.Core.Bool.{Bool, true, false, cond, not}
+use lib.ListN.{length}
+use lib.Dec.{ltb}
+use Rattle.utf8.specs.Utf8.{isUtf8}
+use Rattle.json.specs.Tree.{Json, Got, none, got, root, isText}
+use Rattle.rows.specs.Strings.{refusedIn}
+
+-- "message over 8,192 bytes"
+abbrev pub mostMessage : ℕ
+mostMessage = 8192
+
+-- what holds of the value of a text; false where there is none
+abbrev pub onRoot : (Json → Bool) → Got Json → Bool
+onRoot f none = false
+onRoot f (got t n) = f t
+
+-- rows 1 to 4, each by itself
+abbrev pub row1 : List ℕ → Bool
+row1 s = ltb mostMessage (length s)
+
+abbrev pub row2 : List ℕ → Bool
+row2 s = not (isUtf8 s)
+
+abbrev pub row3 : List ℕ → Bool
+row3 s = not (isText s)
+
+unfoldable pub row4 : List ℕ → Bool
+row4 s = onRoot (refusedIn s) (root s)
+
+unfoldable pub textRow : List ℕ → ℕ
+textRow s = cond (row1 s) 1 (cond (row2 s) 2 (cond (row3 s) 3 (cond (row4 s) 4 0)))

@@ -1,0 +1,29 @@
+-- 01, row 4: "some string, names included, decodes to an unpaired surrogate, or to a character below U+0020 other than 08, 09, 0A, 0C, 0D".
+use Prim.Native.Nat.{ℕ, _+_, _-_}
+use mathlib.Core.List.{List, []}
+use mathlib.Core.Bool.{Bool, true, false, _&&_, _||_}
+use lib.ListN.{take, drop}
+use Rattle.json.specs.Grammar.{case, stringAt}
+use Rattle.json.specs.Tree.{Json, word, num, str, arr, obj, Items, nil, item}
+use Rattle.spell.specs.Spell.{refuses}
+
+-- the part of a text at a place
+abbrev pub part : List ℕ → ℕ → ℕ → List ℕ
+part s start len = take len (drop start s)
+
+-- the string that begins at p, as spelled between its quotes: an object's item begins with its name
+unfoldable pub spelledAt : List ℕ → ℕ → List ℕ
+spelledAt s p = case (stringAt s p) (λ n. part s (p + 1) (n - p - 2)) []
+
+-- some string in a value, or in the items of an object (named) or an array, is refused
+unfoldable mutual
+  pub refusedIn : List ℕ → Json → Bool
+  refusedIn s (word a n) = false
+  refusedIn s (num a n) = false
+  refusedIn s (str a n) = refuses (part s a n)
+  refusedIn s (arr ts) = refusedItems s false ts
+  refusedIn s (obj ts) = refusedItems s true ts
+
+  pub refusedItems : List ℕ → Bool → Items → Bool
+  refusedItems s named nil = false
+  refusedItems s named (item p v t ts) = (named && refuses (spelledAt s p)) || (refusedIn s t || refusedItems s named ts)
