@@ -1,4 +1,4 @@
--- The facts of tests, as `search` uses them; what a character is by its first bytes; one turn over the characters and over the decoded bytes.
+-- What a character is by its first bytes; one turn over the characters and over the decoded bytes.
 use mathlib.Core.Bool.{Bool, true, false, cond, _&&_}
 use mathlib.Core.Path.{_≡_, refl, sym, _∙_, ap}
 use mathlib.Core.List.{List, [], _∷_, _++_}
@@ -6,16 +6,14 @@ use Prim.Native.Nat.{ℕ, zero, suc, pred, _+_, _-_, _/_, _%_, _≤_, _<_}
 use native.Mathlib.Decide.{decLe}
 use native.Mathlib.Omega.{arith}
 use native.Mathlib.Numerals.{add-one}
-use borrow.Author.Tests.{lt-ltb, le-ltb, le-leb, lt-leb, eq-eqb, ne-eqb, leb-true, eqb-true}
+use borrow.Author.Tests.{lt-ltb, eq-eqb, ne-eqb, leb-true, eqb-true}
 use lib.Dec.{ltb, leb, eqb}
-use lib.ListN.{length, getD, take, drop, length-drop, length-append, drop-of-length-le, List·getD-append, List·getD-eq-default}
-use lib.Seq.{take-all, drop-cons, drop-drop, drop-nil, drop-append-le, drop-at, getD-drop}
+use lib.ListN.{length, getD, take, drop, length-drop, length-append, drop-of-length-le, List·getD-eq-default}
+use lib.Seq.{take-all, drop-cons, drop-drop, drop-nil, drop-append-le, getD-drop}
+use Rattle.wire.proofs.Laws.{tests}
 use Rattle.spell.specs.declared.Char.{Char}
-use Rattle.spell.specs.declared.Step.{Step}
 use Rattle.spell.specs.Spell.{hexVal, four, isPair, unicodeOf, pairOf, fourAt, shortOf, charOf, charsFrom, chars, utf8Of, bytesOf, joined, decode, isRefused, any}
 use Rattle.spell.specs.Steps.{Sized, Begins, leftOf, Within, Stepped}
-
-pub ruleset tests = (lt-ltb, le-ltb, le-leb, lt-leb, eq-eqb, ne-eqb)
 
 pub and-left : (a b : Bool) → (a && b) ≡ true → a ≡ true
 and-left true b e = refl

@@ -2,19 +2,13 @@
 use mathlib.Core.Bool.{Bool, true, false, cond, not, _&&_, _||_}
 use mathlib.Core.Path.{_≡_, refl, sym, _∙_, ap, ap₂}
 use mathlib.Core.List.{List, [], _∷_, _++_}
-use Prim.Native.Nat.{ℕ, zero, suc, _+_, _≤_, _<_}
+use Prim.Native.Nat.{ℕ, zero, suc, _≤_, _<_}
 use native.Mathlib.Omega.{arith}
-use borrow.Author.Tests.{eq-eqb, ne-eqb, eqb-true, eqb-false, ltb-true, leb-true, leb-false, lt-leb, lt-ltb, le-ltb, not-true}
+use borrow.Author.Tests.{eq-eqb, ne-eqb, eqb-true, eqb-false, ltb-true, leb-true, lt-leb, lt-ltb, le-ltb, not-true}
 use lib.Dec.{ltb, leb, eqb}
-use lib.ListN.{length, getD, drop}
-use Rattle.spell.specs.declared.Char.{Char}
-<<<<<<< HEAD
-use Rattle.spell.specs.Spell.{shortOf, charOf, chars, charsFrom, bytesOf, joined, decode, isSurrogate, isControl, isRefused, any, refuses, sameBytes, isTail, points, characterCount, isHex, all, isHexOf, notSlash, isText}
+use lib.ListN.{length, getD}
+use Rattle.spell.specs.Spell.{shortOf, charOf, chars, charsFrom, bytesOf, joined, decode, isControl, isRefused, any, refuses, sameBytes, points, characterCount, isHex, all, isHexOf, notSlash, isText}
 use Rattle.wire.specs.Escape.{letterOf, escOne, escape}
-=======
-use Rattle.spell.specs.Spell.{shortOf, charOf, chars, charsFrom, bytesOf, joined, decode, isSurrogate, isControl, isRefused, any, refuses, sameBytes, isTail, points, characters, isHex, all, isHexOf, notSlash, isText}
-use Rattle.spell.specs.Escape.{letterOf, escOne, escape}
->>>>>>> rows
 use Rattle.spell.proofs.Chars.{and-left, and-right, char-raw, char-short, first, choose, decode-few}
 
 -- sameBytes is equality
@@ -172,8 +166,8 @@ hex-points (x ∷ s) e =
     let h = hex-high (hex-digit x (and-left (isHex x) (all isHex s) e)) in
     rw (lt-leb 0x80 x (omega arith)) (ap suc (hex-points s (and-right (isHex x) (all isHex s) e)))
 
-pub hex-characters : (n : ℕ) (l : List ℕ) → isHexOf n l ≡ true → characters l ≡ n
-unfolding characters
+pub hex-characters : (n : ℕ) (l : List ℕ) → isHexOf n l ≡ true → characterCount l ≡ n
+unfolding characterCount
 hex-characters n l e = hex-points (decode l) (hex-all n l e) ∙ hex-length n l e
 
 -- hex has no backslash, so it decodes to itself; it needs no escape; and row 4 lets it pass

@@ -1,14 +1,16 @@
--- What a loop over the decoded bytes knows of the list left, an element a turn: a comparison, a count of characters, hex.
+-- What a loop over the decoded bytes knows of the list left, an element a turn: a comparison, a count of characters, hex, escapes.
 use mathlib.Core.Bool.{Bool, true, false, cond, _&&_, and-true, and-false}
-use mathlib.Core.Path.{_≡_, refl, sym, _∙_, ap}
-use mathlib.Core.List.{List, [], _∷_}
-use Prim.Native.Nat.{ℕ, zero, suc, _+_, _-_, _≤_, _<_}
+use mathlib.Core.Path.{_≡_, refl, _∙_, ap}
+use mathlib.Core.List.{List, [], _∷_, _++_}
+use Prim.Native.Nat.{ℕ, zero, suc, _+_, _-_, _*_, _≤_, _<_}
 use native.Mathlib.Omega.{arith}
 use native.Mathlib.Numerals.{add-one, sub-one}
 use borrow.Author.Tests.{eq-eqb, ne-eqb}
 use lib.Dec.{eqb, eqb·suc-suc, eqb·suc-zero}
-use lib.ListN.{length, getD, drop}
+use lib.ListN.{length, getD, drop, length-append}
 use lib.Seq.{drop-cons}
+use Rattle.wire.specs.Escape.{escOne, escape}
+use Rattle.wire.proofs.Escapes.{esc-two}
 use Rattle.spell.specs.Spell.{sameBytes, isTail, points, isHex, all}
 
 -- the elements from i on
@@ -83,3 +85,17 @@ module _ {b : Bool} (n : ℕ) {k : List ℕ} (inv : b ≡ (eqb (length k) n && a
         go : (n : ℕ) → (n ≡ 0 → ⊥) → eqb (suc (length l)) n ≡ eqb (length l) (n - 1)
         go zero z = absurd (z refl)
         go (suc n) z = eqb·suc-suc (length l) n ∙ rw sub-one
+
+-- one turn over what is to be escaped
+pub escape-turn : {k l : List ℕ} {x : ℕ} → k ≡ x ∷ l → escape k ≡ escOne x ++ escape l
+unfolding escape
+escape-turn e = rw e
+
+pub escape-end : {k : List ℕ} → k ≡ [] → escape k ≡ []
+unfolding escape
+escape-end e = rw e
+
+pub escape-few : (s : List ℕ) → length (escape s) ≤ 2 * length s
+unfolding escape
+escape-few [] = omega arith
+escape-few (b ∷ s) = rw (length-append (escOne b) (escape s)) (omega (arith, esc-two b, escape-few s))

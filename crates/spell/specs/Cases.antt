@@ -2,13 +2,8 @@
 use mathlib.Core.Bool.{true, false}
 use mathlib.Core.Path.{_≡_, refl}
 use mathlib.Core.List.{[], _∷_}
-<<<<<<< HEAD
 use Rattle.spell.specs.Spell.{hexVal, four, fourAt, shortOf, isPair, pairOf, unicodeOf, charOf, charsFrom, utf8Of, bytesOf, joined, decode, isRefused, any, refuses, sameBytes, points, characterCount, isHex, all, isHexOf}
 use Rattle.wire.specs.Escape.{letterOf, escOne, escape}
-=======
-use Rattle.spell.specs.Spell.{hexVal, four, fourAt, shortOf, isPair, pairOf, unicodeOf, charOf, charsFrom, utf8Of, bytesOf, joined, decode, isRefused, any, refuses, sameBytes, points, characters, isHex, all, isHexOf}
-use Rattle.spell.specs.Escape.{letterOf, escOne, escape}
->>>>>>> rows
 
 -- \" \\ \/ \b \f \n \r \t
 short :
@@ -63,11 +58,11 @@ hex = (refl, refl, refl, refl, refl, refl, refl)
 
 -- an escape counts one, and so does what it stands for
 counts :
-    (characters (0x5c ∷ 0x75 ∷ 0x30 ∷ 0x30 ∷ 0x45 ∷ 0x39 ∷ []) ≡ 1)
-    × (characters (0xc3 ∷ 0xa9 ∷ []) ≡ 1)
-    × (characters (0x5c ∷ 0x75 ∷ 0x44 ∷ 0x38 ∷ 0x33 ∷ 0x34 ∷ 0x5c ∷ 0x75 ∷ 0x44 ∷ 0x44 ∷ 0x31 ∷ 0x45 ∷ 0x61 ∷ []) ≡ 2)
-    × (characters (0xf0 ∷ 0x9d ∷ 0x84 ∷ 0x9e ∷ 0x61 ∷ []) ≡ 2)
-unfolding characters points decode joined charsFrom charOf unicodeOf isPair pairOf fourAt four hexVal shortOf bytesOf utf8Of
+    (characterCount (0x5c ∷ 0x75 ∷ 0x30 ∷ 0x30 ∷ 0x45 ∷ 0x39 ∷ []) ≡ 1)
+    × (characterCount (0xc3 ∷ 0xa9 ∷ []) ≡ 1)
+    × (characterCount (0x5c ∷ 0x75 ∷ 0x44 ∷ 0x38 ∷ 0x33 ∷ 0x34 ∷ 0x5c ∷ 0x75 ∷ 0x44 ∷ 0x44 ∷ 0x31 ∷ 0x45 ∷ 0x61 ∷ []) ≡ 2)
+    × (characterCount (0xf0 ∷ 0x9d ∷ 0x84 ∷ 0x9e ∷ 0x61 ∷ []) ≡ 2)
+unfolding characterCount points decode joined charsFrom charOf unicodeOf isPair pairOf fourAt four hexVal shortOf bytesOf utf8Of
 counts = (refl, refl, refl, refl)
 
 -- d and \u0064, a\/b and a/b; a and aa

@@ -17,10 +17,11 @@ hexVal x =
     (cond (ltb x 0x61) 0
     (cond (leb x 0x66) (x - 0x61 + 10) 0)))))
 
--- the four hex digits from k on; past the end of a list stands 0
+-- the number of four hex digits
 unfoldable pub four : ℕ → ℕ → ℕ → ℕ → ℕ
 four a b c d = hexVal a * 4096 + hexVal b * 256 + hexVal c * 16 + hexVal d
 
+-- of those from k on; past the end stands 0
 unfoldable pub fourAt : List ℕ → ℕ → ℕ
 fourAt l k = four (getD l k 0) (getD l (k + 1) 0) (getD l (k + 2) 0) (getD l (k + 3) 0)
 
@@ -109,8 +110,8 @@ unfoldable pub points : List ℕ → ℕ
 points [] = 0
 points (x ∷ s) = cond (isTail x) (points s) (suc (points s))
 
-unfoldable pub characters : List ℕ → ℕ
-characters l = points (decode l)
+unfoldable pub characterCount : List ℕ → ℕ
+characterCount l = points (decode l)
 
 -- lower-case hex (01): 0-9 and a-f
 unfoldable pub isHex : ℕ → Bool

@@ -1,16 +1,10 @@
 // Strings as they are spelled between their quotes: what they decode to, compared, measured and written.
 ghost use mathlib.Core.Path.{_≡_};
-ghost use mathlib.Core.List.{[], _∷_};
 ghost use Prim.Native.Nat.{_≤_, _<_};
 ghost use lib.ListN.{length, getD, drop};
 ghost use Rattle.wire.specs.Put.{Puts};
-<<<<<<< HEAD
-ghost use Rattle.spell.specs.Spell.{hexVal, four, fourAt, shortOf, isPair, pairOf, unicodeOf, utf8Of, bytesOf, isSurrogate, isControl, isRefused, refuses, decode, sameBytes, isTail, characterCount, isHex, isHexOf};
-ghost use Rattle.wire.specs.Escape.{letterOf, escOne, escape};
-=======
-ghost use Rattle.spell.specs.Spell.{hexVal, four, fourAt, shortOf, isPair, pairOf, unicodeOf, utf8Of, bytesOf, isSurrogate, isControl, isRefused, refuses, decode, sameBytes, isTail, characters, isHex, isHexOf};
-ghost use Rattle.spell.specs.Escape.{letterOf, escOne, escape};
->>>>>>> rows
+ghost use Rattle.spell.specs.Spell.{hexVal, four, fourAt, shortOf, isPair, pairOf, unicodeOf, utf8Of, isSurrogate, isControl, isRefused, refuses, decode, sameBytes, isTail, characterCount, isHex, isHexOf};
+ghost use Rattle.wire.specs.Escape.{escape};
 ghost use Rattle.spell.specs.Steps.{Sized, Begins, Within, Stepped};
 
 // One character of a spelling, and how many bytes spell it: a byte of the decoded string (raw), which stands as it is or after a
@@ -345,7 +339,7 @@ fn is_tail(x: u8) -> bool
 
 // How many characters a spelling decodes to.
 pub fn characters(p: &[u8]) -> usize
-    ensures { λ r. ⌜ r ≡ characters (now (p .entry)) ⌝ }
+    ensures { λ r. ⌜ r ≡ characterCount (now (p .entry)) ⌝ }
 {
     let mut i = 0;
     let mut k = 0;
@@ -413,64 +407,26 @@ pub fn decoded_len(p: &[u8]) -> usize
     n
 }
 
-// One byte into `out` at `at`, if it fits; the index after it.
-fn put_byte(out: &mut [u8], at: usize, b: u8) -> usize
-    ensures { λ r. ⌜ Puts (now (out .entry)) at (b ∷ []) r (now (out .exit)) ⌝ }
-{
-    let n = out.len();
-    if at < n {
-        out[at] = b;
-        return at + 1;
-    }
-    n
-}
-
 // The bytes that a spelling decodes to, into `out` from `at` on; the index after them.
 pub fn put_decoded(out: &mut [u8], at: usize, p: &[u8]) -> usize
     ensures { λ r. ⌜ Puts (now (out .entry)) at (decode (now (p .entry))) r (now (out .exit)) ⌝ }
 {
+    if out.len() < at {
+        return out.len();
+    }
     let mut o = at;
     let mut i = 0;
     let mut k = 0;
     while i < p.len() {
         let x = advance(p, i, k);
-        o = put_byte(out, o, x.byte);
+        o = wire::put_byte(out, o, x.byte);
         i = x.at;
         k = x.taken;
-    }
-    let n = out.len();
-    if n < o {
-        return n;
     }
     o
 }
 
-// The letter after the backslash, and 0 where the byte stands as it is.
-fn letter(b: u8) -> u8
-    ensures { λ r. ⌜ r ≡ letterOf b ⌝ }
-{
-    match b {
-        0x0a => b'n',
-        0x22 => b'"',
-        0x5c => b'\\',
-        0x0d => b'r',
-        0x09 => b't',
-        0x08 => b'b',
-        0x0c => b'f',
-        _ => 0,
-    }
-}
-
-fn one_len(b: u8) -> usize
-    ensures { λ r. ⌜ r ≡ length (escOne b) ⌝ }
-{
-    if letter(b) == 0 {
-        return 1;
-    }
-    2
-}
-
-// How long a spelling is once it is decoded and escaped.
+// How long a spelling is once it is decoded and escaped. It fits: a slice has fewer than 2^63 bytes.
 pub fn escaped_len(p: &[u8]) -> usize
     ensures { λ r. ⌜ r ≡ length (escape (decode (now (p .entry)))) ⌝ }
 {
@@ -481,38 +437,26 @@ pub fn escaped_len(p: &[u8]) -> usize
         let x = advance(p, i, k);
         i = x.at;
         k = x.taken;
-        n += one_len(x.byte);
+        n += wire::escaped_byte_len(x.byte);
     }
     n
-}
-
-fn put_one(out: &mut [u8], at: usize, b: u8) -> usize
-    ensures { λ r. ⌜ Puts (now (out .entry)) at (escOne b) r (now (out .exit)) ⌝ }
-{
-    let c = letter(b);
-    if c == 0 {
-        return put_byte(out, at, b);
-    }
-    let o = put_byte(out, at, b'\\');
-    put_byte(out, o, c)
 }
 
 // What a spelling decodes to, escaped as in the text that is hashed, into `out` from `at` on; the index after it.
 pub fn put_escaped(out: &mut [u8], at: usize, p: &[u8]) -> usize
     ensures { λ r. ⌜ Puts (now (out .entry)) at (escape (decode (now (p .entry)))) r (now (out .exit)) ⌝ }
 {
+    if out.len() < at {
+        return out.len();
+    }
     let mut o = at;
     let mut i = 0;
     let mut k = 0;
     while i < p.len() {
         let x = advance(p, i, k);
-        o = put_one(out, o, x.byte);
+        o = wire::put_escaped_byte(out, o, x.byte);
         i = x.at;
         k = x.taken;
-    }
-    let n = out.len();
-    if n < o {
-        return n;
     }
     o
 }

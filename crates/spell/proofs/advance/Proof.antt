@@ -27,15 +27,10 @@ returns-3 c =
 pub advance-spec : {M : Type 1} → statement M
 advance-spec =
     tie.close
-    (tie.spec
-    (λ c κs. search needs)
-    (λ c. search needs)
+    (tie.spec (λ c κs. search needs) (λ c. search needs)
     (λ c. omega (arith, raw-small (c .before .before .char-at .ensures .sized) (c .if1 .taken)))
     (λ c. let s = c .before .before .before .before in
     step-raw (now (s .args .p)) (s .args .i) (s .args .k) _ (c .before .before .char-at .ensures .is) (s .pre .0) (s .pre .1) (c .if1 .taken))
     octet-requires
     (λ c. let s = c .before .before .before .before .before in omega (arith, within-few (now (s .args .p)) (s .args .i) (s .args .k) (s .pre .1)))
-    (λ c κs. search needs)
-    (λ c. search needs)
-    returns-2
-    returns-3)
+    (λ c κs. search needs) (λ c. search needs) returns-2 returns-3)

@@ -7,7 +7,4 @@ use Rattle.spell.proofs.byte.Tie as tie
 pub byte-spec : {M : Type 1} → statement M
 byte-spec =
     tie.close
-    (tie.spec
-    (λ c. search needs)
-    (λ c. search needs)
-    (λ c. search List·getD-eq-default))
+    (tie.spec (λ c. search needs) (λ c. search needs) (λ c. search List·getD-eq-default))

@@ -1,8 +1,7 @@
 -- A byte that is no backslash is raw.
 use native.Mathlib.Omega.{arith}
 use borrow.Author.Needs.{needs}
-use mathlib.Core.Path.{_≡_, refl, sym, ap, _∙_}
-use mathlib.Core.Bool.{true}
+use mathlib.Core.Path.{refl}
 use denote.Ref.{now}
 use Rattle.spell.proofs.Chars.{here, rest-begins, rest-here, char-raw}
 use Rattle.spell.proofs.char_at.Statement.{statement}
@@ -23,12 +22,8 @@ returns-2 c = let s = c .before .before .before .before .before in rest-begins (
 pub char-at-spec : {M : Type 1} → statement M
 char-at-spec =
     tie.close
-    (tie.spec
-    (λ c. search needs)
-    (λ c. omega (arith, c .before .shared-slice-known2 .given (c .before .before .before .args .i)))
-    returns
-    (λ c. search needs)
-    (λ c. search needs)
-    (λ c. search needs)
+    (tie.spec (λ c. search needs)
+    (λ c. omega (arith, c .before .shared-slice-known2 .given (c .before .before .before .args .i))) returns
+    (λ c. search needs) (λ c. search needs) (λ c. search needs)
     (λ c κs. let s = c .before .before .before .before in rest-here (now (s .args .p)) (s .args .i) (c .before .if1 .left))
     returns-2)

@@ -1,12 +1,12 @@
 -- The invariant: the characters counted and those left are all.
-use mathlib.Core.Path.{_≡_, refl, sym, ap, _∙_}
+use mathlib.Core.Path.{_≡_, sym, ap, _∙_}
 use Prim.Native.Nat.{_+_}
 use native.Mathlib.Omega.{arith}
 use borrow.Author.Needs.{needs}
 use denote.Ref.{now}
 use borrow.Author.Tests.{not-true, not-false}
 use lib.ListN.{length}
-use Rattle.spell.specs.Spell.{decode, characters, points}
+use Rattle.spell.specs.Spell.{decode, characterCount, points}
 use Rattle.spell.specs.Steps.{leftOf, Within}
 use Rattle.spell.proofs.Chars.{begin, left-over, decode-few}
 use Rattle.spell.proofs.Loops.{points-few, point-passed, point-counted, point-end}
@@ -20,7 +20,7 @@ abbrev μ-loop : tie.MeasureT-loop
 μ-loop p i₀ k₀ n₀ i k n = length (leftOf p i k)
 
 returns : tie.Need-returns Inv-loop μ-loop
-unfolding characters
+unfolding characterCount
 returns c = let l = c .before .loop in omega (arith, point-end (left-over (now (c .before .before .before .args .p)) (l .i) (l .k) (c .loop-test .left)))
 
 loop-again : tie.Need-loop-again Inv-loop μ-loop
@@ -40,18 +40,9 @@ add-n c =
     omega (arith, point-counted (a .advance .ensures .left) (sym (c .before .is-tail .ensures) ∙ not-true _ (c .if1 .taken)), points-few (decode p), decode-few p)
 
 pub characters-spec : {M : Type 1} → statement M
-unfolding leftOf characters
+unfolding leftOf characterCount
 characters-spec =
     tie.close
-    (tie.spec
-    Inv-loop
-    μ-loop
-    (λ c. (omega arith, begin _ 0 0))
-    (λ c κs. search needs)
-    (λ c κs. search needs)
-    add-n
-    (λ c. omega (arith, ap length (c .before .before .advance .ensures .left)))
-    loop-again
-    (λ c. omega (arith, ap length (c .before .before .advance .ensures .left)))
-    loop-again-2
-    returns)
+    (tie.spec Inv-loop μ-loop (λ c. (omega arith, begin _ 0 0)) (λ c κs. search needs) (λ c κs. search needs) add-n
+    (λ c. omega (arith, ap length (c .before .before .advance .ensures .left))) loop-again
+    (λ c. omega (arith, ap length (c .before .before .advance .ensures .left))) loop-again-2 returns)

@@ -1,5 +1,5 @@
 -- The invariant: the bytes counted and those left are all.
-use mathlib.Core.Path.{_≡_, refl, sym, ap, _∙_}
+use mathlib.Core.Path.{_≡_, ap}
 use Prim.Native.Nat.{_+_}
 use native.Mathlib.Omega.{arith}
 use borrow.Author.Needs.{needs}
@@ -30,12 +30,5 @@ pub decoded-len-spec : {M : Type 1} → statement M
 unfolding leftOf
 decoded-len-spec =
     tie.close
-    (tie.spec
-    Inv-loop
-    μ-loop
-    (λ c. (omega arith, begin _ 0 0))
-    (λ c κs. search needs)
-    add-n
-    (λ c. omega (arith, ap length (c .advance .ensures .left)))
-    loop-again
-    returns)
+    (tie.spec Inv-loop μ-loop (λ c. (omega arith, begin _ 0 0)) (λ c κs. search needs) add-n
+    (λ c. omega (arith, ap length (c .advance .ensures .left))) loop-again returns)

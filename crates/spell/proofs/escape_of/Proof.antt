@@ -3,8 +3,7 @@ use mathlib.Core.Bool.{true}
 use Prim.Native.Nat.{ℕ}
 use native.Mathlib.Omega.{arith}
 use borrow.Author.Needs.{needs}
-use mathlib.Core.Path.{_≡_, refl, sym, ap, _∙_}
-use Rattle.spell.specs.Spell.{charOf}
+use mathlib.Core.Path.{ap}
 use Rattle.spell.proofs.Chars.{char-short, char-unicode}
 use Rattle.spell.proofs.escape_of.Statement.{statement}
 use Rattle.spell.proofs.escape_of.Tie as tie
@@ -29,14 +28,5 @@ returns-2 c =
 pub escape-of-spec : {M : Type 1} → statement M
 escape-of-spec =
     tie.close
-    (tie.spec
-    (λ c κs. search needs)
-    (λ c κs. search needs)
-    (λ c. search needs)
-    returns
-    (λ c κs. search needs)
-    (λ c κs. search needs)
-    (λ c κs. search needs)
-    (λ c κs. search needs)
-    (λ c κs. search needs)
-    returns-2)
+    (tie.spec (λ c κs. search needs) (λ c κs. search needs) (λ c. search needs) returns (λ c κs. search needs)
+    (λ c κs. search needs) (λ c κs. search needs) (λ c κs. search needs) (λ c κs. search needs) returns-2)

@@ -1,15 +1,15 @@
 -- The invariant: the bytes counted and those left to escape are all.
-use mathlib.Core.Path.{_≡_, refl, sym, ap, _∙_}
+use mathlib.Core.Path.{_≡_, ap}
 use Prim.Native.Nat.{_+_}
 use native.Mathlib.Omega.{arith}
 use borrow.Author.Needs.{needs}
 use denote.Ref.{now}
 use lib.ListN.{length, length-append}
 use Rattle.spell.specs.Spell.{decode}
-use Rattle.wire.specs.Escape.{escOne, escape}
+use Rattle.wire.specs.Escape.{escape}
 use Rattle.spell.specs.Steps.{leftOf, Within}
 use Rattle.spell.proofs.Chars.{begin, left-over, decode-few}
-use Rattle.spell.proofs.Writes.{escape-turn, escape-end, escape-few}
+use Rattle.spell.proofs.Loops.{escape-turn, escape-end, escape-few}
 use Rattle.spell.proofs.escaped_len.Statement.{statement}
 use Rattle.spell.proofs.escaped_len.Tie as tie
 
@@ -37,13 +37,5 @@ pub escaped-len-spec : {M : Type 1} → statement M
 unfolding leftOf
 escaped-len-spec =
     tie.close
-    (tie.spec
-    Inv-loop
-    μ-loop
-    (λ c. (omega arith, begin _ 0 0))
-    (λ c κs. search needs)
-    (λ c κs. search needs)
-    add-n
-    (λ c. omega (arith, ap length (c .before .advance .ensures .left)))
-    loop-again
-    returns)
+    (tie.spec Inv-loop μ-loop (λ c. (omega arith, begin _ 0 0)) (λ c κs. search needs) (λ c κs. search needs) add-n
+    (λ c. omega (arith, ap length (c .before .advance .ensures .left))) loop-again returns)

@@ -2,7 +2,6 @@
 use native.Mathlib.Omega.{arith}
 use borrow.Author.Needs.{needs}
 use Rattle.spell.specs.Spell.{four}
-use mathlib.Core.Path.{_≡_}
 use Rattle.spell.proofs.hex4.Statement.{statement}
 use Rattle.spell.proofs.hex4.Tie as tie
 
@@ -10,15 +9,6 @@ pub hex4-spec : {M : Type 1} → statement M
 unfolding four
 hex4-spec =
     tie.close
-    (tie.spec
-    (λ c κs. search needs)
-    (λ c. search needs)
-    (λ c κs. search needs)
-    (λ c. search needs)
-    (λ c. search needs)
-    (λ c κs. search needs)
-    (λ c. search needs)
-    (λ c. search needs)
-    (λ c κs. search needs)
-    (λ c. search needs)
-    (λ c. (cc, omega arith)))
+    (tie.spec (λ c κs. search needs) (λ c. search needs) (λ c κs. search needs) (λ c. search needs)
+    (λ c. search needs) (λ c κs. search needs) (λ c. search needs) (λ c. search needs) (λ c κs. search needs)
+    (λ c. search needs) (λ c. (cc, omega arith)))

@@ -2,7 +2,7 @@
 use native.Mathlib.Omega.{arith}
 use borrow.Author.Needs.{needs}
 use Rattle.spell.specs.Spell.{hexVal}
-use Rattle.spell.proofs.Chars.{tests}
+use Rattle.wire.proofs.Laws.{tests}
 use Rattle.spell.proofs.hex_val.Statement.{statement}
 use Rattle.spell.proofs.hex_val.Tie as tie
 
@@ -10,16 +10,7 @@ pub hex-val-spec : {M : Type 1} → statement M
 unfolding hexVal
 hex-val-spec =
     tie.close
-    (tie.spec
-    (λ c. search needs)
-    (λ c. search needs)
-    (λ c. search needs)
-    (λ c. search needs)
-    (λ c. search needs)
-    (λ c. (search tests, omega arith))
-    (λ c. (search tests, omega arith))
-    (λ c. (search tests, omega arith))
-    (λ c. (search tests, omega arith))
-    (λ c. (search tests, omega arith))
-    (λ c. (search tests, omega arith))
+    (tie.spec (λ c. search needs) (λ c. search needs) (λ c. search needs) (λ c. search needs) (λ c. search needs)
+    (λ c. (search tests, omega arith)) (λ c. (search tests, omega arith)) (λ c. (search tests, omega arith))
+    (λ c. (search tests, omega arith)) (λ c. (search tests, omega arith)) (λ c. (search tests, omega arith))
     (λ c. (search tests, omega arith)))

@@ -43,15 +43,6 @@ pub is-hex-spec : {M : Type 1} → statement M
 unfolding leftOf isHexOf
 is-hex-spec =
     tie.close
-    (tie.spec
-    Inv-loop
-    μ-loop
-    (λ c. (refl, begin _ 0 0))
-    returns
-    (λ c κs. search needs)
-    (λ c κs. search needs)
-    returns-2
-    (λ c. search needs)
-    (λ c. omega (arith, ap length (c .before .before .advance .ensures .left)))
-    loop-again
-    returns-3)
+    (tie.spec Inv-loop μ-loop (λ c. (refl, begin _ 0 0)) returns (λ c κs. search needs) (λ c κs. search needs)
+    returns-2 (λ c. search needs) (λ c. omega (arith, ap length (c .before .before .advance .ensures .left)))
+    loop-again returns-3)

@@ -1,6 +1,5 @@
 -- Each return is what the tests on the way say of the two ranges.
 use native.Mathlib.Omega.{arith}
-use mathlib.Core.Path.{_≡_, refl, sym, ap, _∙_}
 use borrow.Author.Tests.{lt-leb, le-leb}
 use Rattle.spell.specs.Spell.{isHex}
 use Rattle.spell.proofs.is_hex_digit.Statement.{statement}
@@ -25,8 +24,4 @@ returns-4 c = let x = c .before .before .before .args .x in rw (le-leb 0x30 x (c
 pub is-hex-digit-spec : {M : Type 1} → statement M
 is-hex-digit-spec =
     tie.close
-    (tie.spec
-    returns
-    returns-2
-    returns-3
-    returns-4)
+    (tie.spec returns returns-2 returns-3 returns-4)

@@ -1,6 +1,6 @@
 -- Each return is the tests that led there.
 use Rattle.spell.specs.Spell.{isPair}
-use Rattle.spell.proofs.Chars.{tests}
+use Rattle.wire.proofs.Laws.{tests}
 use Rattle.spell.proofs.is_pair.Statement.{statement}
 use Rattle.spell.proofs.is_pair.Tie as tie
 
@@ -8,10 +8,5 @@ pub is-pair-spec : {M : Type 1} → statement M
 unfolding isPair
 is-pair-spec =
     tie.close
-    (tie.spec
-    (λ c. search tests)
-    (λ c. search tests)
-    (λ c. search tests)
-    (λ c. search tests)
-    (λ c. search tests)
+    (tie.spec (λ c. search tests) (λ c. search tests) (λ c. search tests) (λ c. search tests) (λ c. search tests)
     (λ c. search tests))

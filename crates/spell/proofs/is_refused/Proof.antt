@@ -1,7 +1,7 @@
 -- The two rules of row 4, one after the other.
 use borrow.Author.Needs.{needs}
 use Rattle.spell.specs.Spell.{isRefused}
-use mathlib.Core.Path.{_≡_, refl, sym, ap, _∙_}
+use mathlib.Core.Path.{sym, _∙_}
 use Rattle.spell.proofs.is_refused.Statement.{statement}
 use Rattle.spell.proofs.is_refused.Tie as tie
 
@@ -16,8 +16,4 @@ returns-2 c = c .is-control .ensures ∙ rw (sym (c .before .before .is-surrogat
 pub is-refused-spec : {M : Type 1} → statement M
 is-refused-spec =
     tie.close
-    (tie.spec
-    (λ c κs. search needs)
-    returns
-    (λ c κs. search needs)
-    returns-2)
+    (tie.spec (λ c κs. search needs) returns (λ c κs. search needs) returns-2)

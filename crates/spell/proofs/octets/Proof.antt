@@ -1,6 +1,6 @@
 -- Each return is the definition's case with the same tests.
 use Rattle.spell.specs.Spell.{utf8Of}
-use Rattle.spell.proofs.Chars.{tests}
+use Rattle.wire.proofs.Laws.{tests}
 use Rattle.spell.proofs.octets.Statement.{statement}
 use Rattle.spell.proofs.octets.Tie as tie
 
@@ -8,8 +8,4 @@ pub octets-spec : {M : Type 1} → statement M
 unfolding utf8Of
 octets-spec =
     tie.close
-    (tie.spec
-    (λ c. search tests)
-    (λ c. search tests)
-    (λ c. search tests)
-    (λ c. search tests))
+    (tie.spec (λ c. search tests) (λ c. search tests) (λ c. search tests) (λ c. search tests))

@@ -2,7 +2,7 @@
 use borrow.Author.Needs.{needs}
 use native.Mathlib.Omega.{arith}
 use Rattle.spell.specs.Spell.{pairOf}
-use mathlib.Core.Path.{_≡_, refl, sym, ap, _∙_}
+use mathlib.Core.Path.{refl}
 use Rattle.spell.proofs.pair_code.Statement.{statement}
 use Rattle.spell.proofs.pair_code.Tie as tie
 
@@ -10,10 +10,5 @@ pub pair-code-spec : {M : Type 1} → statement M
 unfolding pairOf
 pair-code-spec =
     tie.close
-    (tie.spec
-    (λ c. search needs)
-    (λ c. search needs)
-    (λ c. search needs)
-    (λ c. search needs)
-    (λ c. search needs)
+    (tie.spec (λ c. search needs) (λ c. search needs) (λ c. search needs) (λ c. search needs) (λ c. search needs)
     (λ c. (refl, omega arith)))

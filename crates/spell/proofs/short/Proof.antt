@@ -1,6 +1,6 @@
 -- An arm for each letter, and the rest.
 use Rattle.spell.specs.Spell.{shortOf}
-use Rattle.spell.proofs.Chars.{tests}
+use Rattle.wire.proofs.Laws.{tests}
 use Rattle.spell.proofs.short.Statement.{statement}
 use Rattle.spell.proofs.short.Tie as tie
 
@@ -8,10 +8,5 @@ pub short-spec : {M : Type 1} → statement M
 unfolding shortOf
 short-spec =
     tie.close
-    (tie.spec
-    (λ c. rw (c .match .keys1))
-    (λ c. rw (c .match .keys2))
-    (λ c. rw (c .match .keys3))
-    (λ c. rw (c .match .keys4))
-    (λ c. rw (c .match .keys5))
-    (λ c. search tests))
+    (tie.spec (λ c. rw (c .match .keys1)) (λ c. rw (c .match .keys2)) (λ c. rw (c .match .keys3))
+    (λ c. rw (c .match .keys4)) (λ c. rw (c .match .keys5)) (λ c. search tests))

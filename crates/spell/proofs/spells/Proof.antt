@@ -1,6 +1,5 @@
 -- The invariant: the answer is the same for what is left of both.
-use mathlib.Core.Path.{_≡_, refl, sym, ap, _∙_}
-use Prim.Native.Nat.{_+_}
+use mathlib.Core.Path.{_≡_, refl, sym, ap}
 use native.Mathlib.Omega.{arith}
 use borrow.Author.Needs.{needs}
 use denote.Ref.{now}
@@ -52,16 +51,6 @@ pub spells-spec : {M : Type 1} → statement M
 unfolding leftOf
 spells-spec =
     tie.close
-    (tie.spec
-    Inv-loop
-    μ-loop
-    (λ c. (refl, begin _ 0 0))
-    returns
-    (λ c κs. search needs)
-    (λ c. search needs)
-    returns-2
-    (λ c. search needs)
-    (λ c. omega (arith, ap length (c .before .before .advance .ensures .left)))
-    loop-again
-    returns-3
-    returns-4)
+    (tie.spec Inv-loop μ-loop (λ c. (refl, begin _ 0 0)) returns (λ c κs. search needs) (λ c. search needs)
+    returns-2 (λ c. search needs) (λ c. omega (arith, ap length (c .before .before .advance .ensures .left)))
+    loop-again returns-3 returns-4)

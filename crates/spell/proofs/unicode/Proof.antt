@@ -1,10 +1,8 @@
 -- A pair, or the one escape.
-use mathlib.Core.Bool.{true, false}
-use Prim.Native.Nat.{ℕ}
 use native.Mathlib.Omega.{arith}
 use borrow.Author.Needs.{needs}
-use mathlib.Core.Path.{_≡_, refl, sym, ap, _∙_}
-use Rattle.spell.specs.Spell.{isPair, unicodeOf, pairOf}
+use mathlib.Core.Path.{sym, _∙_}
+use Rattle.spell.specs.Spell.{unicodeOf}
 use Rattle.spell.proofs.Chars.{pair-bounds}
 use Rattle.spell.proofs.unicode.Statement.{statement}
 use Rattle.spell.proofs.unicode.Tie as tie
@@ -29,8 +27,4 @@ returns-2 c = (
 pub unicode-spec : {M : Type 1} → statement M
 unicode-spec =
     tie.close
-    (tie.spec
-    (λ c κs. search needs)
-    pair-code-requires
-    returns
-    returns-2)
+    (tie.spec (λ c κs. search needs) pair-code-requires returns returns-2)

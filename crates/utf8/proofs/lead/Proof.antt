@@ -8,15 +8,6 @@ pub lead-spec : {M : Type 1} → statement M
 unfolding leadOf
 lead-spec =
     tie.close
-    (tie.spec
-    (λ c. search tests)
-    (λ c. search tests)
-    (λ c. search tests)
-    (λ c. search tests)
-    (λ c. search tests)
-    (λ c. search tests)
-    (λ c. search tests)
-    (λ c. search tests)
-    (λ c. search tests)
-    (λ c. search tests)
+    (tie.spec (λ c. search tests) (λ c. search tests) (λ c. search tests) (λ c. search tests) (λ c. search tests)
+    (λ c. search tests) (λ c. search tests) (λ c. search tests) (λ c. search tests) (λ c. search tests)
     (λ c. search tests))
