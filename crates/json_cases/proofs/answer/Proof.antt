@@ -1,3 +1,4 @@
+-- The part that is looked at is n bytes long.
 use mathlib.Core.Path.{sym}
 use native.Mathlib.Omega.{arith}
 use lib.Seq.{length-take-le}
@@ -5,11 +6,8 @@ use borrow.Author.Needs.{needs}
 use Rattle.json_cases.proofs.answer.Statement.{statement}
 use Rattle.json_cases.proofs.answer.Tie as tie
 
-slice-aggregate-text-row : tie.Need-slice-aggregate-text-row
-slice-aggregate-text-row c = sym (length-take-le _ _ (omega arith))
-
 pub answer-spec : {M : Type 1} → statement M
 answer-spec =
     tie.close
-    (tie.spec slice-aggregate-text-row (λ c κs. search needs) (λ c κs. search needs) (λ c. search needs)
+    (tie.spec (λ c. sym (length-take-le _ _ (omega arith))) (λ c κs. search needs) (λ c κs. search needs) (λ c κs. search needs) (λ c. search needs)
     (λ c. search needs))

@@ -1,3 +1,4 @@
+-- The line keeps its length; the measure is what is left of the chunk.
 use Prim.Native.Nat.{_≤_, _-_}
 use lib.ListN.{length}
 use mathlib.Core.Path.{_≡_}

@@ -1,3 +1,4 @@
+-- The line keeps its length.
 use borrow.Author.Needs.{needs}
 use Rattle.json_cases.proofs.push.Statement.{statement}
 use Rattle.json_cases.proofs.push.Tie as tie
