@@ -6,13 +6,13 @@ use Prim.Native.Nat.{ℕ, zero, suc, pred, _+_, _-_, _/_, _%_, _≤_, _<_}
 use native.Mathlib.Decide.{decLe}
 use native.Mathlib.Omega.{arith}
 use native.Mathlib.Numerals.{add-one}
-use borrow.Author.Tests.{lt-ltb, eq-eqb, ne-eqb, leb-true, eqb-true}
+use borrow.Author.Tests.{lt-ltb, lt-leb, eq-eqb, ne-eqb, leb-true, eqb-true}
 use lib.Dec.{ltb, leb, eqb}
 use lib.ListN.{length, getD, take, drop, length-drop, length-append, drop-of-length-le, List·getD-eq-default}
 use lib.Seq.{take-all, drop-cons, drop-drop, drop-nil, drop-append-le, getD-drop}
 use Rattle.wire.proofs.Laws.{tests}
 use Rattle.spell.specs.declared.Char.{Char}
-use Rattle.spell.specs.Spell.{hexVal, four, isPair, unicodeOf, pairOf, fourAt, shortOf, charOf, charsFrom, chars, utf8Of, bytesOf, joined, decode, isRefused, any}
+use Rattle.spell.specs.Spell.{hexVal, four, isPair, unicodeOf, pairOf, fourAt, shortOf, charOf, charsFrom, chars, utf8Of, bytesOf, joined, decode, isControl, isRefused, any}
 use Rattle.spell.specs.Steps.{Sized, Begins, leftOf, Within, Stepped}
 
 pub and-left : (a b : Bool) → (a && b) ≡ true → a ≡ true
@@ -206,6 +206,16 @@ module _ (p : List ℕ) (i k : ℕ) (c : Char) (e : c ≡ charOf (drop i p)) (h 
         let m : length (utf8Of (c .code)) ≤ suc k = omega arith in
         record { left = left-at q ∙ rw (ex, drop-of-length-le (utf8Of (c .code)) {i = suc k} m); within = begin p (i + c .width) k }
 
+-- a byte that stands as it is
+module _ (p : List ℕ) (i k : ℕ) (n : getD p i 0 ≡ 0x5c → ⊥) where
+  pub raw-is : record { code = getD p i 0; raw = true; width = 1 } ≡ charOf (drop i p)
+  raw-is = char-raw (drop i p) (here p i) _ n refl
+
+  pub step-byte : i < length p → Within p i k → Stepped p i k (record { byte = getD p i 0; at = i + 1; taken = k })
+  step-byte h w =
+      let z : k ≡ 0 = omega (arith, below-at p i k _ raw-is h w (raw-bytes _ refl)) in
+      rw z (rw z at (step-raw p i k _ raw-is h w refl))
+
 -- the character's bounds, where it is raw and where not
 module _ {c : Char} (s : Sized c) where
   pub raw-small : c .raw ≡ true → c .code ≤ 0xff
@@ -215,6 +225,10 @@ module _ {c : Char} (s : Sized c) where
   code-small e = rw e at (s .small)
 
 -- row 4, a character a turn
+pub raw-refused : (b : ℕ) → b < 0x100 → isRefused (record { code = b; raw = true; width = 1 }) ≡ isControl b
+unfolding isRefused
+raw-refused b h = rw (lt-leb 0xd800 b (omega arith))
+
 module _ (p : List ℕ) (i : ℕ) {b : Bool} (inv : b ≡ any isRefused (chars (drop i p))) where
   module _ (h : i < length p) (c : Char) (e : c ≡ charOf (drop i p)) where
     pub refused-here : isRefused c ≡ true → b ≡ true

@@ -274,7 +274,15 @@ pub fn refused(p: &[u8]) -> bool
 {
     let mut i = 0;
     while i < p.len() {
-        let c = char_at(p, i);
+        let b = p[i];
+        if b != b'\\' {
+            if is_control(b as u32) {
+                return true;
+            }
+            i += 1;
+            continue;
+        }
+        let c = escape_of(&p[i..]);
         if is_refused(c) {
             return true;
         }
@@ -294,6 +302,18 @@ pub fn same(p: &[u8], q: &[u8]) -> bool
     while i < p.len() {
         if q.len() <= j {
             return false;
+        }
+        let a = p[i];
+        let b = q[j];
+        if a != b'\\' {
+            if b != b'\\' {
+                if a != b {
+                    return false;
+                }
+                i += 1;
+                j += 1;
+                continue;
+            }
         }
         let x = advance(p, i, k);
         let y = advance(q, j, m);
@@ -319,9 +339,18 @@ pub fn spells(p: &[u8], word: &[u8]) -> bool
         if word.len() <= j {
             return false;
         }
+        let w = word[j];
+        let b = p[i];
+        if b != b'\\' {
+            if b != w {
+                return false;
+            }
+            i += 1;
+            j += 1;
+            continue;
+        }
         let x = advance(p, i, k);
-        let b = x.byte;
-        if b != word[j] {
+        if x.byte != w {
             return false;
         }
         i = x.at;
@@ -345,6 +374,14 @@ pub fn characters(p: &[u8]) -> usize
     let mut k = 0;
     let mut n: usize = 0;
     while i < p.len() {
+        let b = p[i];
+        if b != b'\\' {
+            i += 1;
+            if !is_tail(b) {
+                n += 1;
+            }
+            continue;
+        }
         let x = advance(p, i, k);
         i = x.at;
         k = x.taken;
@@ -380,13 +417,21 @@ pub fn is_hex(p: &[u8], n: usize) -> bool
         if left == 0 {
             return false;
         }
+        left -= 1;
+        let b = p[i];
+        if b != b'\\' {
+            if !is_hex_digit(b) {
+                return false;
+            }
+            i += 1;
+            continue;
+        }
         let x = advance(p, i, k);
         if !is_hex_digit(x.byte) {
             return false;
         }
         i = x.at;
         k = x.taken;
-        left -= 1;
     }
     0 == left
 }
@@ -399,10 +444,14 @@ pub fn decoded_len(p: &[u8]) -> usize
     let mut k = 0;
     let mut n: usize = 0;
     while i < p.len() {
+        n += 1;
+        if p[i] != b'\\' {
+            i += 1;
+            continue;
+        }
         let x = advance(p, i, k);
         i = x.at;
         k = x.taken;
-        n += 1;
     }
     n
 }
@@ -418,6 +467,12 @@ pub fn put_decoded(out: &mut [u8], at: usize, p: &[u8]) -> usize
     let mut i = 0;
     let mut k = 0;
     while i < p.len() {
+        let b = p[i];
+        if b != b'\\' {
+            o = wire::put_byte(out, o, b);
+            i += 1;
+            continue;
+        }
         let x = advance(p, i, k);
         o = wire::put_byte(out, o, x.byte);
         i = x.at;
@@ -434,6 +489,12 @@ pub fn escaped_len(p: &[u8]) -> usize
     let mut k = 0;
     let mut n: usize = 0;
     while i < p.len() {
+        let b = p[i];
+        if b != b'\\' {
+            i += 1;
+            n += wire::escaped_byte_len(b);
+            continue;
+        }
         let x = advance(p, i, k);
         i = x.at;
         k = x.taken;
@@ -453,6 +514,12 @@ pub fn put_escaped(out: &mut [u8], at: usize, p: &[u8]) -> usize
     let mut i = 0;
     let mut k = 0;
     while i < p.len() {
+        let b = p[i];
+        if b != b'\\' {
+            o = wire::put_escaped_byte(out, o, b);
+            i += 1;
+            continue;
+        }
         let x = advance(p, i, k);
         o = wire::put_escaped_byte(out, o, x.byte);
         i = x.at;

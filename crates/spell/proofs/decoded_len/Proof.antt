@@ -7,7 +7,7 @@ use denote.Ref.{now}
 use lib.ListN.{length}
 use Rattle.spell.specs.Spell.{decode}
 use Rattle.spell.specs.Steps.{leftOf, Within}
-use Rattle.spell.proofs.Chars.{begin, left-over, decode-few}
+use Rattle.spell.proofs.Chars.{begin, left-over, left-some, step-byte, decode-few}
 use Rattle.spell.proofs.decoded_len.Statement.{statement}
 use Rattle.spell.proofs.decoded_len.Tie as tie
 
@@ -17,18 +17,33 @@ Inv-loop p i₀ k₀ n₀ i k n = (n + length (leftOf p i k) ≡ length (decode 
 abbrev μ-loop : tie.MeasureT-loop
 μ-loop p i₀ k₀ n₀ i k n = length (leftOf p i k)
 
-returns : tie.Need-returns Inv-loop μ-loop
-returns c = let l = c .before .loop in omega (arith, ap length (left-over (now (c .before .before .before .args .p)) (l .i) (l .k) (c .loop-test .left)))
+add-n : tie.Need-add-n Inv-loop μ-loop
+add-n c =
+    let l = c .before .loop in
+    let p = now (c .before .before .before .args .p) in
+    omega (arith, ap length (left-some p (l .i) (l .k) (c .loop-test .taken) (l .inv .1)), decode-few p)
 
 loop-again : tie.Need-loop-again Inv-loop μ-loop
-loop-again c = (omega (arith, ap length (c .advance .ensures .left)), c .advance .ensures .within)
+loop-again c =
+    let l = c .before .before .before .loop in
+    let s = c .before .before .before .before .before .args in
+    let r = step-byte (now (s .p)) (l .i) (l .k) (c .if1 .taken) (c .before .before .loop-test .taken) (l .inv .1) in
+    (omega (arith, ap length (r .left)), r .within)
 
-add-n : tie.Need-add-n Inv-loop μ-loop
-add-n c = omega (arith, ap length (c .advance .ensures .left), decode-few (now (c .before .before .before .before .args .p)))
+loop-again-2 : tie.Need-loop-again-2 Inv-loop μ-loop
+loop-again-2 c = (omega (arith, ap length ((c .advance .ensures) .left)), (c .advance .ensures) .within)
+
+returns : tie.Need-returns Inv-loop μ-loop
+returns c =
+    let l = c .before .loop in
+    let s = c .before .before .before .args in
+    omega (arith, ap length (left-over (now (s .p)) (l .i) (l .k) (c .loop-test .left)))
 
 pub decoded-len-spec : {M : Type 1} → statement M
 unfolding leftOf
 decoded-len-spec =
     tie.close
-    (tie.spec Inv-loop μ-loop (λ c. (omega arith, begin _ 0 0)) (λ c κs. search needs) add-n
-    (λ c. omega (arith, ap length (c .advance .ensures .left))) loop-again returns)
+    (tie.spec Inv-loop μ-loop (λ c. (omega arith, begin _ 0 0)) add-n (λ c. search needs) (λ c. search needs)
+    (λ c. let l = c .before .before .before .loop in let s = c .before .before .before .before .before .args in omega (arith, ap length (step-byte (now (s .p)) (l .i) (l .k) (c .if1 .taken) (c .before .before .loop-test .taken) (l .inv .1) .left)))
+    loop-again (λ c κs. search needs) (λ c. omega (arith, ap length ((c .advance .ensures) .left))) loop-again-2
+    returns)

@@ -9,7 +9,7 @@ use lib.Dec.{eqb}
 use lib.ListN.{length}
 use Rattle.spell.specs.Spell.{isHexOf, isHex, all}
 use Rattle.spell.specs.Steps.{leftOf, Within}
-use Rattle.spell.proofs.Chars.{begin, left-over, left-some}
+use Rattle.spell.proofs.Chars.{begin, left-over, left-some, step-byte}
 use Rattle.spell.proofs.Loops.{hex-end, hex-long, hex-bad, hex-good}
 use Rattle.spell.proofs.is_hex.Statement.{statement}
 use Rattle.spell.proofs.is_hex.Tie as tie
@@ -23,26 +23,47 @@ abbrev μ-loop : tie.MeasureT-loop
 returns : tie.Need-returns Inv-loop μ-loop
 returns c =
     let l = c .before .before .loop in
-    sym (hex-long (l .left) (l .inv .0) (left-some (now (c .before .before .before .before .args .p)) (l .i) (l .k) (c .before .loop-test .taken) (l .inv .1)) (c .if1 .taken))
+    let s = c .before .before .before .before .args in
+    sym (hex-long (l .left) (l .inv .0) (left-some (now (s .p)) (l .i) (l .k) (c .before .loop-test .taken) (l .inv .1)) (c .if1 .taken))
 
 returns-2 : tie.Need-returns-2 Inv-loop μ-loop
 returns-2 c =
-    let l = c .before .before .before .before .before .loop in
-    sym (hex-bad (l .left) (l .inv .0) (c .before .before .advance .ensures .left) (sym (c .before .is-hex-digit .ensures) ∙ not-true _ (c .if2 .taken)))
+    let l = c .before .before .before .before .before .before .loop in
+    let s = c .before .before .before .before .before .before .before .before .args in
+    let r = step-byte (now (s .p)) (l .i) (l .k) (c .before .before .if2 .taken) (c .before .before .before .before .before .loop-test .taken) (l .inv .1) in
+    sym (hex-bad (l .left) (l .inv .0) (r .left) (sym (c .before .is-hex-digit .ensures) ∙ not-true _ (c .if3 .taken)))
 
 loop-again : tie.Need-loop-again Inv-loop μ-loop
 loop-again c =
-    let a = c .before .before in
-    let l = a .before .before .before .loop in
-    (hex-good (l .left) (l .inv .0) (a .advance .ensures .left) (sym (c .before .is-hex-digit .ensures) ∙ not-false _ (c .if2 .left)) (a .before .if1 .left), a .advance .ensures .within)
+    let l = c .before .before .before .before .before .before .loop in
+    let s = c .before .before .before .before .before .before .before .before .args in
+    let r = step-byte (now (s .p)) (l .i) (l .k) (c .before .before .if2 .taken) (c .before .before .before .before .before .loop-test .taken) (l .inv .1) in
+    (hex-good (l .left) (l .inv .0) (r .left) (sym (c .before .is-hex-digit .ensures) ∙ not-false _ (c .if3 .left)) (c .before .before .before .before .if1 .left), r .within)
 
 returns-3 : tie.Need-returns-3 Inv-loop μ-loop
-returns-3 c = let l = c .before .loop in sym (hex-end (l .left) (l .inv .0) (left-over (now (c .before .before .before .args .p)) (l .i) (l .k) (c .loop-test .left)))
+returns-3 c =
+    let l = c .before .before .before .before .before .before .before .loop in
+    let s = c .before .before .before .before .before .before .before .before .before .args in
+    sym (hex-bad (l .left) (l .inv .0) ((c .before .before .advance .ensures) .left) (sym (c .before .is-hex-digit2 .ensures) ∙ not-true _ (c .if4 .taken)))
+
+loop-again-2 : tie.Need-loop-again-2 Inv-loop μ-loop
+loop-again-2 c =
+    let l = c .before .before .before .before .before .before .before .loop in
+    let s = c .before .before .before .before .before .before .before .before .before .args in
+    (hex-good (l .left) (l .inv .0) ((c .before .before .advance .ensures) .left) (sym (c .before .is-hex-digit2 .ensures) ∙ not-false _ (c .if4 .left)) (c .before .before .before .before .before .if1 .left), (c .before .before .advance .ensures) .within)
+
+returns-4 : tie.Need-returns-4 Inv-loop μ-loop
+returns-4 c =
+    let l = c .before .loop in
+    let s = c .before .before .before .args in
+    sym (hex-end (l .left) (l .inv .0) (left-over (now (s .p)) (l .i) (l .k) (c .loop-test .left)))
 
 pub is-hex-spec : {M : Type 1} → statement M
 unfolding leftOf isHexOf
 is-hex-spec =
     tie.close
-    (tie.spec Inv-loop μ-loop (λ c. (refl, begin _ 0 0)) returns (λ c κs. search needs) (λ c κs. search needs)
-    returns-2 (λ c. search needs) (λ c. omega (arith, ap length (c .before .before .advance .ensures .left)))
-    loop-again returns-3)
+    (tie.spec Inv-loop μ-loop (λ c. (refl, begin _ 0 0)) returns (λ c. search needs) (λ c. search needs)
+    (λ c κs. search needs) returns-2 (λ c. search needs)
+    (λ c. let l = c .before .before .before .before .before .before .loop in let s = c .before .before .before .before .before .before .before .before .args in omega (arith, ap length (step-byte (now (s .p)) (l .i) (l .k) (c .before .before .if2 .taken) (c .before .before .before .before .before .loop-test .taken) (l .inv .1) .left)))
+    loop-again (λ c κs. search needs) (λ c κs. search needs) returns-3
+    (λ c. omega (arith, ap length ((c .before .before .advance .ensures) .left))) loop-again-2 returns-4)

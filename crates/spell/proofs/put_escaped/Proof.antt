@@ -8,7 +8,7 @@ use Rattle.wire.proofs.Laws.{Rest, puts-out, rest-start, rest-turn, rest-end}
 use Rattle.wire.specs.Escape.{escape}
 use Rattle.spell.specs.Spell.{decode}
 use Rattle.spell.specs.Steps.{leftOf, Within}
-use Rattle.spell.proofs.Chars.{begin, left-over}
+use Rattle.spell.proofs.Chars.{begin, left-over, step-byte}
 use Rattle.spell.proofs.Loops.{escape-turn, escape-end}
 use Rattle.spell.proofs.put_escaped.Statement.{statement}
 use Rattle.spell.proofs.put_escaped.Tie as tie
@@ -21,17 +21,28 @@ abbrev μ-loop : tie.MeasureT-loop
 
 loop-again : tie.Need-loop-again Inv-loop μ-loop
 loop-again c =
-    let a = c .before .before .before .before in
-    (rest-turn (a .before .before .loop .inv .0) (c .before .before .put-escaped-byte .ensures) (escape-turn (a .advance .ensures .left)), a .advance .ensures .within)
+    let l = c .before .before .before .before .before .before .before .loop in
+    let s = c .before .before .before .before .before .before .before .before .before .before .before .args in
+    let r = step-byte (now (s .p)) (l .i) (l .k) (c .before .before .before .before .if2 .taken) (c .before .before .before .before .before .before .loop-test .taken) (l .inv .1) in
+    (rest-turn (l .inv .0) (c .before .before .put-escaped-byte .ensures) (escape-turn (r .left)), r .within)
+
+loop-again-2 : tie.Need-loop-again-2 Inv-loop μ-loop
+loop-again-2 c = (rest-turn (c .before .before .before .before .before .before .before .before .loop .inv .0) (c .before .before .put-escaped-byte2 .ensures) (escape-turn ((c .before .before .before .before .advance .ensures) .left)), (c .before .before .before .before .advance .ensures) .within)
 
 returns-2 : tie.Need-returns-2 Inv-loop μ-loop
-returns-2 c = let l = c .before .loop in rest-end (l .inv .0) (escape-end (left-over (now (c .before .before .before .before .before .args .p)) (l .i) (l .k) (c .loop-test .left)))
+returns-2 c =
+    let l = c .before .loop in
+    let s = c .before .before .before .before .before .args in
+    rest-end (l .inv .0) (escape-end (left-over (now (s .p)) (l .i) (l .k) (c .loop-test .left)))
 
 pub put-escaped-spec : {M : Type 1} → statement M
 unfolding leftOf
 put-escaped-spec =
     tie.close
     (tie.spec Inv-loop μ-loop (λ c. puts-out _ _ _ (omega arith))
-    (λ c. (rest-start _ _ _ (c .if1 .left), begin _ 0 0)) (λ c κs. search needs) (λ c κs. search needs)
-    (λ c. omega (arith, ap length (c .before .before .before .before .advance .ensures .left))) loop-again
+    (λ c. (rest-start _ _ _ (c .if1 .left), begin _ 0 0)) (λ c. search needs) (λ c κs. search needs)
+    (λ c. search needs)
+    (λ c. let l = c .before .before .before .before .before .before .before .loop in let s = c .before .before .before .before .before .before .before .before .before .before .before .args in omega (arith, ap length (step-byte (now (s .p)) (l .i) (l .k) (c .before .before .before .before .if2 .taken) (c .before .before .before .before .before .before .loop-test .taken) (l .inv .1) .left)))
+    loop-again (λ c κs. search needs) (λ c κs. search needs)
+    (λ c. omega (arith, ap length ((c .before .before .before .before .advance .ensures) .left))) loop-again-2
     (λ c. search needs) returns-2)

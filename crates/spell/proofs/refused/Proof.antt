@@ -1,11 +1,12 @@
 -- The invariant: the answer is the same seen from here on.
+use native.Mathlib.Omega.{arith}
 use borrow.Author.Needs.{needs}
 use denote.Ref.{now}
 use mathlib.Core.Path.{_≡_, refl, sym, _∙_}
 use Prim.Native.Nat.{_-_}
 use lib.ListN.{length, drop}
 use Rattle.spell.specs.Spell.{refuses, any, isRefused, chars}
-use Rattle.spell.proofs.Chars.{refused-here, refused-later, refused-none}
+use Rattle.spell.proofs.Chars.{rest-begins, rest-here, raw-is, raw-refused, refused-here, refused-later, refused-none}
 use Rattle.spell.proofs.refused.Statement.{statement}
 use Rattle.spell.proofs.refused.Tie as tie
 
@@ -17,20 +18,43 @@ abbrev μ-loop : tie.MeasureT-loop
 
 returns : tie.Need-returns Inv-loop μ-loop
 returns c =
-    let l = c .before .before .before .before in
-    sym (refused-here (now (l .before .before .args .p)) (l .loop .i) (l .loop .inv) (c .before .before .before .loop-test .taken) _ (c .before .before .char-at .ensures .is) (sym (c .before .is-refused .ensures) ∙ c .if1 .taken))
+    let l = c .before .before .before .before .before .loop in
+    let s = c .before .before .before .before .before .before .before .args in
+    let b = raw-refused _ (c .before .before .before .shared-slice-known2 .given (l .i) .fits) in
+    sym (refused-here (now (s .p)) (l .i) (l .inv) (c .before .before .before .before .loop-test .taken) _ (raw-is (now (s .p)) (l .i) 0 (c .before .before .if1 .taken)) (b ∙ sym (c .before .is-control .ensures) ∙ (c .if2 .taken)))
 
 loop-again : tie.Need-loop-again Inv-loop μ-loop
 loop-again c =
-    let l = c .before .before .before .before .before in
-    refused-later (now (l .before .before .args .p)) (l .loop .i) (l .loop .inv) (c .before .before .before .before .loop-test .taken) _ (c .before .before .before .char-at .ensures .is) (sym (c .before .before .is-refused .ensures) ∙ c .before .if1 .left)
+    let l = c .before .before .before .before .before .loop in
+    let s = c .before .before .before .before .before .before .before .args in
+    let b = raw-refused _ (c .before .before .before .shared-slice-known2 .given (l .i) .fits) in
+    refused-later (now (s .p)) (l .i) (l .inv) (c .before .before .before .before .loop-test .taken) _ (raw-is (now (s .p)) (l .i) 0 (c .before .before .if1 .taken)) (b ∙ sym (c .before .is-control .ensures) ∙ (c .if2 .left))
 
 returns-2 : tie.Need-returns-2 Inv-loop μ-loop
-returns-2 c = sym (refused-none (now (c .before .before .before .args .p)) (c .before .loop .i) (c .before .loop .inv) (c .loop-test .left))
+returns-2 c =
+    let l = c .before .before .before .before .before .before .before .loop in
+    let s = c .before .before .before .before .before .before .before .before .before .args in
+    sym (refused-here (now (s .p)) (l .i) (l .inv) (c .before .before .before .before .before .before .loop-test .taken) _ (rest-begins (now (s .p)) (l .i) (c .before .before .escape-of .ensures) .is) (sym (c .before .is-refused .ensures) ∙ (c .if3 .taken)))
+
+loop-again-2 : tie.Need-loop-again-2 Inv-loop μ-loop
+loop-again-2 c =
+    let l = c .before .before .before .before .before .before .before .before .loop in
+    let s = c .before .before .before .before .before .before .before .before .before .before .args in
+    refused-later (now (s .p)) (l .i) (l .inv) (c .before .before .before .before .before .before .before .loop-test .taken) _ (rest-begins (now (s .p)) (l .i) (c .before .before .before .escape-of .ensures) .is) (sym (c .before .before .is-refused .ensures) ∙ (c .before .if3 .left))
+
+returns-3 : tie.Need-returns-3 Inv-loop μ-loop
+returns-3 c =
+    let l = c .before .loop in
+    let s = c .before .before .before .args in
+    sym (refused-none (now (s .p)) (l .i) (l .inv) (c .loop-test .left))
 
 pub refused-spec : {M : Type 1} → statement M
 unfolding refuses
 refused-spec =
     tie.close
-    (tie.spec Inv-loop μ-loop (λ c. refl) (λ c κs. search needs) (λ c κs. search needs) returns (λ c. search needs)
-    (λ c. search needs) loop-again returns-2)
+    (tie.spec Inv-loop μ-loop (λ c. refl) (λ c. search needs)
+    (λ c. omega (arith, c .before .shared-slice-known2 .given (c .before .before .before .loop .i)))
+    (λ c κs. search needs) returns (λ c. search needs) (λ c. search needs) loop-again (λ c. search needs)
+    (λ c. search needs) (λ c. search needs)
+    (λ c κs. rest-here (now (c .before .before .before .before .before .before .args .p)) (c .before .before .before .before .loop .i) (c .before .if1 .left))
+    (λ c κs. search needs) returns-2 (λ c. search needs) (λ c. search needs) loop-again-2 returns-3)

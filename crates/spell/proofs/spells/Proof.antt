@@ -6,7 +6,7 @@ use denote.Ref.{now}
 use lib.ListN.{length, drop, drop-of-length-le}
 use Rattle.spell.specs.Spell.{decode, sameBytes}
 use Rattle.spell.specs.Steps.{leftOf, Within}
-use Rattle.spell.proofs.Chars.{begin, left-over, left-some}
+use Rattle.spell.proofs.Chars.{begin, left-over, left-some, step-byte}
 use Rattle.spell.proofs.Loops.{byte-turn, both-end, first-ends, second-ends, differ, agree}
 use Rattle.spell.proofs.spells.Statement.{statement}
 use Rattle.spell.proofs.spells.Tie as tie
@@ -25,32 +25,48 @@ returns c =
 
 returns-2 : tie.Need-returns-2 Inv-loop μ-loop
 returns-2 c =
-    let a = c .before .before in
-    let l = a .before .before .before in
-    sym (differ (l .loop .inv .0) (a .advance .ensures .left) (byte-turn (now (l .before .before .before .args .word)) (l .loop .j) (a .before .if1 .left)) (c .if2 .taken))
+    let l = c .before .before .before .before .before .before .loop in
+    let s = c .before .before .before .before .before .before .before .before .before .args in
+    let r = step-byte (now (s .p)) (l .i) (l .k) (c .before .if2 .taken) (c .before .before .before .before .before .loop-test .taken) (l .inv .1) in
+    sym (differ (l .inv .0) (r .left) (byte-turn (now (s .word)) (l .j) (c .before .before .before .before .if1 .left)) (c .if3 .taken))
 
 loop-again : tie.Need-loop-again Inv-loop μ-loop
 loop-again c =
-    let a = c .before .before in
-    let l = a .before .before .before in
-    (agree (l .loop .inv .0) (a .advance .ensures .left) (byte-turn (now (l .before .before .before .args .word)) (l .loop .j) (a .before .if1 .left)) (c .if2 .left), a .advance .ensures .within)
+    let l = c .before .before .before .before .before .before .loop in
+    let s = c .before .before .before .before .before .before .before .before .before .args in
+    let r = step-byte (now (s .p)) (l .i) (l .k) (c .before .if2 .taken) (c .before .before .before .before .before .loop-test .taken) (l .inv .1) in
+    (agree (l .inv .0) (r .left) (byte-turn (now (s .word)) (l .j) (c .before .before .before .before .if1 .left)) (c .if3 .left), r .within)
 
 returns-3 : tie.Need-returns-3 Inv-loop μ-loop
 returns-3 c =
-    let l = c .before .before .loop in
-    let s = c .before .before .before .before .before .args in
-    sym (first-ends (l .inv .0) (left-over (now (s .p)) (l .i) (l .k) (c .before .loop-test .left)) (byte-turn (now (s .word)) (l .j) (c .if3 .taken)))
+    let l = c .before .before .before .before .before .before .before .before .loop in
+    let s = c .before .before .before .before .before .before .before .before .before .before .before .args in
+    sym (differ (l .inv .0) ((c .before .before .advance .ensures) .left) (byte-turn (now (s .word)) (l .j) (c .before .before .before .before .before .before .if1 .left)) (c .if4 .taken))
+
+loop-again-2 : tie.Need-loop-again-2 Inv-loop μ-loop
+loop-again-2 c =
+    let l = c .before .before .before .before .before .before .before .before .loop in
+    let s = c .before .before .before .before .before .before .before .before .before .before .before .args in
+    (agree (l .inv .0) ((c .before .before .advance .ensures) .left) (byte-turn (now (s .word)) (l .j) (c .before .before .before .before .before .before .if1 .left)) (c .if4 .left), (c .before .before .advance .ensures) .within)
 
 returns-4 : tie.Need-returns-4 Inv-loop μ-loop
 returns-4 c =
     let l = c .before .before .loop in
     let s = c .before .before .before .before .before .args in
-    sym (both-end (l .inv .0) (left-over (now (s .p)) (l .i) (l .k) (c .before .loop-test .left)) (drop-of-length-le (now (s .word)) (c .if3 .left)))
+    sym (first-ends (l .inv .0) (left-over (now (s .p)) (l .i) (l .k) (c .before .loop-test .left)) (byte-turn (now (s .word)) (l .j) (c .if5 .taken)))
+
+returns-5 : tie.Need-returns-5 Inv-loop μ-loop
+returns-5 c =
+    let l = c .before .before .loop in
+    let s = c .before .before .before .before .before .args in
+    sym (both-end (l .inv .0) (left-over (now (s .p)) (l .i) (l .k) (c .before .loop-test .left)) (drop-of-length-le (now (s .word)) (c .if5 .left)))
 
 pub spells-spec : {M : Type 1} → statement M
 unfolding leftOf
 spells-spec =
     tie.close
-    (tie.spec Inv-loop μ-loop (λ c. (refl, begin _ 0 0)) returns (λ c κs. search needs) (λ c. search needs)
-    returns-2 (λ c. search needs) (λ c. omega (arith, ap length (c .before .before .advance .ensures .left)))
-    loop-again returns-3 returns-4)
+    (tie.spec Inv-loop μ-loop (λ c. (refl, begin _ 0 0)) returns (λ c. search needs) (λ c. search needs) returns-2
+    (λ c. search needs) (λ c. search needs)
+    (λ c. let l = c .before .before .before .before .before .before .loop in let s = c .before .before .before .before .before .before .before .before .before .args in omega (arith, ap length (step-byte (now (s .p)) (l .i) (l .k) (c .before .if2 .taken) (c .before .before .before .before .before .loop-test .taken) (l .inv .1) .left)))
+    loop-again (λ c κs. search needs) returns-3 (λ c. search needs)
+    (λ c. omega (arith, ap length ((c .before .before .advance .ensures) .left))) loop-again-2 returns-4 returns-5)
