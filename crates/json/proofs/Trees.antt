@@ -12,7 +12,7 @@ use Rattle.json.specs.Tree.{Json, Items, nil, item, foldItems, Got, none
 use Rattle.json.specs.declared.Out.{Out}
 use Rattle.json.specs.declared.Out.the-variants.{End, Bad}
 use Rattle.json.specs.declared.Start.{Start}
-use Rattle.json.specs.declared.Start.the-variants.{Leaf, Empty, Many}
+use Rattle.json.specs.declared.Start.the-variants.{Many}
 use Rattle.json.specs.declared.Next.{Next}
 use Rattle.json.specs.declared.Next.the-variants.{More, Done, Wrong}
 
