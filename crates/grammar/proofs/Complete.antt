@@ -3,23 +3,23 @@ use mathlib.Core.Path.{_≡_, refl, sym, ap, _∙_}
 use mathlib.Core.Logic.{inr}
 use mathlib.Core.List.{List}
 use mathlib.Core.Bool.{Bool, true, false}
-use Prim.Native.Nat.{ℕ, zero, suc, _+_, _-_, _<_, _≤_}
+use Prim.Native.Nat.{ℕ, zero, suc, _+_, _-_, _≤_}
 use native.Mathlib.Nat.{sub-zero}
 use native.Mathlib.Omega.{arith}
 use lib.ListN.{length, getD, List·getD-eq-default}
 use borrow.Author.Tests.{eq-eqb}
-use Rattle.json.specs.Grammar.{case, classOf, wsAt, oneAt, tokenAt, stringAt, scalarAt, closeOf, openedAt, startAt, headAt, nextAt}
-use Rattle.json.specs.Tree.{depth, endOf, onLeaf, node, itemsAt, treeAt, endsAt, root, isText}
+use Rattle.json.specs.Grammar.{classOf, wsAt, oneAt, tokenAt, closeOf, openedAt, startAt, headAt, nextAt}
+use Rattle.json.specs.Tree.{depth, endOf, node, itemsAt, treeAt, isText}
 use Rattle.json.specs.declared.Class.the-variants.{Space, Byte}
 use Rattle.json.specs.declared.Out.{Out}
 use Rattle.json.specs.declared.Out.the-variants.{End, Bad}
 use Rattle.json.specs.declared.Start.the-variants.{Leaf, Empty, Many}
 use Rattle.json.specs.declared.Next.the-variants.{More, Done}
 use Rattle.json.proofs.Bytes.{past-none}
-use Rattle.json.proofs.Ends.{then-end, byte-is, byte-not}
+use Rattle.json.proofs.Ends.{then-end, byte-is}
 use Rattle.json.proofs.Trees.{tree-open, endItems, end-items, fold-next}
-use Rattle.grammar.specs.Rfc.{_∣_, ws, token, literal, number, string, openOf, Value, plain, empty, group, Items, last, more, Item, value, member, Text}
-use Rattle.grammar.proofs.Terms.{star-past, token-byte, token-place, token-taken}
+use Rattle.grammar.specs.Rfc.{_∣_, token, literal, number, string, openOf, Value, plain, empty, group, Items, last, more, Item, value, member, Text}
+use Rattle.grammar.proofs.Terms.{star-past, token-byte, token-taken}
 use Rattle.grammar.proofs.Strings.{string-taken}
 use Rattle.grammar.proofs.Numbers.{Stops}
 use Rattle.grammar.proofs.Firsts.{Quiet, ws-quiet, lead, plain-place, plain-taken, string-from, plain-from, token-from}

@@ -1,21 +1,21 @@
 -- Numbers: the rule says where a number may end, and the functions take all that they can, so the two agree where what follows cannot
 -- go on a number.
-use mathlib.Core.Path.{_≡_, refl, sym, ap, _∙_}
-use mathlib.Core.Logic.{_⊎_, inl, inr}
+use mathlib.Core.Path.{_≡_, refl, ap, _∙_}
+use mathlib.Core.Logic.{inl, inr}
 use mathlib.Core.List.{List}
-use mathlib.Core.Bool.{Bool, true, false, _&&_, _||_}
-use Prim.Native.Nat.{ℕ, _+_, _<_, _≤_}
+use mathlib.Core.Bool.{Bool, true, false, _||_}
+use Prim.Native.Nat.{ℕ}
 use native.Mathlib.Omega.{arith}
 use borrow.Author.Tests.{leb-true, eqb-true, eqb-false, le-leb, ne-eqb}
 use lib.Dec.{leb, eqb}
 use lib.ListN.{getD}
-use Rattle.json.specs.Grammar.{case, within, classOf, past, oneAt, optAt, digitsAt, intAt, fracAt, expAt, numberAt}
+use Rattle.json.specs.Grammar.{case, within, classOf, oneAt, optAt, digitsAt, intAt, fracAt, expAt, numberAt}
 use Rattle.json.specs.declared.Class.{Class}
 use Rattle.json.specs.declared.Class.the-variants.{Digit, Exponent, Sign, Byte}
 use Rattle.json.specs.declared.Out.{Out}
 use Rattle.json.specs.declared.Out.the-variants.{End, Bad}
 use Rattle.json.proofs.Bytes.{both, past-none}
-use Rattle.json.proofs.Ends.{ends-bad, then-end, one-is, one-not, byte-not, not-byte}
+use Rattle.json.proofs.Ends.{then-end, one-not, byte-not, not-byte}
 use Rattle.grammar.specs.Rfc.{opt, byte, one, digits, int, frac, exp, number}
 use Rattle.grammar.proofs.Terms.{same-end, one-sound, one-taken, one-bad, star-sound, star-past}
 

@@ -15,7 +15,6 @@ use Rattle.json.specs.declared.Out.{Out}
 use Rattle.json.specs.declared.Out.the-variants.{End, Bad}
 use Rattle.json.specs.declared.Kind.the-variants.{Str, Num, Word, None}
 use Rattle.json.specs.declared.Start.the-variants.{Leaf, Empty, Many}
-use Rattle.json.specs.declared.Next.{Next}
 use Rattle.json.specs.declared.Next.the-variants.{More, Done, Wrong}
 use Rattle.json.proofs.Ends.{ends-bad, then-end}
 use Rattle.grammar.specs.Rfc.{stop, ws, token, literal, openOf, Value, plain, empty, group, Items, last, more, Item, value, member, Text}

@@ -2,16 +2,15 @@
 -- function and piecemeal by a rule, so a place is compared after the white space that stands there.
 use mathlib.Core.Path.{_≡_, refl, sym, ap, _∙_}
 use mathlib.Core.List.{List, [], _∷_}
-use mathlib.Core.Bool.{Bool, true, false, cond, _&&_}
+use mathlib.Core.Bool.{Bool, true, false, cond}
 use Prim.Native.Nat.{ℕ, zero, suc, _+_, _<_, _≤_}
 use native.Mathlib.Omega.{arith}
 use lib.ListN.{length, getD}
 use lib.Dec.{ltb}
 use borrow.Author.Tests.{ltb-true}
-use Rattle.json.specs.Grammar.{case, noZero, classOf, past, wsAt, oneAt, tokenAt, wordAt}
+use Rattle.json.specs.Grammar.{noZero, classOf, past, wsAt, oneAt, tokenAt, wordAt}
 use Rattle.json.specs.declared.Class.{Class}
 use Rattle.json.specs.declared.Class.the-variants.{Space, Byte}
-use Rattle.json.specs.declared.Out.{Out}
 use Rattle.json.specs.declared.Out.the-variants.{End, Bad}
 use Rattle.json.proofs.Bytes.{both, class-within, past-more, past-none, byte-not-zero}
 use Rattle.json.proofs.Ends.{then-end, one-is, one-of, byte-is}

@@ -1,6 +1,8 @@
--- Trees has the laws by which a walk over a text is proved, Bytes and Ends those of bytes, runs and where things end, Spelled those of
--- strings and their spelling.
+-- For other crates: Trees, by which a walk over a text is proved; Spelled, strings and their spelling; Scalars and Ends, where things end;
+-- Bytes, runs of bytes.
 pub mod Bytes
+pub mod Deeper
 pub mod Ends
+pub mod Scalars
 pub mod Spelled
 pub mod Trees

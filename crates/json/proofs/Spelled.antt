@@ -1,12 +1,10 @@
 -- A character is known by its bytes, so what stands between quotation marks is a spelling wherever it stands.
 use mathlib.Core.Path.{_≡_, refl, sym, ap, _∙_}
 use mathlib.Core.List.{List, [], _∷_, _++_}
-use mathlib.Core.Bool.{Bool, true, false}
+use mathlib.Core.Bool.{true, false}
 use Prim.Native.Nat.{ℕ, zero, suc, _+_, _-_, _<_, _≤_}
-use native.Mathlib.Numerals.{add-one}
 use native.Mathlib.Omega.{arith}
-use lib.Dec.{eqb}
-use lib.ListN.{length, getD, take, drop, length-take, length-drop, length-append, List·getD-append}
+use lib.ListN.{length, getD, take, drop, length-take, length-drop, List·getD-append}
 use lib.Seq.{getD-take, getD-drop, getD-append-seam}
 use borrow.Author.Tests.{eq-eqb, eqb-true}
 use Rattle.json.specs.Grammar.{case, classOf, oneAt, hexAt, escapedAt, charAt, charsUpTo, charsAt, isSpelling, stringAt}
@@ -14,7 +12,7 @@ use Rattle.json.specs.declared.Class.{Class}
 use Rattle.json.specs.declared.Class.the-variants.{Plain, Hex, Short, Byte}
 use Rattle.json.specs.declared.Out.{Out}
 use Rattle.json.specs.declared.Out.the-variants.{End, Bad}
-use Rattle.json.proofs.Ends.{ends-bad, then-end, one-is, one-of, byte-not, not-byte, one-ends, char-ends, chars-more, chars-none, chars-past}
+use Rattle.json.proofs.Ends.{then-end, one-is, one-of, byte-not, not-byte, one-ends, char-ends, chars-more, chars-none, chars-past}
 
 -- ---- char and *char as RFC 8259 has them
 pub data Char (s : List ℕ) : ℕ → ℕ → Type 0 where

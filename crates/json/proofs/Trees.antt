@@ -12,7 +12,7 @@ use Rattle.json.specs.Tree.{Json, Items, nil, item, foldItems, Got, none
 use Rattle.json.specs.declared.Out.{Out}
 use Rattle.json.specs.declared.Out.the-variants.{End, Bad}
 use Rattle.json.specs.declared.Start.{Start}
-use Rattle.json.specs.declared.Start.the-variants.{Leaf, Empty, Many}
+use Rattle.json.specs.declared.Start.the-variants.{Many}
 use Rattle.json.specs.declared.Next.{Next}
 use Rattle.json.specs.declared.Next.the-variants.{More, Done, Wrong}
 
@@ -52,14 +52,11 @@ module _ (value : ℕ → Got Json) (s : List ℕ) (named : Bool) (k i : ℕ) wh
   unfolding itemsAt
   items-are v n t x h e w y = rw (one-more h, itemsAt, e, w, y)
 
--- ---- a fold over the items, h of its result and of the place after them; z where they are no items
-abbrev pub foldTo : {A B : Type 0} → (A → ℕ → ℕ → Json → A) → B → (A → ℕ → B) → A → Got Items → B
-foldTo f z h a none = z
-foldTo f z h a (got ts n) = h (foldItems f a ts) n
-
--- the result alone
-abbrev pub foldGot : {A : Type 0} → (A → ℕ → ℕ → Json → A) → A → A → Got Items → A
-foldGot f z a g = foldTo f z (λ b n. b) a g
+-- ---- what a rule says of items, a turn at a time: z of no items, h of what was gathered and the place after the last
+pub record View {A B : Type 0} (W : A → Got Items → B) (f : A → ℕ → ℕ → Json → A) (z : B) (h : A → ℕ → B) : Type 0 where
+  pub on-none : (a : A) → W a none ≡ z
+  pub on-nil : (a : A) (n : ℕ) → W a (got nil n) ≡ h a n
+  pub on-item : (a : A) (p v : ℕ) (t : Json) (ts : Items) (n : ℕ) → W a (got (item p v t ts) n) ≡ W (f a p v t) (got ts n)
 
 -- what a turn comes to, by what follows the item
 abbrev pub turned : {B : Type 0} → Next → B → (ℕ → B) → (ℕ → B) → B
@@ -67,48 +64,69 @@ turned (More j) z d k = k j
 turned (Done e) z d k = d e
 turned Wrong z d k = z
 
-module _ {A B : Type 0} (f : A → ℕ → ℕ → Json → A) (z : B) (h : A → ℕ → B) (a : A) where
-  fold-follow : (p v : ℕ) (t : Json) (x : Next) (k : ℕ → Got Items)
-      → foldTo f z h a (follow (item p v t) x k) ≡ turned x z (h (f a p v t)) (λ j. foldTo f z h (f a p v t) (k j))
-  fold-follow p v t (More j) k = go (k j)
+module _ {A B : Type 0} {W : A → Got Items → B} {f : A → ℕ → ℕ → Json → A} {z : B} {h : A → ℕ → B} (view : View W f z h) (a : A) where
+  view-follow : (p v : ℕ) (t : Json) (x : Next) (k : ℕ → Got Items) → W a (follow (item p v t) x k) ≡ turned x z (h (f a p v t)) (λ j. W (f a p v t) (k j))
+  view-follow p v t (More j) k = go (k j)
     where
-      go : (g : Got Items) → foldTo f z h a (bind g λ ts m. got (item p v t ts) m) ≡ foldTo f z h (f a p v t) g
-      go none = refl
-      go (got ts m) = refl
-  fold-follow p v t (Done e) k = refl
-  fold-follow p v t Wrong k = refl
+      go : (g : Got Items) → W a (bind g λ ts m. got (item p v t ts) m) ≡ W (f a p v t) g
+      go none = view .on-none a ∙ sym (view .on-none (f a p v t))
+      go (got ts m) = view .on-item a p v t ts m
+  view-follow p v t (Done e) k = view .on-item a p v t nil e ∙ view .on-nil (f a p v t) e
+  view-follow p v t Wrong k = view .on-none a
 
   module _ (value : ℕ → Got Json) (s : List ℕ) (named : Bool) (k i : ℕ) where
-    pub fold-gone : length s ≤ k → foldTo f z h a (itemsAt value s named (length s - k) i) ≡ z
-    fold-gone l = ap (foldTo f z h a) (items-gone value s named k i l)
+    pub view-gone : length s ≤ k → W a (itemsAt value s named (length s - k) i) ≡ z
+    view-gone l = ap (W a) (items-gone value s named k i l) ∙ view .on-none a
 
-    pub fold-unnamed : k < length s → headAt s i named ≡ Bad → foldTo f z h a (itemsAt value s named (length s - k) i) ≡ z
-    fold-unnamed l e = ap (foldTo f z h a) (items-unnamed value s named k i l e)
+    pub view-unnamed : k < length s → headAt s i named ≡ Bad → W a (itemsAt value s named (length s - k) i) ≡ z
+    view-unnamed l e = ap (W a) (items-unnamed value s named k i l e) ∙ view .on-none a
 
-    pub fold-bad : (v : ℕ) → k < length s → headAt s i named ≡ End v → endOf (value v) ≡ Bad → foldTo f z h a (itemsAt value s named (length s - k) i) ≡ z
-    fold-bad v l e w = go (value v) refl w
+    pub view-bad : (v : ℕ) → k < length s → headAt s i named ≡ End v → endOf (value v) ≡ Bad → W a (itemsAt value s named (length s - k) i) ≡ z
+    view-bad v l e w = go (value v) refl w
       where
-        go : (g : Got Json) → value v ≡ g → endOf g ≡ Bad → foldTo f z h a (itemsAt value s named (length s - k) i) ≡ z
-        go none q y = ap (foldTo f z h a) (items-none value s named k i v l e q)
+        go : (g : Got Json) → value v ≡ g → endOf g ≡ Bad → W a (itemsAt value s named (length s - k) i) ≡ z
+        go none q y = ap (W a) (items-none value s named k i v l e q) ∙ view .on-none a
         go (got t n) q y = absurd (let c : _≡_ {A = ℕ} 0 1 = cc in omega arith)
 
-    -- where the item's tree is known
-    pub fold-got : (v n : ℕ) (t : Json) (x : Next) → k < length s → headAt s i named ≡ End v → value v ≡ got t n → nextAt s n named ≡ x
-        → foldTo f z h a (itemsAt value s named (length s - k) i) ≡ turned x z (h (f a i v t)) (λ j. foldTo f z h (f a i v t) (itemsAt value s named (length s - (k + 1)) j))
-    fold-got v n t x l e w y = ap (foldTo f z h a) (items-are value s named k i v n t x l e w y) ∙ fold-follow i v t x (itemsAt value s named (length s - (k + 1)))
-
-    -- where only its end is known: b is what f makes of the item, whatever its tree is
-    pub fold-next : (v n : ℕ) (x : Next) (b : A) → k < length s → headAt s i named ≡ End v → endOf (value v) ≡ End n → nextAt s n named ≡ x
+    -- b is what f makes of the item, whatever its tree is
+    pub view-next : (v n : ℕ) (x : Next) (b : A) → k < length s → headAt s i named ≡ End v → endOf (value v) ≡ End n → nextAt s n named ≡ x
         → ((t : Json) → value v ≡ got t n → b ≡ f a i v t)
-        → foldTo f z h a (itemsAt value s named (length s - k) i) ≡ turned x z (h b) (λ j. foldTo f z h b (itemsAt value s named (length s - (k + 1)) j))
-    fold-next v n x b l e w y made = go (value v) refl w
+        → W a (itemsAt value s named (length s - k) i) ≡ turned x z (h b) (λ j. W b (itemsAt value s named (length s - (k + 1)) j))
+    view-next v n x b l e w y made = go (value v) refl w
       where
-        go : (g : Got Json) → value v ≡ g → endOf g ≡ End n
-            → foldTo f z h a (itemsAt value s named (length s - k) i) ≡ turned x z (h b) (λ j. foldTo f z h b (itemsAt value s named (length s - (k + 1)) j))
+        go : (g : Got Json) → value v ≡ g → endOf g ≡ End n → W a (itemsAt value s named (length s - k) i) ≡ turned x z (h b) (λ j. W b (itemsAt value s named (length s - (k + 1)) j))
         go none q r = absurd (let c : _≡_ {A = ℕ} 0 1 = cc in omega arith)
         go (got t m) q r =
             let c : m ≡ n = cc in
-            rw (made t (rw c at q)) (fold-got v n t x l e (rw c at q) y)
+            let q′ : value v ≡ got t n = rw c at q in
+            rw (made t q′) (ap (W a) (items-are value s named k i v n t x l e q′ y) ∙ view-follow i v t x (itemsAt value s named (length s - (k + 1))))
+
+-- ---- a left fold over the items
+abbrev pub foldTo : {A B : Type 0} → (A → ℕ → ℕ → Json → A) → B → (A → ℕ → B) → A → Got Items → B
+foldTo f z h a none = z
+foldTo f z h a (got ts n) = h (foldItems f a ts) n
+
+-- with no use of where it ends
+abbrev pub foldGot : {A : Type 0} → (A → ℕ → ℕ → Json → A) → A → A → Got Items → A
+foldGot f z a g = foldTo f z (λ b n. b) a g
+
+pub fold-view : {A B : Type 0} (f : A → ℕ → ℕ → Json → A) (z : B) (h : A → ℕ → B) → View (foldTo f z h) f z h
+fold-view f z h = record { on-none = λ a. refl; on-nil = λ a n. refl; on-item = λ a p v t ts n. refl }
+
+module _ {A B : Type 0} (f : A → ℕ → ℕ → Json → A) (z : B) (h : A → ℕ → B) (a : A) (value : ℕ → Got Json) (s : List ℕ) (named : Bool) (k i : ℕ) where
+  pub fold-gone : length s ≤ k → foldTo f z h a (itemsAt value s named (length s - k) i) ≡ z
+  fold-gone = view-gone (fold-view f z h) a value s named k i
+
+  pub fold-unnamed : k < length s → headAt s i named ≡ Bad → foldTo f z h a (itemsAt value s named (length s - k) i) ≡ z
+  fold-unnamed = view-unnamed (fold-view f z h) a value s named k i
+
+  pub fold-bad : (v : ℕ) → k < length s → headAt s i named ≡ End v → endOf (value v) ≡ Bad → foldTo f z h a (itemsAt value s named (length s - k) i) ≡ z
+  fold-bad = view-bad (fold-view f z h) a value s named k i
+
+  pub fold-next : (v n : ℕ) (x : Next) (b : A) → k < length s → headAt s i named ≡ End v → endOf (value v) ≡ End n → nextAt s n named ≡ x
+      → ((t : Json) → value v ≡ got t n → b ≡ f a i v t)
+      → foldTo f z h a (itemsAt value s named (length s - k) i) ≡ turned x z (h b) (λ j. foldTo f z h b (itemsAt value s named (length s - (k + 1)) j))
+  fold-next = view-next (fold-view f z h) a value s named k i
 
 -- ---- where the items end
 abbrev pub endItems : Got Items → Out

@@ -70,10 +70,6 @@ unfoldable pub tokenAt : List ℕ → ℕ → ℕ → Out
 tokenAt s b at = case (oneAt s (Byte b) at) (λ n. End (wsAt s n)) Bad
 
 -- ---- section 3: the literal names
-abbrev pub noZero : List ℕ → Bool
-noZero [] = true
-noZero (b ∷ w) = ltb 0 b && noZero w
-
 -- the bytes of w
 unfoldable pub wordAt : List ℕ → List ℕ → ℕ → Out
 wordAt s [] at = End at
@@ -171,3 +167,8 @@ headAt s at false = End at
 -- after an item: value-separator and the next item's place, or what closes
 abbrev pub nextAt : List ℕ → ℕ → Bool → Next
 nextAt s at named = case (tokenAt s 0x2C at) More (case (tokenAt s (closeOf named) at) Done Wrong)
+
+-- ---- for the code alone: no byte of w is 0
+abbrev pub noZero : List ℕ → Bool
+noZero [] = true
+noZero (b ∷ w) = ltb 0 b && noZero w

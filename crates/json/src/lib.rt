@@ -4,9 +4,8 @@ ghost use mathlib.Core.Path.{_≡_};
 ghost use Prim.Native.Nat.{_<_};
 ghost use mathlib.Core.Bool.{true, false};
 ghost use lib.ListN.{getD};
-ghost use Rattle.json.specs.Grammar.{case, within, classOf, past, wsAt, oneAt, tokenAt, wordAt, literalAt, digitsAt, intAt, fracAt, expAt, numberAt, hexAt, escapedAt, charsAt, stringAt, isSpelling, scalarAt, closeOf, openedAt, startAt, headAt, nextAt};
+ghost use Rattle.json.specs.Grammar.{case, within, classOf, past, wsAt, oneAt, tokenAt, noZero, wordAt, literalAt, digitsAt, intAt, fracAt, expAt, numberAt, hexAt, escapedAt, charsAt, stringAt, isSpelling, scalarAt, closeOf, openedAt, startAt, headAt, nextAt};
 ghost use Rattle.json.specs.Tree.{endOf, onLeaf, treeAt, isText};
-ghost use Rattle.json.specs.Grammar.{noZero};
 
 // The most brackets and braces that may be open at once.
 const DEPTH: usize = 8;
@@ -36,6 +35,7 @@ fn byte(s: &[u8], at: usize) -> u8
     if at < s.len() { s[at] } else { 0 }
 }
 
+// %xlow-high
 fn between(low: u8, high: u8, b: u8) -> bool
     ensures { λ r. ⌜ r ≡ within low high b ⌝ }
 {
@@ -58,6 +58,7 @@ fn short(b: u8) -> bool
             || (b == 0x2f || (b == 0x62 || (b == 0x66 || (b == 0x6e || (b == 0x72 || b == 0x74))))))
 }
 
+// Whether a byte is of a class.
 fn is(class: Class, b: u8) -> bool
     ensures { λ r. ⌜ r ≡ classOf class b ⌝ }
 {
@@ -154,6 +155,7 @@ fn word(s: &[u8], at: usize, w: &[u8]) -> Out
     Out::End(i)
 }
 
+// false / null / true
 fn literal(s: &[u8], at: usize) -> Out
     ensures { λ r. ⌜ r ≡ literalAt (now (s .entry)) at ⌝ }
 {
@@ -166,6 +168,7 @@ fn literal(s: &[u8], at: usize) -> Out
     }
 }
 
+// 1*DIGIT
 fn digits(s: &[u8], at: usize) -> Out
     ensures { λ r. ⌜ r ≡ digitsAt (now (s .entry)) at ⌝ }
 {
@@ -176,6 +179,7 @@ fn digits(s: &[u8], at: usize) -> Out
     }
 }
 
+// zero / ( digit1-9 *DIGIT )
 fn int(s: &[u8], at: usize) -> Out
     ensures { λ r. ⌜ r ≡ intAt (now (s .entry)) at ⌝ }
 {
@@ -185,6 +189,7 @@ fn int(s: &[u8], at: usize) -> Out
     }
 }
 
+// [ decimal-point 1*DIGIT ]
 fn frac(s: &[u8], at: usize) -> Out
     ensures { λ r. ⌜ r ≡ fracAt (now (s .entry)) at ⌝ }
 {
@@ -194,6 +199,7 @@ fn frac(s: &[u8], at: usize) -> Out
     }
 }
 
+// [ e [ minus / plus ] 1*DIGIT ]
 fn exp(s: &[u8], at: usize) -> Out
     ensures { λ r. ⌜ r ≡ expAt (now (s .entry)) at ⌝ }
 {
@@ -203,6 +209,7 @@ fn exp(s: &[u8], at: usize) -> Out
     }
 }
 
+// [ minus ] int [ frac ] [ exp ]
 fn number(s: &[u8], at: usize) -> Out
     ensures { λ r. ⌜ r ≡ numberAt (now (s .entry)) at ⌝ }
 {
@@ -287,6 +294,7 @@ pub enum Kind {
     None,
 }
 
+// false / null / true / number / string
 pub fn scalar(s: &[u8], at: usize) -> Kind
     ensures { λ r. ⌜ r ≡ scalarAt (now (s .entry)) at ⌝ }
 {
@@ -322,12 +330,14 @@ pub enum Start {
     Many(usize, bool),
 }
 
+// The byte that closes an object (true) or an array.
 fn closing(named: bool) -> u8
     ensures { λ r. ⌜ (r ≡ closeOf named) × (0 < r) ⌝ }
 {
     if named { b'}' } else { b']' }
 }
 
+// What stands after an opening brace (true) or bracket.
 fn opened(s: &[u8], at: usize, named: bool) -> Start
     ensures { λ r. ⌜ r ≡ openedAt (now (s .entry)) at named ⌝ }
 {
@@ -337,6 +347,7 @@ fn opened(s: &[u8], at: usize, named: bool) -> Start
     }
 }
 
+// What begins at a place.
 pub fn begin(s: &[u8], at: usize) -> Start
     ensures { λ r. ⌜ r ≡ startAt (now (s .entry)) at ⌝ }
 {
@@ -349,7 +360,7 @@ pub fn begin(s: &[u8], at: usize) -> Start
     }
 }
 
-// The place of an item's value: in an object after its name and the colon.
+// The place of an item's value: in an object (true) after its name and the colon.
 pub fn head(s: &[u8], at: usize, named: bool) -> Out
     ensures { λ r. ⌜ r ≡ headAt (now (s .entry)) at named ⌝ }
 {
@@ -363,13 +374,14 @@ pub fn head(s: &[u8], at: usize, named: bool) -> Out
     }
 }
 
-// What follows an item: another, or the end.
+// After an item: another one's place, or the place after what closes, or neither.
 pub enum Next {
     More(usize),
     Done(usize),
     Wrong,
 }
 
+// What follows the item of an object (true) or an array.
 pub fn after(s: &[u8], at: usize, named: bool) -> Next
     ensures { λ r. ⌜ r ≡ nextAt (now (s .entry)) at named ⌝ }
 {

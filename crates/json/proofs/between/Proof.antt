@@ -1,3 +1,4 @@
+-- The two tests are the definition's.
 use Rattle.json.proofs.Bytes.{tests}
 use Rattle.json.proofs.between.Statement.{statement}
 use Rattle.json.proofs.between.Tie as tie

@@ -1,3 +1,4 @@
+-- Past the end the default is read.
 use borrow.Author.Needs.{needs}
 use lib.ListN.{List·getD-eq-default}
 use Rattle.json.proofs.byte.Statement.{statement}

@@ -40,14 +40,10 @@ chars-spec =
     Inv-loop
     μ-loop
     (λ c. refl)
-    (search needs)
-    (search needs)
-    (search needs)
+    (search needs) (search needs) (search needs)
     (λ c. omega arith)
     (λ c. chars-more _ _ _ (char-plain _ _ (sym (c .before .plain .ensures) ∙ c .if1 .taken)) ∙ c .before .before .before .before .loop .inv)
-    (search needs)
-    (search needs)
-    (search needs)
+    (search needs) (search needs) (search needs)
     returns
     loop-less-2
     loop-again-2

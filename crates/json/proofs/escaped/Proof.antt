@@ -1,3 +1,4 @@
+-- A backslash, then u and four digits, else one of eight: each way is the calls' answers.
 use mathlib.Core.Path.{refl, _∙_}
 use borrow.Author.Needs.{needs}
 use Rattle.json.specs.Grammar.{classOf, escapedAt}
@@ -9,13 +10,7 @@ unfolding classOf escapedAt
 escaped-spec =
     tie.close
     (tie.spec
-    (λ c κs. search needs)
-    (search needs)
-    (λ c κs. search needs)
-    (search needs)
-    (search needs)
-    (search needs)
-    (λ c κs. refl)
+    (λ c κs. search needs) (search needs) (λ c κs. search needs) (search needs) (search needs) (search needs) (λ c κs. refl)
     (search needs)
     (λ c. let d = c .before .before .before .before in
     c .hex4 .ensures ∙ simp (← d .before .before .before .before .this .ensures, d .before .before .n .given .1, ← d .this2 .ensures, c .before .before .m .given .1))

@@ -1,3 +1,4 @@
+-- Four digits one after the other: each way is the calls' answers.
 use mathlib.Core.Path.{refl, _∙_}
 use borrow.Author.Needs.{needs}
 use Rattle.json.specs.Grammar.{classOf, hexAt}
@@ -9,16 +10,8 @@ unfolding classOf hexAt
 hex4-spec =
     tie.close
     (tie.spec
-    (λ c κs. refl)
-    (search needs)
-    (λ c κs. refl)
-    (search needs)
-    (λ c κs. refl)
-    (search needs)
-    (λ c κs. refl)
-    (search needs)
-    (search needs)
-    (search needs)
+    (λ c κs. refl) (search needs) (λ c κs. refl) (search needs) (λ c κs. refl) (search needs) (λ c κs. refl) (search needs)
+    (search needs) (search needs)
     (λ c. let d = c .before .before .before .before in let e = d .before .before .before .before in
     c .one4 .ensures ∙ simp (← e .before .before .before .before .one .ensures, e .before .before .a .given .1, ← e .one2 .ensures, d .before .before .b .given .1, ← d .one3 .ensures, c .before .before .c .given .1))
     (λ c. let d = c .before .before in let e = d .before .before .before .before in

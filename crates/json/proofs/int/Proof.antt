@@ -1,3 +1,4 @@
+-- A zero, else digits: each way is the calls' answers.
 use mathlib.Core.Path.{_∙_}
 use borrow.Author.Needs.{needs}
 use Rattle.json.specs.Grammar.{intAt}
@@ -9,9 +10,6 @@ unfolding intAt
 int-spec =
     tie.close
     (tie.spec
-    (λ c κs. search needs)
-    (search needs)
-    (search needs)
-    (search needs)
+    (λ c κs. search needs) (search needs) (search needs) (search needs)
     (λ c. simp (← c .before .before .before .this .ensures, c .before .n .given .1))
     (λ c. c .digits .ensures ∙ simp (← c .before .before .before .this .ensures, c .before .enum-told .given .1)))

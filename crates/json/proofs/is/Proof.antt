@@ -1,3 +1,4 @@
+-- Each class is tested as the definition has it.
 use borrow.Author.Needs.{needs}
 use Rattle.json.specs.Grammar.{classOf}
 use Rattle.json.proofs.Bytes.{tests}

@@ -1,3 +1,4 @@
+-- The three names in turn; a byte string is known as a list.
 use mathlib.Core.Path.{_∙_}
 use borrow.Author.Needs.{needs}
 use Rattle.json.specs.Grammar.{literalAt}
@@ -9,16 +10,8 @@ unfolding literalAt
 literal-spec =
     tie.close
     (tie.spec
-    (search needs)
-    (λ c κs. search needs)
-    (search needs)
-    (search needs)
-    (search needs)
-    (λ c κs. search needs)
-    (search needs)
-    (search needs)
-    (search needs)
-    (λ c κs. search needs)
+    (search needs) (λ c κs. search needs) (search needs) (search needs) (search needs) (λ c κs. search needs) (search needs)
+    (search needs) (search needs) (λ c κs. search needs)
     (λ c. let d = c .before .before .before in
     simp (d .before .word-arg .given .1, ← d .word .ensures, c .before .n .given .1))
     (λ c. let d = c .before .before .before in let e = d .before .before .before .before in

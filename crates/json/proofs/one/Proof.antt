@@ -17,8 +17,7 @@ unfolding oneAt
 one-spec =
     tie.close
     (tie.spec
-    (search needs)
-    (search needs)
+    (search needs) (search needs)
     add-t7
     (λ c. simp (← c .before .before .byte .ensures, ← c .before .is .ensures, c .if1 .taken))
     (λ c. simp (← c .before .before .byte .ensures, ← c .before .is .ensures, c .if1 .left)))

@@ -1,3 +1,4 @@
+-- A string, else a number, else a name: each way is the calls' answers.
 use borrow.Author.Needs.{needs}
 use Rattle.json.specs.Grammar.{scalarAt}
 use Rattle.json.proofs.scalar.Statement.{statement}
@@ -8,14 +9,7 @@ unfolding scalarAt
 scalar-spec =
     tie.close
     (tie.spec
-    (search needs)
-    (search needs)
-    (search needs)
-    (search needs)
-    (search needs)
-    (search needs)
-    (search needs)
-    (search needs)
+    (search needs) (search needs) (search needs) (search needs) (search needs) (search needs) (search needs) (search needs)
     (search needs)
     (λ c. simp (← c .before .before .before .string .ensures, c .before .n .given .1))
     (λ c. let d = c .before .before .before in

@@ -1,3 +1,4 @@
+-- Each byte is tested as the definition has it.
 use Rattle.json.specs.Grammar.{classOf}
 use Rattle.json.proofs.Bytes.{tests}
 use Rattle.json.proofs.short.Statement.{statement}

@@ -35,8 +35,7 @@ skip-spec =
     Inv-loop
     μ-loop
     (λ c. refl)
-    (search needs)
-    (search needs)
+    (search needs) (search needs)
     (λ c. omega (arith, turn c .1))
     (λ c. omega (arith, turn c .1))
     (λ c. past-more _ _ _ (turn c .1) (turn c .0) ∙ c .before .before .before .loop .inv)

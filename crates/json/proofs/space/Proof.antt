@@ -1,3 +1,4 @@
+-- A run of the class of white space.
 use mathlib.Core.Path.{refl}
 use Rattle.json.specs.Grammar.{classOf}
 use Rattle.json.proofs.space.Statement.{statement}

@@ -1,3 +1,4 @@
+-- The characters from the start on end where the slice ends.
 use borrow.Author.Needs.{needs}
 use Rattle.json.proofs.spelling.Statement.{statement}
 use Rattle.json.proofs.spelling.Tie as tie

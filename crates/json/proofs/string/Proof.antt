@@ -1,3 +1,4 @@
+-- A quotation mark, characters, a quotation mark: each way is the calls' answers.
 use mathlib.Core.Path.{_∙_}
 use borrow.Author.Needs.{needs}
 use Rattle.json.specs.Grammar.{stringAt}
@@ -9,11 +10,7 @@ unfolding stringAt
 string-spec =
     tie.close
     (tie.spec
-    (λ c κs. search needs)
-    (search needs)
-    (search needs)
-    (λ c κs. search needs)
-    (search needs)
+    (λ c κs. search needs) (search needs) (search needs) (λ c κs. search needs) (search needs)
     (λ c. let d = c .before .before .before in
     c .this2 .ensures ∙ simp (← d .before .before .this .ensures, d .n .given .1, ← c .before .chars .ensures))
     (λ c. simp (← c .before .before .this .ensures, c .enum-told .given .1)))

@@ -1,3 +1,4 @@
+-- A byte, and the white space after it.
 use mathlib.Core.Path.{ap, _∙_}
 use borrow.Author.Needs.{needs}
 use Rattle.json.specs.Grammar.{tokenAt}
@@ -10,9 +11,6 @@ unfolding tokenAt
 token-spec =
     tie.close
     (tie.spec
-    (search needs)
-    (search needs)
-    (search needs)
-    (search needs)
+    (search needs) (search needs) (search needs) (search needs)
     (λ c. ap End (c .space .ensures) ∙ simp (← c .before .before .before .before .this .ensures, c .before .before .n .given .1))
     (λ c. simp (← c .before .before .this .ensures, c .enum-told .given .1)))

@@ -36,8 +36,7 @@ word-spec =
     (search needs)
     (λ c κs. let d = c .before .before .before .before .before in
     no-zero (d .args .w .now) (c .before .before .loop .k) (d .pre) (c .before .loop-test .taken))
-    (search needs)
-    (search needs)
+    (search needs) (search needs)
     returns
     (search needs)
     (λ c. omega arith)
