@@ -1,12 +1,13 @@
 -- Laws of `put`: a turn of the loop that copies, its end, two puts in a row, what a put leaves, and a chain of puts.
 use mathlib.Core.Path.{_≡_, refl, sym, ap, ap₂, _∙_}
 use mathlib.Core.List.{List, [], _∷_, _++_, append-assoc}
-use Prim.Native.Nat.{ℕ, suc, _+_, _≤_, _<_}
+use Prim.Native.Nat.{ℕ, zero, suc, _+_, _-_, _≤_, _<_}
 use native.Mathlib.Nat.{add-zero, zero-add}
 use native.Mathlib.Numerals.{add-one}
 use native.Mathlib.Decide.{decLe}
 use native.Mathlib.Omega.{arith}
-use lib.ListN.{length, take, drop, getD, set, length-append, length-set}
+use borrow.Author.Tests.{lt-ltb, le-ltb, le-leb, lt-leb, eq-eqb, ne-eqb}
+use lib.ListN.{length, take, drop, getD, set, replicate, length-append, length-set}
 use lib.Seq.{sets, sets-eq, length-sets, drop-cons, drop-length, take-set-le, set-out, drop-set-lt, drop-at, take-at, length-take-le}
 use Rattle.wire.specs.Put.{put, Puts}
 
@@ -84,3 +85,43 @@ puts-then {d} {s} {t} {i} {r} {r′} {o} {o′} a p =
         let e : length o ≤ r = omega arith in
         let f : length (put d i s) ≤ i + length s = simp length-put (omega arith) in
         put-out o r t e ∙ a .bytes ∙ sym (put-out (put d i s) (i + length s) t f) ∙ put-more d i s t
+
+pub puts-out : (d : List ℕ) (i : ℕ) (s : List ℕ) → length d ≤ i → Puts d i s (length d) d
+puts-out d i s h = record { next = omega arith; bytes = sym (put-out d i s h) }
+
+pub puts-one : (d : List ℕ) (i b : ℕ) → i < length d → Puts d i (b ∷ []) (i + 1) (set d i b)
+unfolding put
+puts-one d i b h = record { next = omega arith; bytes = refl }
+
+-- a loop of writers has come to index at of o: whoever puts the rest there has put the whole s into d at i
+pub record Rest (d : List ℕ) (i : ℕ) (s o : List ℕ) (at : ℕ) (rest : List ℕ) : Type 0 where
+  pub same : length o ≡ length d
+  pub inside : at ≤ length o
+  pub gives : {r : ℕ} {o′ : List ℕ} → Puts o at rest r o′ → Puts d i s r o′
+
+pub rest-start : (d : List ℕ) (i : ℕ) (s : List ℕ) → i ≤ length d → Rest d i s d i s
+rest-start d i s h = record { same = refl; inside = h; gives = λ p. p }
+
+module _ {d : List ℕ} {i : ℕ} {s o : List ℕ} {at : ℕ} {rest : List ℕ} (w : Rest d i s o at rest) where
+  pub rest-turn : {p more : List ℕ} {r : ℕ} {o′ : List ℕ} → Puts o at p r o′ → rest ≡ p ++ more → Rest d i s o′ r more
+  rest-turn {p} {more} {r} {o′} a e =
+      let l : length o′ ≡ length o = ap length (a .bytes) ∙ length-put o at p in
+      record { same = l ∙ w .same; inside = omega (arith, a .next); gives = λ q. w .gives (rw e (puts-then a q)) }
+
+  pub rest-end : rest ≡ [] → Puts d i s at o
+  rest-end e = w .gives (rw e (puts-none o at (w .inside)))
+
+  pub rest-full : length o ≤ at → Puts d i s at o
+  rest-full h =
+      let e : length o ≡ at = omega (arith, w .inside) in
+      w .gives (rw e at (puts-out o at rest h))
+
+pub zeros-turn : (k : ℕ) → 0 < k → replicate {A = ℕ} k 0 ≡ (0 ∷ []) ++ replicate (k - 1) 0
+zeros-turn zero h = absurd (omega arith)
+zeros-turn (suc k) h = let e : suc k - 1 ≡ k = omega arith in rw e
+
+pub zeros-none : (k : ℕ) → k ≤ 0 → replicate {A = ℕ} k 0 ≡ []
+zeros-none k h = let e : k ≡ 0 = omega arith in rw e
+
+-- what a test says of numbers, for `search`
+pub ruleset tests = (lt-ltb, le-ltb, le-leb, lt-leb, eq-eqb, ne-eqb)

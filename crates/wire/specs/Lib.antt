@@ -1,2 +1,4 @@
--- Writers into lent bytes.
+-- Writers into lent bytes, the escapes of strings, and numbers as bytes.
 pub mod Put
+pub mod Escape
+pub mod Field

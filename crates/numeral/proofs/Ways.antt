@@ -1,0 +1,2 @@
+-- A law for each way out of the code.
+use mathlib.Core.Path.{_≡_}

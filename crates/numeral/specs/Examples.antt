@@ -1,0 +1,59 @@
+-- Worked values.
+use mathlib.Core.Path.{_≡_, refl}
+use mathlib.Core.List.{List, [], _∷_}
+use Prim.Native.Nat.{ℕ}
+use lib.IntN.{pos, negsuc}
+use Rattle.numeral.specs.Decimal.{digitsIn, digits, decimal}
+use Rattle.numeral.specs.Whole.{Read, malformed, whole, isDigit, allDigits, valueFrom, isNatural, naturalOf, negativeOf, wholeOf, answerOf}
+use Rattle.numeral.specs.declared.Whole.the-variants.{Value, Large}
+
+-- -7200, 0 and 9007199254740991
+decimal-minus : decimal (negsuc 7199) ≡ 45 ∷ 55 ∷ 50 ∷ 48 ∷ 48 ∷ []
+unfolding decimal digits digitsIn
+decimal-minus = refl
+
+decimal-0 : decimal (pos 0) ≡ 48 ∷ []
+unfolding decimal digits digitsIn
+decimal-0 = refl
+
+decimal-widest : decimal (pos 9007199254740991) ≡ 57 ∷ 48 ∷ 48 ∷ 55 ∷ 49 ∷ 57 ∷ 57 ∷ 50 ∷ 53 ∷ 52 ∷ 55 ∷ 52 ∷ 48 ∷ 57 ∷ 57 ∷ 49 ∷ []
+unfolding decimal digits digitsIn
+decimal-widest = refl
+
+-- -7200, -0, 01, 1e3, - and nothing
+whole-minus : wholeOf (45 ∷ 55 ∷ 50 ∷ 48 ∷ 48 ∷ []) ≡ whole (negsuc 7199)
+unfolding wholeOf negativeOf isNatural allDigits isDigit valueFrom
+whole-minus = refl
+
+whole-minus-0 : wholeOf (45 ∷ 48 ∷ []) ≡ malformed
+unfolding wholeOf negativeOf isNatural allDigits isDigit valueFrom
+whole-minus-0 = refl
+
+whole-01 : wholeOf (48 ∷ 49 ∷ []) ≡ malformed
+unfolding wholeOf naturalOf isNatural allDigits isDigit valueFrom
+whole-01 = refl
+
+whole-1e3 : wholeOf (49 ∷ 101 ∷ 51 ∷ []) ≡ malformed
+unfolding wholeOf naturalOf isNatural allDigits isDigit valueFrom
+whole-1e3 = refl
+
+whole-sign : wholeOf (45 ∷ []) ≡ malformed
+unfolding wholeOf negativeOf isNatural
+whole-sign = refl
+
+whole-none : wholeOf [] ≡ malformed
+unfolding wholeOf
+whole-none = refl
+
+-- the two ends of the widest range
+answer-least : answerOf (whole (negsuc 9007199254740990)) ≡ Value (negsuc 9007199254740990)
+unfolding answerOf
+answer-least = refl
+
+answer-below : answerOf (whole (negsuc 9007199254740991)) ≡ Large
+unfolding answerOf
+answer-below = refl
+
+answer-above : answerOf (whole (pos 9007199254740992)) ≡ Large
+unfolding answerOf
+answer-above = refl

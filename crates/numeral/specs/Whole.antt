@@ -1,0 +1,61 @@
+-- 01, "Numbers": an optional minus and digits, no needless leading zero, no fraction or exponent, not -0.
+use mathlib.Core.Bool.{Bool, true, false, cond, not, _&&_}
+use mathlib.Core.List.{List, [], _∷_}
+use Prim.Native.Nat.{ℕ, _+_, _-_, _*_}
+use lib.Dec.{leb, eqb}
+use lib.IntN.{ℤ, pos, negℤ}
+use lib.Signed.{ltZ}
+use Rattle.numeral.specs.declared.Whole.{Whole}
+use Rattle.numeral.specs.declared.Whole.the-variants.{Value, Large, Malformed}
+
+unfoldable pub isDigit : ℕ → Bool
+isDigit x = leb 48 x && leb x 57
+
+unfoldable pub allDigits : List ℕ → Bool
+allDigits [] = true
+allDigits (x ∷ l) = isDigit x && allDigits l
+
+-- the number that digits spell; v is what those before them spell
+unfoldable pub valueFrom : ℕ → List ℕ → ℕ
+valueFrom v [] = v
+valueFrom v (x ∷ l) = valueFrom (v * 10 + (x - 48)) l
+
+abbrev pub valueOf : List ℕ → ℕ
+valueOf l = valueFrom 0 l
+
+abbrev pub isEmpty : List ℕ → Bool
+isEmpty [] = true
+isEmpty (x ∷ l) = false
+
+-- at least one digit, and a first 0 only alone
+unfoldable pub isNatural : List ℕ → Bool
+isNatural [] = false
+isNatural (x ∷ l) = cond (eqb x 48) (isEmpty l) (allDigits (x ∷ l))
+
+pub data Read : Type 0 where
+  malformed : Read
+  whole : ℤ → Read
+
+unfoldable pub naturalOf : List ℕ → Read
+naturalOf l = cond (isNatural l) (whole (pos (valueOf l))) malformed
+
+-- what stands after a minus: not 0
+unfoldable pub negativeOf : List ℕ → Read
+negativeOf l = cond (isNatural l) (cond (eqb (valueOf l) 0) malformed (whole (negℤ (pos (valueOf l))))) malformed
+
+unfoldable pub wholeOf : List ℕ → Read
+wholeOf [] = malformed
+wholeOf (x ∷ l) = cond (eqb x 45) (negativeOf l) (naturalOf (x ∷ l))
+
+-- the widest range of 01: -9007199254740991 to 9007199254740991
+abbrev pub widest : ℕ
+widest = 9007199254740991
+
+abbrev pub isWithin : Whole → ℤ → ℤ → Bool
+isWithin (Value z) lo hi = not (ltZ z lo) && not (ltZ hi z)
+isWithin Large lo hi = false
+isWithin Malformed lo hi = false
+
+unfoldable pub answerOf : Read → Whole
+answerOf malformed = Malformed
+answerOf (whole z) = cond (isWithin (Value z) (negℤ (pos widest)) (pos widest)) (Value z) Large
