@@ -1,0 +1,22 @@
+-- Each return is the definition's case with the same tests.
+use Rattle.utf8.specs.Utf8.{leadOf}
+use Rattle.utf8.proofs.Laws.{tests}
+use Rattle.utf8.proofs.lead.Statement.{statement}
+use Rattle.utf8.proofs.lead.Tie as tie
+
+pub lead-spec : {M : Type 1} → statement M
+unfolding leadOf
+lead-spec =
+    tie.close
+    (tie.spec
+    (λ c. search tests)
+    (λ c. search tests)
+    (λ c. search tests)
+    (λ c. search tests)
+    (λ c. search tests)
+    (λ c. search tests)
+    (λ c. search tests)
+    (λ c. search tests)
+    (λ c. search tests)
+    (λ c. search tests)
+    (λ c. search tests))

@@ -1,0 +1,2 @@
+-- RFC 3629.
+pub mod Utf8
