@@ -4,7 +4,7 @@ use mathlib.Core.List.{List, [], _∷_}
 use Prim.Native.Nat.{ℕ}
 use lib.IntN.{pos, negsuc}
 use Rattle.numeral.specs.Decimal.{digitsIn, digits, decimal}
-use Rattle.numeral.specs.Whole.{Read, malformed, whole, isDigit, allDigits, valueFrom, isNatural, naturalOf, negativeOf, wholeOf, answerOf}
+use Rattle.numeral.specs.Whole.{Read, malformed, whole, isDigit, allDigits, valueFrom, isNatural, naturalOf, negativeOf, wholeOf, isWithin, answerOf}
 use Rattle.numeral.specs.declared.Whole.the-variants.{Value, Large}
 
 -- -7200, 0 and 9007199254740991
@@ -47,13 +47,13 @@ whole-none = refl
 
 -- the two ends of the widest range
 answer-least : answerOf (whole (negsuc 9007199254740990)) ≡ Value (negsuc 9007199254740990)
-unfolding answerOf
+unfolding answerOf isWithin
 answer-least = refl
 
 answer-below : answerOf (whole (negsuc 9007199254740991)) ≡ Large
-unfolding answerOf
+unfolding answerOf isWithin
 answer-below = refl
 
 answer-above : answerOf (whole (pos 9007199254740992)) ≡ Large
-unfolding answerOf
+unfolding answerOf isWithin
 answer-above = refl

@@ -51,7 +51,7 @@ wholeOf (x ∷ l) = cond (eqb x 45) (negativeOf l) (naturalOf (x ∷ l))
 abbrev pub widest : ℕ
 widest = 9007199254740991
 
-abbrev pub isWithin : Whole → ℤ → ℤ → Bool
+unfoldable pub isWithin : Whole → ℤ → ℤ → Bool
 isWithin (Value z) lo hi = not (ltZ z lo) && not (ltZ hi z)
 isWithin Large lo hi = false
 isWithin Malformed lo hi = false
