@@ -1,0 +1,4 @@
+pub mod Pieces
+pub mod Strings
+pub mod Lists
+pub mod Numbers
