@@ -2,3 +2,5 @@ pub mod Pieces
 pub mod Strings
 pub mod Lists
 pub mod Numbers
+pub mod Rows
+pub mod RoundTrip
