@@ -4,3 +4,5 @@ pub mod Lists
 pub mod Numbers
 pub mod Rows
 pub mod RoundTrip
+pub mod Keys
+pub mod Cases
