@@ -6,3 +6,5 @@ pub mod Rows
 pub mod RoundTrip
 pub mod Keys
 pub mod Cases
+pub mod Ways
+pub mod Fields
