@@ -8,3 +8,4 @@ pub mod Keys
 pub mod Cases
 pub mod Ways
 pub mod Fields
+pub mod Named

@@ -13,7 +13,7 @@ use Rattle.numeral.specs.Decimal.{digits, decimal}
 use Rattle.text.specs.Event.{Tag, Event, quoted, tagsText, opening, closing, comma, bracket, serialise, pubkeyLength, all, isHexDigit, isPubkey, isTime, isKind, isTags, isString}
 use Rattle.text.specs.Read.{Got, none, got, bind, standsAt, closedAt, pairAt, stringAt, tagsAt, timeAt, kindAt, pubkeyIn, pubkeyAt, Fields, fieldsAt, eventOf, opened}
 use Rattle.text.specs.Parts.{noZero}
-use Rattle.text.proofs.Pieces.{Spelt, Piece, Exact, both, and-true, spelt, join, left, right, byte-is, byte-at, tail}
+use Rattle.text.proofs.Pieces.{Spelt, Piece, Exact, both, and-true, spelt, join, left, right, byte-is, byte-at, tail, spelt-inside}
 use Rattle.text.proofs.Strings.{string-exact}
 use Rattle.text.proofs.Lists.{tags-exact}
 use Rattle.text.proofs.Numbers.{time-same, time-back, kind-same, kind-back}
@@ -34,6 +34,9 @@ module _ (s : List ℕ) where
   stands-back [] at n a = refl
   stands-back (b ∷ w) at n a =
       and-true (eqb (getD s at 0) b) (standsAt s w (at + 1)) (eq-eqb (getD s at 0) b (byte-is a)) (stands-back w (at + 1) n (tail a))
+
+  pub stands-inside : (b : ℕ) (w : List ℕ) (at : ℕ) → noZero (b ∷ w) ≡ true → standsAt s (b ∷ w) at ≡ true → at + length (b ∷ w) ≤ length s
+  stands-inside b w at z e = spelt-inside s at (b ∷ w) (at + length (b ∷ w)) (stands-same (b ∷ w) at z e) (omega arith)
 
 -- ---- the pubkey
 abbrev itself : List ℕ → List ℕ
