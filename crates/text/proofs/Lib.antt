@@ -9,3 +9,4 @@ pub mod Cases
 pub mod Ways
 pub mod Fields
 pub mod Named
+pub mod Texts
