@@ -11,7 +11,7 @@ use lib.Signed.{mag}
 use mir.Syntax.{w64}
 use mir.Val.{toZ, ofZ, SFits}
 use mir.ValLaws.{toZ-ofZ}
-use borrow.Author.Tests.{le-leb, lt-leb, eq-eqb, ne-eqb}
+use borrow.Author.Tests.{le-leb, lt-leb, eq-eqb, ne-eqb, eqb-true}
 use Rattle.wire.specs.Escape.{escape}
 use Rattle.numeral.specs.Decimal.{digits, decimal}
 use Rattle.text.specs.Event.{Tag, quoted, tagsText, opening, closing, comma, bracket, mostText, isPubkey}
@@ -131,3 +131,128 @@ module _ (t : List ℕ) (at : ℕ) where
               let c : length (escape (end-got (stringAt t (m + 1)) n b .it)) ≡ n - m - 3 =
               omega (arith, quotes t (m + 1) (end-got (stringAt t (m + 1)) n b .it) n (end-got (stringAt t (m + 1)) n b .is)) in
               rw (rest-is, eq-eqb (n + 1) (length t) k, ← z, c, ts .place, ts .size)
+
+-- ---- what the parts say
+time-got : (g : Got ℤ) (z : ℤ) (n : ℕ) → time.Is z n ≡ timeIn g → g ≡ got z n
+time-got none z n e = absurd (let z : _≡_ {A = ℕ} 0 1 = cc in omega arith)
+time-got (got y m) z n e = cc
+
+time-none : (g : Got ℤ) → time.Not ≡ timeIn g → g ≡ none
+time-none none e = refl
+time-none (got y m) e = absurd (let z : _≡_ {A = ℕ} 0 1 = cc in omega arith)
+
+kind-got : (g : Got ℕ) (k n : ℕ) → kind.Is k n ≡ kindIn g → g ≡ got k n
+kind-got none k n e = absurd (let z : _≡_ {A = ℕ} 0 1 = cc in omega arith)
+kind-got (got y m) k n e = cc
+
+kind-none : (g : Got ℕ) → kind.Not ≡ kindIn g → g ≡ none
+kind-none none e = refl
+kind-none (got y m) e = absurd (let z : _≡_ {A = ℕ} 0 1 = cc in omega arith)
+
+record Rested (l at : ℕ) (g : Got (List Tag × List ℕ)) (c cl d dl : ℕ) : Type 0 where
+  it : List Tag × List ℕ
+  is : g ≡ got it l
+  content : at + length (tagsText (it .0)) + 2 ≡ c
+  content-len : length (escape (it .1)) ≡ cl
+  place : dSpan (at + 1) (it .0) .at ≡ d
+  size : dSpan (at + 1) (it .0) .len ≡ dl
+
+rest-told : (l at : ℕ) (g : Got (List Tag × List ℕ)) (c cl d dl : ℕ) → rest.Is c cl d dl ≡ restOf l at g → Rested l at g c cl d dl
+rest-told l at none c cl d dl e = absurd (let z : _≡_ {A = ℕ} 0 1 = cc in omega arith)
+rest-told l at (got x n) c cl d dl e = go (eqb n l) refl e
+  where
+    go : (b : Bool) → eqb n l ≡ b → rest.Is c cl d dl ≡ cond b (rest.Is (at + length (tagsText (x .0)) + 2) (length (escape (x .1))) (dSpan (at + 1) (x .0) .at) (dSpan (at + 1) (x .0) .len)) rest.Bad
+        → Rested l at (got x n) c cl d dl
+    go true q e = record { it = x; is = ap (got x) (eqb-true n l q); content = cc; content-len = cc; place = cc; size = cc }
+    go false q e = absurd (let z : _≡_ {A = ℕ} 0 1 = cc in omega arith)
+
+-- ---- the whole text
+module _ (t : List ℕ) where
+  pub text-large : mostText < length t → answer.TooLarge ≡ answerOf (readText t)
+  unfolding readText
+  text-large h = rw (lt-leb (length t) mostText h)
+
+  module _ (h : length t ≤ mostText) where
+    abbrev Wrong : Type 0
+    Wrong = answer.WrongShape ≡ answerOf (readText t)
+
+    wrong : opened t ≡ none → Wrong
+    unfolding readText
+    wrong e = rw (le-leb (length t) mostText h, e)
+
+    pub text-opening : opens t ≡ false → Wrong
+    unfolding opens opened fieldsAt
+    text-opening e = wrong (go (standsAt t opening 0) (closedAt t closing (pubkeyAt t) 4) refl e)
+      where
+        go : (b : Bool) (g : Got (List ℕ)) → closedAt t closing (pubkeyAt t) 4 ≡ g → (b && isGot g) ≡ false → cond b (fieldsAt t 4) none ≡ none
+        go false g q e = refl
+        go true none q e = first-none _ _ 4 q
+        go true (got k n) q e = absurd (let z : _≡_ {A = ℕ} 0 1 = cc in omega arith)
+
+    module _ (o : opens t ≡ true) where
+      -- the pubkey, and the place after it
+      record Key : Type 0 where
+        it : List ℕ
+        first : standsAt t opening 0 ≡ true
+        is : closedAt t closing (pubkeyAt t) 4 ≡ got it 70
+
+      key : Key
+      unfolding opens closedAt pubkeyAt
+      key = go (standsAt t opening 0) (isPubkey (take 64 (drop 4 t))) (standsAt t closing 68) refl refl refl o
+        where
+          go : (a b c : Bool) → standsAt t opening 0 ≡ a → isPubkey (take 64 (drop 4 t)) ≡ b → standsAt t closing 68 ≡ c
+              → (a && isGot (bind (cond b (got (take 64 (drop 4 t)) 68) none) λ x n. cond (standsAt t closing n) (got x (n + length closing)) none)) ≡ true → Key
+          go true true true ea eb ec q = record { it = take 64 (drop 4 t); first = ea; is = rw (eb, ec) }
+          go true true false ea eb ec q = absurd (false≢true (rw ec at q))
+          go true false c ea eb ec q = absurd (false≢true q)
+          go false b c ea eb ec q = absurd (false≢true q)
+
+      pub text-time : time.Not ≡ timeIn (closedAt t comma (timeAt t) 70) → Wrong
+      unfolding opened fieldsAt
+      text-time a = wrong (rw (key .first) (second-none _ _ 4 (key .it) 70 (key .is) (first-none _ _ 70 (time-none (closedAt t comma (timeAt t) 70) a))))
+
+      module _ (z : ℤ) (a : ℕ) (ea : time.Is z a ≡ timeIn (closedAt t comma (timeAt t) 70)) where
+        zs : closedAt t comma (timeAt t) 70 ≡ got z a
+        zs = time-got (closedAt t comma (timeAt t) 70) z a ea
+
+        pub text-kind : kind.Not ≡ kindIn (closedAt t comma (kindAt t) a) → Wrong
+        unfolding opened fieldsAt
+        text-kind b =
+            wrong (rw (key .first)
+            (second-none _ _ 4 (key .it) 70 (key .is) (second-none _ _ 70 z a zs (first-none _ _ a (kind-none (closedAt t comma (kindAt t) a) b)))))
+
+        module _ (k b : ℕ) (eb : kind.Is k b ≡ kindIn (closedAt t comma (kindAt t) a)) where
+          ks : closedAt t comma (kindAt t) a ≡ got k b
+          ks = kind-got (closedAt t comma (kindAt t) a) k b eb
+
+          fields-none : restAt t b ≡ none → opened t ≡ none
+          unfolding opened fieldsAt restAt
+          fields-none r = rw (key .first) (second-none _ _ 4 (key .it) 70 (key .is) (second-none _ _ 70 z a zs (second-none _ _ a k b ks r)))
+
+          fields-got : (x : List Tag × List ℕ) (n : ℕ) → restAt t b ≡ got x n → opened t ≡ got (key .it, (z, (k, x))) n
+          unfolding opened fieldsAt restAt
+          fields-got x n r =
+              rw (key .first) (both-got _ _ 4 (key .it) 70 (z, (k, x)) n (key .is) (both-got _ _ 70 z a (k, x) n zs (both-got _ _ a k b x n ks r)))
+
+          pub text-rest : rest.Bad ≡ restOf (length t) b (restAt t b) → Wrong
+          unfolding readText
+          text-rest q = go (restAt t b) refl q
+            where
+              long : (x : List Tag × List ℕ) (n : ℕ) (f : Bool) → eqb n (length t) ≡ f → restAt t b ≡ got x n
+                  → rest.Bad ≡ cond f (rest.Is (b + length (tagsText (x .0)) + 2) (length (escape (x .1))) (dSpan (b + 1) (x .0) .at) (dSpan (b + 1) (x .0) .len)) rest.Bad → Wrong
+              long x n true ef r q = absurd (let z : _≡_ {A = ℕ} 0 1 = cc in omega arith)
+              long x n false ef r q = rw (le-leb (length t) mostText h, fields-got x n r, ef)
+
+              go : (g : Got (List Tag × List ℕ)) → restAt t b ≡ g → rest.Bad ≡ restOf (length t) b g → Wrong
+              go none r q = wrong (fields-none r)
+              go (got x n) r q = long x n (eqb n (length t)) refl r q
+
+          pub text-read : (c cl d dl : ℕ) → rest.Is c cl d dl ≡ restOf (length t) b (restAt t b)
+              → answer.Read (record { time = z; kind = k; tags = b; content = c; «content_len» = cl; d = d; «d_len» = dl }) ≡ answerOf (readText t)
+          unfolding readText
+          text-read c cl d dl q =
+              let r = rest-told (length t) b (restAt t b) c cl d dl q in
+              let za = time-closed t .same 70 z a zs .is .end in
+              let kb = kind-closed t .same a k b ks .is .end in
+              let p : 72 + length (decimal z) + length (digits k) ≡ b = omega (arith, za, kb, length-append (decimal z) comma, length-append (digits k) comma) in
+              rw (le-leb (length t) mostText h, fields-got (r .it) (length t) (r .is), eq-eqb (length t) (length t) refl, p, r .content, r .content-len, r .place, r .size)
