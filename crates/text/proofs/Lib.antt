@@ -10,3 +10,4 @@ pub mod Ways
 pub mod Fields
 pub mod Named
 pub mod Texts
+pub mod Places

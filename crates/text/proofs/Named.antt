@@ -79,11 +79,11 @@ named q t (x ∷ y ∷ l) =
     (two-d (escOne y ++ r) x (escOne x) (spelled x) (no-quote r y (escOne y) (spelled y)))
 
 -- what stands after the first string of members
-abbrev after : Tag → List ℕ
+abbrev pub after : Tag → List ℕ
 after [] = 93 ∷ []
 after (w ∷ t) = 44 ∷ membersText quoted (w ∷ t)
 
-members-begin : (v : List ℕ) (t : Tag) (r : List ℕ) → membersText quoted (v ∷ t) ++ r ≡ 34 ∷ (escape v ++ (34 ∷ (after t ++ r)))
+pub members-begin : (v : List ℕ) (t : Tag) (r : List ℕ) → membersText quoted (v ∷ t) ++ r ≡ 34 ∷ (escape v ++ (34 ∷ (after t ++ r)))
 unfolding membersText quoted
 members-begin v [] r = rw (append-assoc (escape v ++ (34 ∷ [])) (93 ∷ []) r, append-assoc (escape v) (34 ∷ []) ((93 ∷ []) ++ r))
 members-begin v (w ∷ t) r =
