@@ -1,8 +1,8 @@
 -- The starred cases of 01 that speak of texts, kinds and keys.
 use mathlib.Core.Path.{_≡_, refl, sym, ap, _∙_}
-use mathlib.Core.Bool.{true, false, _&&_}
+use mathlib.Core.Bool.{true}
 use mathlib.Core.List.{List, [], _∷_, _++_}
-use Prim.Native.Nat.{ℕ, zero, suc, _+_, _<_, _≤_}
+use Prim.Native.Nat.{ℕ, zero, suc, _+_}
 use native.Mathlib.Omega.{arith}
 use lib.Dec.{lit≤}
 use lib.IntN.{pos, negsuc}
@@ -11,7 +11,7 @@ use Rattle.wire.specs.Escape.{letterOf, escOne, escape}
 use Rattle.numeral.specs.Decimal.{digitsIn, digits, decimal}
 use Rattle.numeral.specs.Whole.{isWithin}
 use Rattle.utf8.specs.Utf8.{isUtf8, utf8From, leadOf}
-use Rattle.text.specs.Event.{Tag, Event, quoted, membersText, tagText, tagsText, serialise, mostText, all, isPubkey, isTime, isPlainByte, isString, isTag, isTags, isFit}
+use Rattle.text.specs.Event.{Tag, Event, quoted, membersText, tagText, tagsText, serialise, all, isPubkey, isTime, isPlainByte, isString, isTag, isTags, isFit}
 use Rattle.text.specs.Read.{tooLarge, read, readText}
 use Rattle.text.specs.Kinds.{classOf, dOf, addressable, keyOf}
 use Rattle.text.specs.declared.Class.the-variants.{Regular, Replaceable, Ephemeral, Addressable}

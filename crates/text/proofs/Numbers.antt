@@ -2,19 +2,19 @@
 use mathlib.Core.Path.{_≡_, refl, sym, ap, _∙_}
 use mathlib.Core.Bool.{Bool, true, false, cond, _&&_}
 use mathlib.Core.List.{List, [], _∷_, _++_}
-use Prim.Native.Nat.{ℕ, suc, _+_, _≤_}
+use Prim.Native.Nat.{ℕ, suc, _+_}
 use native.Mathlib.Omega.{arith}
 use lib.Dec.{eqb, leb}
 use lib.IntN.{ℤ, pos, negsuc}
 use lib.ListN.{length, getD, drop}
-use borrow.Author.Tests.{ne-eqb, eqb-true, eqb-false, leb-true}
+use borrow.Author.Tests.{ne-eqb, leb-true}
 use Rattle.numeral.specs.Decimal.{digits, decimal}
 use Rattle.numeral.specs.Whole.{isDigit, allDigits, wholeOf}
 use Rattle.numeral.specs.Whole as numeral
 use Rattle.numeral.proofs.Digits.{digits-all}
 use Rattle.numeral.proofs.Wholes.{whole-decimal, decimal-whole}
 use Rattle.text.specs.Event.{isTime, isKind}
-use Rattle.text.specs.Read.{Got, none, got, runOf, timeOf, kindOf, timeAt, kindAt}
+use Rattle.text.specs.Read.{none, got, runOf, timeOf, kindOf, timeAt, kindAt}
 use Rattle.text.proofs.Pieces.{Spelt, Piece, both, spelt, first-of}
 
 -- ---- the run up to a comma

@@ -1,22 +1,22 @@
 -- The places that a text is answered with hold what they are named for: pubkey, tags, content and d.
 use mathlib.Core.Path.{_≡_, refl, sym, ap, _∙_}
-use mathlib.Core.Bool.{Bool, true, false, cond, _&&_, false≢true}
+use mathlib.Core.Bool.{Bool, true, false, cond, false≢true}
 use mathlib.Core.List.{List, [], _∷_, _++_, append-assoc}
-use Prim.Native.Nat.{ℕ, zero, suc, _+_, _-_, _<_, _≤_, min}
+use Prim.Native.Nat.{ℕ, zero, suc, _+_, _-_, _≤_, min}
 use native.Mathlib.Omega.{arith}
-use lib.Dec.{eqb}
 use lib.ListN.{length, take, drop, length-append, length-take, length-drop}
-use lib.Seq.{drop-drop, take-at, take-append-seam}
+use lib.Seq.{drop-drop, take-append-seam}
 use borrow.Author.Tests.{eqb-true}
 use Rattle.wire.specs.Escape.{letterOf, escOne, escape}
 use Rattle.numeral.specs.Decimal.{digits, decimal}
-use Rattle.text.specs.Event.{Tag, Event, quoted, membersText, tagText, tagsText, opening, closing, comma, bracket, serialise, pubkeyLength, isPubkey, isTime, isKind, isTags, isString, isFit}
+use Rattle.text.specs.Event.{Tag, Event, quoted, membersText, tagText, tagsText, opening, closing, comma, bracket, serialise, pubkeyLength}
+use Rattle.text.specs.Read.{IsTextOf}
 use Rattle.text.specs.Kinds.{isNamedD, second, dOf}
 use Rattle.text.specs.Answer.{Span, spanOf, dSpan, tagsPlace, contentPlace, textOf}
-use Rattle.text.proofs.Pieces.{Spelt, both, left, right, tail, all-of}
+use Rattle.text.proofs.Pieces.{Spelt, left, right, tail, all-of}
+use Rattle.text.proofs.Limits.{limits-of}
 use Rattle.text.proofs.Rows.{pubkey-length}
 use Rattle.text.proofs.Named.{after, members-begin}
-use Rattle.text.proofs.RoundTrip.{IsTextOf}
 
 -- ---- d among the tags
 -- the bytes of a span
@@ -97,8 +97,7 @@ front e = opening ++ (e .pubkey ++ (closing ++ (decimal (e .time) ++ (comma ++ (
 
 module _ (t : List ℕ) (e : Event) (a : IsTextOf t e) where
   hex : length (e .pubkey) ≡ pubkeyLength
-  unfolding isFit
-  hex = pubkey-length (e .pubkey) (both (isPubkey (e .pubkey)) (isTime (e .time) && (isKind (e .kind) && (isTags (e .tags) && isString (e .content)))) (a .fit) .0)
+  hex = pubkey-length (e .pubkey) (limits-of e (a .fit) .pubkey)
 
   front-length : length (front e) ≡ tagsPlace e
   front-length = let h = hex in simp length-append (omega arith)

@@ -1,8 +1,8 @@
 -- An event that is written and read back is the same event; a text that is read and written again is the same text. So 01's sentence on a
 -- text read back alone holds word for word: `too-large`, `wrong-shape`, `accepted`.
 use mathlib.Core.Path.{_≡_, refl, sym, ap, _∙_}
-use mathlib.Core.Bool.{Bool, true, false, cond, _&&_}
-use mathlib.Core.List.{List, [], _∷_, _++_, append-assoc}
+use mathlib.Core.Bool.{Bool, true, false, cond}
+use mathlib.Core.List.{List, _++_, append-assoc}
 use mathlib.Core.Logic.{_↔_}
 use Prim.Native.Nat.{ℕ, _+_, _<_, _≤_}
 use native.Mathlib.Omega.{arith}
@@ -11,9 +11,10 @@ use lib.ListN.{length, length-append}
 use borrow.Author.Tests.{le-leb, lt-leb, eq-eqb, eqb-true, leb-true, leb-false}
 use Rattle.wire.specs.Escape.{escape}
 use Rattle.numeral.specs.Decimal.{digits, decimal}
-use Rattle.text.specs.Event.{Event, quoted, tagsText, opening, serialise, mostText, isPubkey, isTime, isKind, isTags, isString, isFit}
-use Rattle.text.specs.Read.{Got, none, got, standsAt, Fields, fieldsAt, eventOf, opened, ending, Read, tooLarge, wrongShape, read, readText}
-use Rattle.text.proofs.Pieces.{Spelt, both, join, left, right, whole, all-of}
+use Rattle.text.specs.Event.{Event, quoted, tagsText, opening, serialise, mostText, isFit}
+use Rattle.text.specs.Read.{Got, none, got, standsAt, Fields, fieldsAt, eventOf, opened, ending, Read, tooLarge, wrongShape, read, readText, IsTextOf}
+use Rattle.text.proofs.Pieces.{Spelt, join, left, right, whole, all-of}
+use Rattle.text.proofs.Limits.{limits-of}
 use Rattle.text.proofs.Rows.{stands-same, stands-back, pubkey-length, fieldsText, fieldsFit, fields-exact}
 
 fields-text : (x : Fields) → serialise (eventOf x) ≡ opening ++ fieldsText x
@@ -44,12 +45,6 @@ opened-same t x n q = go (standsAt t opening 0) refl q
     go : (a : Bool) → standsAt t opening 0 ≡ a → cond a (fieldsAt t 4) none ≡ got x n → Spelt t 0 (opening ++ fieldsText x) n × (fieldsFit x ≡ true)
     go true e r = let a = fields-exact t .same 4 x n r in (join {p = opening} (stands-same t opening 0 refl e) (a .is), a .fine)
     go false e r = absurd (let z : _≡_ {A = ℕ} 0 1 = cc in omega arith)
-
--- what a text that is read says of its event
-pub record IsTextOf (t : List ℕ) (e : Event) : Type 0 where
-  pub same : serialise e ≡ t
-  pub fit : isFit e ≡ true
-  pub small : length t ≤ mostText
 
 -- read, then written: the same bytes, of an event within the limits
 pub read-same : (t : List ℕ) (e : Event) → readText t ≡ read e → IsTextOf t e
@@ -129,7 +124,4 @@ unfolding serialise quoted
 serialise-length e = simp length-append (omega arith)
 
 pub fit-length : (e : Event) → isFit e ≡ true → length (serialise e) ≡ 76 + length (decimal (e .time)) + length (digits (e .kind)) + length (tagsText (e .tags)) + length (escape (e .content))
-unfolding isFit
-fit-length e h =
-    let l = pubkey-length (e .pubkey) (both (isPubkey (e .pubkey)) (isTime (e .time) && (isKind (e .kind) && (isTags (e .tags) && isString (e .content)))) h .0) in
-    omega (arith, serialise-length e)
+fit-length e h = let l = pubkey-length (e .pubkey) (limits-of e h .pubkey) in omega (arith, serialise-length e)

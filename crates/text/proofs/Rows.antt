@@ -1,8 +1,8 @@
 -- Fixed bytes, things in a row, the pubkey: each reader is exact where its parts are. Then all fields in a row.
-use mathlib.Core.Path.{_≡_, refl, sym, ap, _∙_}
+use mathlib.Core.Path.{_≡_, refl, sym, _∙_}
 use mathlib.Core.Bool.{Bool, true, false, cond, _&&_}
-use mathlib.Core.List.{List, [], _∷_, _++_, append-assoc}
-use Prim.Native.Nat.{ℕ, _+_, _<_, _≤_}
+use mathlib.Core.List.{List, [], _∷_, _++_}
+use Prim.Native.Nat.{ℕ, _+_, _≤_}
 use native.Mathlib.Omega.{arith}
 use lib.Dec.{eqb, ltb}
 use lib.IntN.{ℤ}
@@ -10,8 +10,8 @@ use lib.ListN.{length, getD, take, drop, take-append-drop}
 use lib.Seq.{take-at}
 use borrow.Author.Tests.{eq-eqb, eqb-true, ltb-true}
 use Rattle.numeral.specs.Decimal.{digits, decimal}
-use Rattle.text.specs.Event.{Tag, Event, quoted, tagsText, opening, closing, comma, bracket, serialise, pubkeyLength, all, isHexDigit, isPubkey, isTime, isKind, isTags, isString}
-use Rattle.text.specs.Read.{Got, none, got, bind, standsAt, closedAt, pairAt, stringAt, tagsAt, timeAt, kindAt, pubkeyIn, pubkeyAt, Fields, fieldsAt, eventOf, opened}
+use Rattle.text.specs.Event.{Tag, quoted, tagsText, closing, comma, bracket, pubkeyLength, all, isHexDigit, isPubkey, isTime, isKind, isTags, isString}
+use Rattle.text.specs.Read.{Got, none, got, bind, standsAt, closedAt, pairAt, stringAt, tagsAt, timeAt, kindAt, pubkeyAt, Fields, fieldsAt}
 use Rattle.text.specs.Parts.{noZero}
 use Rattle.text.proofs.Pieces.{Spelt, Piece, Exact, both, and-true, spelt, join, left, right, byte-is, byte-at, tail, spelt-inside}
 use Rattle.text.proofs.Strings.{string-exact}

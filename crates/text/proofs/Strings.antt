@@ -4,7 +4,7 @@ use mathlib.Core.Bool.{Bool, true, false, cond, _&&_}
 use mathlib.Core.List.{List, [], _∷_, _++_, append-assoc}
 use Prim.Native.Nat.{ℕ, suc, _+_, _<_, _≤_}
 use native.Mathlib.Omega.{arith}
-use lib.Dec.{eqb, leb, lit≤}
+use lib.Dec.{eqb, lit≤}
 use lib.ListN.{length, getD, drop, length-append}
 use borrow.Author.Tests.{lt-ltb, le-leb, eq-eqb, ne-eqb, eqb-true, eqb-false}
 use Rattle.utf8.specs.Utf8.{isUtf8, utf8From, leadOf, next}
@@ -12,7 +12,7 @@ use Rattle.utf8.specs.declared.Want.{Want}
 use Rattle.wire.specs.Escape.{letterOf, escOne, escape}
 use Rattle.text.specs.Event.{quoted, isPlainByte, all, isString}
 use Rattle.text.specs.declared.Move.the-variants.{Go, Stop, Refuse}
-use Rattle.text.specs.Read.{Got, none, got, byteOf, isRaw, moveOf, saidOf, push, bodyFrom, checked, stringAt}
+use Rattle.text.specs.Read.{Got, none, got, byteOf, isRaw, push, bodyFrom, checked, stringAt}
 use Rattle.text.proofs.Pieces.{Spelt, Piece, Exact, both, and-true, spelt, join, byte-is, byte-at, tail}
 
 -- the seven bytes that have an escape, each with its letter, and the others

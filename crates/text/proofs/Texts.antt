@@ -1,23 +1,19 @@
 -- A way out at a time: the rest after the kind, and the whole text. The places are functions of the event, by the lengths of its pieces.
-use mathlib.Core.Path.{_≡_, refl, sym, ap, _∙_}
+use mathlib.Core.Path.{_≡_, refl, sym, ap}
 use mathlib.Core.Bool.{Bool, true, false, cond, _&&_, false≢true}
-use mathlib.Core.List.{List, [], _∷_, _++_}
+use mathlib.Core.List.{List, [], _∷_}
 use Prim.Native.Nat.{ℕ, _+_, _-_, _<_, _≤_}
 use native.Mathlib.Omega.{arith}
 use lib.Dec.{eqb}
-use lib.IntN.{ℤ, pos, negsuc}
+use lib.IntN.{ℤ}
 use lib.ListN.{length, getD, take, drop, length-append}
-use lib.Signed.{mag}
-use mir.Syntax.{w64}
-use mir.Val.{toZ, ofZ, SFits}
-use mir.ValLaws.{toZ-ofZ}
 use borrow.Author.Tests.{le-leb, lt-leb, eq-eqb, ne-eqb, eqb-true}
 use Rattle.wire.specs.Escape.{escape}
 use Rattle.numeral.specs.Decimal.{digits, decimal}
-use Rattle.text.specs.Event.{Tag, quoted, tagsText, opening, closing, comma, bracket, mostText, isPubkey}
-use Rattle.text.specs.Read.{Got, none, got, bind, standsAt, closedAt, pairAt, stringAt, tagsAt, timeAt, kindAt, pubkeyAt, fieldsAt, opened, ending, tooLarge, wrongShape, read, readText}
+use Rattle.text.specs.Event.{Tag, quoted, tagsText, opening, closing, comma, mostText, isPubkey}
+use Rattle.text.specs.Read.{Got, none, got, bind, standsAt, closedAt, pairAt, stringAt, tagsAt, timeAt, kindAt, pubkeyAt, fieldsAt, opened, readText}
 use Rattle.text.specs.Answer.{dSpan, answerOf}
-use Rattle.text.specs.Parts.{endOf, timeIn, kindIn, isGot, opens, spanAfter, taggedOf, restAt, restOf}
+use Rattle.text.specs.Parts.{endOf, timeIn, kindIn, isGot, opens, taggedOf, restAt, restOf}
 use Rattle.text.specs.declared.Out.the-variants.{End, Bad}
 use Rattle.text.specs.declared.Time.the-variants as time
 use Rattle.text.specs.declared.Kind.the-variants as kind

@@ -1,5 +1,5 @@
 -- A turn or a way out of the code at a time: bytes, strings, lists, numbers, kinds.
-use mathlib.Core.Path.{_≡_, refl, sym, ap, _∙_}
+use mathlib.Core.Path.{_≡_, refl, ap, _∙_}
 use mathlib.Core.Bool.{Bool, true, false, cond, _&&_, _||_}
 use mathlib.Core.List.{List, [], _∷_, _++_, append-assoc}
 use Prim.Native.Nat.{ℕ, zero, suc, _+_, _-_, _<_, _≤_}
@@ -11,8 +11,8 @@ use lib.Seq.{drop-cons, take-at}
 use borrow.Author.Tests.{lt-ltb, le-ltb, le-leb, lt-leb, eq-eqb, ne-eqb, eqb-true, ltb-true}
 use Rattle.utf8.specs.Utf8.{isUtf8}
 use Rattle.wire.specs.Escape.{letterOf, escape}
-use Rattle.text.specs.Event.{mostTags, mostStrings, isPlainByte, all, isHexDigit, isPubkey, pubkeyLength}
-use Rattle.text.specs.Read.{Got, none, got, bind, standsAt, isRaw, moveOf, saidOf, push, bodyFrom, checked, stringAt, cons, follow, membersAt, tagAt, runOf}
+use Rattle.text.specs.Event.{mostStrings, isPlainByte, all, isHexDigit}
+use Rattle.text.specs.Read.{Got, none, got, standsAt, isRaw, moveOf, saidOf, push, bodyFrom, checked, stringAt, cons, follow, membersAt, tagAt, runOf}
 use Rattle.text.specs.Kinds.{classOf}
 use Rattle.text.specs.Parts.{endOf, noZero}
 use Rattle.text.specs.declared.Class.the-variants.{Regular, Replaceable, Ephemeral, Addressable}

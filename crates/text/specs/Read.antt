@@ -3,7 +3,7 @@
 use mathlib.Core.Bool.{Bool, true, false, cond, _&&_}
 use mathlib.Core.List.{List, [], _∷_, _++_}
 use mathlib.Core.Path.{_≡_}
-use Prim.Native.Nat.{ℕ, zero, suc, _+_}
+use Prim.Native.Nat.{ℕ, zero, suc, _+_, _≤_}
 use lib.Dec.{eqb, leb}
 use lib.IntN.{ℤ, pos, negsuc}
 use lib.ListN.{length, getD, take, drop}
@@ -11,7 +11,7 @@ use Rattle.wire.specs.Escape.{letterOf}
 use Rattle.numeral.specs.Whole.{wholeOf}
 use Rattle.numeral.specs.Whole as numeral
 use Rattle.utf8.specs.Utf8.{isUtf8}
-use Rattle.text.specs.Event.{Tag, Event, opening, closing, comma, bracket, mostText, mostTags, mostStrings, pubkeyLength, isPubkey, isTime, isKind, isPlainByte}
+use Rattle.text.specs.Event.{Tag, Event, opening, closing, comma, bracket, serialise, isFit, mostText, mostTags, mostStrings, pubkeyLength, isPubkey, isTime, isKind, isPlainByte}
 use Rattle.text.specs.declared.Move.{Move}
 use Rattle.text.specs.declared.Move.the-variants.{Go, Stop, Refuse}
 
@@ -149,3 +149,9 @@ opened t = cond (standsAt t opening 0) (fieldsAt t (length opening)) none
 -- refused by 9 if over 4,096 bytes, else by 5 if it isn't byte for byte the serialisation of an event within these limits
 unfoldable pub readText : List ℕ → Read
 readText t = cond (leb (length t) mostText) (ending t (opened t)) tooLarge
+
+-- t is the serialisation of e, an event within these limits
+pub record IsTextOf (t : List ℕ) (e : Event) : Type 0 where
+  pub same : serialise e ≡ t
+  pub fit : isFit e ≡ true
+  pub small : length t ≤ mostText

@@ -1,5 +1,4 @@
 -- 01's ranges in their order.
-use mathlib.Core.Path.{refl}
 use Rattle.text.specs.Kinds.{classOf}
 use Rattle.text.proofs.Ways.{class-low, class-replaceable, class-ephemeral, class-addressable, class-high}
 use Rattle.text.proofs.class_of.Statement.{statement}

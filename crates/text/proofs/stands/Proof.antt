@@ -1,3 +1,4 @@
+-- What is left of the bytes, at the place reached, decides.
 use mathlib.Core.Path.{_≡_, refl, sym, _∙_}
 use Prim.Native.Nat.{_-_}
 use native.Mathlib.Omega.{arith}
