@@ -1,5 +1,5 @@
 -- A turn or a way out of the code at a time: bytes, strings, lists, numbers, kinds.
-use mathlib.Core.Path.{_≡_, refl, ap, _∙_}
+use mathlib.Core.Path.{_≡_, refl, sym, ap, _∙_}
 use mathlib.Core.Bool.{Bool, true, false, cond, _&&_, _||_}
 use mathlib.Core.List.{List, [], _∷_, _++_, append-assoc}
 use Prim.Native.Nat.{ℕ, zero, suc, _+_, _-_, _<_, _≤_}
@@ -13,7 +13,7 @@ use Rattle.utf8.specs.Utf8.{isUtf8}
 use Rattle.wire.specs.Escape.{letterOf, escape}
 use Rattle.text.specs.Event.{mostStrings, isPlainByte, all, isHexDigit}
 use Rattle.text.specs.Read.{Got, none, got, standsAt, isRaw, moveOf, saidOf, push, bodyFrom, checked, stringAt, cons, follow, membersAt, tagAt, runOf}
-use Rattle.text.specs.Kinds.{classOf}
+use Rattle.text.specs.Kinds.{isEphemeral, isAddressable, classOf}
 use Rattle.text.specs.Parts.{endOf, noZero}
 use Rattle.text.specs.declared.Class.the-variants.{Regular, Replaceable, Ephemeral, Addressable}
 use Rattle.text.specs.declared.Out.the-variants.{End, Bad}
@@ -30,44 +30,23 @@ module _ (k : ℕ) where
   class-low p q h = rw (ne-eqb k 0 p, ne-eqb k 3 q, lt-leb 10000 k h, lt-leb 20000 k (omega arith), lt-leb 30000 k (omega arith))
 
   module _ (h : 10000 ≤ k) where
-    pub class-replaceable : k ≤ 19999 → Replaceable ≡ classOf k
+    from-10000 : classOf k ≡ cond (leb k 19999) Replaceable (cond (isEphemeral k) Ephemeral (cond (isAddressable k) Addressable Regular))
     unfolding classOf
-    class-replaceable l = rw (ne-eqb k 0 (λ e. omega arith), ne-eqb k 3 (λ e. omega arith), le-leb 10000 k h, le-leb k 19999 l)
+    from-10000 = rw (ne-eqb k 0 (λ e. omega arith), ne-eqb k 3 (λ e. omega arith), le-leb 10000 k h)
+
+    pub class-replaceable : k ≤ 19999 → Replaceable ≡ classOf k
+    class-replaceable l = sym (from-10000 ∙ rw (le-leb k 19999 l))
 
     module _ (i : 19999 < k) where
       pub class-ephemeral : k ≤ 29999 → Ephemeral ≡ classOf k
-      unfolding classOf
-      class-ephemeral l =
-          rw (ne-eqb k 0 (λ e. omega arith), ne-eqb k 3 (λ e. omega arith), le-leb 10000 k h, lt-leb k 19999 i, le-leb 20000 k i, le-leb k 29999 l)
+      class-ephemeral l = sym (from-10000 ∙ rw (lt-leb k 19999 i, le-leb 20000 k i, le-leb k 29999 l))
 
       module _ (j : 29999 < k) where
         pub class-addressable : k ≤ 39999 → Addressable ≡ classOf k
-        unfolding classOf
-        class-addressable l =
-            rw (
-              ne-eqb k 0 (λ e. omega arith),
-              ne-eqb k 3 (λ e. omega arith),
-              le-leb 10000 k h,
-              lt-leb k 19999 i,
-              le-leb 20000 k i,
-              lt-leb k 29999 j,
-              le-leb 30000 k j,
-              le-leb k 39999 l,
-            )
+        class-addressable l = sym (from-10000 ∙ rw (lt-leb k 19999 i, le-leb 20000 k i, lt-leb k 29999 j, le-leb 30000 k j, le-leb k 39999 l))
 
         pub class-high : 39999 < k → Regular ≡ classOf k
-        unfolding classOf
-        class-high l =
-            rw (
-              ne-eqb k 0 (λ e. omega arith),
-              ne-eqb k 3 (λ e. omega arith),
-              le-leb 10000 k h,
-              lt-leb k 19999 i,
-              le-leb 20000 k i,
-              lt-leb k 29999 j,
-              le-leb 30000 k j,
-              lt-leb k 39999 l,
-            )
+        class-high l = sym (from-10000 ∙ rw (lt-leb k 19999 i, le-leb 20000 k i, lt-leb k 29999 j, le-leb 30000 k j, lt-leb k 39999 l))
 
 -- ---- fixed bytes
 module _ (s w : List ℕ) (k i : ℕ) where
