@@ -3,7 +3,7 @@
 use mathlib.Core.Path.{_≡_, refl, sym, ap, _∙_}
 use mathlib.Core.Bool.{Bool, true, false, cond}
 use mathlib.Core.List.{List, _++_, append-assoc}
-use mathlib.Core.Logic.{_↔_}
+use mathlib.Core.Logic.{_↔_, Iff·trans}
 use Prim.Native.Nat.{ℕ, _+_, _<_, _≤_}
 use native.Mathlib.Omega.{arith}
 use lib.Dec.{eqb, leb}
@@ -13,6 +13,7 @@ use Rattle.wire.specs.Escape.{escape}
 use Rattle.numeral.specs.Decimal.{digits, decimal}
 use Rattle.text.specs.Event.{Event, quoted, tagsText, opening, serialise, mostText, isFit}
 use Rattle.text.specs.Read.{Got, none, got, standsAt, Fields, fieldsAt, eventOf, opened, ending, Read, tooLarge, wrongShape, read, readText, IsTextOf}
+use Rattle.text.specs.Answer.{answerOf, numberOf}
 use Rattle.text.proofs.Pieces.{Spelt, join, left, right, whole, all-of}
 use Rattle.text.proofs.Limits.{limits-of}
 use Rattle.text.proofs.Rows.{stands-same, stands-back, pubkey-length, fieldsText, fieldsFit, fields-exact}
@@ -108,6 +109,23 @@ wrong-shape t = (λ q. (small q, none-has q), λ h. go (readText t) refl (h .0) 
     go wrongShape q l n = refl
     go tooLarge q l n = absurd (let k = too-large t .0 q in omega arith)
     go (read e) q l n = absurd (let a = read-same t e q in n e (a .fit) (a .same))
+
+-- the same by 01's numbers
+nine : (r : Read) → (numberOf (answerOf r) ≡ 9) ↔ (r ≡ tooLarge)
+nine tooLarge = (λ _. refl, λ _. refl)
+nine wrongShape = (λ q. absurd (omega arith), λ q. absurd (let z : _≡_ {A = ℕ} 0 1 = cc in omega arith))
+nine (read e) = (λ q. absurd (omega arith), λ q. absurd (let z : _≡_ {A = ℕ} 0 1 = cc in omega arith))
+
+five : (r : Read) → (numberOf (answerOf r) ≡ 5) ↔ (r ≡ wrongShape)
+five tooLarge = (λ q. absurd (omega arith), λ q. absurd (let z : _≡_ {A = ℕ} 0 1 = cc in omega arith))
+five wrongShape = (λ _. refl, λ _. refl)
+five (read e) = (λ q. absurd (omega arith), λ q. absurd (let z : _≡_ {A = ℕ} 0 1 = cc in omega arith))
+
+pub number-9 : (t : List ℕ) → (numberOf (answerOf (readText t)) ≡ 9) ↔ (mostText < length t)
+number-9 t = Iff·trans (nine (readText t)) (too-large t)
+
+pub number-5 : (t : List ℕ) → (numberOf (answerOf (readText t)) ≡ 5) ↔ ((length t ≤ mostText) × ((e : Event) → isFit e ≡ true → serialise e ≡ t → ⊥))
+number-5 t = Iff·trans (five (readText t)) (wrong-shape t)
 
 -- two events within the limits with one text are the same
 pub serialise-once : (e f : Event) → isFit e ≡ true → isFit f ≡ true → serialise e ≡ serialise f → e ≡ f

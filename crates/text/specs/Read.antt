@@ -1,5 +1,6 @@
 -- 01, "A text read back alone". A reader `xAt` of the text s at a place: `got x n` if x stands there and the text goes on at n.
--- Past the end of a text stands 0, which is no byte of a serialisation.
+-- Past the end of a text stands 0, which is no byte of a serialisation. That these readers do what 01's sentence says is proved:
+-- proofs/RoundTrip, `accepted`, `too-large`, `wrong-shape`.
 use mathlib.Core.Bool.{Bool, true, false, cond, _&&_}
 use mathlib.Core.List.{List, [], _∷_, _++_}
 use mathlib.Core.Path.{_≡_}
@@ -134,6 +135,7 @@ fieldsAt s =
 abbrev pub eventOf : Fields → Event
 eventOf x = record { pubkey = x .0; time = x .1 .0; kind = x .1 .1 .0; tags = x .1 .1 .1 .0; content = x .1 .1 .1 .1 }
 
+-- refused by row 9 or row 5, or read
 pub data Read : Type 0 where
   tooLarge wrongShape : Read
   read : Event → Read
