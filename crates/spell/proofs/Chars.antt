@@ -2,18 +2,18 @@
 use mathlib.Core.Bool.{Bool, true, false, cond, _&&_}
 use mathlib.Core.Path.{_≡_, refl, sym, _∙_, ap}
 use mathlib.Core.List.{List, [], _∷_, _++_}
-use Prim.Native.Nat.{ℕ, zero, suc, pred, _+_, _-_, _/_, _%_, _≤_, _<_}
+use Prim.Native.Nat.{ℕ, zero, suc, pred, _+_, _/_, _%_, _≤_, _<_}
 use native.Mathlib.Decide.{decLe}
 use native.Mathlib.Omega.{arith}
 use native.Mathlib.Numerals.{add-one}
 use borrow.Author.Tests.{lt-ltb, lt-leb, eq-eqb, ne-eqb, leb-true, eqb-true}
 use lib.Dec.{ltb, leb, eqb}
-use lib.ListN.{length, getD, take, drop, length-drop, length-append, drop-of-length-le, List·getD-eq-default}
-use lib.Seq.{take-all, drop-cons, drop-drop, drop-nil, drop-append-le, getD-drop}
+use lib.ListN.{length, getD, drop, length-drop, length-append, drop-of-length-le, List·getD-eq-default}
+use lib.Seq.{drop-cons, drop-drop, drop-nil, drop-append-le, getD-drop}
 use Rattle.wire.proofs.Laws.{tests}
 use Rattle.spell.specs.declared.Char.{Char}
 use Rattle.spell.specs.Spell.{hexVal, four, isPair, unicodeOf, pairOf, fourAt, shortOf, charOf, charsFrom, chars, utf8Of, bytesOf, joined, decode, isControl, isRefused, any}
-use Rattle.spell.specs.Steps.{Sized, Begins, leftOf, Within, Stepped}
+use Rattle.spell.specs.Steps.{Sized, leftOf, Within, Stepped}
 
 pub and-left : (a b : Bool) → (a && b) ≡ true → a ≡ true
 and-left true b e = refl
@@ -47,19 +47,24 @@ module _ (l : List ℕ) (ex : getD l 0 0 ≡ 0x5c) {y : ℕ} (ey : y ≡ getD l 
   unfolding charOf
   char-unicode q eu ez ew ev e = e ∙ rw (eu, ez, ew, ev, eq-eqb (getD l 0 0) 0x5c ex, eq-eqb (getD l 1 0) 0x75 (sym ey ∙ q))
 
--- the byte at i begins what is left from i on, and that is the part `&p[i..]`
+-- bytes of what is left from i on
 module _ (p : List ℕ) (i : ℕ) where
   pub here : getD p i 0 ≡ getD (drop i p) 0 0
   here = let e : i + 0 ≡ i = omega arith in sym (getD-drop i p 0 0 ∙ ap (λ (n : ℕ). getD p n 0) e)
 
-  pub rest : take (length p - i) (drop i p) ≡ drop i p
-  rest = take-all (length p - i) (drop i p) (simp length-drop (omega arith))
+  pub there : (n : ℕ) {x : ℕ} → x ≡ getD p (i + n) 0 → x ≡ getD (drop i p) n 0
+  there n e = e ∙ sym (getD-drop i p n 0)
 
-  pub rest-begins : {r : Char} → Begins (take (length p - i) (drop i p)) r → Begins (drop i p) r
-  rest-begins b = rw rest at b
+  pub four-there : (k : ℕ) {u : ℕ} → u ≡ fourAt p (i + k) → u ≡ fourAt (drop i p) k
+  unfolding fourAt
+  four-there k e =
+      let at : (n : ℕ) → getD (drop i p) (k + n) 0 ≡ getD p (i + k + n) 0 = λ n. let q : i + (k + n) ≡ i + k + n = omega arith in getD-drop i p (k + n) 0 ∙ ap (λ (m : ℕ). getD p m 0) q in
+      e ∙ rw (getD-drop i p k 0, at 1, at 2, at 3)
 
-  pub rest-here : {x : ℕ} → getD p i 0 ≡ x → getD (take (length p - i) (drop i p)) 0 0 ≡ x
-  rest-here e = rw rest (sym here ∙ e)
+-- no pair where the first number is no surrogate
+pub no-pair : (u x y v : ℕ) → u < 0xd800 → record { code = u; raw = false; width = 6 } ≡ unicodeOf u x y v
+unfolding unicodeOf isPair
+no-pair u x y v h = rw (lt-leb 0xd800 u h)
 
 -- what holds of both sides holds of the choice
 pub either : {A : Type 0} (P : A → Type 0) (b : Bool) {x y : A} → P x → P y → P (cond b x y)
@@ -207,12 +212,12 @@ module _ (p : List ℕ) (i k : ℕ) (c : Char) (e : c ≡ charOf (drop i p)) (h 
         record { left = left-at q ∙ rw (ex, drop-of-length-le (utf8Of (c .code)) {i = suc k} m); within = begin p (i + c .width) k }
 
 -- a byte that stands as it is
-module _ (p : List ℕ) (i k : ℕ) (n : getD p i 0 ≡ 0x5c → ⊥) where
+module _ (p : List ℕ) (i : ℕ) (n : getD p i 0 ≡ 0x5c → ⊥) where
   pub raw-is : record { code = getD p i 0; raw = true; width = 1 } ≡ charOf (drop i p)
   raw-is = char-raw (drop i p) (here p i) _ n refl
 
-  pub step-byte : i < length p → Within p i k → Stepped p i k (record { byte = getD p i 0; at = i + 1; taken = k })
-  step-byte h w =
+  pub step-byte : (k : ℕ) → i < length p → Within p i k → Stepped p i k (record { byte = getD p i 0; at = i + 1; taken = k })
+  step-byte k h w =
       let z : k ≡ 0 = omega (arith, below-at p i k _ raw-is h w (raw-bytes _ refl)) in
       rw z (rw z at (step-raw p i k _ raw-is h w refl))
 

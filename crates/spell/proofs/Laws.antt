@@ -45,11 +45,11 @@ chars-short y l n =
     let e : record { code = shortOf y; raw = true; width = 2 } ≡ charOf (0x5c ∷ y ∷ l) = char-short (0x5c ∷ y ∷ l) refl refl _ n refl in
     first (0x5c ∷ y ∷ l) (omega arith) ∙ rw (← e)
 
-decode-raw : (x : ℕ) (l : List ℕ) → (x ≡ 0x5c → ⊥) → decode (x ∷ l) ≡ x ∷ decode l
+pub decode-raw : (x : ℕ) (l : List ℕ) → (x ≡ 0x5c → ⊥) → decode (x ∷ l) ≡ x ∷ decode l
 unfolding decode joined bytesOf
 decode-raw x l n = rw (chars-raw x l n)
 
-decode-short : (y : ℕ) (l : List ℕ) → (y ≡ 0x75 → ⊥) → decode (0x5c ∷ y ∷ l) ≡ shortOf y ∷ decode l
+pub decode-short : (y : ℕ) (l : List ℕ) → (y ≡ 0x75 → ⊥) → decode (0x5c ∷ y ∷ l) ≡ shortOf y ∷ decode l
 unfolding decode joined bytesOf
 decode-short y l n = rw (chars-short y l n)
 
@@ -81,14 +81,14 @@ decode-escape [] = refl
 decode-escape (b ∷ v) = decode-one b (escape v) ∙ ap (λ (t : List ℕ). b ∷ t) (decode-escape v)
 
 -- and no character of it is refused where no byte is
-refuses-raw : (x : ℕ) (l : List ℕ) → (x ≡ 0x5c → ⊥) → isText x ≡ true → refuses (x ∷ l) ≡ refuses l
+pub refuses-raw : (x : ℕ) (l : List ℕ) → (x ≡ 0x5c → ⊥) → isText x ≡ true → refuses (x ∷ l) ≡ refuses l
 unfolding refuses any isRefused isText
 refuses-raw x l n t =
     let few = ltb-true x 0x100 (and-left (ltb x 0x100) (not (isControl x)) t) in
     let allowed : isControl x ≡ false = not-true (isControl x) (and-right (ltb x 0x100) (not (isControl x)) t) in
     rw (chars-raw x l n, any, lt-leb 0xd800 x (omega arith), allowed)
 
-refuses-short : (y : ℕ) (l : List ℕ) → (y ≡ 0x75 → ⊥) → isRefused (record { code = shortOf y; raw = true; width = 2 }) ≡ false → refuses (0x5c ∷ y ∷ l) ≡ refuses l
+pub refuses-short : (y : ℕ) (l : List ℕ) → (y ≡ 0x75 → ⊥) → isRefused (record { code = shortOf y; raw = true; width = 2 }) ≡ false → refuses (0x5c ∷ y ∷ l) ≡ refuses l
 unfolding refuses any
 refuses-short y l n e = rw (chars-short y l n, any, e)
 

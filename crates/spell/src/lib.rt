@@ -1,6 +1,6 @@
 // Strings as they are spelled between their quotes: what they decode to, compared, measured and written.
 ghost use mathlib.Core.Path.{_≡_};
-ghost use Prim.Native.Nat.{_≤_, _<_};
+ghost use Prim.Native.Nat.{_+_, _≤_, _<_};
 ghost use lib.ListN.{length, getD, drop};
 ghost use Rattle.wire.specs.Put.{Puts};
 ghost use Rattle.spell.specs.Spell.{hexVal, four, fourAt, shortOf, isPair, pairOf, unicodeOf, utf8Of, isSurrogate, isControl, isRefused, refuses, decode, sameBytes, isTail, characterCount, isHex, isHexOf};
@@ -51,7 +51,7 @@ fn hex4(a: u8, b: u8, c: u8, d: u8) -> u32
 }
 
 fn hex_at(p: &[u8], k: usize) -> u32
-    requires { ⌜ k < 16 ⌝ }
+    requires { ⌜ k < length (now p) + 16 ⌝ }
     ensures { λ r. ⌜ r ≡ fourAt (now (p .entry)) k ⌝ }
     ensures { λ r. ⌜ r ≤ 0xffff ⌝ }
 {
@@ -142,12 +142,13 @@ fn unicode(u: u32, x: u8, y: u8, v: u32) -> Char
     }
 }
 
-// The character that begins with a backslash.
-fn escape_of(p: &[u8]) -> Char
-    requires { ⌜ getD (now p) 0 0 ≡ 0x5c ⌝ }
-    ensures { λ r. ⌜ Begins (now (p .entry)) r ⌝ }
+// The character at a place that has a backslash.
+fn escape_at(p: &[u8], i: usize) -> Char
+    requires { ⌜ i < length (now p) ⌝ }
+    requires { ⌜ getD (now p) i 0 ≡ 0x5c ⌝ }
+    ensures { λ r. ⌜ Begins (drop i (now (p .entry))) r ⌝ }
 {
-    let y = byte(p, 1);
+    let y = byte(p, i + 1);
     if y != b'u' {
         let code = short(y) as u32;
         return Char {
@@ -156,7 +157,15 @@ fn escape_of(p: &[u8]) -> Char
             width: 2,
         };
     }
-    unicode(hex_at(p, 2), byte(p, 6), byte(p, 7), hex_at(p, 8))
+    let u = hex_at(p, i + 2);
+    if u < 0xd800 {
+        return Char {
+            code: u,
+            raw: false,
+            width: 6,
+        };
+    }
+    unicode(u, byte(p, i + 6), byte(p, i + 7), hex_at(p, i + 8))
 }
 
 // The character at a place.
@@ -173,7 +182,7 @@ fn char_at(p: &[u8], i: usize) -> Char
             width: 1,
         };
     }
-    escape_of(&p[i..])
+    escape_at(p, i)
 }
 
 // How many octets a code point has in UTF-8.
@@ -282,7 +291,7 @@ pub fn refused(p: &[u8]) -> bool
             i += 1;
             continue;
         }
-        let c = escape_of(&p[i..]);
+        let c = escape_at(p, i);
         if is_refused(c) {
             return true;
         }

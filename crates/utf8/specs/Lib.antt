@@ -1,4 +1,5 @@
 -- RFC 3629.
 pub mod Utf8
 pub mod Abnf
+pub mod Steps
 pub mod Cases

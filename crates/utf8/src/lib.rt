@@ -1,5 +1,8 @@
 // UTF-8 (RFC 3629), a byte at a time: what the next byte has to be, and one step.
 ghost use mathlib.Core.Path.{_≡_};
+ghost use Prim.Native.Nat.{_≤_};
+ghost use lib.ListN.{length};
+ghost use Rattle.utf8.specs.Steps.{Past};
 ghost use Rattle.utf8.specs.Utf8.{leadOf, next, ends, isUtf8};
 
 // What the next byte has to be: the first of a character, one from the first number to the second with so many tails after it, or nothing will do.
@@ -67,15 +70,33 @@ fn ended(w: Want) -> bool
     }
 }
 
+// The first place from i on that holds no ASCII, or the end.
+fn past_ascii(s: &[u8], i: usize) -> usize
+    requires { ⌜ i ≤ length (now s) ⌝ }
+    ensures { λ r. ⌜ Past (now (s .entry)) i r ⌝ }
+{
+    let mut k = i;
+    while k < s.len() {
+        if 0x7f < s[k] {
+            return k;
+        }
+        k += 1;
+    }
+    k
+}
+
 // Whether the bytes are UTF-8.
 pub fn is_utf8(s: &[u8]) -> bool
     ensures { λ r. ⌜ r ≡ isUtf8 (now (s .entry)) ⌝ }
 {
     let mut w = Want::Lead;
-    let mut i = 0;
+    let mut i = past_ascii(s, 0);
     while i < s.len() {
         w = step(w, s[i]);
         i += 1;
+        if ended(w) {
+            i = past_ascii(s, i);
+        }
     }
     ended(w)
 }

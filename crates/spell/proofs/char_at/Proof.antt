@@ -3,7 +3,7 @@ use native.Mathlib.Omega.{arith}
 use borrow.Author.Needs.{needs}
 use mathlib.Core.Path.{refl}
 use denote.Ref.{now}
-use Rattle.spell.proofs.Chars.{here, rest-begins, rest-here, char-raw}
+use Rattle.spell.proofs.Chars.{here, char-raw}
 use Rattle.spell.proofs.char_at.Statement.{statement}
 use Rattle.spell.proofs.char_at.Tie as tie
 
@@ -16,14 +16,9 @@ returns c =
       sized = record { some = omega arith; few = omega arith; small = omega arith };
     }
 
-returns-2 : tie.Need-returns-2
-returns-2 c = let s = c .before .before .before .before .before in rest-begins (now (s .args .p)) (s .args .i) (c .escape-of .ensures)
-
 pub char-at-spec : {M : Type 1} → statement M
 char-at-spec =
     tie.close
     (tie.spec (λ c. search needs)
     (λ c. omega (arith, c .before .shared-slice-known2 .given (c .before .before .before .args .i))) returns
-    (λ c. search needs) (λ c. search needs) (λ c. search needs)
-    (λ c κs. let s = c .before .before .before .before in rest-here (now (s .args .p)) (s .args .i) (c .before .if1 .left))
-    returns-2)
+    (λ c κs. search needs) (λ c. search needs))

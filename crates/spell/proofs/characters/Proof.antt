@@ -23,21 +23,21 @@ add-n : tie.Need-add-n Inv-loop μ-loop
 add-n c =
     let l = c .before .before .before .before .before .loop in
     let s = c .before .before .before .before .before .before .before .args in
-    let r = step-byte (now (s .p)) (l .i) (l .k) (c .before .before .if1 .taken) (c .before .before .before .before .loop-test .taken) (l .inv .1) in
+    let r = step-byte (now (s .p)) (l .i) (c .before .before .if1 .taken) (l .k) (c .before .before .before .before .loop-test .taken) (l .inv .1) in
     omega (arith, point-counted (r .left) (sym (c .before .is-tail .ensures) ∙ not-true _ (c .if2 .taken)), points-few (decode (now (s .p))), decode-few (now (s .p)))
 
 loop-again : tie.Need-loop-again Inv-loop μ-loop
 loop-again c =
     let l = c .before .before .before .before .before .loop in
     let s = c .before .before .before .before .before .before .before .args in
-    let r = step-byte (now (s .p)) (l .i) (l .k) (c .before .before .if1 .taken) (c .before .before .before .before .loop-test .taken) (l .inv .1) in
+    let r = step-byte (now (s .p)) (l .i) (c .before .before .if1 .taken) (l .k) (c .before .before .before .before .loop-test .taken) (l .inv .1) in
     (omega (arith, point-counted (r .left) (sym (c .before .is-tail .ensures) ∙ not-true _ (c .if2 .taken))), r .within)
 
 loop-again-2 : tie.Need-loop-again-2 Inv-loop μ-loop
 loop-again-2 c =
     let l = c .before .before .before .before .before .loop in
     let s = c .before .before .before .before .before .before .before .args in
-    let r = step-byte (now (s .p)) (l .i) (l .k) (c .before .before .if1 .taken) (c .before .before .before .before .loop-test .taken) (l .inv .1) in
+    let r = step-byte (now (s .p)) (l .i) (c .before .before .if1 .taken) (l .k) (c .before .before .before .before .loop-test .taken) (l .inv .1) in
     (omega (arith, point-passed (r .left) (sym (c .before .is-tail .ensures) ∙ not-false _ (c .if2 .left))), r .within)
 
 add-n-2 : tie.Need-add-n-2 Inv-loop μ-loop
@@ -65,9 +65,9 @@ characters-spec =
     tie.close
     (tie.spec Inv-loop μ-loop (λ c. (omega arith, begin _ 0 0)) (λ c. search needs) (λ c. search needs)
     (λ c κs. search needs) add-n
-    (λ c. let l = c .before .before .before .before .before .loop in let s = c .before .before .before .before .before .before .before .args in omega (arith, ap length (step-byte (now (s .p)) (l .i) (l .k) (c .before .before .if1 .taken) (c .before .before .before .before .loop-test .taken) (l .inv .1) .left)))
+    (λ c. let l = c .before .before .before .before .before .loop in let s = c .before .before .before .before .before .before .before .args in omega (arith, ap length (step-byte (now (s .p)) (l .i) (c .before .before .if1 .taken) (l .k) (c .before .before .before .before .loop-test .taken) (l .inv .1) .left)))
     loop-again
-    (λ c. let l = c .before .before .before .before .before .loop in let s = c .before .before .before .before .before .before .before .args in omega (arith, ap length (step-byte (now (s .p)) (l .i) (l .k) (c .before .before .if1 .taken) (c .before .before .before .before .loop-test .taken) (l .inv .1) .left)))
+    (λ c. let l = c .before .before .before .before .before .loop in let s = c .before .before .before .before .before .before .before .args in omega (arith, ap length (step-byte (now (s .p)) (l .i) (c .before .before .if1 .taken) (l .k) (c .before .before .before .before .loop-test .taken) (l .inv .1) .left)))
     loop-again-2 (λ c κs. search needs) (λ c κs. search needs) add-n-2
     (λ c. omega (arith, ap length ((c .before .before .advance .ensures) .left))) loop-again-3
     (λ c. omega (arith, ap length ((c .before .before .advance .ensures) .left))) loop-again-4 returns)

@@ -27,7 +27,7 @@ loop-again : tie.Need-loop-again Inv-loop μ-loop
 loop-again c =
     let l = c .before .before .before .loop in
     let s = c .before .before .before .before .before .args in
-    let r = step-byte (now (s .p)) (l .i) (l .k) (c .if1 .taken) (c .before .before .loop-test .taken) (l .inv .1) in
+    let r = step-byte (now (s .p)) (l .i) (c .if1 .taken) (l .k) (c .before .before .loop-test .taken) (l .inv .1) in
     (omega (arith, ap length (r .left)), r .within)
 
 loop-again-2 : tie.Need-loop-again-2 Inv-loop μ-loop
@@ -44,6 +44,6 @@ unfolding leftOf
 decoded-len-spec =
     tie.close
     (tie.spec Inv-loop μ-loop (λ c. (omega arith, begin _ 0 0)) add-n (λ c. search needs) (λ c. search needs)
-    (λ c. let l = c .before .before .before .loop in let s = c .before .before .before .before .before .args in omega (arith, ap length (step-byte (now (s .p)) (l .i) (l .k) (c .if1 .taken) (c .before .before .loop-test .taken) (l .inv .1) .left)))
+    (λ c. let l = c .before .before .before .loop in let s = c .before .before .before .before .before .args in omega (arith, ap length (step-byte (now (s .p)) (l .i) (c .if1 .taken) (l .k) (c .before .before .loop-test .taken) (l .inv .1) .left)))
     loop-again (λ c κs. search needs) (λ c. omega (arith, ap length ((c .advance .ensures) .left))) loop-again-2
     returns)

@@ -23,7 +23,7 @@ add-n : tie.Need-add-n Inv-loop μ-loop
 add-n c =
     let l = c .before .before .before .before .loop in
     let s = c .before .before .before .before .before .before .args in
-    let r = step-byte (now (s .p)) (l .i) (l .k) (c .before .if1 .taken) (c .before .before .before .loop-test .taken) (l .inv .1) in
+    let r = step-byte (now (s .p)) (l .i) (c .before .if1 .taken) (l .k) (c .before .before .before .loop-test .taken) (l .inv .1) in
     let e = simp length-append at (ap length (escape-turn (r .left))) in
     omega (arith, escape-few (decode (now (s .p))), decode-few (now (s .p)))
 
@@ -31,7 +31,7 @@ loop-again : tie.Need-loop-again Inv-loop μ-loop
 loop-again c =
     let l = c .before .before .before .before .loop in
     let s = c .before .before .before .before .before .before .args in
-    let r = step-byte (now (s .p)) (l .i) (l .k) (c .before .if1 .taken) (c .before .before .before .loop-test .taken) (l .inv .1) in
+    let r = step-byte (now (s .p)) (l .i) (c .before .if1 .taken) (l .k) (c .before .before .before .loop-test .taken) (l .inv .1) in
     let e = simp length-append at (ap length (escape-turn (r .left))) in
     (omega arith, r .within)
 
@@ -59,6 +59,6 @@ escaped-len-spec =
     tie.close
     (tie.spec Inv-loop μ-loop (λ c. (omega arith, begin _ 0 0)) (λ c. search needs) (λ c. search needs)
     (λ c κs. search needs) add-n
-    (λ c. let l = c .before .before .before .before .loop in let s = c .before .before .before .before .before .before .args in omega (arith, ap length (step-byte (now (s .p)) (l .i) (l .k) (c .before .if1 .taken) (c .before .before .before .loop-test .taken) (l .inv .1) .left)))
+    (λ c. let l = c .before .before .before .before .loop in let s = c .before .before .before .before .before .before .args in omega (arith, ap length (step-byte (now (s .p)) (l .i) (c .before .if1 .taken) (l .k) (c .before .before .before .loop-test .taken) (l .inv .1) .left)))
     loop-again (λ c κs. search needs) (λ c κs. search needs) add-n-2
     (λ c. omega (arith, ap length ((c .before .advance .ensures) .left))) loop-again-2 returns)

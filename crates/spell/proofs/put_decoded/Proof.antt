@@ -21,7 +21,7 @@ loop-again : tie.Need-loop-again Inv-loop μ-loop
 loop-again c =
     let l = c .before .before .before .before .before .before .before .loop in
     let s = c .before .before .before .before .before .before .before .before .before .before .before .args in
-    let r = step-byte (now (s .p)) (l .i) (l .k) (c .before .before .before .before .if2 .taken) (c .before .before .before .before .before .before .loop-test .taken) (l .inv .1) in
+    let r = step-byte (now (s .p)) (l .i) (c .before .before .before .before .if2 .taken) (l .k) (c .before .before .before .before .before .before .loop-test .taken) (l .inv .1) in
     (rest-turn (l .inv .0) (c .before .before .put-byte .ensures) (r .left), r .within)
 
 loop-again-2 : tie.Need-loop-again-2 Inv-loop μ-loop
@@ -40,7 +40,7 @@ put-decoded-spec =
     (tie.spec Inv-loop μ-loop (λ c. puts-out _ _ _ (omega arith))
     (λ c. (rest-start _ _ _ (c .if1 .left), begin _ 0 0)) (λ c. search needs) (λ c κs. search needs)
     (λ c. search needs)
-    (λ c. let l = c .before .before .before .before .before .before .before .loop in let s = c .before .before .before .before .before .before .before .before .before .before .before .args in omega (arith, ap length (step-byte (now (s .p)) (l .i) (l .k) (c .before .before .before .before .if2 .taken) (c .before .before .before .before .before .before .loop-test .taken) (l .inv .1) .left)))
+    (λ c. let l = c .before .before .before .before .before .before .before .loop in let s = c .before .before .before .before .before .before .before .before .before .before .before .args in omega (arith, ap length (step-byte (now (s .p)) (l .i) (c .before .before .before .before .if2 .taken) (l .k) (c .before .before .before .before .before .before .loop-test .taken) (l .inv .1) .left)))
     loop-again (λ c κs. search needs) (λ c κs. search needs)
     (λ c. omega (arith, ap length ((c .before .before .before .before .advance .ensures) .left))) loop-again-2
     (λ c. search needs) returns-2)

@@ -6,7 +6,7 @@ use mathlib.Core.Path.{_≡_, refl, sym, _∙_}
 use Prim.Native.Nat.{_-_}
 use lib.ListN.{length, drop}
 use Rattle.spell.specs.Spell.{refuses, any, isRefused, chars}
-use Rattle.spell.proofs.Chars.{rest-begins, rest-here, raw-is, raw-refused, refused-here, refused-later, refused-none}
+use Rattle.spell.proofs.Chars.{raw-is, raw-refused, refused-here, refused-later, refused-none}
 use Rattle.spell.proofs.refused.Statement.{statement}
 use Rattle.spell.proofs.refused.Tie as tie
 
@@ -21,26 +21,26 @@ returns c =
     let l = c .before .before .before .before .before .loop in
     let s = c .before .before .before .before .before .before .before .args in
     let b = raw-refused _ (c .before .before .before .shared-slice-known2 .given (l .i) .fits) in
-    sym (refused-here (now (s .p)) (l .i) (l .inv) (c .before .before .before .before .loop-test .taken) _ (raw-is (now (s .p)) (l .i) 0 (c .before .before .if1 .taken)) (b ∙ sym (c .before .is-control .ensures) ∙ (c .if2 .taken)))
+    sym (refused-here (now (s .p)) (l .i) (l .inv) (c .before .before .before .before .loop-test .taken) _ (raw-is (now (s .p)) (l .i) (c .before .before .if1 .taken)) (b ∙ sym (c .before .is-control .ensures) ∙ (c .if2 .taken)))
 
 loop-again : tie.Need-loop-again Inv-loop μ-loop
 loop-again c =
     let l = c .before .before .before .before .before .loop in
     let s = c .before .before .before .before .before .before .before .args in
     let b = raw-refused _ (c .before .before .before .shared-slice-known2 .given (l .i) .fits) in
-    refused-later (now (s .p)) (l .i) (l .inv) (c .before .before .before .before .loop-test .taken) _ (raw-is (now (s .p)) (l .i) 0 (c .before .before .if1 .taken)) (b ∙ sym (c .before .is-control .ensures) ∙ (c .if2 .left))
+    refused-later (now (s .p)) (l .i) (l .inv) (c .before .before .before .before .loop-test .taken) _ (raw-is (now (s .p)) (l .i) (c .before .before .if1 .taken)) (b ∙ sym (c .before .is-control .ensures) ∙ (c .if2 .left))
 
 returns-2 : tie.Need-returns-2 Inv-loop μ-loop
 returns-2 c =
-    let l = c .before .before .before .before .before .before .before .loop in
-    let s = c .before .before .before .before .before .before .before .before .before .args in
-    sym (refused-here (now (s .p)) (l .i) (l .inv) (c .before .before .before .before .before .before .loop-test .taken) _ (rest-begins (now (s .p)) (l .i) (c .before .before .escape-of .ensures) .is) (sym (c .before .is-refused .ensures) ∙ (c .if3 .taken)))
+    let l = c .before .before .before .before .before .before .loop in
+    let s = c .before .before .before .before .before .before .before .before .args in
+    sym (refused-here (now (s .p)) (l .i) (l .inv) (c .before .before .before .before .before .loop-test .taken) _ ((c .before .before .escape-at .ensures) .is) (sym (c .before .is-refused .ensures) ∙ (c .if3 .taken)))
 
 loop-again-2 : tie.Need-loop-again-2 Inv-loop μ-loop
 loop-again-2 c =
-    let l = c .before .before .before .before .before .before .before .before .loop in
-    let s = c .before .before .before .before .before .before .before .before .before .before .args in
-    refused-later (now (s .p)) (l .i) (l .inv) (c .before .before .before .before .before .before .before .loop-test .taken) _ (rest-begins (now (s .p)) (l .i) (c .before .before .before .escape-of .ensures) .is) (sym (c .before .before .is-refused .ensures) ∙ (c .before .if3 .left))
+    let l = c .before .before .before .before .before .before .before .loop in
+    let s = c .before .before .before .before .before .before .before .before .before .args in
+    refused-later (now (s .p)) (l .i) (l .inv) (c .before .before .before .before .before .before .loop-test .taken) _ ((c .before .before .before .escape-at .ensures) .is) (sym (c .before .before .is-refused .ensures) ∙ (c .before .if3 .left))
 
 returns-3 : tie.Need-returns-3 Inv-loop μ-loop
 returns-3 c =
@@ -54,7 +54,5 @@ refused-spec =
     tie.close
     (tie.spec Inv-loop μ-loop (λ c. refl) (λ c. search needs)
     (λ c. omega (arith, c .before .shared-slice-known2 .given (c .before .before .before .loop .i)))
-    (λ c κs. search needs) returns (λ c. search needs) (λ c. search needs) loop-again (λ c. search needs)
-    (λ c. search needs) (λ c. search needs)
-    (λ c κs. rest-here (now (c .before .before .before .before .before .before .args .p)) (c .before .before .before .before .loop .i) (c .before .if1 .left))
+    (λ c κs. search needs) returns (λ c. search needs) (λ c. search needs) loop-again (λ c κs. search needs)
     (λ c κs. search needs) returns-2 (λ c. search needs) (λ c. search needs) loop-again-2 returns-3)

@@ -27,14 +27,14 @@ returns-2 : tie.Need-returns-2 Inv-loop μ-loop
 returns-2 c =
     let l = c .before .before .before .before .before .before .loop in
     let s = c .before .before .before .before .before .before .before .before .before .args in
-    let r = step-byte (now (s .p)) (l .i) (l .k) (c .before .if2 .taken) (c .before .before .before .before .before .loop-test .taken) (l .inv .1) in
+    let r = step-byte (now (s .p)) (l .i) (c .before .if2 .taken) (l .k) (c .before .before .before .before .before .loop-test .taken) (l .inv .1) in
     sym (differ (l .inv .0) (r .left) (byte-turn (now (s .word)) (l .j) (c .before .before .before .before .if1 .left)) (c .if3 .taken))
 
 loop-again : tie.Need-loop-again Inv-loop μ-loop
 loop-again c =
     let l = c .before .before .before .before .before .before .loop in
     let s = c .before .before .before .before .before .before .before .before .before .args in
-    let r = step-byte (now (s .p)) (l .i) (l .k) (c .before .if2 .taken) (c .before .before .before .before .before .loop-test .taken) (l .inv .1) in
+    let r = step-byte (now (s .p)) (l .i) (c .before .if2 .taken) (l .k) (c .before .before .before .before .before .loop-test .taken) (l .inv .1) in
     (agree (l .inv .0) (r .left) (byte-turn (now (s .word)) (l .j) (c .before .before .before .before .if1 .left)) (c .if3 .left), r .within)
 
 returns-3 : tie.Need-returns-3 Inv-loop μ-loop
@@ -67,6 +67,6 @@ spells-spec =
     tie.close
     (tie.spec Inv-loop μ-loop (λ c. (refl, begin _ 0 0)) returns (λ c. search needs) (λ c. search needs) returns-2
     (λ c. search needs) (λ c. search needs)
-    (λ c. let l = c .before .before .before .before .before .before .loop in let s = c .before .before .before .before .before .before .before .before .before .args in omega (arith, ap length (step-byte (now (s .p)) (l .i) (l .k) (c .before .if2 .taken) (c .before .before .before .before .before .loop-test .taken) (l .inv .1) .left)))
+    (λ c. let l = c .before .before .before .before .before .before .loop in let s = c .before .before .before .before .before .before .before .before .before .args in omega (arith, ap length (step-byte (now (s .p)) (l .i) (c .before .if2 .taken) (l .k) (c .before .before .before .before .before .loop-test .taken) (l .inv .1) .left)))
     loop-again (λ c κs. search needs) returns-3 (λ c. search needs)
     (λ c. omega (arith, ap length ((c .before .before .advance .ensures) .left))) loop-again-2 returns-4 returns-5)

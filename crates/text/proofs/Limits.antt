@@ -1,0 +1,27 @@
+-- Each limit by its name.
+use mathlib.Core.Path.{_≡_}
+use mathlib.Core.Bool.{true, _&&_}
+use Prim.Native.Nat.{_≤_}
+use borrow.Author.Tests.{le-leb, leb-true}
+use Rattle.text.specs.Event.{Event, mostKind, isPubkey, isTime, isKind, isTags, isString, isFit}
+use Rattle.text.proofs.Pieces.{both}
+
+pub record Limits (e : Event) : Type 0 where
+  pub pubkey : isPubkey (e .pubkey) ≡ true
+  pub time : isTime (e .time) ≡ true
+  pub kind : e .kind ≤ mostKind
+  pub tags : isTags (e .tags) ≡ true
+  pub content : isString (e .content) ≡ true
+
+pub limits-of : (e : Event) → isFit e ≡ true → Limits e
+unfolding isFit
+limits-of e h =
+    let a = both (isPubkey (e .pubkey)) (isTime (e .time) && (isKind (e .kind) && (isTags (e .tags) && isString (e .content)))) h in
+    let b = both (isTime (e .time)) (isKind (e .kind) && (isTags (e .tags) && isString (e .content))) (a .1) in
+    let c = both (isKind (e .kind)) (isTags (e .tags) && isString (e .content)) (b .1) in
+    let d = both (isTags (e .tags)) (isString (e .content)) (c .1) in
+    record { pubkey = a .0; time = b .0; kind = leb-true (e .kind) mostKind (c .0); tags = d .0; content = d .1 }
+
+pub fit-of : (e : Event) → Limits e → isFit e ≡ true
+unfolding isFit
+fit-of e l = rw (l .pubkey, l .time, le-leb (e .kind) mostKind (l .kind), l .tags, l .content)

@@ -1,0 +1,146 @@
+-- The places that a text is answered with hold what they are named for: pubkey, tags, content and d.
+use mathlib.Core.Path.{_≡_, refl, sym, ap, _∙_}
+use mathlib.Core.Bool.{Bool, true, false, cond, false≢true}
+use mathlib.Core.List.{List, [], _∷_, _++_, append-assoc}
+use Prim.Native.Nat.{ℕ, zero, suc, _+_, _-_, _≤_, min}
+use native.Mathlib.Omega.{arith}
+use lib.ListN.{length, take, drop, length-append, length-take, length-drop}
+use lib.Seq.{drop-drop, take-append-seam}
+use borrow.Author.Tests.{eqb-true}
+use Rattle.wire.specs.Escape.{letterOf, escOne, escape}
+use Rattle.numeral.specs.Decimal.{digits, decimal}
+use Rattle.text.specs.Event.{Tag, Event, quoted, membersText, tagText, tagsText, opening, closing, comma, bracket, serialise, pubkeyLength}
+use Rattle.text.specs.Read.{IsTextOf}
+use Rattle.text.specs.Kinds.{isNamedD, second, dOf}
+use Rattle.text.specs.Answer.{Span, spanOf, dSpan, tagsPlace, contentPlace, textOf}
+use Rattle.text.proofs.Pieces.{Spelt, left, right, tail, all-of}
+use Rattle.text.proofs.Limits.{limits-of}
+use Rattle.text.proofs.Rows.{pubkey-length}
+use Rattle.text.proofs.Named.{after, members-begin}
+
+-- ---- d among the tags
+-- the bytes of a span
+abbrev pub bytesAt : List ℕ → Span → List ℕ
+bytesAt s p = take (p .len) (drop (p .at) s)
+
+span-stands : (s : List ℕ) (i : ℕ) (l r : List ℕ) → drop i s ≡ l ++ r → bytesAt s (spanOf i l) ≡ l
+span-stands s i [] r e = refl
+span-stands s i (x ∷ l) r e = ap (take (length (x ∷ l))) e ∙ take-append-seam (x ∷ l) r
+
+second-stands : (s : List ℕ) (i : ℕ) (t : Tag) (r : List ℕ) → isNamedD t ≡ true → drop i s ≡ tagText t ++ r → bytesAt s (spanOf (i + 6) (escape (second t))) ≡ escape (second t)
+unfolding tagText escape escOne letterOf
+second-stands s i [] r d e = absurd (false≢true d)
+second-stands s i ([] ∷ t) r d e = absurd (false≢true d)
+second-stands s i ((x ∷ y ∷ v) ∷ t) r d e = absurd (false≢true d)
+second-stands s i ((x ∷ []) ∷ []) r d e = refl
+second-stands s i ((x ∷ []) ∷ w ∷ t) r d e =
+    let l = (rw (eqb-true x 100 d) at e) ∙ ap (_∷_ 91) (members-begin (100 ∷ []) (w ∷ t) r ∙ ap (λ (k : List ℕ). 34 ∷ 100 ∷ 34 ∷ 44 ∷ k) (members-begin w t r)) in
+    span-stands s (i + 6) (escape w) (34 ∷ (after t ++ r)) (sym (drop-drop 6 i s) ∙ ap (drop 6) l)
+
+named-stands : (s : List ℕ) (i : ℕ) (ts : List Tag) (n : ℕ) → Spelt s i (membersText tagText ts) n → bytesAt s (dSpan i ts) ≡ escape (dOf ts)
+unfolding dSpan dOf membersText escape
+named-stands s i [] n a = refl
+named-stands s i (t ∷ []) n a = go (isNamedD t) refl
+  where
+    go : (b : Bool) → isNamedD t ≡ b → bytesAt s (cond b (spanOf (i + 6) (escape (second t))) (spanOf (i + length (tagText t) + 1) [])) ≡ escape (cond b (second t) [])
+    go true d = second-stands s i t (drop (i + length (tagText t)) s) d (left (tagText t) (93 ∷ []) a .is)
+    go false d = refl
+named-stands s i (t ∷ u ∷ ts) n a = go (isNamedD t) refl (named-stands s (i + length (tagText t) + 1) (u ∷ ts) n)
+  where
+    go : (b : Bool) → isNamedD t ≡ b
+        → (Spelt s (i + length (tagText t) + 1) (membersText tagText (u ∷ ts)) n → bytesAt s (dSpan (i + length (tagText t) + 1) (u ∷ ts)) ≡ escape (dOf (u ∷ ts)))
+        → bytesAt s (cond b (spanOf (i + 6) (escape (second t))) (dSpan (i + length (tagText t) + 1) (u ∷ ts))) ≡ escape (cond b (second t) (dOf (u ∷ ts)))
+    go true d ih = second-stands s i t (drop (i + length (tagText t)) s) d (left (tagText t) (44 ∷ membersText tagText (u ∷ ts)) a .is)
+    go false d ih = ih (tail (right (tagText t) (44 ∷ membersText tagText (u ∷ ts)) a))
+
+span-len : (i : ℕ) (l : List ℕ) → spanOf i l .len ≡ length l
+span-len i [] = refl
+span-len i (x ∷ l) = refl
+
+pub d-length : (i : ℕ) (ts : List Tag) → dSpan i ts .len ≡ length (escape (dOf ts))
+unfolding dSpan dOf escape
+d-length i [] = refl
+d-length i (t ∷ ts) = go (isNamedD t) (d-length (i + length (tagText t) + 1) ts)
+  where
+    go : (b : Bool) → dSpan (i + length (tagText t) + 1) ts .len ≡ length (escape (dOf ts))
+        → (cond b (spanOf (i + 6) (escape (second t))) (dSpan (i + length (tagText t) + 1) ts)) .len ≡ length (escape (cond b (second t) (dOf ts)))
+    go true ih = span-len (i + 6) (escape (second t))
+    go false ih = ih
+
+-- both 0 if it is empty
+span-none : (i : ℕ) (l : List ℕ) → spanOf i l .len ≡ 0 → spanOf i l .at ≡ 0
+span-none i [] e = refl
+span-none i (x ∷ l) e = absurd (omega arith)
+
+pub d-none : (i : ℕ) (ts : List Tag) → dSpan i ts .len ≡ 0 → dSpan i ts .at ≡ 0
+unfolding dSpan
+d-none i [] e = refl
+d-none i (t ∷ ts) e = go (isNamedD t) (d-none (i + length (tagText t) + 1) ts) e
+  where
+    go : (b : Bool) → (dSpan (i + length (tagText t) + 1) ts .len ≡ 0 → dSpan (i + length (tagText t) + 1) ts .at ≡ 0)
+        → (cond b (spanOf (i + 6) (escape (second t))) (dSpan (i + length (tagText t) + 1) ts)) .len ≡ 0
+        → (cond b (spanOf (i + 6) (escape (second t))) (dSpan (i + length (tagText t) + 1) ts)) .at ≡ 0
+    go true ih e = span-none (i + 6) (escape (second t)) e
+    go false ih e = ih e
+
+-- ---- the parts of a text
+spelt-take : {s : List ℕ} {at : ℕ} {p : List ℕ} {n : ℕ} → Spelt s at p n → take (length p) (drop at s) ≡ p
+spelt-take {s} {at} {p} {n} a = ap (take (length p)) (a .is) ∙ take-append-seam p (drop n s)
+
+-- what stands after p in a text p, q, r
+amid : (t p q r : List ℕ) (at : ℕ) → t ≡ p ++ (q ++ r) → length p ≡ at → Spelt t at q (at + length q)
+amid t p q r at e l = let z : 0 + length p ≡ at = omega arith in rw z at (left q r (right p (q ++ r) (all-of t (p ++ (q ++ r)) e)))
+
+-- [0,"PUBKEY",TIME,KIND,
+abbrev front : Event → List ℕ
+front e = opening ++ (e .pubkey ++ (closing ++ (decimal (e .time) ++ (comma ++ (digits (e .kind) ++ comma)))))
+
+module _ (t : List ℕ) (e : Event) (a : IsTextOf t e) where
+  hex : length (e .pubkey) ≡ pubkeyLength
+  hex = pubkey-length (e .pubkey) (limits-of e (a .fit) .pubkey)
+
+  front-length : length (front e) ≡ tagsPlace e
+  front-length = let h = hex in simp length-append (omega arith)
+
+  tags-spelt : Spelt t (tagsPlace e) (tagsText (e .tags)) (tagsPlace e + length (tagsText (e .tags)))
+  unfolding serialise
+  tags-spelt =
+      let q : List ℕ = comma ++ (quoted (e .content) ++ bracket) in
+      let z : serialise e ≡ front e ++ (tagsText (e .tags) ++ q) = simp append-assoc in
+      amid t (front e) (tagsText (e .tags)) q (tagsPlace e) (sym (a .same) ∙ z) front-length
+
+  content-spelt : Spelt t (contentPlace e) (escape (e .content)) (contentPlace e + length (escape (e .content)))
+  unfolding serialise quoted
+  content-spelt =
+      let p : List ℕ = front e ++ (tagsText (e .tags) ++ closed) in
+      let z : serialise e ≡ p ++ (escape (e .content) ++ (34 ∷ bracket)) = simp append-assoc in
+      amid t p (escape (e .content)) (34 ∷ bracket) (contentPlace e) (sym (a .same) ∙ z) (let h = hex in simp length-append (omega arith))
+    where
+      closed : List ℕ
+      closed = 44 ∷ 34 ∷ []
+
+  pub pubkey-stands : take pubkeyLength (drop 4 t) ≡ e .pubkey
+  unfolding serialise
+  pubkey-stands = rw hex at (spelt-take (amid t opening (e .pubkey) _ 4 (sym (a .same)) refl))
+
+  pub tags-stand : take (length (tagsText (e .tags))) (drop (textOf e .tags) t) ≡ tagsText (e .tags)
+  tags-stand = spelt-take tags-spelt
+
+  pub content-stands : take (textOf e .«content_len») (drop (textOf e .content) t) ≡ escape (e .content)
+  content-stands = spelt-take content-spelt
+
+  pub d-stands : take (textOf e .«d_len») (drop (textOf e .d) t) ≡ escape (dOf (e .tags))
+  unfolding tagsText
+  d-stands = named-stands t (tagsPlace e + 1) (e .tags) (tagsPlace e + length (tagsText (e .tags))) (tail tags-spelt)
+
+  -- d lies in the text
+  pub d-inside : textOf e .d + textOf e .«d_len» ≤ length t
+  d-inside =
+      let p = dSpan (tagsPlace e + 1) (e .tags) in
+      let l : min (p .len) (length t - p .at) ≡ p .len =
+      sym (length-take (p .len) (drop (p .at) t) ∙ ap (min (p .len)) (length-drop (p .at) t)) ∙ ap length d-stands ∙ sym (d-length (tagsPlace e + 1) (e .tags)) in
+      inside (p .at) (p .len) (length t) l (d-none (tagsPlace e + 1) (e .tags))
+    where
+      inside : (i k n : ℕ) → min k (n - i) ≡ k → (k ≡ 0 → i ≡ 0) → i + k ≤ n
+      inside i zero n l z = let y = z refl in omega arith
+      inside i (suc k) n l z = omega arith

@@ -1,0 +1,289 @@
+-- A turn or a way out of the code at a time: bytes, strings, lists, numbers, kinds.
+use mathlib.Core.Path.{_≡_, refl, sym, ap, _∙_}
+use mathlib.Core.Bool.{Bool, true, false, cond, _&&_, _||_}
+use mathlib.Core.List.{List, [], _∷_, _++_, append-assoc}
+use Prim.Native.Nat.{ℕ, zero, suc, _+_, _-_, _<_, _≤_}
+use native.Mathlib.Numerals.{add-one, sub-one}
+use native.Mathlib.Omega.{arith}
+use lib.Dec.{eqb, ltb, leb}
+use lib.ListN.{length, getD, take, drop, length-append, drop-of-length-le}
+use lib.Seq.{drop-cons, take-at}
+use borrow.Author.Tests.{lt-ltb, le-ltb, le-leb, lt-leb, eq-eqb, ne-eqb, eqb-true, ltb-true}
+use Rattle.utf8.specs.Utf8.{isUtf8}
+use Rattle.wire.specs.Escape.{letterOf, escape}
+use Rattle.text.specs.Event.{mostStrings, isPlainByte, all, isHexDigit}
+use Rattle.text.specs.Read.{Got, none, got, standsAt, isRaw, moveOf, saidOf, push, bodyFrom, checked, stringAt, cons, follow, membersAt, tagAt, runOf}
+use Rattle.text.specs.Kinds.{isEphemeral, isAddressable, classOf}
+use Rattle.text.specs.Parts.{endOf, noZero}
+use Rattle.text.specs.declared.Class.the-variants.{Regular, Replaceable, Ephemeral, Addressable}
+use Rattle.text.specs.declared.Out.the-variants.{End, Bad}
+use Rattle.text.specs.declared.Move.the-variants.{Go, Stop, Refuse}
+use Rattle.text.proofs.Pieces.{both, spelt-inside}
+use Rattle.text.proofs.Strings.{body-spelt, utf8-escape}
+
+pub ruleset tests = (lt-ltb, le-ltb, le-leb, lt-leb, eq-eqb, ne-eqb)
+
+-- ---- kinds
+module _ (k : ℕ) where
+  pub class-low : (k ≡ 0 → ⊥) → (k ≡ 3 → ⊥) → k < 10000 → Regular ≡ classOf k
+  unfolding classOf
+  class-low p q h = rw (ne-eqb k 0 p, ne-eqb k 3 q, lt-leb 10000 k h, lt-leb 20000 k (omega arith), lt-leb 30000 k (omega arith))
+
+  module _ (h : 10000 ≤ k) where
+    from-10000 : classOf k ≡ cond (leb k 19999) Replaceable (cond (isEphemeral k) Ephemeral (cond (isAddressable k) Addressable Regular))
+    unfolding classOf
+    from-10000 = rw (ne-eqb k 0 (λ e. omega arith), ne-eqb k 3 (λ e. omega arith), le-leb 10000 k h)
+
+    pub class-replaceable : k ≤ 19999 → Replaceable ≡ classOf k
+    class-replaceable l = sym (from-10000 ∙ rw (le-leb k 19999 l))
+
+    module _ (i : 19999 < k) where
+      pub class-ephemeral : k ≤ 29999 → Ephemeral ≡ classOf k
+      class-ephemeral l = sym (from-10000 ∙ rw (lt-leb k 19999 i, le-leb 20000 k i, le-leb k 29999 l))
+
+      module _ (j : 29999 < k) where
+        pub class-addressable : k ≤ 39999 → Addressable ≡ classOf k
+        class-addressable l = sym (from-10000 ∙ rw (lt-leb k 19999 i, le-leb 20000 k i, lt-leb k 29999 j, le-leb 30000 k j, le-leb k 39999 l))
+
+        pub class-high : 39999 < k → Regular ≡ classOf k
+        class-high l = sym (from-10000 ∙ rw (lt-leb k 19999 i, le-leb 20000 k i, lt-leb k 29999 j, le-leb 30000 k j, lt-leb k 39999 l))
+
+-- ---- fixed bytes
+module _ (s w : List ℕ) (k i : ℕ) where
+  pub stands-out : length w ≤ k → standsAt s (drop k w) i ≡ true
+  unfolding standsAt
+  stands-out h = rw (drop-of-length-le w h)
+
+  pub stands-step : k < length w → standsAt s (drop k w) i ≡ (eqb (getD s i 0) (getD w k 0) && standsAt s (drop (k + 1) w) (i + 1))
+  unfolding standsAt
+  stands-step h = rw (add-one k, drop-cons w k 0)
+
+pub no-zero : (w : List ℕ) (k : ℕ) → noZero w ≡ true → k < length w → 0 < getD w k 0
+no-zero [] k e h = omega arith
+no-zero (b ∷ w) zero e h = ltb-true 0 b (both (ltb 0 b) (noZero w) e .0)
+no-zero (b ∷ w) (suc k) e h = no-zero w k (both (ltb 0 b) (noZero w) e .1) (omega arith)
+
+-- ---- a byte of a string that stands as it is
+escaped : (x k : ℕ) (b : Bool) → eqb (letterOf k) 0 ≡ false → (b ≡ true → eqb (letterOf x) 0 ≡ false) → (eqb x k || b) ≡ true → eqb (letterOf x) 0 ≡ false
+escaped x k b e f q = go (eqb x k) refl q
+  where
+    go : (t : Bool) → eqb x k ≡ t → (t || b) ≡ true → eqb (letterOf x) 0 ≡ false
+    go true z q = rw (eqb-true x k z) e
+    go false z q = f q
+
+pub raw-low : (x : ℕ) → x < 0x20 → isRaw x ≡ false
+unfolding isRaw isPlainByte letterOf
+raw-low x h = go (isPlainByte x) refl
+  where
+    go : (t : Bool) → isPlainByte x ≡ t → (t && eqb (letterOf x) 0) ≡ false
+    go false e = refl
+    go true e =
+        let f = rw (lt-leb 0x20 x h) at e in
+        escaped x 8 _ refl (escaped x 9 _ refl (escaped x 10 _ refl (escaped x 12 _ refl (λ q. rw (eqb-true x 13 q))))) f
+
+pub raw-high : (x : ℕ) → 0x20 ≤ x → (x ≡ 34 → ⊥) → (x ≡ 92 → ⊥) → isRaw x ≡ true
+unfolding isRaw isPlainByte letterOf
+raw-high x h p q =
+    rw (
+      le-leb 0x20 x h,
+      ne-eqb x 10 (λ e. omega arith),
+      ne-eqb x 34 p,
+      ne-eqb x 92 q,
+      ne-eqb x 13 (λ e. omega arith),
+      ne-eqb x 9 (λ e. omega arith),
+      ne-eqb x 8 (λ e. omega arith),
+      ne-eqb x 12 (λ e. omega arith),
+    )
+
+-- ---- a string's body
+end-push : (p : List ℕ) (g : Got (List ℕ)) → endOf (push p g) ≡ endOf g
+end-push p none = refl
+end-push p (got v n) = refl
+
+module _ (e : Bool) (s : List ℕ) (i : ℕ) where
+  pub body-over : length s ≤ i → endOf (bodyFrom e i (drop i s)) ≡ Bad
+  unfolding bodyFrom
+  body-over h = rw (drop-of-length-le s {i = i} h)
+
+  module _ (h : i < length s) where
+    pub body-go : (f : Bool) → moveOf e (getD s i 0) ≡ Go f → endOf (bodyFrom e i (drop i s)) ≡ endOf (bodyFrom f (i + 1) (drop (i + 1) s))
+    unfolding bodyFrom
+    body-go f q = rw (drop-cons s i 0, bodyFrom, q, add-one) (end-push (saidOf e (getD s i 0)) (bodyFrom f (suc i) (drop (suc i) s)))
+
+    pub body-stop : moveOf e (getD s i 0) ≡ Stop → endOf (bodyFrom e i (drop i s)) ≡ End (i + 1)
+    unfolding bodyFrom
+    body-stop q = rw (drop-cons s i 0, bodyFrom, q)
+
+    pub body-refuse : moveOf e (getD s i 0) ≡ Refuse → endOf (bodyFrom e i (drop i s)) ≡ Bad
+    unfolding bodyFrom
+    body-refuse q = rw (drop-cons s i 0, bodyFrom, q)
+
+-- ---- a string
+module _ (s : List ℕ) (at n : ℕ) where
+  pub body-inside : endOf (bodyFrom false at (drop at s)) ≡ End n → (at + 1 ≤ n) × (n ≤ length s)
+  body-inside q = go (bodyFrom false at (drop at s)) refl q
+    where
+      go : (g : Got (List ℕ)) → bodyFrom false at (drop at s) ≡ g → endOf g ≡ End n → (at + 1 ≤ n) × (n ≤ length s)
+      go none e r = absurd (let z : _≡_ {A = ℕ} 0 1 = cc in omega arith)
+      go (got v m) e r =
+          let z : m ≡ n = cc in
+          let a = body-spelt s at v m e in
+          let l = length-append (escape v) (34 ∷ []) in
+          (omega (arith, a .end), rw (← z) (spelt-inside s at (escape v ++ (34 ∷ [])) m a (omega arith)))
+
+module _ (s : List ℕ) (at : ℕ) where
+  pub string-other : (getD s at 0 ≡ 34 → ⊥) → Bad ≡ endOf (stringAt s at)
+  unfolding stringAt
+  string-other h = rw (ne-eqb (getD s at 0) 34 h)
+
+  module _ (h : getD s at 0 ≡ 34) where
+    pub string-none : endOf (bodyFrom false (at + 1) (drop (at + 1) s)) ≡ Bad → Bad ≡ endOf (stringAt s at)
+    unfolding stringAt
+    string-none q = rw (eq-eqb (getD s at 0) 34 h) (go (bodyFrom false (at + 1) (drop (at + 1) s)) q)
+      where
+        go : (g : Got (List ℕ)) → endOf g ≡ Bad → Bad ≡ endOf (checked g)
+        go none q = refl
+        go (got v n) q = absurd (let z : _≡_ {A = ℕ} 0 1 = cc in omega arith)
+
+    -- UTF-8 is asked of the bytes as they are spelt
+    module _ (n : ℕ) (u : Bool) (q : endOf (bodyFrom false (at + 1) (drop (at + 1) s)) ≡ End n) (w : u ≡ isUtf8 (take (n - 1 - (at + 1)) (drop (at + 1) s))) where
+      string-told : cond u (End n) Bad ≡ endOf (stringAt s at)
+      unfolding stringAt
+      string-told = rw (eq-eqb (getD s at 0) 34 h) (go (bodyFrom false (at + 1) (drop (at + 1) s)) refl q)
+        where
+          ends : (t : Bool) (v : List ℕ) (m : ℕ) → cond t (End m) Bad ≡ endOf (cond t (got v m) none)
+          ends true v m = refl
+          ends false v m = refl
+
+          go : (g : Got (List ℕ)) → bodyFrom false (at + 1) (drop (at + 1) s) ≡ g → endOf g ≡ End n → cond u (End n) Bad ≡ endOf (checked g)
+          go none e r = absurd (let z : _≡_ {A = ℕ} 0 1 = cc in omega arith)
+          go (got v m) e r =
+              let z : m ≡ n = cc in
+              let a = body-spelt s (at + 1) v m e in
+              let l : length (escape v) ≡ n - 1 - (at + 1) = omega (arith, a .end, length-append (escape v) (34 ∷ [])) in
+              let b : take (n - 1 - (at + 1)) (drop (at + 1) s) ≡ escape v =
+              rw (a .is, append-assoc) (take-at (escape v) ((34 ∷ []) ++ drop m s) (n - 1 - (at + 1)) l) in
+              let x : u ≡ isUtf8 v = w ∙ ap isUtf8 b ∙ utf8-escape v in
+              rw (← z, x) (ends (isUtf8 v) v m)
+
+      pub string-yes : u ≡ true → End n ≡ endOf (stringAt s at)
+      string-yes t = rw t at string-told
+
+      pub string-no : u ≡ false → Bad ≡ endOf (stringAt s at)
+      string-no t = rw t at string-told
+
+-- ---- members of a list
+module _ {A : Type 0} (one : ℕ → Got A) (s : List ℕ) where
+  pub members-out : (k at : ℕ) → k ≤ 0 → membersAt one s k at ≡ none
+  unfolding membersAt
+  members-out zero at h = refl
+  members-out (suc k) at h = absurd (omega arith)
+
+  pub members-bad : (k at : ℕ) → one at ≡ none → membersAt one s k at ≡ none
+  unfolding membersAt
+  members-bad zero at q = refl
+  members-bad (suc k) at q = rw q
+
+  module _ (k at n : ℕ) (x : A) (h : 0 < k) (q : one at ≡ got x n) where
+    step : membersAt one s k at ≡ follow x (getD s n 0) n (membersAt one s (k - 1) (n + 1))
+    unfolding membersAt
+    step = go k h
+      where
+        go : (k : ℕ) → 0 < k → membersAt one s k at ≡ follow x (getD s n 0) n (membersAt one s (k - 1) (n + 1))
+        go zero h = absurd (omega arith)
+        go (suc k) h = rw (sub-one, q)
+
+    module _ (b : ℕ) (e : b ≡ getD s n 0) where
+      pub members-more : b ≡ 44 → membersAt one s k at ≡ cons x (membersAt one s (k - 1) (n + 1))
+      members-more f = step ∙ rw (← e, f)
+
+      pub members-done : (b ≡ 44 → ⊥) → b ≡ 93 → membersAt one s k at ≡ got (x ∷ []) (n + 1)
+      members-done f g = step ∙ rw (← e, g)
+
+      pub members-wrong : (b ≡ 44 → ⊥) → (b ≡ 93 → ⊥) → membersAt one s k at ≡ none
+      members-wrong f g = step ∙ rw (← e, ne-eqb b 44 f, ne-eqb b 93 g)
+
+-- ---- what an end says
+pub end-bad : {A : Type 0} (g : Got A) → Bad ≡ endOf g → g ≡ none
+end-bad none e = refl
+end-bad (got x n) e = absurd (let z : _≡_ {A = ℕ} 0 1 = cc in omega arith)
+
+pub record Has {A : Type 0} (g : Got A) (n : ℕ) : Type 0 where
+  pub it : A
+  pub is : g ≡ got it n
+
+pub end-got : {A : Type 0} (g : Got A) (n : ℕ) → End n ≡ endOf g → Has g n
+end-got none n e = absurd (let z : _≡_ {A = ℕ} 0 1 = cc in omega arith)
+end-got (got x m) n e = record { it = x; is = ap (got x) (let z : m ≡ n = cc in z) }
+
+-- ---- a tag: the loop of its strings
+module _ (s : List ℕ) (at b : ℕ) (e : b ≡ getD s at 0) where
+  pub tag-other : (b ≡ 91 → ⊥) → Bad ≡ endOf (tagAt s at)
+  unfolding tagAt
+  tag-other h = rw (← e, ne-eqb b 91 h)
+
+  pub tag-open : b ≡ 91 → endOf (membersAt (stringAt s) s mostStrings (at + 1)) ≡ endOf (tagAt s at)
+  unfolding tagAt
+  tag-open h = rw (← e, h)
+
+end-cons : {A : Type 0} (x : A) (g : Got (List A)) → endOf (cons x g) ≡ endOf g
+end-cons x none = refl
+end-cons x (got xs n) = refl
+
+module _ {A : Type 0} (one : ℕ → Got A) (s : List ℕ) (k at : ℕ) where
+  pub turn-out : k ≤ 0 → endOf (membersAt one s k at) ≡ Bad
+  turn-out h = ap endOf (members-out one s k at h)
+
+  pub turn-bad : Bad ≡ endOf (one at) → endOf (membersAt one s k at) ≡ Bad
+  turn-bad q = ap endOf (members-bad one s k at (end-bad (one at) q))
+
+  module _ (n b : ℕ) (h : 0 < k) (q : End n ≡ endOf (one at)) (e : b ≡ getD s n 0) where
+    pub turn-more : b ≡ 44 → endOf (membersAt one s k at) ≡ endOf (membersAt one s (k - 1) (n + 1))
+    turn-more f = let x = end-got (one at) n q in ap endOf (members-more one s k at n (x .it) h (x .is) b e f) ∙ end-cons (x .it) (membersAt one s (k - 1) (n + 1))
+
+    pub turn-done : (b ≡ 44 → ⊥) → b ≡ 93 → endOf (membersAt one s k at) ≡ End (n + 1)
+    turn-done f g = let x = end-got (one at) n q in ap endOf (members-done one s k at n (x .it) h (x .is) b e f g)
+
+    pub turn-wrong : (b ≡ 44 → ⊥) → (b ≡ 93 → ⊥) → endOf (membersAt one s k at) ≡ Bad
+    turn-wrong f g = let x = end-got (one at) n q in ap endOf (members-wrong one s k at n (x .it) h (x .is) b e f g)
+
+-- ---- hex
+module _ (x : ℕ) where
+  pub hex-under : x < 48 → false ≡ isHexDigit x
+  hex-under h = rw (lt-leb 48 x h, lt-leb 97 x (omega arith))
+
+  pub hex-between : 57 < x → x < 97 → false ≡ isHexDigit x
+  hex-between h l = rw (le-leb 48 x (omega arith), lt-leb x 57 h, lt-leb 97 x l)
+
+  pub hex-letter : 97 ≤ x → leb x 102 ≡ isHexDigit x
+  hex-letter h = rw (le-leb 48 x (omega arith), lt-leb x 57 (omega arith), le-leb 97 x h)
+
+module _ (p : List ℕ) (i : ℕ) where
+  pub hex-over : length p ≤ i → all isHexDigit (drop i p) ≡ true
+  unfolding all
+  hex-over h = rw (drop-of-length-le p {i = i} h)
+
+  module _ (h : i < length p) where
+    pub hex-bad : isHexDigit (getD p i 0) ≡ false → all isHexDigit (drop i p) ≡ false
+    unfolding all
+    hex-bad e = rw (drop-cons p i 0, all, e)
+
+    pub hex-good : isHexDigit (getD p i 0) ≡ true → all isHexDigit (drop i p) ≡ all isHexDigit (drop (i + 1) p)
+    unfolding all
+    hex-good e = rw (drop-cons p i 0, all, e, add-one)
+
+-- ---- the next comma: m is its place
+module _ {m : ℕ} (s : List ℕ) (i : ℕ) (inv : m ≡ i + length (runOf (drop i s))) where
+  pub comma-none : length s ≤ i → i ≡ m
+  unfolding runOf
+  comma-none h = let e : length (runOf (drop i s)) ≡ 0 = rw (drop-of-length-le s {i = i} h) in omega arith
+
+  module _ (h : i < length s) where
+    pub comma-here : getD s i 0 ≡ 44 → i ≡ m
+    unfolding runOf
+    comma-here c = let e : length (runOf (drop i s)) ≡ 0 = rw (drop-cons s i 0, runOf, c) in omega arith
+
+    pub comma-later : (getD s i 0 ≡ 44 → ⊥) → m ≡ i + 1 + length (runOf (drop (i + 1) s))
+    unfolding runOf
+    comma-later c =
+        let e : length (runOf (drop i s)) ≡ suc (length (runOf (drop (i + 1) s))) = rw (drop-cons s i 0, runOf, ne-eqb (getD s i 0) 44 c, add-one) in omega arith

@@ -1,0 +1,110 @@
+-- 01, "The text that is hashed", and the limits of "Numbers", "Hex", "Counts" and of rows 2, 4 and 9.
+use mathlib.Core.Bool.{Bool, true, _&&_, _||_}
+use mathlib.Core.List.{List, [], _∷_, _++_}
+use Prim.Native.Nat.{ℕ}
+use lib.Dec.{eqb, leb}
+use lib.IntN.{ℤ, pos, negℤ}
+use lib.ListN.{length}
+use Rattle.wire.specs.Escape.{escape}
+use Rattle.numeral.specs.Decimal.{digits, decimal}
+use Rattle.numeral.specs.Whole.{widest, isWithin}
+use Rattle.numeral.specs.declared.Whole.the-variants.{Value}
+use Rattle.utf8.specs.Utf8.{isUtf8}
+
+-- a tag is a list of strings
+abbrev pub Tag : Type 0
+Tag = List (List ℕ)
+
+-- a string is decoded: the bytes of its UTF-8
+pub record Event : Type 0 where
+  pub pubkey : List ℕ
+  pub time : ℤ
+  pub kind : ℕ
+  pub tags : List Tag
+  pub content : List ℕ
+
+-- ---- the text
+unfoldable pub quoted : List ℕ → List ℕ
+quoted v = 34 ∷ (escape v ++ (34 ∷ []))
+
+-- the members of a list, a comma between two, and the closing bracket
+unfoldable pub membersText : {A : Type 0} → (A → List ℕ) → List A → List ℕ
+membersText p [] = 93 ∷ []
+membersText p (x ∷ []) = p x ++ (93 ∷ [])
+membersText p (x ∷ y ∷ ys) = p x ++ (44 ∷ membersText p (y ∷ ys))
+
+unfoldable pub tagText : Tag → List ℕ
+tagText t = 91 ∷ membersText quoted t
+
+unfoldable pub tagsText : List Tag → List ℕ
+tagsText ts = 91 ∷ membersText tagText ts
+
+-- [0,"
+abbrev pub opening : List ℕ
+opening = 91 ∷ 48 ∷ 44 ∷ 34 ∷ []
+
+-- ",
+abbrev pub closing : List ℕ
+closing = 34 ∷ 44 ∷ []
+
+abbrev pub comma : List ℕ
+comma = 44 ∷ []
+
+abbrev pub bracket : List ℕ
+bracket = 93 ∷ []
+
+-- [0,pubkey,created_at,kind,tags,content] with no white space
+unfoldable pub serialise : Event → List ℕ
+serialise e =
+    opening ++ (e .pubkey ++ (closing ++ (decimal (e .time) ++ (comma ++ (digits (e .kind) ++ (comma ++ (tagsText (e .tags) ++ (comma ++ (quoted (e .content) ++ bracket)))))))))
+
+-- ---- limits
+-- row 9
+abbrev pub mostText : ℕ
+mostText = 4096
+
+abbrev pub mostTags : ℕ
+mostTags = 64
+
+abbrev pub mostStrings : ℕ
+mostStrings = 16
+
+abbrev pub mostKind : ℕ
+mostKind = 65535
+
+abbrev pub pubkeyLength : ℕ
+pubkeyLength = 64
+
+unfoldable pub all : {A : Type 0} → (A → Bool) → List A → Bool
+all p [] = true
+all p (x ∷ xs) = p x && all p xs
+
+-- lower-case hex
+abbrev pub isHexDigit : ℕ → Bool
+isHexDigit x = (leb 48 x && leb x 57) || (leb 97 x && leb x 102)
+
+unfoldable pub isPubkey : List ℕ → Bool
+isPubkey k = eqb (length k) pubkeyLength && all isHexDigit k
+
+unfoldable pub isTime : ℤ → Bool
+isTime z = isWithin (Value z) (negℤ (pos widest)) (pos widest)
+
+abbrev pub isKind : ℕ → Bool
+isKind k = leb k mostKind
+
+-- row 4: no character below U+0020 other than 08, 09, 0A, 0C, 0D
+unfoldable pub isPlainByte : ℕ → Bool
+isPlainByte b = leb 0x20 b || (eqb b 0x08 || (eqb b 0x09 || (eqb b 0x0a || (eqb b 0x0c || eqb b 0x0d))))
+
+unfoldable pub isString : List ℕ → Bool
+isString v = all isPlainByte v && isUtf8 v
+
+unfoldable pub isTag : Tag → Bool
+isTag t = leb 1 (length t) && (leb (length t) mostStrings && all isString t)
+
+unfoldable pub isTags : List Tag → Bool
+isTags ts = leb (length ts) mostTags && all isTag ts
+
+-- an event within the limits, but for its text's length
+unfoldable pub isFit : Event → Bool
+isFit e = isPubkey (e .pubkey) && (isTime (e .time) && (isKind (e .kind) && (isTags (e .tags) && isString (e .content))))

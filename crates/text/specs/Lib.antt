@@ -1,0 +1,6 @@
+-- The text that is hashed, its reader, kinds and keys.
+pub mod Event
+pub mod Read
+pub mod Kinds
+pub mod Answer
+pub mod Parts

@@ -1,0 +1,75 @@
+-- What the private functions hand on.
+use mathlib.Core.Bool.{Bool, true, false, cond, _&&_}
+use mathlib.Core.List.{List, [], _∷_}
+use Prim.Native.Nat.{ℕ, _+_}
+use lib.Dec.{eqb, ltb}
+use lib.IntN.{ℤ}
+use lib.ListN.{length}
+use Rattle.wire.specs.Escape.{escape}
+use Rattle.text.specs.Event.{Tag, closing, comma, bracket, opening, tagsText}
+use Rattle.text.specs.Read.{Got, none, got, standsAt, closedAt, pairAt, pubkeyAt, tagsAt, stringAt}
+use Rattle.text.specs.Kinds.{isNamedD, second}
+use Rattle.text.specs.Answer.{Span, spanOf, dSpan}
+use Rattle.text.specs.declared.Out.{Out}
+use Rattle.text.specs.declared.Out.the-variants as out
+use Rattle.text.specs.declared.Time.{Time}
+use Rattle.text.specs.declared.Time.the-variants as time
+use Rattle.text.specs.declared.Kind.{Kind}
+use Rattle.text.specs.declared.Kind.the-variants as kind
+use Rattle.text.specs.declared.Found.{Found}
+use Rattle.text.specs.declared.Found.the-variants as found
+use Rattle.text.specs.declared.Tagged.{Tagged}
+use Rattle.text.specs.declared.Tagged.the-variants as tagged
+use Rattle.text.specs.declared.Rest.{Rest}
+use Rattle.text.specs.declared.Rest.the-variants as rest
+
+abbrev pub endOf : {A : Type 0} → Got A → Out
+endOf none = out.Bad
+endOf (got x n) = out.End n
+
+abbrev pub timeIn : Got ℤ → Time
+timeIn none = time.Not
+timeIn (got z n) = time.Is z n
+
+abbrev pub kindIn : Got ℕ → Kind
+kindIn none = kind.Not
+kindIn (got k n) = kind.Is k n
+
+abbrev pub isGot : {A : Type 0} → Got A → Bool
+isGot none = false
+isGot (got x n) = true
+
+-- [0,"PUBKEY",
+unfoldable pub opens : List ℕ → Bool
+opens t = standsAt t opening 0 && isGot (closedAt t closing (pubkeyAt t) 4)
+
+abbrev pub noZero : List ℕ → Bool
+noZero [] = true
+noZero (b ∷ w) = ltb 0 b && noZero w
+
+-- ---- d: what is known once the tags before it are passed
+abbrev pub foundOf : Span → Found
+foundOf p = found.At (p .at) (p .len)
+
+-- the tag t stands at i
+abbrev pub lookOf : ℕ → Found → Tag → Found
+lookOf i (found.At a l) t = found.At a l
+lookOf i found.Not t = cond (isNamedD t) (foundOf (spanOf (i + 6) (escape (second t)))) found.Not
+
+-- the tags ts stand at i
+abbrev pub spanAfter : Found → ℕ → List Tag → Span
+spanAfter (found.At a l) i ts = record { at = a; len = l }
+spanAfter found.Not i ts = dSpan i ts
+
+abbrev pub taggedOf : Found → ℕ → Got (List Tag) → Tagged
+taggedOf d i none = tagged.Bad
+taggedOf d i (got ts n) = tagged.End n (spanAfter d i ts .at) (spanAfter d i ts .len)
+
+-- ---- TAGS,"CONTENT"] from a place to the end
+unfoldable pub restAt : List ℕ → ℕ → Got (List Tag × List ℕ)
+restAt s = pairAt (closedAt s comma (tagsAt s)) (closedAt s bracket (stringAt s))
+
+abbrev pub restOf : ℕ → ℕ → Got (List Tag × List ℕ) → Rest
+restOf l at none = rest.Bad
+restOf l at (got x n) =
+    cond (eqb n l) (rest.Is (at + length (tagsText (x .0)) + 2) (length (escape (x .1))) (dSpan (at + 1) (x .0) .at) (dSpan (at + 1) (x .0) .len)) rest.Bad

@@ -1,0 +1,482 @@
+// The text that is hashed, read back, and the class of a kind.
+ghost use mathlib.Core.Path.{_≡_};
+ghost use mathlib.Core.Bool.{true, false};
+ghost use mathlib.Core.List.{[]};
+ghost use Prim.Native.Nat.{ℕ, _+_, _<_, _≤_};
+ghost use lib.ListN.{length, getD, drop};
+ghost use Rattle.wire.specs.Escape.{escape};
+ghost use Rattle.text.specs.Event.{Tag, comma, isHexDigit, isPubkey};
+ghost use Rattle.text.specs.Read.{got, standsAt, closedAt, byteOf, moveOf, bodyFrom, stringAt, tagAt, tagsAt, runOf, timeAt, kindAt, readText};
+ghost use Rattle.text.specs.Kinds.{classOf, isNamedD, second};
+ghost use Rattle.text.specs.Answer.{spanOf, answerOf};
+ghost use Rattle.text.specs.Parts.{endOf, timeIn, kindIn, opens, noZero, foundOf, lookOf, taggedOf, restAt, restOf};
+
+// 01, "Kinds and keys".
+pub enum Class {
+    Regular,
+    Replaceable,
+    Ephemeral,
+    Addressable,
+}
+
+// The places of an event's parts in its text. The pubkey is always at 4, 64 bytes long.
+pub struct Text {
+    pub time: i64,
+    pub kind: u16,
+    // the tags' opening bracket
+    pub tags: usize,
+    // what stands between the content's quotes
+    pub content: usize,
+    pub content_len: usize,
+    // d's escaped bytes, whatever the kind; both 0 if it is empty
+    pub d: usize,
+    pub d_len: usize,
+}
+
+// 01, "A text read back alone": rows 0, 9 and 5.
+pub enum TextAnswer {
+    Read(Text),
+    TooLarge,
+    WrongShape,
+}
+
+// The place after a part of the text, or that no such part is there.
+enum Out {
+    End(usize),
+    Bad,
+}
+
+// What a byte of a string does: the string goes on, after a backslash or not; it ends; or the byte may not stand there.
+enum Move {
+    Go(bool),
+    Stop,
+    Refuse,
+}
+
+// A number, and the place after the comma that follows it.
+enum Time {
+    Is(i64, usize),
+    Not,
+}
+
+enum Kind {
+    Is(u16, usize),
+    Not,
+}
+
+// d's place and length, once a tag named d was met.
+enum Found {
+    At(usize, usize),
+    Not,
+}
+
+// The place after the tags, and d's place and length.
+enum Tagged {
+    End(usize, usize, usize),
+    Bad,
+}
+
+// The content's place and length, and d's.
+enum Rest {
+    Is(usize, usize, usize, usize),
+    Bad,
+}
+
+const MOST_TEXT: usize = 4096;
+
+const MOST_TAGS: usize = 64;
+
+const MOST_STRINGS: usize = 16;
+
+const MOST_KIND: u64 = 65535;
+
+// What a kind makes of an event.
+pub fn class_of(kind: u16) -> Class
+    ensures { λ r. ⌜ r ≡ classOf kind ⌝ }
+{
+    if kind == 0 {
+        return Class::Replaceable;
+    }
+    if kind == 3 {
+        return Class::Replaceable;
+    }
+    if kind < 10000 {
+        return Class::Regular;
+    }
+    if kind <= 19999 {
+        return Class::Replaceable;
+    }
+    if kind <= 29999 {
+        return Class::Ephemeral;
+    }
+    if kind <= 39999 {
+        return Class::Addressable;
+    }
+    Class::Regular
+}
+
+// The byte at a place, and 0 past the end.
+fn byte(s: &[u8], i: usize) -> u8
+    ensures { λ r. ⌜ r ≡ getD (now (s .entry)) i 0 ⌝ }
+{
+    if i < s.len() { s[i] } else { 0 }
+}
+
+// Whether the bytes of `w` stand at a place.
+fn stands(s: &[u8], at: usize, w: &[u8]) -> bool
+    requires { ⌜ noZero (now w) ≡ true ⌝ }
+    ensures { λ r. ⌜ r ≡ standsAt (now (s .entry)) (now (w .entry)) at ⌝ }
+{
+    let mut i = at;
+    let mut k = 0;
+    while k < w.len() {
+        if byte(s, i) != w[k] {
+            return false;
+        }
+        i += 1;
+        k += 1;
+    }
+    true
+}
+
+// The byte that a letter after a backslash stands for, and 0 for no such letter.
+fn unescaped(c: u8) -> u8
+    ensures { λ r. ⌜ r ≡ byteOf c ⌝ }
+{
+    match c {
+        b'n' => b'\n',
+        b'"' => b'"',
+        b'\\' => b'\\',
+        b'r' => b'\r',
+        b't' => b'\t',
+        b'b' => 0x08,
+        b'f' => 0x0c,
+        _ => 0,
+    }
+}
+
+fn advance(escaped: bool, x: u8) -> Move
+    ensures { λ r. ⌜ r ≡ moveOf escaped x ⌝ }
+{
+    if escaped {
+        if unescaped(x) == 0 {
+            return Move::Refuse;
+        }
+        return Move::Go(false);
+    }
+    if x == b'"' {
+        return Move::Stop;
+    }
+    if x == b'\\' {
+        return Move::Go(true);
+    }
+    if x < 0x20 {
+        return Move::Refuse;
+    }
+    Move::Go(false)
+}
+
+// The place after the closing quote of a string whose opening quote stands before `at`.
+fn body_end(s: &[u8], at: usize) -> Out
+    ensures { λ r. ⌜ r ≡ endOf (bodyFrom false at (drop at (now (s .entry)))) ⌝ }
+{
+    let mut escaped = false;
+    let mut i = at;
+    while i < s.len() {
+        match advance(escaped, s[i]) {
+            Move::Go(e) => {
+                escaped = e;
+            }
+            Move::Stop => {
+                return Out::End(i + 1);
+            }
+            Move::Refuse => {
+                return Out::Bad;
+            }
+        }
+        i += 1;
+    }
+    Out::Bad
+}
+
+// A string with its quotes.
+fn string_end(s: &[u8], at: usize) -> Out
+    ensures { λ r. ⌜ r ≡ endOf (stringAt (now (s .entry)) at) ⌝ }
+{
+    if byte(s, at) != b'"' {
+        return Out::Bad;
+    }
+    let a = at + 1;
+    match body_end(s, a) {
+        Out::End(n) => {
+            let e = n - 1;
+            if utf8::is_utf8(&s[a..e]) {
+                return Out::End(n);
+            }
+            Out::Bad
+        }
+        Out::Bad => Out::Bad,
+    }
+}
+
+// 1 to 16 strings between brackets.
+fn tag_end(s: &[u8], at: usize) -> Out
+    ensures { λ r. ⌜ r ≡ endOf (tagAt (now (s .entry)) at) ⌝ }
+{
+    if byte(s, at) != b'[' {
+        return Out::Bad;
+    }
+    let mut i = at + 1;
+    let mut k = MOST_STRINGS;
+    while 0 < k {
+        match string_end(s, i) {
+            Out::End(n) => {
+                let b = byte(s, n);
+                if b != b',' {
+                    if b != b']' {
+                        return Out::Bad;
+                    }
+                    return Out::End(n + 1);
+                }
+                i = n + 1;
+            }
+            Out::Bad => {
+                return Out::Bad;
+            }
+        }
+        k -= 1;
+    }
+    Out::Bad
+}
+
+// The second string of a tag named d.
+fn second_at(s: &[u8], i: usize) -> Found
+    requires { ⌜ i + 4 ≤ length (now s) ⌝ }
+    ensures { λ r. ⌜ ((t : Tag) (n : ℕ) → tagAt (now (s .entry)) i ≡ got t n → isNamedD t ≡ true → r ≡ foundOf (spanOf (i + 6) (escape (second t)))) ⌝ }
+{
+    let a = i + 4;
+    if !stands(s, a, b",\"") {
+        return Found::At(0, 0);
+    }
+    let b = a + 2;
+    match body_end(s, b) {
+        Out::End(n) => {
+            let len = n - 1 - b;
+            if len == 0 {
+                return Found::At(0, 0);
+            }
+            Found::At(b, len)
+        }
+        Out::Bad => Found::At(0, 0),
+    }
+}
+
+// What is known of d after the tag at `i`: the text is canonical, so the tag is named d where `["d"` stands.
+fn look(s: &[u8], i: usize, d: Found) -> Found
+    ensures { λ r. ⌜ ((t : Tag) (n : ℕ) → tagAt (now (s .entry)) i ≡ got t n → r ≡ lookOf i d t) ⌝ }
+{
+    match d {
+        Found::At(a, l) => Found::At(a, l),
+        Found::Not => {
+            if stands(s, i, b"[\"d\"") {
+                return second_at(s, i);
+            }
+            Found::Not
+        }
+    }
+}
+
+fn with_d(n: usize, d: Found) -> Tagged
+    ensures { λ r. ⌜ r ≡ taggedOf d 0 (got [] n) ⌝ }
+{
+    match d {
+        Found::At(a, l) => Tagged::End(n, a, l),
+        Found::Not => Tagged::End(n, 0, 0),
+    }
+}
+
+// Up to 64 tags between brackets, and d.
+fn tags_end(s: &[u8], at: usize) -> Tagged
+    ensures { λ r. ⌜ r ≡ taggedOf Found.Not (at + 1) (tagsAt (now (s .entry)) at) ⌝ }
+{
+    if byte(s, at) != b'[' {
+        return Tagged::Bad;
+    }
+    let mut i = at + 1;
+    if byte(s, i) == b']' {
+        return Tagged::End(i + 1, 0, 0);
+    }
+    let mut d = Found::Not;
+    let mut k = MOST_TAGS;
+    while 0 < k {
+        match tag_end(s, i) {
+            Out::End(n) => {
+                d = look(s, i, d);
+                let b = byte(s, n);
+                if b != b',' {
+                    if b != b']' {
+                        return Tagged::Bad;
+                    }
+                    return with_d(n + 1, d);
+                }
+                i = n + 1;
+            }
+            Out::Bad => {
+                return Tagged::Bad;
+            }
+        }
+        k -= 1;
+    }
+    Tagged::Bad
+}
+
+// The place of the next comma, or the end.
+fn next_comma(s: &[u8], at: usize) -> usize
+    ensures { λ r. ⌜ r ≡ at + length (runOf (drop at (now (s .entry)))) ⌝ }
+{
+    let mut i = at;
+    while i < s.len() {
+        if s[i] == b',' {
+            return i;
+        }
+        i += 1;
+    }
+    i
+}
+
+fn time_at(s: &[u8], at: usize) -> Time
+    ensures { λ r. ⌜ r ≡ timeIn (closedAt (now (s .entry)) comma (timeAt (now (s .entry))) at) ⌝ }
+{
+    let n = next_comma(s, at);
+    if s.len() <= n {
+        return Time::Not;
+    }
+    match numeral::read_whole(&s[at..n]) {
+        numeral::Whole::Value(z) => Time::Is(z, n + 1),
+        numeral::Whole::Large => Time::Not,
+        numeral::Whole::Malformed => Time::Not,
+    }
+}
+
+fn kind_at(s: &[u8], at: usize) -> Kind
+    ensures { λ r. ⌜ r ≡ kindIn (closedAt (now (s .entry)) comma (kindAt (now (s .entry))) at) ⌝ }
+{
+    let n = next_comma(s, at);
+    if s.len() <= n {
+        return Kind::Not;
+    }
+    match numeral::read_whole(&s[at..n]) {
+        numeral::Whole::Value(z) => {
+            let k = wire::to_unsigned(z);
+            if MOST_KIND < k {
+                return Kind::Not;
+            }
+            Kind::Is(k as u16, n + 1)
+        }
+        numeral::Whole::Large => Kind::Not,
+        numeral::Whole::Malformed => Kind::Not,
+    }
+}
+
+fn is_hex_digit(x: u8) -> bool
+    ensures { λ r. ⌜ r ≡ isHexDigit x ⌝ }
+{
+    if x < b'0' {
+        return false;
+    }
+    if x <= b'9' {
+        return true;
+    }
+    if x < b'a' {
+        return false;
+    }
+    x <= b'f'
+}
+
+fn is_pubkey(p: &[u8]) -> bool
+    ensures { λ r. ⌜ r ≡ isPubkey (now (p .entry)) ⌝ }
+{
+    if p.len() != 64 {
+        return false;
+    }
+    let mut i = 0;
+    while i < p.len() {
+        if !is_hex_digit(p[i]) {
+            return false;
+        }
+        i += 1;
+    }
+    true
+}
+
+// [0,"PUBKEY",
+fn is_opened(t: &[u8]) -> bool
+    ensures { λ r. ⌜ r ≡ opens (now (t .entry)) ⌝ }
+{
+    if t.len() < 70 {
+        return false;
+    }
+    if !stands(t, 0, b"[0,\"") {
+        return false;
+    }
+    if !is_pubkey(&t[4..68]) {
+        return false;
+    }
+    stands(t, 68, b"\",")
+}
+
+// TAGS,"CONTENT"] to the end of the text.
+fn rest_at(t: &[u8], at: usize) -> Rest
+    ensures { λ r. ⌜ r ≡ restOf (length (now (t .entry))) at (restAt (now (t .entry)) at) ⌝ }
+{
+    match tags_end(t, at) {
+        Tagged::End(m, d, d_len) => {
+            if byte(t, m) != b',' {
+                return Rest::Bad;
+            }
+            match string_end(t, m + 1) {
+                Out::End(n) => {
+                    if byte(t, n) != b']' {
+                        return Rest::Bad;
+                    }
+                    if n + 1 != t.len() {
+                        return Rest::Bad;
+                    }
+                    Rest::Is(m + 2, n - m - 3, d, d_len)
+                }
+                Out::Bad => Rest::Bad,
+            }
+        }
+        Tagged::Bad => Rest::Bad,
+    }
+}
+
+// A text read back alone.
+pub fn read_text(t: &[u8]) -> TextAnswer
+    ensures { λ r. ⌜ r ≡ answerOf (readText (now (t .entry))) ⌝ }
+{
+    if MOST_TEXT < t.len() {
+        return TextAnswer::TooLarge;
+    }
+    if !is_opened(t) {
+        return TextAnswer::WrongShape;
+    }
+    match time_at(t, 70) {
+        Time::Is(time, a) => match kind_at(t, a) {
+            Kind::Is(kind, tags) => match rest_at(t, tags) {
+                Rest::Is(content, content_len, d, d_len) => TextAnswer::Read(Text {
+                    time,
+                    kind,
+                    tags,
+                    content,
+                    content_len,
+                    d,
+                    d_len,
+                }),
+                Rest::Bad => TextAnswer::WrongShape,
+            },
+            Kind::Not => TextAnswer::WrongShape,
+        },
+        Time::Not => TextAnswer::WrongShape,
+    }
+}
