@@ -1,0 +1,134 @@
+-- The rows of the items from i on, after what was tallied before, are those of the whole value. The cycle's measure is the depth.
+use mathlib.Core.Path.{_≡_, sym, ap, _∙_}
+use Prim.Native.Nat.{ℕ, _-_, _<_}
+use native.Mathlib.Omega.{arith}
+use borrow.Author.Needs.{needs}
+use borrow.Fn.Kinds.{In}
+use borrow.Fn.PlainCycle.{Measures, is, falls, and}
+use lib.ListN.{length}
+use Rattle.json.specs.Tree.{itemsAt, treeAt}
+use Rattle.json.specs.declared.Start.the-variants.{Leaf}
+use Rattle.json.specs.declared.Next.the-variants.{More, Done, Wrong}
+use Rattle.json.proofs.Trees.{value-open, value-flat}
+use Rattle.shape.specs.declared.Judged.the-variants.{Ends}
+use Rattle.shape.specs.Walk.{judgedOf}
+use Rattle.shape.proofs.Slots.{slot-small}
+use Rattle.shape.proofs.Walks.{judgedItems, judge-empty, judge-many, judge-gone, judge-unnamed, judge-bad, judge-next}
+use Rattle.shape.proofs.judge.Reads as judge
+use Rattle.shape.proofs.judge.Kinds as judge-kinds
+use Rattle.shape.proofs.+judge.Lts-judge as lts
+use Rattle.json.proofs.after.Reads as after
+use Rattle.json.proofs.begin.Reads as begin
+use Rattle.json.proofs.head.Reads as head
+use Rattle.shape.proofs.close.Reads as close-reads
+use Rattle.shape.proofs.group_form.Reads as group-form
+use Rattle.shape.proofs.item_of.Reads as item-of
+use Rattle.shape.proofs.leaf.Reads as leaf
+use Rattle.shape.proofs.slot_form.Reads as slot-form
+use Rattle.shape.proofs.start.Reads as start
+use Rattle.shape.proofs.step.Reads as step
+use Rattle.shape.proofs.+judge.{statement}
+use Rattle.shape.proofs.+judge.Tie.{close}
+
+abbrev μ-judge : Measures 1 judge-kinds.ps ℕ
+μ-judge κs a = a .1 .1 .0
+
+abbrev at-t : ℕ → In 1 judge-kinds.ps
+at-t t = and 1 judge-kinds.ps (is 1 judge-kinds.ps μ-judge t) judge.Pre
+
+abbrev calls : ℕ → lts.Claims
+calls t = (leaf.Asked, leaf.Learnt, begin.Asked, begin.Learnt, group-form.Asked, group-form.Learnt, start.Asked, start.Learnt, close-reads.Asked, close-reads.Learnt, head.Asked, head.Learnt, item-of.Asked, item-of.Learnt, slot-form.Asked, slot-form.Learnt, and 1 judge-kinds.ps (falls 1 judge-kinds.ps _<_ μ-judge t) judge.Pre, judge.Post, step.Asked, step.Learnt, after.Asked, after.Learnt)
+
+abbrev Inv : lts.InvT-loop
+Inv s at d form first named inner a₀ i₀ k₀ a i k = judgedItems s named inner k a (itemsAt (treeAt s (d - 1)) s named (length s - k) i) ≡ judgedOf s form (treeAt s d at)
+
+abbrev μ-loop : lts.MeasureT-loop
+μ-loop s at d form first named inner a₀ i₀ k₀ a i k = length s - k
+
+module _ (t : ℕ) where
+  loop-holds : lts.Need-loop-holds (calls t) (at-t t) judge.Post Inv μ-loop
+  loop-holds c = judge-many _ _ _ _ (c .before .before .before .before .before .before .if1 .left) _ (c .before .group-form2 .ensures) (c .start2 .ensures) _ (sym (c .before .before .before .first .given .1) ∙ c .before .before .before .before .before .begin .ensures)
+
+  returns-2 : lts.Need-returns-2 (calls t) (at-t t) judge.Post Inv μ-loop
+  returns-2 c = sym (judge-unnamed _ _ _ _ _ _ _ (c .before .before .before .loop-test .taken) (sym (c .before .before .head .ensures) ∙ c .enum-told2 .given .1)) ∙ c .before .before .before .before .loop .inv
+
+  judge-requires : lts.Need-judge-requires (calls t) (at-t t) judge.Post Inv μ-loop
+  judge-requires c κs = (omega (arith, c .before .before .before .before .before .before .before .before .before .before .before .before .before .before .if1 .left, c .before .before .before .before .before .before .before .before .before .before .before .before .before .before .before .before .pre .0), tt)
+
+  returns-3 : lts.Need-returns-3 (calls t) (at-t t) judge.Post Inv μ-loop
+  returns-3 c =
+      sym (judge-bad _ _ _ _ _ _ _ _ _ (c .before .before .before .before .before .before .before .before .before .loop-test .taken) (sym (c .before .before .before .before .before .before .before .before .head .ensures) ∙ c .before .before .before .before .before .before .v .given .1) (sym (c .enum-told3 .given .1) ∙ c .before .before .judge .ensures))
+      ∙ c .before .before .before .before .before .before .before .before .before .before .loop .inv
+
+  step-requires : lts.Need-step-requires (calls t) (at-t t) judge.Post Inv μ-loop
+  step-requires c κs = slot-small _ _ _ _ _ (c .before .before .before .before .before .item-of .ensures)
+
+  returns-4 : lts.Need-returns-4 (calls t) (at-t t) judge.Post Inv μ-loop
+  returns-4 c =
+      ap (Ends (c .before .before .e .given .0 .0)) (c .close2 .ensures)
+      ∙ sym
+      (judge-next _ _ _ _ _ _ _ _ _ (Done (c .before .before .e .given .0 .0)) (c .before .before .before .before .before .before .before .before .before .before .before .before .before .before .before .before .loop-test .taken) (sym (c .before .before .before .before .before .before .before .before .before .before .before .before .before .before .before .head .ensures) ∙ c .before .before .before .before .before .before .before .before .before .before .before .before .before .v .given .1) (c .before .before .before .before .before .before .before .before .before .before .before .item-of .ensures)
+      (c .before .before .before .before .before .before .before .before .before .before .slot-form .ensures) (sym (c .before .before .before .before .before .before .before .n2 .given .1) ∙ c .before .before .before .before .before .before .before .before .before .judge .ensures) (c .before .before .before .before .before .step .ensures) (sym (c .before .before .before .before .after .ensures) ∙ c .before .before .e .given .1))
+      ∙ c .before .before .before .before .before .before .before .before .before .before .before .before .before .before .before .before .before .loop .inv
+
+  returns-5 : lts.Need-returns-5 (calls t) (at-t t) judge.Post Inv μ-loop
+  returns-5 c =
+      sym
+      (judge-next _ _ _ _ _ _ _ _ _ Wrong (c .before .before .before .before .before .before .before .before .before .before .before .before .before .before .loop-test .taken) (sym (c .before .before .before .before .before .before .before .before .before .before .before .before .before .head .ensures) ∙ c .before .before .before .before .before .before .before .before .before .before .before .v .given .1) (c .before .before .before .before .before .before .before .before .before .item-of .ensures)
+      (c .before .before .before .before .before .before .before .before .slot-form .ensures) (sym (c .before .before .before .before .before .n2 .given .1) ∙ c .before .before .before .before .before .before .before .judge .ensures) (c .before .before .before .step .ensures) (sym (c .before .before .after .ensures) ∙ c .enum-told4 .given .1))
+      ∙ c .before .before .before .before .before .before .before .before .before .before .before .before .before .before .before .loop .inv
+
+  loop-again : lts.Need-loop-again (calls t) (at-t t) judge.Post Inv μ-loop
+  loop-again c =
+      sym
+      (judge-next _ _ _ _ _ _ _ _ _ (More (c .before .j .given .0 .0)) (c .before .before .before .before .before .before .before .before .before .before .before .before .before .before .before .loop-test .taken) (sym (c .before .before .before .before .before .before .before .before .before .before .before .before .before .before .head .ensures) ∙ c .before .before .before .before .before .before .before .before .before .before .before .before .v .given .1) (c .before .before .before .before .before .before .before .before .before .before .item-of .ensures)
+      (c .before .before .before .before .before .before .before .before .before .slot-form .ensures) (sym (c .before .before .before .before .before .before .n2 .given .1) ∙ c .before .before .before .before .before .before .before .before .judge .ensures) (c .before .before .before .before .step .ensures) (sym (c .before .before .before .after .ensures) ∙ c .before .j .given .1))
+      ∙ c .before .before .before .before .before .before .before .before .before .before .before .before .before .before .before .before .loop .inv
+
+  returns-6 : lts.Need-returns-6 (calls t) (at-t t) judge.Post Inv μ-loop
+  returns-6 c = c .leaf2 .ensures ∙ ap (judgedOf _ _) (value-open _ _ _ Leaf (c .before .before .before .before .if1 .left) (sym (c .before .enum-told .given .1) ∙ c .before .before .before .begin .ensures))
+
+  returns-7 : lts.Need-returns-7 (calls t) (at-t t) judge.Post Inv μ-loop
+  returns-7 c = judge-empty _ _ _ _ (c .before .before .before .before .before .before .before .if1 .left) _ (c .before .before .group-form .ensures) (c .before .start .ensures) _ (c .close .ensures) (sym (c .before .before .before .before .n .given .1) ∙ c .before .before .before .before .before .before .begin .ensures)
+
+pub +judge-spec : {M : Type 1} → statement M
++judge-spec = close μ-judge λ t. lts.spec (calls t) (at-t t) judge.Post Inv μ-loop
+    (λ c κs. tt)
+    (λ c. c .leaf .ensures ∙ ap (judgedOf _ _) (value-flat _ _ _ (c .before .if1 .taken)))
+    (λ c κs. tt)
+    (λ c. search needs)
+    (λ c κs. tt)
+    (λ c. search needs)
+    (λ c κs. tt)
+    (λ c κs. tt)
+    (λ c κs. tt)
+    (λ c. search needs)
+    (λ c κs. tt)
+    (λ c κs. tt)
+    (loop-holds t)
+    (λ c κs. tt)
+    (λ c. search needs)
+    (λ c. search needs)
+    (returns-2 t)
+    (λ c κs. tt)
+    (λ c. omega (arith, c .before .before .before .before .before .before .before .before .before .before .before .before .before .if1 .left))
+    (λ c κs. tt)
+    (judge-requires t)
+    (λ c. search needs)
+    (λ c. search needs)
+    (returns-3 t)
+    (step-requires t)
+    (λ c κs. tt)
+    (λ c. search needs)
+    (λ c. search needs)
+    (λ c. omega (arith, c .before .before .before .before .before .before .before .before .before .before .before .before .before .before .before .loop-test .taken, c .before .before .before .before .before .before .before .before .before .before .before .before .before .before .before .before .before .before .before .before .before .before .before .before .before .good .0))
+    (λ c κs. tt)
+    (returns-4 t)
+    (λ c. search needs)
+    (returns-5 t)
+    (λ c. omega (arith, c .before .before .before .before .before .before .before .before .before .before .before .before .before .before .before .loop-test .taken, c .before .before .before .before .before .before .before .before .before .before .before .before .before .before .before .before .before .before .before .before .before .before .before .before .before .good .0))
+    (λ c. omega (arith, c .before .before .before .before .before .before .before .before .before .before .before .before .before .before .before .loop-test .taken))
+    (loop-again t)
+    (returns-6 t)
+    (returns-7 t)
+    (λ c. sym (judge-gone _ _ _ _ _ _ _ (c .loop-test .left)) ∙ c .before .loop .inv)

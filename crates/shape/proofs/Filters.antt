@@ -1,0 +1,137 @@
+-- Filters: each name at most once, which is each slot at most once; and the # conditions counted to one more than may be.
+use mathlib.Core.Path.{_≡_, refl, sym, ap, _∙_}
+use mathlib.Core.List.{List, [], _∷_}
+use mathlib.Core.Bool.{Bool, true, false, cond, not, _&&_, _||_, or-false}
+use Prim.Native.Nat.{ℕ, suc, _+_, _-_, _≤_, _<_, min}
+use native.Mathlib.Omega.{arith}
+use borrow.Author.Tests.{lt-ltb, le-ltb, ltb-true, ltb-false, le-leb, ne-eqb}
+use lib.Dec.{eqb, ltb, leb}
+use Rattle.json.specs.Tree.{Json, word, num, str, arr, obj, Items, nil, item}
+use Rattle.json.specs.Grammar.{within}
+use Rattle.spell.specs.Spell.{sameBytes}
+use Rattle.rows.specs.Strings.{refusedIn}
+use Rattle.shape.specs.Shape.{allItems, anyItem, countItems, nameAt, named, isLetter, isCondition, filterMember, noneTwice, isFilter}
+use Rattle.shape.specs.Rows.{outside, mostConditions, onObject, filterNumber, filterHex, filterCount, filterCounts}
+use Rattle.shape.specs.Walk.{UNKNOWN, LOWER, UPPER, FILTER, bounds, stringForm, stringRow, numberRow, groupForm, nameSlot, letterSlot, conditionSlot, filterSlot, filterForm, slotForm, marksAfter, fresh, endRow, rowOf}
+use Rattle.shape.proofs.Names.{no, and-left, and-right, within-ends}
+use Rattle.shape.proofs.Low.{low, Lowest, said, begins}
+use Rattle.shape.proofs.Never.{never, never-after}
+use Rattle.shape.proofs.Leaves.{bounds-is, time, small}
+use Rattle.shape.proofs.Lists.{texts, hexes, smalls}
+use Rattle.shape.proofs.Objects.{twice, taken, marked, noTwo, slotAt, object-after, any-same, twice-none}
+use Rattle.shape.proofs.Known.{FilterName, filter-name, filterBack, filter-back, condition-slot, same-slot}
+
+-- ---- the slot of a condition
+letter-high : (b : ℕ) → isLetter b ≡ true → LOWER ≤ letterSlot b
+unfolding letterSlot
+letter-high b e = go (within 97 122 b) refl (within 65 90 b) refl e
+  where
+    go : (x : Bool) → within 97 122 b ≡ x → (y : Bool) → within 65 90 b ≡ y → (x || y) ≡ true → LOWER ≤ cond x (b - 97 + LOWER) (cond y (b - 65 + UPPER) UNKNOWN)
+    go true p y q e = omega arith
+    go false p true q e = omega arith
+    go false p false q e = no cc
+
+condition-form : (n : ℕ) → LOWER ≤ n → filterForm n ≡ 11
+unfolding filterForm
+condition-form n h =
+    rw (ne-eqb n 0 (λ e. omega arith), ne-eqb n 1 (λ e. omega arith), ne-eqb n 2 (λ e. omega arith), ne-eqb n 3 (λ e. omega arith), ne-eqb n 4 (λ e. omega arith), ne-eqb n 5 (λ e. omega arith), le-leb LOWER n h)
+
+module _ (s : List ℕ) where
+  -- ---- one member
+  condition : (p : ℕ) (t : Json) (b : ℕ) → nameAt s p ≡ 35 ∷ b ∷ [] → isLetter b ≡ true
+      → Lowest (rowOf s (slotForm FILTER (slotAt s FILTER p)) t) (refusedIn s t) (not (filterMember s p t)) (filterNumber s p t) (filterHex s p t) (filterCount s p t)
+  unfolding slotForm nameSlot filterMember filterNumber filterHex filterCount sameBytes isCondition
+  condition p t b e l = rw (e, condition-slot b, condition-form (letterSlot b) (letter-high b l), l) (texts s t)
+
+  member : (p : ℕ) (t : Json) → Lowest (rowOf s (slotForm FILTER (slotAt s FILTER p)) t) (refusedIn s t) (not (filterMember s p t)) (filterNumber s p t) (filterHex s p t) (filterCount s p t)
+  unfolding slotForm nameSlot filterForm filterSlot conditionSlot filterMember filterNumber filterHex filterCount sameBytes isCondition
+  member p t = go (nameAt s p) refl (filter-name (nameAt s p))
+    where
+      go : (w : List ℕ) → nameAt s p ≡ w → FilterName w
+          → Lowest (rowOf s (slotForm FILTER (slotAt s FILTER p)) t) (refusedIn s t) (not (filterMember s p t)) (filterNumber s p t) (filterHex s p t) (filterCount s p t)
+      go w e FilterName.ids = rw e (hexes s t)
+      go w e FilterName.authors = rw e (hexes s t)
+      go w e FilterName.kinds = rw e (smalls s t)
+      go w e FilterName.since = rw e (time s t)
+      go w e FilterName.until = rw e (time s t)
+      go w e FilterName.limit = rw e (small s t)
+      go w e (FilterName.condition b l) = condition p t b e l
+      go w e (FilterName.unknown a b c d f g h) = rw (e, a, b, c, d, f, g, h) (never s t)
+
+  known : (p : ℕ) (t : Json) → filterMember s p t ≡ true → slotAt s FILTER p ≡ UNKNOWN → ⊥
+  unfolding nameSlot filterSlot conditionSlot filterMember sameBytes isCondition
+  known p t = go (nameAt s p) refl (filter-name (nameAt s p))
+    where
+      go : (w : List ℕ) → nameAt s p ≡ w → FilterName w → filterMember s p t ≡ true → slotAt s FILTER p ≡ UNKNOWN → ⊥
+      go w e FilterName.ids m z = let y = rw e at z in omega arith
+      go w e FilterName.authors m z = let y = rw e at z in omega arith
+      go w e FilterName.kinds m z = let y = rw e at z in omega arith
+      go w e FilterName.since m z = let y = rw e at z in omega arith
+      go w e FilterName.until m z = let y = rw e at z in omega arith
+      go w e FilterName.limit m z = let y = rw e at z in omega arith
+      go w e (FilterName.condition b l) m z = let y : letterSlot b ≡ UNKNOWN = rw (e, l) at z in let h = letter-high b l in omega arith
+      go w e (FilterName.unknown a b c d f g h) m z = no (let y : false ≡ true = rw (e, a, b, c, d, f, g, h) at m in cc)
+
+  -- ---- each at most once
+  two-same : (ts : Items) → allItems (filterMember s) ts ≡ true → noTwo (slotAt s FILTER) ts ≡ noneTwice s ts
+  unfolding noTwo noneTwice allItems nameSlot
+  two-same nil e = refl
+  two-same (item p v t ts) e =
+      rw (
+        any-same _ _ (λ q u. same-slot filterSlot filterBack filter-back (nameAt s q) (nameAt s p) (known p t (and-left (filterMember s p t) _ e))) ts,
+        two-same ts (and-right (filterMember s p t) _ e),
+      )
+
+  none-twice : (ts : Items) → (not (allItems (filterMember s) ts) || (twice (slotAt s FILTER) 0 ts || false)) ≡ not (allItems (filterMember s) ts && noneTwice s ts)
+  none-twice ts = go (allItems (filterMember s) ts) refl
+    where
+      go : (x : Bool) → allItems (filterMember s) ts ≡ x → (not x || (twice (slotAt s FILTER) 0 ts || false)) ≡ not (x && noneTwice s ts)
+      go false a = refl
+      go true a = or-false _ ∙ twice-none (slotAt s FILTER) ts ∙ ap not (two-same ts a)
+
+  -- ---- the # conditions
+  marks-one : (p n : ℕ) → marksAfter (slotAt s FILTER p) n ≡ cond (isCondition (nameAt s p)) (min (n + 1) 5) n
+  unfolding marksAfter nameSlot filterSlot conditionSlot sameBytes isCondition
+  marks-one p n = go (nameAt s p) refl (filter-name (nameAt s p))
+    where
+      go : (w : List ℕ) → nameAt s p ≡ w → FilterName w → marksAfter (slotAt s FILTER p) n ≡ cond (isCondition (nameAt s p)) (min (n + 1) 5) n
+      go w e FilterName.ids = rw e
+      go w e FilterName.authors = rw e
+      go w e FilterName.kinds = rw e
+      go w e FilterName.since = rw e
+      go w e FilterName.until = rw e
+      go w e FilterName.limit = rw e
+      go w e (FilterName.condition b l) = rw (e, l, le-ltb (letterSlot b) LOWER (letter-high b l))
+      go w e (FilterName.unknown a b c d f g h) = rw (e, a, b, c, d, f, g, h)
+
+  marks-are : (n : ℕ) (ts : Items) → n ≤ 5 → marked (slotAt s FILTER) n ts ≡ min (n + countItems (λ p t. isCondition (nameAt s p)) ts) 5
+  unfolding marked countItems
+  marks-are n nil h = omega arith
+  marks-are n (item p v t ts) h = ap (λ (m : ℕ). marked (slotAt s FILTER) m ts) (marks-one p n) ∙ go (isCondition (nameAt s p)) (λ m l. marks-are m ts l)
+    where
+      go : (x : Bool) → ((m : ℕ) → m ≤ 5 → marked (slotAt s FILTER) m ts ≡ min (m + countItems (λ p t. isCondition (nameAt s p)) ts) 5)
+          → marked (slotAt s FILTER) (cond x (min (n + 1) 5) n) ts ≡ min (n + cond x (suc (countItems (λ p t. isCondition (nameAt s p)) ts)) (countItems (λ p t. isCondition (nameAt s p)) ts)) 5
+      go true f = f (min (n + 1) 5) (omega arith) ∙ omega arith
+      go false f = f n h
+
+  outside-most : (n : ℕ) → outside 0 mostConditions (min (0 + n) 5) ≡ outside 0 mostConditions n
+  outside-most n = rw (le-ltb (min (0 + n) 5) 0 (omega arith), le-ltb n 0 (omega arith)) (go (ltb mostConditions n) refl)
+    where
+      go : (x : Bool) → ltb mostConditions n ≡ x → ltb mostConditions (min (0 + n) 5) ≡ ltb mostConditions n
+      go true e = let h = ltb-true mostConditions n e in lt-ltb mostConditions (min (0 + n) 5) (omega arith) ∙ sym e
+      go false e = let h = ltb-false mostConditions n e in le-ltb mostConditions (min (0 + n) 5) (omega arith) ∙ sym e
+
+  -- ---- the whole
+  pub filter : (t : Json)
+      → Lowest (rowOf s FILTER t) (refusedIn s t) (not (isFilter s t)) (onObject (anyItem (filterNumber s)) t) (onObject (anyItem (filterHex s)) t) (onObject (filterCounts s) t)
+  unfolding low rowOf refusedIn stringRow stringForm numberRow groupForm fresh endRow isFilter filterCounts
+  filter (word a n) = record { is = refl }
+  filter (num a n) = record { is = refl }
+  filter (str a n) = record { is = refl }
+  filter (arr ts) = begins (never-after s false 0 fresh ts)
+  filter (obj ts) =
+      said refl (none-twice ts) refl refl
+      (ap (λ (x : Bool). anyItem (filterCount s) ts || x) (ap (outside 0 mostConditions) (marks-are 0 ts (omega arith)) ∙ outside-most (countItems (λ p t. isCondition (nameAt s p)) ts)))
+      (begins
+      (object-after s FILTER (filterMember s) (filterNumber s) (filterHex s) (filterCount s) (λ m. false) (outside 0 mostConditions) member
+      (λ k a. record { is = bounds-is 0 mostConditions (a .marks) }) 0 fresh ts))

@@ -1,0 +1,4 @@
+-- Rows 1 to 8 of a client message (01). Shape and Rows say what they are; Walk is what the code goes by.
+pub mod Shape
+pub mod Rows
+pub mod Walk

@@ -1,0 +1,164 @@
+-- 01, "Numbers the relay answers with": rows 4 to 8 of a message, each by itself, over the tree t of the text s. Row r holds where its
+-- sentence is broken anywhere in the message.
+use Prim.Native.Nat.{ℕ}
+use mathlib.Core.List.{List}
+use mathlib.Core.Bool.{Bool, true, false, cond, not, _||_}
+use lib.Dec.{ltb}
+use lib.IntN.{ℤ, pos, negℤ}
+use Rattle.json.specs.Tree.{Json, word, num, str, arr, obj, Items, nil, item, Got, none, got, root}
+use Rattle.rows.specs.Strings.{part, refusedIn}
+use Rattle.rows.specs.Rows.{row1, row2, row3}
+use Rattle.spell.specs.Spell.{characterCount, isHexOf}
+use Rattle.numeral.specs.Whole.{wholeOf, answerOf, isWithin, widest}
+use Rattle.shape.specs.Shape.{anyItem, countItems, count, nameAt, named, idName, pubkeyName, createdAtName, kindName, tagsName, contentName, sigName, idsName, authorsName, kindsName, sinceName, untilName, limitName, isCondition, Word, event, req, close, other, opened, hasShape}
+
+-- ---- row 4: "some string, names included, decodes to .."
+abbrev pub row4 : List ℕ → Json → Bool
+row4 s t = refusedIn s t
+
+-- ---- row 5: "wrong shape"
+abbrev pub row5 : List ℕ → Json → Bool
+row5 s t = not (hasShape s (opened s t .first) (opened s t .rest))
+
+-- what holds of a string, a number, an array; of any other value it is for row 5 to say
+abbrev pub onString : (ℕ → ℕ → Bool) → Json → Bool
+onString f (word a n) = false
+onString f (num a n) = false
+onString f (str a n) = f a n
+onString f (arr ts) = false
+onString f (obj ts) = false
+
+abbrev pub onNumber : (ℕ → ℕ → Bool) → Json → Bool
+onNumber f (word a n) = false
+onNumber f (num a n) = f a n
+onNumber f (str a n) = false
+onNumber f (arr ts) = false
+onNumber f (obj ts) = false
+
+abbrev pub onArray : (Items → Bool) → Json → Bool
+onArray f (word a n) = false
+onArray f (num a n) = false
+onArray f (str a n) = false
+onArray f (arr ts) = f ts
+onArray f (obj ts) = false
+
+abbrev pub onObject : (Items → Bool) → Json → Bool
+onObject f (word a n) = false
+onObject f (num a n) = false
+onObject f (str a n) = false
+onObject f (arr ts) = false
+onObject f (obj ts) = f ts
+
+-- what holds of an event, or of some filter of a REQ
+abbrev pub inMessage : (Json → Bool) → (Json → Bool) → Word → Items → Bool
+inMessage e f event ts = anyItem (λ p t. e t) ts
+inMessage e f req nil = false
+inMessage e f req (item p v t ts) = anyItem (λ q u. f u) ts
+inMessage e f close ts = false
+inMessage e f other ts = false
+
+-- ---- row 6: "An optional minus and digits, no needless leading zero, no fraction or exponent, not -0", and the ranges
+unfoldable pub wrongTime : List ℕ → Json → Bool
+wrongTime s t = onNumber (λ a n. not (isWithin (answerOf (wholeOf (part s a n))) (negℤ (pos widest)) (pos widest))) t
+
+-- kind, kinds, limit: 0 to 65,535
+unfoldable pub wrongSmall : List ℕ → Json → Bool
+wrongSmall s t = onNumber (λ a n. not (isWithin (answerOf (wholeOf (part s a n))) (pos 0) (pos 65535))) t
+
+unfoldable pub eventNumber : List ℕ → ℕ → Json → Bool
+eventNumber s p t = cond (named s createdAtName p) (wrongTime s t) (cond (named s kindName p) (wrongSmall s t) false)
+
+unfoldable pub filterNumber : List ℕ → ℕ → Json → Bool
+filterNumber s p t =
+    cond (named s kindsName p) (onArray (anyItem (λ q u. wrongSmall s u)) t)
+    (cond (named s sinceName p) (wrongTime s t)
+    (cond (named s untilName p) (wrongTime s t)
+    (cond (named s limitName p) (wrongSmall s t) false)))
+
+unfoldable pub row6 : List ℕ → Json → Bool
+row6 s t = inMessage (onObject (anyItem (eventNumber s))) (onObject (anyItem (filterNumber s))) (opened s t .first) (opened s t .rest)
+
+-- ---- row 7: "Lower case: 64 characters for id, pubkey and members of ids and authors; 128 for sig"
+unfoldable pub wrongHex : ℕ → List ℕ → Json → Bool
+wrongHex k s t = onString (λ a n. not (isHexOf k (part s a n))) t
+
+unfoldable pub eventHex : List ℕ → ℕ → Json → Bool
+eventHex s p t =
+    cond (named s idName p) (wrongHex 64 s t) (cond (named s pubkeyName p) (wrongHex 64 s t) (cond (named s sigName p) (wrongHex 128 s t) false))
+
+unfoldable pub filterHex : List ℕ → ℕ → Json → Bool
+filterHex s p t =
+    cond (named s idsName p) (onArray (anyItem (λ q u. wrongHex 64 s u)) t)
+    (cond (named s authorsName p) (onArray (anyItem (λ q u. wrongHex 64 s u)) t) false)
+
+unfoldable pub row7 : List ℕ → Json → Bool
+row7 s t = inMessage (onObject (anyItem (eventHex s))) (onObject (anyItem (filterHex s))) (opened s t .first) (opened s t .rest)
+
+-- ---- row 8: "At most 64 tags, 1 to 16 strings in a tag; 1 to 4 filters; 1 to 16 members in a list; at most 4 # conditions in a filter;
+-- subscription ids of 1 to 64 characters (code points)"
+abbrev pub mostTags : ℕ
+mostTags = 64
+
+abbrev pub mostStrings : ℕ
+mostStrings = 16
+
+abbrev pub mostFilters : ℕ
+mostFilters = 4
+
+abbrev pub mostMembers : ℕ
+mostMembers = 16
+
+abbrev pub mostConditions : ℕ
+mostConditions = 4
+
+abbrev pub mostCharacters : ℕ
+mostCharacters = 64
+
+abbrev pub outside : ℕ → ℕ → ℕ → Bool
+outside low high n = ltb n low || ltb high n
+
+unfoldable pub wrongTag : Json → Bool
+wrongTag t = onArray (λ ts. outside 1 mostStrings (count ts)) t
+
+unfoldable pub eventCount : List ℕ → ℕ → Json → Bool
+eventCount s p t = cond (named s tagsName p) (onArray (λ ts. outside 0 mostTags (count ts) || anyItem (λ q u. wrongTag u) ts) t) false
+
+unfoldable pub wrongList : Json → Bool
+wrongList t = onArray (λ ts. outside 1 mostMembers (count ts)) t
+
+unfoldable pub filterCount : List ℕ → ℕ → Json → Bool
+filterCount s p t =
+    cond (named s idsName p) (wrongList t)
+    (cond (named s authorsName p) (wrongList t)
+    (cond (named s kindsName p) (wrongList t)
+    (cond (isCondition (nameAt s p)) (wrongList t) false)))
+
+unfoldable pub filterCounts : List ℕ → Items → Bool
+filterCounts s ts = anyItem (filterCount s) ts || outside 0 mostConditions (countItems (λ p t. isCondition (nameAt s p)) ts)
+
+unfoldable pub wrongSubscription : List ℕ → Json → Bool
+wrongSubscription s t = onString (λ a n. outside 1 mostCharacters (characterCount (part s a n))) t
+
+-- the subscription id and the number of filters
+abbrev pub wrongRequest : List ℕ → Word → Items → Bool
+wrongRequest s event ts = false
+wrongRequest s req nil = false
+wrongRequest s req (item p v t ts) = wrongSubscription s t || outside 1 mostFilters (count ts)
+wrongRequest s close ts = anyItem (λ p t. wrongSubscription s t) ts
+wrongRequest s other ts = false
+
+unfoldable pub row8 : List ℕ → Json → Bool
+row8 s t =
+    wrongRequest s (opened s t .first) (opened s t .rest)
+    || inMessage (onObject (anyItem (eventCount s))) (onObject (filterCounts s)) (opened s t .first) (opened s t .rest)
+
+-- ---- the lowest of rows 1 to 8 that holds of a message, or 0
+unfoldable pub treeRow : List ℕ → Json → ℕ
+treeRow s t = cond (row4 s t) 4 (cond (row5 s t) 5 (cond (row6 s t) 6 (cond (row7 s t) 7 (cond (row8 s t) 8 0))))
+
+abbrev pub rootRow : List ℕ → Got Json → ℕ
+rootRow s none = 3
+rootRow s (got t n) = treeRow s t
+
+unfoldable pub messageRow : List ℕ → ℕ
+messageRow s = cond (row1 s) 1 (cond (row2 s) 2 (cond (row3 s) 3 (rootRow s (root s))))

@@ -1,0 +1,198 @@
+-- 01, "Shape": what an EVENT, a REQ and a CLOSE are, over the tree of a text s. Names and the first word compare as decoded. A name that
+-- begins at p is a member's; t is its value.
+use Prim.Native.Nat.{ℕ, suc}
+use mathlib.Core.List.{List, [], _∷_}
+use mathlib.Core.Bool.{Bool, true, false, cond, not, _&&_, _||_}
+use lib.Dec.{eqb, leb}
+use lib.ListN.{length, getD}
+use Rattle.json.specs.Tree.{Json, word, num, str, arr, obj, Items, nil, item}
+use Rattle.spell.specs.Spell.{decode, sameBytes}
+use Rattle.rows.specs.Strings.{part, spelledAt}
+
+-- ---- the items of an array or an object
+unfoldable pub anyItem : (ℕ → Json → Bool) → Items → Bool
+anyItem f nil = false
+anyItem f (item p v t ts) = f p t || anyItem f ts
+
+unfoldable pub allItems : (ℕ → Json → Bool) → Items → Bool
+allItems f nil = true
+allItems f (item p v t ts) = f p t && allItems f ts
+
+unfoldable pub countItems : (ℕ → Json → Bool) → Items → ℕ
+countItems f nil = 0
+countItems f (item p v t ts) = cond (f p t) (suc (countItems f ts)) (countItems f ts)
+
+abbrev pub count : Items → ℕ
+count ts = countItems (λ p t. true) ts
+
+-- ---- names
+-- what the name that begins at p decodes to
+unfoldable pub nameAt : List ℕ → ℕ → List ℕ
+nameAt s p = decode (spelledAt s p)
+
+abbrev pub named : List ℕ → List ℕ → ℕ → Bool
+named s w p = sameBytes (nameAt s p) w
+
+-- id, pubkey, created_at, kind, tags, content, sig
+abbrev pub idName : List ℕ
+idName = 105 ∷ 100 ∷ []
+
+abbrev pub pubkeyName : List ℕ
+pubkeyName = 112 ∷ 117 ∷ 98 ∷ 107 ∷ 101 ∷ 121 ∷ []
+
+abbrev pub createdAtName : List ℕ
+createdAtName = 99 ∷ 114 ∷ 101 ∷ 97 ∷ 116 ∷ 101 ∷ 100 ∷ 95 ∷ 97 ∷ 116 ∷ []
+
+abbrev pub kindName : List ℕ
+kindName = 107 ∷ 105 ∷ 110 ∷ 100 ∷ []
+
+abbrev pub tagsName : List ℕ
+tagsName = 116 ∷ 97 ∷ 103 ∷ 115 ∷ []
+
+abbrev pub contentName : List ℕ
+contentName = 99 ∷ 111 ∷ 110 ∷ 116 ∷ 101 ∷ 110 ∷ 116 ∷ []
+
+abbrev pub sigName : List ℕ
+sigName = 115 ∷ 105 ∷ 103 ∷ []
+
+-- ids, authors, kinds, since, until, limit
+abbrev pub idsName : List ℕ
+idsName = 105 ∷ 100 ∷ 115 ∷ []
+
+abbrev pub authorsName : List ℕ
+authorsName = 97 ∷ 117 ∷ 116 ∷ 104 ∷ 111 ∷ 114 ∷ 115 ∷ []
+
+abbrev pub kindsName : List ℕ
+kindsName = 107 ∷ 105 ∷ 110 ∷ 100 ∷ 115 ∷ []
+
+abbrev pub sinceName : List ℕ
+sinceName = 115 ∷ 105 ∷ 110 ∷ 99 ∷ 101 ∷ []
+
+abbrev pub untilName : List ℕ
+untilName = 117 ∷ 110 ∷ 116 ∷ 105 ∷ 108 ∷ []
+
+abbrev pub limitName : List ℕ
+limitName = 108 ∷ 105 ∷ 109 ∷ 105 ∷ 116 ∷ []
+
+-- EVENT, REQ, CLOSE
+abbrev pub eventWord : List ℕ
+eventWord = 69 ∷ 86 ∷ 69 ∷ 78 ∷ 84 ∷ []
+
+abbrev pub reqWord : List ℕ
+reqWord = 82 ∷ 69 ∷ 81 ∷ []
+
+abbrev pub closeWord : List ℕ
+closeWord = 67 ∷ 76 ∷ 79 ∷ 83 ∷ 69 ∷ []
+
+-- "# with one letter a-z or A-Z"
+abbrev pub isLetter : ℕ → Bool
+isLetter b = (leb 97 b && leb b 122) || (leb 65 b && leb b 90)
+
+unfoldable pub isCondition : List ℕ → Bool
+isCondition w = eqb (length w) 2 && (eqb (getD w 0 0) 35 && isLetter (getD w 1 0))
+
+-- ---- "Each value has its JSON type, list and tag members included"
+abbrev pub isString : Json → Bool
+isString (word a n) = false
+isString (num a n) = false
+isString (str a n) = true
+isString (arr ts) = false
+isString (obj ts) = false
+
+abbrev pub isNumber : Json → Bool
+isNumber (word a n) = false
+isNumber (num a n) = true
+isNumber (str a n) = false
+isNumber (arr ts) = false
+isNumber (obj ts) = false
+
+abbrev pub isArrayOf : (Json → Bool) → Json → Bool
+isArrayOf f (word a n) = false
+isArrayOf f (num a n) = false
+isArrayOf f (str a n) = false
+isArrayOf f (arr ts) = allItems (λ p t. f t) ts
+isArrayOf f (obj ts) = false
+
+-- an object of which f holds
+abbrev pub isObject : (Items → Bool) → Json → Bool
+isObject f (word a n) = false
+isObject f (num a n) = false
+isObject f (str a n) = false
+isObject f (arr ts) = false
+isObject f (obj ts) = f ts
+
+-- ---- EVENT: "an object with id, pubkey, created_at, kind, tags, content, sig, each once, in any order, nothing else"
+unfoldable pub eventMember : List ℕ → ℕ → Json → Bool
+eventMember s p t =
+    cond (named s idName p) (isString t)
+    (cond (named s pubkeyName p) (isString t)
+    (cond (named s createdAtName p) (isNumber t)
+    (cond (named s kindName p) (isNumber t)
+    (cond (named s tagsName p) (isArrayOf (isArrayOf isString) t)
+    (cond (named s contentName p) (isString t)
+    (cond (named s sigName p) (isString t) false))))))
+
+unfoldable pub once : List ℕ → List ℕ → Items → Bool
+once s w ts = eqb (countItems (λ p t. named s w p) ts) 1
+
+unfoldable pub isEvent : List ℕ → Json → Bool
+isEvent s t = isObject (λ ts. allItems (eventMember s) ts &&
+    (once s idName ts && (once s pubkeyName ts && (once s createdAtName ts && (once s kindName ts && (once s tagsName ts && (once s contentName ts && once s sigName ts))))))) t
+
+-- ---- "Filters may have ids, authors, kinds, since, until, limit and # with one letter a-z or A-Z, each at most once"
+unfoldable pub filterMember : List ℕ → ℕ → Json → Bool
+filterMember s p t =
+    cond (named s idsName p) (isArrayOf isString t)
+    (cond (named s authorsName p) (isArrayOf isString t)
+    (cond (named s kindsName p) (isArrayOf isNumber t)
+    (cond (named s sinceName p) (isNumber t)
+    (cond (named s untilName p) (isNumber t)
+    (cond (named s limitName p) (isNumber t)
+    (cond (isCondition (nameAt s p)) (isArrayOf isString t) false))))))
+
+unfoldable pub noneTwice : List ℕ → Items → Bool
+noneTwice s nil = true
+noneTwice s (item p v t ts) = not (anyItem (λ q u. sameBytes (nameAt s q) (nameAt s p)) ts) && noneTwice s ts
+
+unfoldable pub isFilter : List ℕ → Json → Bool
+isFilter s t = isObject (λ ts. allItems (filterMember s) ts && noneTwice s ts) t
+
+-- ---- the message: its first word, and the elements after it
+pub data Word : Type 0 where
+  event req close other : Word
+
+unfoldable pub wordOf : List ℕ → Word
+wordOf w = cond (sameBytes w eventWord) event (cond (sameBytes w reqWord) req (cond (sameBytes w closeWord) close other))
+
+-- the first word of a message, and what follows it; `other` where no string comes first
+pub record Opened : Type 0 where
+  pub first : Word
+  pub rest : Items
+
+abbrev pub opened : List ℕ → Json → Opened
+opened s (word a n) = record { first = other; rest = nil }
+opened s (num a n) = record { first = other; rest = nil }
+opened s (str a n) = record { first = other; rest = nil }
+opened s (obj ts) = record { first = other; rest = nil }
+opened s (arr nil) = record { first = other; rest = nil }
+opened s (arr (item p v (word a n) ts)) = record { first = other; rest = ts }
+opened s (arr (item p v (num a n) ts)) = record { first = other; rest = ts }
+opened s (arr (item p v (str a n) ts)) = record { first = wordOf (decode (part s a n)); rest = ts }
+opened s (arr (item p v (arr us) ts)) = record { first = other; rest = ts }
+opened s (arr (item p v (obj us) ts)) = record { first = other; rest = ts }
+
+-- one element, of which f holds; or one of which f holds, and then some of which g holds
+abbrev pub isOne : (Json → Bool) → Items → Bool
+isOne f nil = false
+isOne f (item p v t nil) = f t
+isOne f (item p v t (item q w u us)) = false
+
+abbrev pub isThen : (Json → Bool) → (Json → Bool) → Items → Bool
+isThen f g nil = false
+isThen f g (item p v t ts) = f t && allItems (λ q u. g u) ts
+
+abbrev pub hasShape : List ℕ → Word → Items → Bool
+hasShape s event ts = isOne (isEvent s) ts
+hasShape s req ts = isThen isString (isFilter s) ts
+hasShape s close ts = isOne isString ts
+hasShape s other ts = false
