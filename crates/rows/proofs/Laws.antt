@@ -2,56 +2,34 @@
 use mathlib.Core.Path.{_≡_, refl, sym, ap, _∙_}
 use mathlib.Core.List.{List}
 use mathlib.Core.Bool.{Bool, true, false, cond, not, _&&_, _||_, or-false}
-use Prim.Native.Nat.{ℕ, zero, suc, _+_, _-_, _<_, _≤_}
+use Prim.Native.Nat.{ℕ, _+_, _-_, _<_, _≤_}
 use native.Mathlib.Nat.{sub-zero}
 use native.Mathlib.Omega.{arith}
 use lib.ListN.{length}
 use lib.Dec.{eqb}
 use borrow.Author.Tests.{lt-ltb, le-ltb}
-use Rattle.json.specs.Grammar.{case, classOf, charAt, charsUpTo, charsAt, oneAt, stringAt, numberAt, literalAt, scalarAt, startAt, headAt, nextAt}
+use Rattle.json.specs.Grammar.{case, stringAt, numberAt, literalAt, scalarAt, startAt, headAt, nextAt}
 use Rattle.json.specs.Tree.{Json, Items, nil, item, foldItems, Got, none, got, endOf, bind, node, itemsAt, treeAt, endsAt, root}
 use Rattle.json.specs.declared.Out.{Out}
 use Rattle.json.specs.declared.Out.the-variants.{End, Bad}
 use Rattle.json.specs.declared.Kind.the-variants.{Str, Num, Word, None}
 use Rattle.json.specs.declared.Start.the-variants.{Empty, Many}
 use Rattle.json.specs.declared.Next.{Next}
-use Rattle.json.proofs.Ends.{Ends, ends-bad, one-ends, char-ends}
+use Rattle.json.proofs.Spelled.{string-parts}
 use Rattle.json.proofs.Trees.{value-open, foldTo, turned, fold-gone, fold-unnamed, fold-bad, fold-next}
 use Rattle.utf8.specs.Utf8.{isUtf8}
 use Rattle.spell.specs.Spell.{refuses}
 use Rattle.rows.specs.declared.Seen.{Seen}
-use Rattle.rows.specs.declared.Seen.the-variants.{Clean, Refused, Missing}
+use Rattle.rows.specs.declared.Seen.the-variants.{Clean, Missing}
 use Rattle.rows.specs.Strings.{spelledAt, refusedIn, refusedItems}
 use Rattle.rows.specs.Rows.{mostMessage, onRoot, row4, textRow}
 use Rattle.rows.specs.Seen.{made, seenOf, nameAt, placeOf, isRefused, toldOf}
 
 -- ---- strings
 module _ (s : List ℕ) where
-  chars-behind : (f at : ℕ) → at ≤ charsUpTo f s at
-  unfolding charsUpTo
-  chars-behind zero at = omega arith
-  chars-behind (suc f) at = go (charAt s at) refl λ n. chars-behind f n
-    where
-      go : (o : Out) → charAt s at ≡ o → ((n : ℕ) → n ≤ charsUpTo f s n) → at ≤ case o (charsUpTo f s) at
-      go (End n) e ih = let q = char-ends s at n e in let h = ih n in omega arith
-      go Bad e ih = omega arith
-
-  two-ends : {C : Type 0} (one : C → ℕ → Out) (c : C) (f : ℕ → ℕ) (at n : ℕ) → case (one c at) (λ m. one c (f m)) Bad ≡ End n
-      → ((m : ℕ) → Ends m (length s) (one c m)) → ((m : ℕ) → m ≤ f m) → (at + 2 ≤ n) × (n ≤ length s)
-  two-ends one c f at n e ends behind = go (one c at) refl e
-    where
-      go : (o : Out) → one c at ≡ o → case o (λ m. one c (f m)) Bad ≡ End n → (at + 2 ≤ n) × (n ≤ length s)
-      go (End m) p q =
-          let a = ends at m p in
-          let b = behind m in
-          let d = ends (f m) n q in
-          (omega arith, omega arith)
-      go Bad p q = ends-bad q
-
   -- a string has two quotes, and lies within the text
   pub string-within : (at n : ℕ) → stringAt s at ≡ End n → (at + 2 ≤ n) × (n ≤ length s)
-  unfolding stringAt classOf charsAt
-  string-within at n e = two-ends (oneAt s) _ (charsAt s) at n e (λ m. one-ends s _ m refl) (chars-behind (length s))
+  string-within at n e = let r = string-parts s at n e in (r .3, r .4)
 
   pub scalar-string : (at n : ℕ) → scalarAt s at ≡ Str n → stringAt s at ≡ End n
   unfolding scalarAt

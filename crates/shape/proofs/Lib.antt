@@ -13,5 +13,6 @@ mod Events
 mod Filters
 mod Messages
 mod Openings
+pub mod Exact
 mod Slots
 mod Walks

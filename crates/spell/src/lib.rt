@@ -234,7 +234,7 @@ fn octet(n: u32, k: usize) -> u8
 }
 
 // A byte of the decoded string, and where what is left after it begins: how many bytes of the character at which place are taken.
-pub struct Step {
+struct Step {
     pub byte: u8,
     pub at: usize,
     pub taken: usize,

@@ -1,18 +1,20 @@
 -- The items from i on, of which at most length s - k are left, come to what the value comes to. The cycle's measure is the depth.
-use mathlib.Core.Path.{_≡_, refl, sym, ap, _∙_}
-use Prim.Native.Nat.{ℕ, _-_, _<_, _≤_}
+use mathlib.Core.Path.{_≡_, sym, ap, _∙_}
+use Prim.Native.Nat.{ℕ, _+_, _-_, _<_}
 use native.Mathlib.Omega.{arith}
 use borrow.Author.Needs.{needs}
 use borrow.Fn.Kinds.{In}
 use borrow.Fn.PlainCycle.{Measures, is, falls, and}
 use lib.ListN.{length}
 use Rattle.json.specs.Tree.{itemsAt, treeAt}
-use Rattle.json.specs.declared.Start.the-variants.{Leaf, Empty}
+use Rattle.json.specs.declared.Start.the-variants.{Leaf}
+use Rattle.json.specs.declared.Next.{Next}
 use Rattle.json.specs.declared.Next.the-variants.{More, Done, Wrong}
-use Rattle.json.proofs.Trees.{value-open, value-flat}
+use Rattle.json.proofs.Trees.{value-open, value-flat, turned}
 use Rattle.json.proofs.after.Reads as after
 use Rattle.json.proofs.begin.Reads as begin
-use Rattle.rows.specs.Seen.{seenOf}
+use Rattle.rows.specs.declared.Seen.the-variants.{Missing}
+use Rattle.rows.specs.Seen.{made, seenOf}
 use Rattle.rows.proofs.Laws.{seenItems, seen-empty, seen-many, seen-gone, seen-unnamed, seen-no-value, seen-next}
 use Rattle.rows.proofs.any.Reads as any
 use Rattle.rows.proofs.is_refused.Reads as is-refused
@@ -60,47 +62,24 @@ module _ (t : ℕ) where
       (seen-no-value _ _ _ _ _ _ _ (e .before .loop-test .taken) (e .name .ensures) _ _ (sym (d .before .before .before .before .place .ensures) ∙ d .before .before .v .given .1) (d .walk .ensures)
       (sym (c .before .before .place2 .ensures) ∙ c .enum-told3 .given .1)) ∙ e .before .before .loop .inv
 
-  returns-4 : lts.Need-returns-4 (calls t) (at-t t) walk.Post Inv μ-loop
-  returns-4 c =
-      let a = c .before .before .before .before in
-      let d = a .before .before .before .before .before .before .before .before in
-      let e = d .before .before .before .before .before in
-      c .make .ensures ∙ sym
-      (seen-next _ _ _ _ _ _ _ (e .before .loop-test .taken) (e .name .ensures) _ _ (sym (d .before .before .before .before .place .ensures) ∙ d .before .before .v .given .1) (d .walk .ensures)
-      _ (Done (c .before .before .e .given .0 .0)) _ (sym (a .before .before .before .before .before .before .before .place2 .ensures) ∙ a .before .before .before .before .before .n2 .given .1) (sym (a .after .ensures) ∙ c .before .before .e .given .1)
-      (a .before .before .before .is-refused .ensures) (a .before .before .is-refused2 .ensures) (a .before .any .ensures)) ∙ e .before .before .loop .inv
-
-  returns-5 : lts.Need-returns-5 (calls t) (at-t t) walk.Post Inv μ-loop
-  returns-5 c =
-      let a = c .before .before in
+  -- a turn, by what follows the item
+  turn : (a : lts.After-after (calls t) (at-t t) walk.Post Inv μ-loop) (z : Next) → a .after .result ≡ z →
+      let x = a .before .before .before .before .before .before .before .before .before .before .before .before .before .before .before .before .before .before .before .before .before .before .args in
+      let s = x .s .now in
+      let named = a .before .before .before .before .before .before .before .before .before .before .before .before .before .before .before .before .before .first .given .0 .1 .0 in
+      let bad = a .before .any .result in
+      let k = a .before .before .before .before .before .before .before .before .before .before .before .before .before .before .before .loop .k in
+      turned z Missing (λ e. made e bad) (λ j. seenItems s named bad (itemsAt (treeAt s (x .d - 1)) s named (length s - (k + 1)) j)) ≡ seenOf s (treeAt s (x .d) (x .at))
+  turn a z q =
       let d = a .before .before .before .before .before .before .before .before in
       let e = d .before .before .before .before .before in
       sym
       (seen-next _ _ _ _ _ _ _ (e .before .loop-test .taken) (e .name .ensures) _ _ (sym (d .before .before .before .before .place .ensures) ∙ d .before .before .v .given .1) (d .walk .ensures)
-      _ Wrong _ (sym (a .before .before .before .before .before .before .before .place2 .ensures) ∙ a .before .before .before .before .before .n2 .given .1) (sym (a .after .ensures) ∙ c .enum-told4 .given .1)
+      _ z _ (sym (a .before .before .before .before .before .before .before .place2 .ensures) ∙ a .before .before .before .before .before .n2 .given .1) (sym (a .after .ensures) ∙ q)
       (a .before .before .before .is-refused .ensures) (a .before .before .is-refused2 .ensures) (a .before .any .ensures)) ∙ e .before .before .loop .inv
-
-  loop-again : lts.Need-loop-again (calls t) (at-t t) walk.Post Inv μ-loop
-  loop-again c =
-      let a = c .before .before .before in
-      let d = a .before .before .before .before .before .before .before .before in
-      let e = d .before .before .before .before .before in
-      sym
-      (seen-next _ _ _ _ _ _ _ (e .before .loop-test .taken) (e .name .ensures) _ _ (sym (d .before .before .before .before .place .ensures) ∙ d .before .before .v .given .1) (d .walk .ensures)
-      _ (More (c .before .j .given .0 .0)) _ (sym (a .before .before .before .before .before .before .before .place2 .ensures) ∙ a .before .before .before .before .before .n2 .given .1) (sym (a .after .ensures) ∙ c .before .j .given .1)
-      (a .before .before .before .is-refused .ensures) (a .before .before .is-refused2 .ensures) (a .before .any .ensures)) ∙ e .before .before .loop .inv
-
-  sub-walk : lts.Need-sub-walk (calls t) (at-t t) walk.Post Inv μ-loop
-  sub-walk c = omega (arith, c .before .before .before .before .before .before .before .before .before .before .before .if1 .left)
 
   walk-requires : lts.Need-walk-requires (calls t) (at-t t) walk.Post Inv μ-loop
   walk-requires c κs = (omega (arith, c .before .before .before .before .before .before .before .before .before .before .before .if1 .left, c .before .before .before .before .before .before .before .before .before .before .before .before .before .pre .0), tt)
-
-  add-k : lts.Need-add-k (calls t) (at-t t) walk.Post Inv μ-loop
-  add-k c = omega (arith, c .before .before .before .before .before .before .before .before .before .before .before .before .before .before .before .before .before .loop-test .taken, c .before .before .before .before .before .before .before .before .before .before .before .before .before .before .before .before .before .before .before .before .before .before .before .before .before .good .0)
-
-  loop-less : lts.Need-loop-less (calls t) (at-t t) walk.Post Inv μ-loop
-  loop-less c = omega (arith, c .before .before .before .before .before .before .before .before .before .before .before .before .before .before .before .before .before .loop-test .taken)
 
   returns-6 : lts.Need-returns-6 (calls t) (at-t t) walk.Post Inv μ-loop
   returns-6 c =
@@ -116,36 +95,21 @@ pub +walk-spec : {M : Type 1} → statement M
 +walk-spec = close μ-walk λ t. lts.spec (calls t) (at-t t) walk.Post Inv μ-loop
     (λ c κs. tt)
     (λ c. c .leaf .ensures ∙ ap (seenOf _) (value-flat _ _ _ (c .before .if1 .taken)))
-    (λ c κs. tt)
-    (λ c. search needs)
-    (λ c κs. tt)
-    (λ c. search needs)
-    (λ c. search needs)
+    (λ c κs. tt) (search needs) (λ c κs. tt) (search needs) (search needs)
     (loop-holds t)
-    (λ c κs. tt)
-    (λ c κs. tt)
-    (λ c. search needs)
-    (λ c. search needs)
+    (λ c κs. tt) (λ c κs. tt) (search needs) (search needs)
     (returns-2 t)
-    (sub-walk t)
+    (λ c. omega (arith, c .before .before .before .before .before .before .before .before .before .before .before .if1 .left))
     (walk-requires t)
-    (λ c κs. tt)
-    (λ c. search needs)
-    (λ c. search needs)
+    (λ c κs. tt) (search needs) (search needs)
     (returns-3 t)
-    (λ c κs. tt)
-    (λ c κs. tt)
-    (λ c κs. tt)
-    (λ c κs. tt)
-    (λ c. search needs)
-    (λ c. search needs)
-    (λ c κs. tt)
-    (returns-4 t)
-    (λ c. search needs)
-    (returns-5 t)
-    (add-k t)
-    (loop-less t)
-    (loop-again t)
+    (λ c κs. tt) (λ c κs. tt) (λ c κs. tt) (λ c κs. tt) (search needs) (search needs) (λ c κs. tt)
+    (λ c. c .make .ensures ∙ turn t (c .before .before .before .before) (Done (c .before .before .e .given .0 .0)) (c .before .before .e .given .1))
+    (search needs)
+    (λ c. turn t (c .before .before) Wrong (c .enum-told4 .given .1))
+    (λ c. omega (arith, c .before .before .before .before .before .before .before .before .before .before .before .before .before .before .before .before .before .loop-test .taken, c .before .before .before .before .before .before .before .before .before .before .before .before .before .before .before .before .before .before .before .before .before .before .before .before .before .good .0))
+    (λ c. omega (arith, c .before .before .before .before .before .before .before .before .before .before .before .before .before .before .before .before .before .loop-test .taken))
+    (λ c. turn t (c .before .before .before) (More (c .before .j .given .0 .0)) (c .before .j .given .1))
     (returns-6 t)
     (returns-7 t)
     (λ c. sym (seen-gone _ _ _ _ _ _ (c .loop-test .left)) ∙ c .before .loop .inv)

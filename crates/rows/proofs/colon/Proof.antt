@@ -11,9 +11,7 @@ unfolding tokenAt oneAt classOf
 colon-spec =
     tie.close
     (tie.spec
-    (λ c. search needs)
-    (λ c. search needs)
-    (λ c κs. search needs)
+    (search needs) (search needs) (search needs)
     (λ c. simp (eq-eqb _ _ (c .before .if2 .taken), c .space .ensures))
     (λ c. simp (ne-eqb _ _ (c .if2 .left)))
     (λ c. rw (List·getD-eq-default _ _ (c .if1 .left))))

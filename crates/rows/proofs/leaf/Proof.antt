@@ -1,5 +1,5 @@
 -- A string lies within the text, and its part is what row 4 looks at.
-use mathlib.Core.Path.{sym, ap, _∙_}
+use mathlib.Core.Path.{sym, _∙_}
 use borrow.Author.Needs.{needs}
 use Rattle.rows.specs.Strings.{refusedIn}
 use Rattle.rows.specs.Seen.{made}
@@ -18,20 +18,15 @@ returns c =
     let d = c .before .before .before .before in
     c .make .ensures ∙ rw (c .before .quoted .ensures, c .before .before .space .ensures, ← d .before .before .scalar .ensures, d .n .given .1)
 
-returns-2 : tie.Need-returns-2
-unfolding refusedIn made
-returns-2 c = rw (c .space2 .ensures, ← c .before .before .before .before .scalar .ensures, c .before .before .n2 .given .1)
-
-returns-3 : tie.Need-returns-3
-unfolding refusedIn made
-returns-3 c = rw (c .space3 .ensures, ← c .before .before .before .before .scalar .ensures, c .before .before .n3 .given .1)
-
-returns-4 : tie.Need-returns-4
-returns-4 c = rw (← c .before .before .scalar .ensures, c .enum-told .given .1)
-
 pub leaf-spec : {M : Type 1} → statement M
+unfolding refusedIn made
 leaf-spec =
     tie.close
-    (tie.spec (λ c κs. search needs) (λ c. search needs) (λ c κs. search needs) quoted-requires (λ c κs. search needs)
-    (λ c. search needs) (λ c κs. search needs) (λ c. search needs) (λ c κs. search needs) (λ c. search needs) returns
-    returns-2 returns-3 returns-4)
+    (tie.spec
+    (search needs) (search needs) (search needs)
+    quoted-requires
+    (search needs) (search needs) (search needs) (search needs) (search needs) (search needs)
+    returns
+    (λ c. rw (c .space2 .ensures, ← c .before .before .before .before .scalar .ensures, c .before .before .n2 .given .1))
+    (λ c. rw (c .space3 .ensures, ← c .before .before .before .before .scalar .ensures, c .before .before .n3 .given .1))
+    (λ c. rw (← c .before .before .scalar .ensures, c .enum-told .given .1)))

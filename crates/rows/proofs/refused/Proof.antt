@@ -1,3 +1,4 @@
+-- The flag of the answer at the root.
 use mathlib.Core.Path.{_∙_}
 use borrow.Author.Needs.{needs}
 use Rattle.rows.proofs.Laws.{refused-text}
@@ -7,5 +8,5 @@ use Rattle.rows.proofs.refused.Tie as tie
 pub refused-spec : {M : Type 1} → statement M
 refused-spec =
     tie.close
-    (tie.spec (λ c κs. search needs) (λ c κs. search needs)
+    (tie.spec (search needs) (search needs)
     (λ c. c .is-refused .ensures ∙ refused-text _ _ (c .before .whole .ensures)))

@@ -9,10 +9,9 @@ text-row-spec =
     tie.close
     (tie.spec
     (λ c. row-long _ (c .if1 .taken))
-    (λ c κs. search needs)
+    (search needs)
     (λ c. row-bytes _ (c .before .before .if1 .left) _ (c .before .is-utf8 .ensures) (c .if2 .taken))
-    (λ c κs. search needs)
-    (λ c κs. search needs)
+    (search needs) (search needs)
     (λ c.
     let d = c .before .before in
     row-told _ (d .before .before .if1 .left) _ _ _ (d .before .is-utf8 .ensures) (d .if2 .left) (c .before .whole .ensures) (c .told .ensures)))

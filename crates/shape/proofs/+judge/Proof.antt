@@ -47,49 +47,72 @@ abbrev μ-loop : lts.MeasureT-loop
 
 module _ (t : ℕ) where
   loop-holds : lts.Need-loop-holds (calls t) (at-t t) judge.Post Inv μ-loop
-  loop-holds c = judge-many _ _ _ _ (c .before .before .before .before .before .before .if1 .left) _ (c .before .group-form2 .ensures) (c .start2 .ensures) _ (sym (c .before .before .before .first .given .1) ∙ c .before .before .before .before .before .begin .ensures)
+  loop-holds c =
+      let c5 = c .before .before .before .before .before in let c6 = c5 .before in
+      judge-many _ _ _ _ (c6 .if1 .left) _ (c .before .group-form2 .ensures) (c .start2 .ensures) _ (sym (c .before .before .before .first .given .1) ∙ c5 .begin .ensures)
 
   returns-2 : lts.Need-returns-2 (calls t) (at-t t) judge.Post Inv μ-loop
-  returns-2 c = sym (judge-unnamed _ _ _ _ _ _ _ (c .before .before .before .loop-test .taken) (sym (c .before .before .head .ensures) ∙ c .enum-told2 .given .1)) ∙ c .before .before .before .before .loop .inv
+  returns-2 c =
+      let c4 = c .before .before .before .before in
+      sym (judge-unnamed _ _ _ _ _ _ _ (c .before .before .before .loop-test .taken) (sym (c .before .before .head .ensures) ∙ c .enum-told2 .given .1)) ∙ c4 .loop .inv
 
   judge-requires : lts.Need-judge-requires (calls t) (at-t t) judge.Post Inv μ-loop
-  judge-requires c κs = (omega (arith, c .before .before .before .before .before .before .before .before .before .before .before .before .before .before .if1 .left, c .before .before .before .before .before .before .before .before .before .before .before .before .before .before .before .before .pre .0), tt)
+  judge-requires c κs =
+      let c14 = c .before .before .before .before .before .before .before .before .before .before .before .before .before .before in
+      let c16 = c14 .before .before in
+      (omega (arith, c14 .if1 .left, c16 .pre .0), tt)
 
   returns-3 : lts.Need-returns-3 (calls t) (at-t t) judge.Post Inv μ-loop
   returns-3 c =
-      sym (judge-bad _ _ _ _ _ _ _ _ _ (c .before .before .before .before .before .before .before .before .before .loop-test .taken) (sym (c .before .before .before .before .before .before .before .before .head .ensures) ∙ c .before .before .before .before .before .before .v .given .1) (sym (c .enum-told3 .given .1) ∙ c .before .before .judge .ensures))
-      ∙ c .before .before .before .before .before .before .before .before .before .before .loop .inv
+      let c6 = c .before .before .before .before .before .before in let c8 = c6 .before .before in let c9 = c8 .before in
+      let c10 = c9 .before in
+      sym (judge-bad _ _ _ _ _ _ _ _ _ (c9 .loop-test .taken) (sym (c8 .head .ensures) ∙ c6 .v .given .1) (sym (c .enum-told3 .given .1) ∙ c .before .before .judge .ensures))
+      ∙ c10 .loop .inv
 
   step-requires : lts.Need-step-requires (calls t) (at-t t) judge.Post Inv μ-loop
-  step-requires c κs = slot-small _ _ _ _ _ (c .before .before .before .before .before .item-of .ensures)
+  step-requires c κs =
+      let c5 = c .before .before .before .before .before in
+      slot-small _ _ _ _ _ (c5 .item-of .ensures)
 
   returns-4 : lts.Need-returns-4 (calls t) (at-t t) judge.Post Inv μ-loop
   returns-4 c =
+      let c4 = c .before .before .before .before in let c5 = c4 .before in let c7 = c5 .before .before in let c9 = c7 .before .before in
+      let c10 = c9 .before in let c11 = c10 .before in let c13 = c11 .before .before in let c15 = c13 .before .before in
+      let c16 = c15 .before in let c17 = c16 .before in
       ap (Ends (c .before .before .e .given .0 .0)) (c .close2 .ensures)
       ∙ sym
-      (judge-next _ _ _ _ _ _ _ _ _ (Done (c .before .before .e .given .0 .0)) (c .before .before .before .before .before .before .before .before .before .before .before .before .before .before .before .before .loop-test .taken) (sym (c .before .before .before .before .before .before .before .before .before .before .before .before .before .before .before .head .ensures) ∙ c .before .before .before .before .before .before .before .before .before .before .before .before .before .v .given .1) (c .before .before .before .before .before .before .before .before .before .before .before .item-of .ensures)
-      (c .before .before .before .before .before .before .before .before .before .before .slot-form .ensures) (sym (c .before .before .before .before .before .before .before .n2 .given .1) ∙ c .before .before .before .before .before .before .before .before .before .judge .ensures) (c .before .before .before .before .before .step .ensures) (sym (c .before .before .before .before .after .ensures) ∙ c .before .before .e .given .1))
-      ∙ c .before .before .before .before .before .before .before .before .before .before .before .before .before .before .before .before .before .loop .inv
+      (judge-next _ _ _ _ _ _ _ _ _ (Done (c .before .before .e .given .0 .0)) (c16 .loop-test .taken) (sym (c15 .head .ensures) ∙ c13 .v .given .1) (c11 .item-of .ensures)
+      (c10 .slot-form .ensures) (sym (c7 .n2 .given .1) ∙ c9 .judge .ensures) (c5 .step .ensures) (sym (c4 .after .ensures) ∙ c .before .before .e .given .1))
+      ∙ c17 .loop .inv
 
   returns-5 : lts.Need-returns-5 (calls t) (at-t t) judge.Post Inv μ-loop
   returns-5 c =
+      let c5 = c .before .before .before .before .before in let c7 = c5 .before .before in let c8 = c7 .before in let c9 = c8 .before in
+      let c11 = c9 .before .before in let c13 = c11 .before .before in let c14 = c13 .before in let c15 = c14 .before in
       sym
-      (judge-next _ _ _ _ _ _ _ _ _ Wrong (c .before .before .before .before .before .before .before .before .before .before .before .before .before .before .loop-test .taken) (sym (c .before .before .before .before .before .before .before .before .before .before .before .before .before .head .ensures) ∙ c .before .before .before .before .before .before .before .before .before .before .before .v .given .1) (c .before .before .before .before .before .before .before .before .before .item-of .ensures)
-      (c .before .before .before .before .before .before .before .before .slot-form .ensures) (sym (c .before .before .before .before .before .n2 .given .1) ∙ c .before .before .before .before .before .before .before .judge .ensures) (c .before .before .before .step .ensures) (sym (c .before .before .after .ensures) ∙ c .enum-told4 .given .1))
-      ∙ c .before .before .before .before .before .before .before .before .before .before .before .before .before .before .before .loop .inv
+      (judge-next _ _ _ _ _ _ _ _ _ Wrong (c14 .loop-test .taken) (sym (c13 .head .ensures) ∙ c11 .v .given .1) (c9 .item-of .ensures)
+      (c8 .slot-form .ensures) (sym (c5 .n2 .given .1) ∙ c7 .judge .ensures) (c .before .before .before .step .ensures) (sym (c .before .before .after .ensures) ∙ c .enum-told4 .given .1))
+      ∙ c15 .loop .inv
 
   loop-again : lts.Need-loop-again (calls t) (at-t t) judge.Post Inv μ-loop
   loop-again c =
+      let c4 = c .before .before .before .before in let c6 = c4 .before .before in let c8 = c6 .before .before in let c9 = c8 .before in
+      let c10 = c9 .before in let c12 = c10 .before .before in let c14 = c12 .before .before in let c15 = c14 .before in
+      let c16 = c15 .before in
       sym
-      (judge-next _ _ _ _ _ _ _ _ _ (More (c .before .j .given .0 .0)) (c .before .before .before .before .before .before .before .before .before .before .before .before .before .before .before .loop-test .taken) (sym (c .before .before .before .before .before .before .before .before .before .before .before .before .before .before .head .ensures) ∙ c .before .before .before .before .before .before .before .before .before .before .before .before .v .given .1) (c .before .before .before .before .before .before .before .before .before .before .item-of .ensures)
-      (c .before .before .before .before .before .before .before .before .before .slot-form .ensures) (sym (c .before .before .before .before .before .before .n2 .given .1) ∙ c .before .before .before .before .before .before .before .before .judge .ensures) (c .before .before .before .before .step .ensures) (sym (c .before .before .before .after .ensures) ∙ c .before .j .given .1))
-      ∙ c .before .before .before .before .before .before .before .before .before .before .before .before .before .before .before .before .loop .inv
+      (judge-next _ _ _ _ _ _ _ _ _ (More (c .before .j .given .0 .0)) (c15 .loop-test .taken) (sym (c14 .head .ensures) ∙ c12 .v .given .1) (c10 .item-of .ensures)
+      (c9 .slot-form .ensures) (sym (c6 .n2 .given .1) ∙ c8 .judge .ensures) (c4 .step .ensures) (sym (c .before .before .before .after .ensures) ∙ c .before .j .given .1))
+      ∙ c16 .loop .inv
 
   returns-6 : lts.Need-returns-6 (calls t) (at-t t) judge.Post Inv μ-loop
-  returns-6 c = c .leaf2 .ensures ∙ ap (judgedOf _ _) (value-open _ _ _ Leaf (c .before .before .before .before .if1 .left) (sym (c .before .enum-told .given .1) ∙ c .before .before .before .begin .ensures))
+  returns-6 c =
+      let c4 = c .before .before .before .before in
+      c .leaf2 .ensures ∙ ap (judgedOf _ _) (value-open _ _ _ Leaf (c4 .if1 .left) (sym (c .before .enum-told .given .1) ∙ c .before .before .before .begin .ensures))
 
   returns-7 : lts.Need-returns-7 (calls t) (at-t t) judge.Post Inv μ-loop
-  returns-7 c = judge-empty _ _ _ _ (c .before .before .before .before .before .before .before .if1 .left) _ (c .before .before .group-form .ensures) (c .before .start .ensures) _ (c .close .ensures) (sym (c .before .before .before .before .n .given .1) ∙ c .before .before .before .before .before .before .begin .ensures)
+  returns-7 c =
+      let c4 = c .before .before .before .before in let c6 = c4 .before .before in let c7 = c6 .before in
+      judge-empty _ _ _ _ (c7 .if1 .left) _ (c .before .before .group-form .ensures) (c .before .start .ensures) _ (c .close .ensures) (sym (c4 .n .given .1) ∙ c6 .begin .ensures)
 
 pub +judge-spec : {M : Type 1} → statement M
 +judge-spec = close μ-judge λ t. lts.spec (calls t) (at-t t) judge.Post Inv μ-loop

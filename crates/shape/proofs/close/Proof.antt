@@ -3,11 +3,6 @@ use borrow.Author.Needs.{needs}
 use Rattle.shape.proofs.close.Statement.{statement}
 use Rattle.shape.proofs.close.Tie as tie
 
-returns : tie.Need-returns
-unfolding closed
-returns c = simp (c .before .end-row .ensures, c .least .ensures)
-
 pub close-spec : {M : Type 1} → statement M
-close-spec =
-    tie.close
-    (tie.spec (λ c κs. search needs) (λ c κs. search needs) returns)
+unfolding closed
+close-spec = tie.close (tie.spec (λ c κs. search needs) (λ c κs. search needs) (λ c. simp (c .before .end-row .ensures, c .least .ensures)))

@@ -3,10 +3,6 @@ use borrow.Author.Needs.{needs}
 use Rattle.shape.proofs.event_slot.Statement.{statement}
 use Rattle.shape.proofs.event_slot.Tie as tie
 
-returns : tie.Need-returns
-unfolding eventSlot
-returns c = simp (← c .before .spells .ensures, c .if1 .taken)
-
 returns-2 : tie.Need-returns-2
 unfolding eventSlot
 returns-2 c = let c4 = c .before .before .before .before in
@@ -43,9 +39,10 @@ returns-8 c = let c4 = c .before .before .before .before in let c6 = c4 .before 
     simp (← c19 .spells .ensures, c18 .if1 .left, ← c16 .spells2 .ensures, c15 .if2 .left, ← c13 .spells3 .ensures, c12 .if3 .left, ← c10 .spells4 .ensures, c9 .if4 .left, ← c7 .spells5 .ensures, c6 .if5 .left, ← c4 .spells6 .ensures, c .before .before .before .if6 .left, ← c .before .spells7 .ensures, c .if7 .left)
 
 pub event-slot-spec : {M : Type 1} → statement M
+unfolding eventSlot
 event-slot-spec =
     tie.close
     (tie.spec (λ c. search needs) (λ c κs. search needs) (λ c. search needs) (λ c κs. search needs) (λ c. search needs)
-    (λ c κs. search needs) (λ c. search needs) (λ c κs. search needs) (λ c. search needs) (λ c κs. search needs)
-    (λ c. search needs) (λ c κs. search needs) (λ c. search needs) (λ c κs. search needs) returns returns-2 returns-3
-    returns-4 returns-5 returns-6 returns-7 returns-8)
+    (λ c κs. search needs) (λ c. search needs) (λ c κs. search needs) (λ c. search needs) (λ c κs. search needs) (λ c. search needs)
+    (λ c κs. search needs) (λ c. search needs) (λ c κs. search needs) (λ c. simp (← c .before .spells .ensures, c .if1 .taken)) returns-2
+    returns-3 returns-4 returns-5 returns-6 returns-7 returns-8)

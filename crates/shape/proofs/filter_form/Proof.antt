@@ -3,39 +3,9 @@ use Rattle.shape.specs.Walk.{filterForm}
 use Rattle.shape.proofs.filter_form.Statement.{statement}
 use Rattle.shape.proofs.filter_form.Tie as tie
 
-returns : tie.Need-returns
-unfolding filterForm
-returns c = search tests
-
-returns-2 : tie.Need-returns-2
-unfolding filterForm
-returns-2 c = search tests
-
-returns-3 : tie.Need-returns-3
-unfolding filterForm
-returns-3 c = search tests
-
-returns-4 : tie.Need-returns-4
-unfolding filterForm
-returns-4 c = search tests
-
-returns-5 : tie.Need-returns-5
-unfolding filterForm
-returns-5 c = search tests
-
-returns-6 : tie.Need-returns-6
-unfolding filterForm
-returns-6 c = search tests
-
-returns-7 : tie.Need-returns-7
-unfolding filterForm
-returns-7 c = search tests
-
-returns-8 : tie.Need-returns-8
-unfolding filterForm
-returns-8 c = search tests
-
 pub filter-form-spec : {M : Type 1} → statement M
+unfolding filterForm
 filter-form-spec =
     tie.close
-    (tie.spec returns returns-2 returns-3 returns-4 returns-5 returns-6 returns-7 returns-8)
+    (tie.spec (λ c. search tests) (λ c. search tests) (λ c. search tests) (λ c. search tests) (λ c. search tests) (λ c. search tests)
+    (λ c. search tests) (λ c. search tests))

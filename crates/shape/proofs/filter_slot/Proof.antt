@@ -3,10 +3,6 @@ use borrow.Author.Needs.{needs}
 use Rattle.shape.proofs.filter_slot.Statement.{statement}
 use Rattle.shape.proofs.filter_slot.Tie as tie
 
-returns : tie.Need-returns
-unfolding filterSlot
-returns c = simp (← c .before .spells .ensures, c .if1 .taken)
-
 returns-2 : tie.Need-returns-2
 unfolding filterSlot
 returns-2 c = let c4 = c .before .before .before .before in
@@ -38,9 +34,10 @@ returns-7 c = let c4 = c .before .before .before .before in let c5 = c4 .before 
     simp (← c17 .spells .ensures, c16 .if1 .left, ← c14 .spells2 .ensures, c13 .if2 .left, ← c11 .spells3 .ensures, c10 .if3 .left, ← c8 .spells4 .ensures, c7 .if4 .left, ← c5 .spells5 .ensures, c4 .if5 .left, ← c .before .before .spells6 .ensures, c .before .if6 .left, c .condition-slot .ensures)
 
 pub filter-slot-spec : {M : Type 1} → statement M
+unfolding filterSlot
 filter-slot-spec =
     tie.close
     (tie.spec (λ c. search needs) (λ c κs. search needs) (λ c. search needs) (λ c κs. search needs) (λ c. search needs)
-    (λ c κs. search needs) (λ c. search needs) (λ c κs. search needs) (λ c. search needs) (λ c κs. search needs)
-    (λ c. search needs) (λ c κs. search needs) (λ c κs. search needs) returns returns-2 returns-3 returns-4 returns-5
-    returns-6 returns-7)
+    (λ c κs. search needs) (λ c. search needs) (λ c κs. search needs) (λ c. search needs) (λ c κs. search needs) (λ c. search needs)
+    (λ c κs. search needs) (λ c κs. search needs) (λ c. simp (← c .before .spells .ensures, c .if1 .taken)) returns-2 returns-3 returns-4
+    returns-5 returns-6 returns-7)

@@ -10,9 +10,12 @@ pub letter-slot-spec : {M : Type 1} → statement M
 unfolding letterSlot
 letter-slot-spec =
     tie.close
-    (tie.spec (λ c κs. search needs) (λ c. omega (arith, within-ends 97 122 (c .before .before .args .b) (sym (c .before .between .ensures) ∙ c .if1 .taken)))
-    (λ c. omega (arith, within-ends 97 122 (c .before .before .args .b) (sym (c .before .between .ensures) ∙ c .if1 .taken))) (λ c κs. search needs)
+    (tie.spec (λ c κs. search needs)
+    (λ c. omega (arith, within-ends 97 122 (c .before .before .args .b) (sym (c .before .between .ensures) ∙ c .if1 .taken)))
+    (λ c. omega (arith, within-ends 97 122 (c .before .before .args .b) (sym (c .before .between .ensures) ∙ c .if1 .taken)))
+    (λ c κs. search needs)
     (λ c. omega (arith, within-ends 65 90 (c .before .before .before .before .args .b) (sym (c .before .between2 .ensures) ∙ c .if2 .taken)))
     (λ c. omega (arith, within-ends 65 90 (c .before .before .before .before .args .b) (sym (c .before .between2 .ensures) ∙ c .if2 .taken)))
-    (λ c. simp (← c .before .between .ensures, c .if1 .taken)) (λ c. simp (← c .before .before .before .between .ensures, c .before .before .if1 .left, ← c .before .between2 .ensures, c .if2 .taken))
+    (λ c. simp (← c .before .between .ensures, c .if1 .taken))
+    (λ c. simp (← c .before .before .before .between .ensures, c .before .before .if1 .left, ← c .before .between2 .ensures, c .if2 .taken))
     (λ c. simp (← c .before .before .before .between .ensures, c .before .before .if1 .left, ← c .before .between2 .ensures, c .if2 .left)))

@@ -9,5 +9,5 @@ pub marks-after-spec : {M : Type 1} → statement M
 unfolding marksAfter
 marks-after-spec =
     tie.close
-    (tie.spec (λ c. search needs) (λ c. simp (lt-ltb _ _ (c .if1 .taken)))
-    (λ c. simp (le-ltb _ _ (c .before .if1 .left)) (omega arith)) (λ c. simp (le-ltb _ _ (c .before .if1 .left)) (omega arith)))
+    (tie.spec (λ c. search needs) (λ c. simp (lt-ltb _ _ (c .if1 .taken))) (λ c. simp (le-ltb _ _ (c .before .if1 .left)) (omega arith))
+    (λ c. simp (le-ltb _ _ (c .before .if1 .left)) (omega arith)))

@@ -3,11 +3,8 @@ use borrow.Author.Needs.{needs}
 use Rattle.shape.proofs.member.Statement.{statement}
 use Rattle.shape.proofs.member.Tie as tie
 
-returns : tie.Need-returns
-unfolding memberOf
-returns c = simp (c .before .name-slot .ensures, c .name-row .ensures)
-
 pub member-spec : {M : Type 1} → statement M
+unfolding memberOf
 member-spec =
     tie.close
-    (tie.spec (λ c κs. search needs) (λ c κs. search needs) returns)
+    (tie.spec (λ c κs. search needs) (λ c κs. search needs) (λ c. simp (c .before .name-slot .ensures, c .name-row .ensures)))

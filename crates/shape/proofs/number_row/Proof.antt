@@ -8,5 +8,5 @@ pub number-row-spec : {M : Type 1} → statement M
 unfolding numberRow
 number-row-spec =
     tie.close
-    (tie.spec (λ c κs. search needs) (λ c κs. search needs) (λ c. search (tests, c .time-row .ensures)) (λ c. search (tests, c .small-row .ensures))
-    (λ c. search tests))
+    (tie.spec (λ c κs. search needs) (λ c κs. search needs) (λ c. search (tests, c .time-row .ensures))
+    (λ c. search (tests, c .small-row .ensures)) (λ c. search tests))

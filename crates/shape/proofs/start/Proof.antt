@@ -3,9 +3,6 @@ use mathlib.Core.Path.{refl}
 use Rattle.shape.proofs.start.Statement.{statement}
 use Rattle.shape.proofs.start.Tie as tie
 
-returns : tie.Need-returns
-unfolding fresh
-returns c = refl
-
 pub start-spec : {M : Type 1} → statement M
-start-spec = tie.close (tie.spec returns)
+unfolding fresh
+start-spec = tie.close (tie.spec (λ c. refl))

@@ -5,7 +5,9 @@ use Rattle.shape.proofs.step.Tie as tie
 
 returns : tie.Need-returns
 unfolding stepped
-returns c = simp (c .before .before .before .before .before .before .once-row .ensures, c .before .before .before .before .before .least .ensures, c .before .before .before .before .least2 .ensures, c .before .before .before .least3 .ensures, c .before .before .bit .ensures, c .marks-after .ensures)
+returns c =
+    let c4 = c .before .before .before .before in let c5 = c4 .before in let c6 = c5 .before in
+    simp (c6 .once-row .ensures, c5 .least .ensures, c4 .least2 .ensures, c .before .before .before .least3 .ensures, c .before .before .bit .ensures, c .marks-after .ensures)
 
 pub step-spec : {M : Type 1} → statement M
 step-spec =

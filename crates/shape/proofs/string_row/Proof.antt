@@ -3,15 +3,9 @@ use borrow.Author.Needs.{needs}
 use Rattle.shape.proofs.string_row.Statement.{statement}
 use Rattle.shape.proofs.string_row.Tie as tie
 
-returns : tie.Need-returns
-unfolding stringRow
-returns c = simp (← c .before .refused .ensures, c .if1 .taken)
-
-returns-2 : tie.Need-returns-2
-unfolding stringRow
-returns-2 c = simp (← c .before .before .refused .ensures, c .before .if1 .left, c .string-form .ensures)
-
 pub string-row-spec : {M : Type 1} → statement M
+unfolding stringRow
 string-row-spec =
     tie.close
-    (tie.spec (λ c κs. search needs) (λ c κs. search needs) returns returns-2)
+    (tie.spec (λ c κs. search needs) (λ c κs. search needs) (λ c. simp (← c .before .refused .ensures, c .if1 .taken))
+    (λ c. simp (← c .before .before .refused .ensures, c .before .if1 .left, c .string-form .ensures)))

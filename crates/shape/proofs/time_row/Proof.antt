@@ -7,5 +7,6 @@ pub time-row-spec : {M : Type 1} → statement M
 unfolding rangeRow
 time-row-spec =
     tie.close
-    (tie.spec (λ c κs. search needs) (λ c κs. search needs) (λ c. simp (← c .before .before .read-whole .ensures, ← c .before .within .ensures, c .if1 .taken))
+    (tie.spec (λ c κs. search needs) (λ c κs. search needs)
+    (λ c. simp (← c .before .before .read-whole .ensures, ← c .before .within .ensures, c .if1 .taken))
     (λ c. simp (← c .before .before .read-whole .ensures, ← c .before .within .ensures, c .if1 .left)))
