@@ -13,6 +13,7 @@ mod Events
 mod Filters
 mod Messages
 mod Openings
+mod Values
 pub mod Exact
 mod Slots
 mod Walks

@@ -125,7 +125,7 @@ module _ (s : List ℕ) where
   lowest (arr (item p v (arr us) ts)) = never s (arr (item p v (arr us) ts))
   lowest (arr (item p v (obj us) ts)) = never s (arr (item p v (obj us) ts))
 
-  told-lowest : {x : ℕ} (a b c d e : Bool) → Lowest x a b c d e → toldOf x ≡ cond a 4 (cond b 5 (cond c 6 (cond d 7 (cond e 8 0))))
+  pub told-lowest : {x : ℕ} (a b c d e : Bool) → Lowest x a b c d e → toldOf x ≡ cond a 4 (cond b 5 (cond c 6 (cond d 7 (cond e 8 0))))
   unfolding toldOf low
   told-lowest {x} a b c d e w = rw (w .is) (go a b c d e)
     where

@@ -3,3 +3,4 @@ pub mod Shape
 pub mod Rows
 pub mod Lowest
 pub mod Walk
+pub mod Values

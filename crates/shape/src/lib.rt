@@ -4,13 +4,14 @@ ghost use mathlib.Core.Path.{_≡_};
 ghost use Prim.Native.Nat.{_<_, _+_, _-_, _^_, min};
 ghost use lib.IntN.{pos, negℤ};
 ghost use Rattle.json.specs.Grammar.{within, scalarAt, startAt};
-ghost use Rattle.json.specs.Tree.{onLeaf, treeAt};
+ghost use Rattle.json.specs.Tree.{onLeaf, depth, treeAt};
 ghost use Rattle.spell.specs.Spell.{decode};
 ghost use Rattle.numeral.specs.Whole.{widest};
 ghost use Rattle.rows.specs.Strings.{part, spelledAt};
 ghost use Rattle.shape.specs.Shape.{wordOf};
 ghost use Rattle.shape.specs.Rows.{messageRow};
 ghost use Rattle.shape.specs.Walk.{bounds, hexRow, stringForm, stringRow, rangeRow, numberRow, groupForm, placeSlot, eventSlot, letterSlot, conditionSlot, filterSlot, nameSlot, nameRow, memberOf, itemOf, eventForm, filterForm, elementForm, slotForm, isIn, onceRow, marksAfter, fresh, stepped, isFull, endRow, closed, judgedOf, wordForm, openingOf, toldOf};
+ghost use Rattle.shape.specs.Values.{valueRow, formOf};
 use json::Kind;
 use json::Next;
 use json::Out;
@@ -718,5 +719,34 @@ pub fn message_row(s: &[u8]) -> u8
     match judge(s, at, DEPTH, opening(s, at)) {
         Judged::Ends(n, row) => { if n == s.len() { told(row) } else { 3 } }
         Judged::Wrong => 3,
+    }
+}
+
+// What may have to stand at a place, apart from a message: the tags of an event, a list of 64 hex characters each, a list of kinds, a filter.
+pub enum Sort {
+    Tags,
+    Hexes,
+    Smalls,
+    Filter,
+}
+
+fn sort_form(k: Sort) -> u8
+    ensures { λ r. ⌜ r ≡ formOf k ⌝ }
+{
+    match k {
+        Sort::Tags => TAGLIST,
+        Sort::Hexes => HEXES,
+        Sort::Smalls => SMALLS,
+        Sort::Filter => FILTER,
+    }
+}
+
+// The lowest of rows 4 to 8 that holds of the value at a place, where a sort must stand; 0 where none does, 5 where there is no value.
+pub fn value_row(s: &[u8], at: usize, k: Sort) -> u8
+    ensures { λ r. ⌜ r ≡ valueRow (now (s .entry)) k (treeAt (now (s .entry)) depth at) ⌝ }
+{
+    match judge(s, at, DEPTH, sort_form(k)) {
+        Judged::Ends(_, row) => told(row),
+        Judged::Wrong => SHAPE,
     }
 }

@@ -1,0 +1,278 @@
+-- The lowest row as a number: the least of two such numbers is the lowest row that holds on either side; and the rows of one part, by its
+-- tests in the order of the code.
+use mathlib.Core.Path.{_≡_, refl, sym, ap, _∙_}
+use mathlib.Core.List.{List}
+use mathlib.Core.Bool.{Bool, true, false, cond, not, _&&_, _||_, or-false}
+use Prim.Native.Nat.{ℕ, _+_, _-_, _<_, _≤_, min}
+use native.Mathlib.Decide.{decLe}
+use native.Mathlib.Omega.{arith}
+use borrow.Author.Tests.{le-leb, lt-leb}
+use lib.Dec.{leb}
+use lib.IntN.{ℤ, pos, negℤ}
+use lib.ListN.{length}
+use Rattle.utf8.specs.Utf8.{isUtf8}
+use Rattle.json.specs.Grammar.{isSpelling}
+use Rattle.json.specs.Tree.{Json, Got, none, got, endOf, depth, treeAt}
+use Rattle.json.specs.declared.Out.the-variants.{End, Bad}
+use Rattle.spell.specs.Spell.{refuses, isHexOf}
+use Rattle.numeral.specs.Whole.{isWithin}
+use Rattle.numeral.specs.declared.Whole.the-variants.{Value}
+use Rattle.rows.specs.Strings.{part, refusedIn}
+use Rattle.message.specs.declared.Span.{Span}
+use Rattle.message.specs.declared.Body.{Body}
+use Rattle.message.specs.declared.EventParts.{EventParts}
+use Rattle.message.specs.declared.FilterParts.{FilterParts}
+use Rattle.message.specs.declared.Bound.{Bound}
+use Rattle.message.specs.declared.Bound.the-variants as bound
+use Rattle.message.specs.declared.Listed.{Listed}
+use Rattle.message.specs.declared.Listed.the-variants as listed
+use Rattle.shape.specs.declared.Sort.{Sort}
+use Rattle.shape.specs.declared.Sort.the-variants.{Tags, Hexes, Smalls, Filter}
+use Rattle.message.specs.Lent.{lowest, bytesOf, isInside, isSpelled, string2, string4, string5, string7, onValue, valueAt, ownText, value2, value4, value5, wrongNumber, time6, small6, inList, inBound, body2, body4, body5, body6, body7, body8, event2, event4, event5, event7, eventRow, filter2, filter4, filter5, filter6, filter7, filter8, filterRow}
+use Rattle.shape.specs.Values.{fits, sort6, sort7, sort8, sortRow, valueRow}
+use Rattle.message.specs.Steps.{rank, toldOf, rankOf, Lowest, ValueRank, ListRank}
+
+-- ---- joined by the least
+cond-above : (r : ℕ) (b : Bool) {x y : ℕ} → r ≤ x → r ≤ y → r ≤ cond b x y
+cond-above r true p q = p
+cond-above r false p q = q
+
+least : (r : ℕ) (a b : Bool) (x y : ℕ) → r ≤ x → r ≤ y → min (cond a r x) (cond b r y) ≡ cond (a || b) r (min x y)
+least r true true x y p q = omega arith
+least r true false x y p q = omega arith
+least r false true x y p q = omega arith
+least r false false x y p q = refl
+
+abbrev from8 : Bool → ℕ
+from8 f = cond f 8 9
+
+abbrev from7 : Bool → Bool → ℕ
+from7 e f = cond e 7 (from8 f)
+
+abbrev from6 : Bool → Bool → Bool → ℕ
+from6 d e f = cond d 6 (from7 e f)
+
+abbrev from5 : Bool → Bool → Bool → Bool → ℕ
+from5 c d e f = cond c 5 (from6 d e f)
+
+abbrev from4 : Bool → Bool → Bool → Bool → Bool → ℕ
+from4 b c d e f = cond b 4 (from5 c d e f)
+
+above8 : (f : Bool) → 8 ≤ from8 f
+above8 f = cond-above 8 f (omega arith) (omega arith)
+
+above7 : (e f : Bool) → 7 ≤ from7 e f
+above7 e f = cond-above 7 e (omega arith) (let h = above8 f in omega arith)
+
+above6 : (d e f : Bool) → 6 ≤ from6 d e f
+above6 d e f = cond-above 6 d (omega arith) (let h = above7 e f in omega arith)
+
+above5 : (c d e f : Bool) → 5 ≤ from5 c d e f
+above5 c d e f = cond-above 5 c (omega arith) (let h = above6 d e f in omega arith)
+
+above4 : (b c d e f : Bool) → 4 ≤ from4 b c d e f
+above4 b c d e f = cond-above 4 b (omega arith) (let h = above5 c d e f in omega arith)
+
+module _ {a b c d e f a′ b′ c′ d′ e′ f′ : Bool} where
+  pub join : {x y : ℕ} → Lowest x a b c d e f → Lowest y a′ b′ c′ d′ e′ f′ → Lowest (min x y) (a || a′) (b || b′) (c || c′) (d || d′) (e || e′) (f || f′)
+  unfolding rank
+  join p q = record {
+    is =
+        rw (p .is, q .is)
+        (least 2 a a′ (from4 b c d e f) (from4 b′ c′ d′ e′ f′) (let h = above4 b c d e f in omega arith) (let h = above4 b′ c′ d′ e′ f′ in omega arith)
+        ∙ ap (cond (a || a′) 2)
+        (least 4 b b′ (from5 c d e f) (from5 c′ d′ e′ f′) (let h = above5 c d e f in omega arith) (let h = above5 c′ d′ e′ f′ in omega arith)
+        ∙ ap (cond (b || b′) 4)
+        (least 5 c c′ (from6 d e f) (from6 d′ e′ f′) (let h = above6 d e f in omega arith) (let h = above6 d′ e′ f′ in omega arith)
+        ∙ ap (cond (c || c′) 5)
+        (least 6 d d′ (from7 e f) (from7 e′ f′) (let h = above7 e f in omega arith) (let h = above7 e′ f′ in omega arith)
+        ∙ ap (cond (d || d′) 6)
+        (least 7 e e′ (from8 f) (from8 f′) (let h = above8 f in omega arith) (let h = above8 f′ in omega arith)
+        ∙ ap (cond (e || e′) 7) (least 8 f f′ 9 9 (omega arith) (omega arith)))))));
+  }
+
+-- a number that is the least of two
+pub both : {x y z : ℕ} {a b c d e f a′ b′ c′ d′ e′ f′ : Bool} → z ≡ min x y → Lowest x a b c d e f → Lowest y a′ b′ c′ d′ e′ f′
+    → Lowest z (a || a′) (b || b′) (c || c′) (d || d′) (e || e′) (f || f′)
+both q v w = rw q (join v w)
+
+-- the same rows said otherwise
+pub said : {x : ℕ} {a b c d e f a′ b′ c′ d′ e′ f′ : Bool} → a ≡ a′ → b ≡ b′ → c ≡ c′ → d ≡ d′ → e ≡ e′ → f ≡ f′ → Lowest x a b c d e f → Lowest x a′ b′ c′ d′ e′ f′
+said p q r s t u w = rw (p, q, r, s, t, u) at w
+
+told-rank : (a b c d e f : Bool) → toldOf (rank a b c d e f) ≡ lowest a b c d e f
+unfolding rank
+told-rank true b c d e f = refl
+told-rank false true c d e f = refl
+told-rank false false true d e f = refl
+told-rank false false false true e f = refl
+told-rank false false false false true f = refl
+told-rank false false false false false true = refl
+told-rank false false false false false false = refl
+
+pub told-is : {x : ℕ} {a b c d e f : Bool} → Lowest x a b c d e f → toldOf x ≡ lowest a b c d e f
+told-is {x} {a} {b} {c} {d} {e} {f} w = ap toldOf (w .is) ∙ told-rank a b c d e f
+
+-- ---- a string part
+module _ (b : List ℕ) (p : Span) where
+  pub inside-not : length b < p .start → false ≡ isInside b p
+  unfolding isInside
+  inside-not h = sym (lt-leb (p .start + p .len) (length b) (omega arith))
+
+  pub inside-is : p .start ≤ length b → leb (p .len) (length b - p .start) ≡ isInside b p
+  unfolding isInside
+  inside-is h = elim (decLe (p .len) (length b - p .start)) [
+    | yes l ↦ le-leb (p .len) (length b - p .start) l ∙ sym (le-leb (p .start + p .len) (length b) (omega arith))
+    | no l ↦ lt-leb (p .len) (length b - p .start) (omega arith) ∙ sym (lt-leb (p .start + p .len) (length b) (omega arith))
+  ]
+
+module _ (b : List ℕ) (p : Span) where
+  abbrev StringRank : ℕ → Type 0
+  StringRank x = Lowest x (string2 b p) (string4 b p) (string5 b p) false false false
+
+  pub string-outside : isInside b p ≡ false → StringRank 5
+  unfolding rank string2 string4 string5 isSpelled
+  string-outside i = record { is = simp i }
+
+  -- w are its bytes
+  module _ (i : isInside b p ≡ true) (w : List ℕ) (e : w ≡ bytesOf b p) where
+    pub string-bytes : isUtf8 w ≡ false → StringRank 2
+    unfolding rank string2
+    string-bytes u = record { is = simp (i, rw e at u) }
+
+    module _ (u : isUtf8 w ≡ true) where
+      pub string-unspelled : isSpelling w ≡ false → StringRank 5
+      unfolding rank string2 string4 string5 isSpelled
+      string-unspelled q = record { is = simp (i, rw e at u, rw e at q) }
+
+      pub string-refused : isSpelling w ≡ true → refuses w ≡ true → StringRank 4
+      unfolding rank string2 string4 string5 isSpelled
+      string-refused q r = record { is = simp (i, rw e at u, rw e at q, rw e at r) }
+
+      pub string-fine : isSpelling w ≡ true → refuses w ≡ false → StringRank 9
+      unfolding rank string2 string4 string5 isSpelled
+      string-fine q r = record { is = simp (i, rw e at u, rw e at q, rw e at r) }
+
+  -- and hex
+  module _ (k : ℕ) where
+    abbrev HexRank : ℕ → Type 0
+    HexRank x = Lowest x (string2 b p) (string4 b p) (string5 b p) false (string7 k b p) false
+
+    pub hex-early : {x : ℕ} → StringRank x → (x ≡ 9 → ⊥) → HexRank x
+    unfolding rank
+    hex-early {x} w n = record { is = go (string2 b p) (string4 b p) (string5 b p) (w .is) }
+      where
+        go : (s t u : Bool) → x ≡ cond s 2 (cond t 4 (cond u 5 9)) → x ≡ cond s 2 (cond t 4 (cond u 5 (cond (string7 k b p) 7 9)))
+        go true t u q = q
+        go false true u q = q
+        go false false true q = q
+        go false false false q = absurd (n q)
+
+    pub hex-late : {x : ℕ} (w : List ℕ) (h : Bool) → StringRank x → x ≡ 9 → w ≡ bytesOf b p → isHexOf k w ≡ h → HexRank (cond h 9 7)
+    unfolding rank string2 string4 string5 string7
+    hex-late {x} v h w n q e = record { is = rw (rw q at e) (go (isInside b p && not (isUtf8 (bytesOf b p))) (isSpelled b p) (refuses (bytesOf b p)) h (sym (w .is) ∙ n)) }
+      where
+        go : (s t r h : Bool) → _≡_ {A = ℕ} (cond s 2 (cond (t && r) 4 (cond (not t) 5 9))) 9 → _≡_ {A = ℕ} (cond h 9 7) (cond s 2 (cond (t && r) 4 (cond (not t) 5 (cond (t && not h) 7 9))))
+        go true t r h q = absurd (omega arith)
+        go false true true h q = absurd (omega arith)
+        go false true false true q = refl
+        go false true false false q = refl
+        go false false r h q = absurd (omega arith)
+
+-- ---- the value at a place
+rank-row : (b c d e f : Bool) → rankOf (cond b 4 (cond c 5 (cond d 6 (cond e 7 (cond f 8 0))))) ≡ rank false b c d e f
+unfolding rank
+rank-row true c d e f = refl
+rank-row false true d e f = refl
+rank-row false false true e f = refl
+rank-row false false false true f = refl
+rank-row false false false false true = refl
+rank-row false false false false false = refl
+
+module _ (b : List ℕ) (at : ℕ) (k : Sort) where
+  pub value-bad : endOf (treeAt b depth at) ≡ Bad → ValueRank b at k 5
+  unfolding rank value2 value4 value5
+  value-bad e = record { is = go (treeAt b depth at) e }
+    where
+      go : (g : Got Json) → endOf g ≡ Bad
+          → 5 ≡ rank (ownText b at g) (onValue (refusedIn b) g) (not (onValue (fits b k) g)) (onValue (sort6 b k) g) (onValue (sort7 b k) g) (onValue (sort8 b k) g)
+      go none q = refl
+      go (got t n) q = absurd (let z : _≡_ {A = ℕ} 0 1 = cc in omega arith)
+
+  module _ (n : ℕ) (e : endOf (treeAt b depth at) ≡ End n) where
+    abbrev Read : Got Json → ℕ → Type 0
+    Read g x = x ≡ rank (ownText b at g) (onValue (refusedIn b) g) (not (onValue (fits b k) g)) (onValue (sort6 b k) g) (onValue (sort7 b k) g) (onValue (sort8 b k) g)
+
+    pub value-bytes : isUtf8 (part b at (n - at)) ≡ false → ValueRank b at k 2
+    unfolding rank value2 value4 value5
+    value-bytes u = record { is = go (treeAt b depth at) e }
+      where
+        go : (g : Got Json) → endOf g ≡ End n → Read g 2
+        go none q = absurd (let z : _≡_ {A = ℕ} 0 1 = cc in omega arith)
+        go (got t m) q = let y : m ≡ n = cc in rw (y, u)
+
+    pub value-rest : {x y : ℕ} → isUtf8 (part b at (n - at)) ≡ true → x ≡ valueRow b k (treeAt b depth at) → y ≡ rankOf x → ValueRank b at k y
+    unfolding value2 value4 value5 sortRow
+    value-rest {x} {y} u v w = record { is = go (treeAt b depth at) e v }
+      where
+        go : (g : Got Json) → endOf g ≡ End n → x ≡ valueRow b k g → Read g y
+        go none q v = absurd (let z : _≡_ {A = ℕ} 0 1 = cc in omega arith)
+        go (got t m) q v =
+            let z : m ≡ n = cc in
+            rw (z, u) (w ∙ ap rankOf v ∙ rank-row (refusedIn b t) (not (fits b k t)) (sort6 b k t) (sort7 b k t) (sort8 b k t))
+
+-- rows that no value of a sort breaks
+none-value : (g : Got Json) → onValue (λ t. false) g ≡ false
+none-value none = refl
+none-value (got t n) = refl
+
+none-list : (b : List ℕ) (l : Listed) → inList (λ v. onValue (λ t. false) (valueAt b v)) l ≡ false
+none-list b listed.Absent = refl
+none-list b (listed.At v) = none-value (valueAt b v)
+
+pub list-absent : (b : List ℕ) (l : Listed) (k : Sort) → l ≡ listed.Absent → ListRank b l k 9
+unfolding rank
+list-absent b l k e = rw e record { is = refl }
+
+-- ---- numbers
+module _ (z low high : ℤ) where
+  pub number-fine : isWithin (Value z) low high ≡ true → Lowest 9 false false false (wrongNumber low high z) false false
+  unfolding rank wrongNumber
+  number-fine e = record { is = simp e }
+
+  pub number-wrong : isWithin (Value z) low high ≡ false → Lowest 6 false false false (wrongNumber low high z) false false
+  unfolding rank wrongNumber
+  number-wrong e = record { is = simp e }
+
+pub bound-absent : (x : Bound) (low high : ℤ) → x ≡ bound.Absent → Lowest 9 false false false (inBound (wrongNumber low high) x) false false
+unfolding rank
+bound-absent x low high e = rw e record { is = refl }
+
+-- ---- an event's fields, an event, a filter: their parts in the order of the code
+abbrev pub BodyRank : List ℕ → Body → ℕ → Type 0
+BodyRank b p x = Lowest x (body2 b p) (body4 b p) (body5 b p) (body6 p) (body7 b p) (body8 b p)
+
+pub body-lowest : (b : List ℕ) (p : Body) {x₁ x₂ x₃ x₄ t k h v c : ℕ} → x₁ ≡ min t x₂ → x₂ ≡ min k x₃ → x₃ ≡ min h x₄ → x₄ ≡ min v c
+    → Lowest t false false false (time6 (p .«created_at»)) false false → Lowest k false false false (small6 (p .kind)) false false
+    → HexRank b (p .pubkey) 64 h → ValueRank b (p .tags) Tags v → StringRank b (p .content) c → BodyRank b p x₁
+unfolding body2 body4 body5 body6 body7 body8
+body-lowest b p e₁ e₂ e₃ e₄ t k h v c =
+    said refl refl refl (rw (none-value (valueAt b (p .tags)), or-false)) (rw (none-value (valueAt b (p .tags)), or-false)) (rw or-false)
+    (both e₁ t (both e₂ k (both e₃ h (both e₄ v c))))
+
+pub event-lowest : (b : List ℕ) (p : EventParts) {x₁ x₂ h d g : ℕ} → x₁ ≡ min h x₂ → x₂ ≡ min d g
+    → HexRank b (p .id) 64 h → BodyRank b (p .body) d → HexRank b (p .sig) 128 g → toldOf x₁ ≡ eventRow b p
+unfolding eventRow event2 event4 event5 event7
+event-lowest b p e₁ e₂ h d g = told-is (said refl refl refl (or-false (body6 (p .body))) refl (or-false (body8 b (p .body))) (both e₁ h (both e₂ d g)))
+
+pub filter-lowest : (b : List ℕ) (p : FilterParts) {x₁ x₂ x₃ x₄ x₅ x₆ i a k s u l c : ℕ}
+    → x₁ ≡ min i x₂ → x₂ ≡ min a x₃ → x₃ ≡ min k x₄ → x₄ ≡ min s x₅ → x₅ ≡ min u x₆ → x₆ ≡ min l c
+    → ListRank b (p .ids) Hexes i → ListRank b (p .authors) Hexes a → ListRank b (p .kinds) Smalls k
+    → Lowest s false false false (inBound time6 (p .since)) false false → Lowest u false false false (inBound time6 (p .until)) false false
+    → Lowest l false false false (inBound small6 (p .limit)) false false → ListRank b (p .conditions) Filter c → toldOf x₁ ≡ filterRow b p
+unfolding filterRow filter2 filter4 filter5 filter6 filter7 filter8
+filter-lowest b p e₁ e₂ e₃ e₄ e₅ e₆ i a k s u l c =
+    let w : Lowest _ (filter2 b p) (filter4 b p) (filter5 b p) (filter6 b p) (filter7 b p) (filter8 b p)
+    = said refl refl refl (rw (none-list b (p .ids), none-list b (p .authors))) (rw (none-list b (p .kinds))) refl
+    (both e₁ i (both e₂ a (both e₃ k (both e₄ s (both e₅ u (both e₆ l c)))))) in
+    told-is w

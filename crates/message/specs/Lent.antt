@@ -1,0 +1,179 @@
+-- Parts lent by anybody, over the buffer b in which they lie. 01: "Parts of an event, filter or reply are tested by rows 2 and 4 to 8 (5 also
+-- if a part lies outside its buffer or is no RFC 8259 spelling)". Each row by itself, and then the lowest that holds, or 0.
+use Prim.Native.Nat.{ℕ, _+_, _-_}
+use mathlib.Core.List.{List}
+use mathlib.Core.Bool.{Bool, true, false, cond, not, _&&_, _||_}
+use lib.Dec.{leb}
+use lib.IntN.{ℤ, pos, negℤ}
+use lib.ListN.{length}
+use Rattle.utf8.specs.Utf8.{isUtf8}
+use Rattle.json.specs.Grammar.{isSpelling}
+use Rattle.json.specs.Tree.{Json, Got, none, got, depth, treeAt}
+use Rattle.spell.specs.Spell.{refuses, isHexOf}
+use Rattle.numeral.specs.Whole.{isWithin, widest}
+use Rattle.numeral.specs.declared.Whole.the-variants.{Value}
+use Rattle.rows.specs.Strings.{part, refusedIn}
+use Rattle.shape.specs.Shape.{anyItem, count, isString, isNumber, isArrayOf, isFilter}
+use Rattle.shape.specs.Rows.{onArray, onObject, outside, mostTags, wrongSmall, wrongHex, wrongTag, wrongList, filterNumber, filterHex, filterCounts}
+use Rattle.message.specs.declared.Span.{Span}
+use Rattle.message.specs.declared.Body.{Body}
+use Rattle.message.specs.declared.EventParts.{EventParts}
+use Rattle.message.specs.declared.Bound.{Bound}
+use Rattle.message.specs.declared.Bound.the-variants as bound
+use Rattle.message.specs.declared.Listed.{Listed}
+use Rattle.message.specs.declared.Listed.the-variants as listed
+use Rattle.message.specs.declared.FilterParts.{FilterParts}
+
+-- the lowest row, and 0 where none holds
+abbrev pub lowest : Bool → Bool → Bool → Bool → Bool → Bool → ℕ
+lowest row2 row4 row5 row6 row7 row8 = cond row2 2 (cond row4 4 (cond row5 5 (cond row6 6 (cond row7 7 (cond row8 8 0)))))
+
+-- ---- a string part. One that lies outside b adds row 5 only, and so does one that is no spelling, unless it is not UTF-8
+abbrev pub bytesOf : List ℕ → Span → List ℕ
+bytesOf b p = part b (p .start) (p .len)
+
+unfoldable pub isInside : List ℕ → Span → Bool
+isInside b p = leb (p .start + p .len) (length b)
+
+unfoldable pub isSpelled : List ℕ → Span → Bool
+isSpelled b p = isInside b p && isSpelling (bytesOf b p)
+
+unfoldable pub string2 : List ℕ → Span → Bool
+string2 b p = isInside b p && not (isUtf8 (bytesOf b p))
+
+unfoldable pub string4 : List ℕ → Span → Bool
+string4 b p = isSpelled b p && refuses (bytesOf b p)
+
+unfoldable pub string5 : List ℕ → Span → Bool
+string5 b p = not (isSpelled b p)
+
+-- row 7: k characters of lower-case hex
+unfoldable pub string7 : ℕ → List ℕ → Span → Bool
+string7 k b p = isSpelled b p && not (isHexOf k (bytesOf b p))
+
+-- ---- a number
+unfoldable pub wrongNumber : ℤ → ℤ → ℤ → Bool
+wrongNumber low high z = not (isWithin (Value z) low high)
+
+abbrev pub time6 : ℤ → Bool
+time6 z = wrongNumber (negℤ (pos widest)) (pos widest) z
+
+-- kind, limit
+abbrev pub small6 : ℤ → Bool
+small6 z = wrongNumber (pos 0) (pos 65535) z
+
+-- ---- the value at a place, an array or an object. Row 5 where none stands there
+abbrev pub onValue : (Json → Bool) → Got Json → Bool
+onValue f none = false
+onValue f (got t n) = f t
+
+abbrev pub valueAt : List ℕ → ℕ → Got Json
+valueAt b at = treeAt b depth at
+
+-- its own text is not UTF-8
+abbrev pub ownText : List ℕ → ℕ → Got Json → Bool
+ownText b at none = false
+ownText b at (got t n) = not (isUtf8 (part b at (n - at)))
+
+unfoldable pub value2 : List ℕ → ℕ → Bool
+value2 b at = ownText b at (valueAt b at)
+
+unfoldable pub value4 : List ℕ → ℕ → Bool
+value4 b at = onValue (refusedIn b) (valueAt b at)
+
+unfoldable pub value5 : (Json → Bool) → List ℕ → ℕ → Bool
+value5 f b at = not (onValue f (valueAt b at))
+
+-- tags: an array of arrays of strings; at most 64, each of 1 to 16 strings
+abbrev pub isTags : Json → Bool
+isTags t = isArrayOf (isArrayOf isString) t
+
+abbrev pub wrongTags : Json → Bool
+wrongTags t = onArray (λ ts. outside 0 mostTags (count ts) || anyItem (λ q u. wrongTag u) ts) t
+
+-- ---- the fields of an event's text
+unfoldable pub body2 : List ℕ → Body → Bool
+body2 b p = string2 b (p .pubkey) || (value2 b (p .tags) || string2 b (p .content))
+
+unfoldable pub body4 : List ℕ → Body → Bool
+body4 b p = string4 b (p .pubkey) || (value4 b (p .tags) || string4 b (p .content))
+
+unfoldable pub body5 : List ℕ → Body → Bool
+body5 b p = string5 b (p .pubkey) || (value5 isTags b (p .tags) || string5 b (p .content))
+
+unfoldable pub body6 : Body → Bool
+body6 p = time6 (p .«created_at») || small6 (p .kind)
+
+unfoldable pub body7 : List ℕ → Body → Bool
+body7 b p = string7 64 b (p .pubkey)
+
+unfoldable pub body8 : List ℕ → Body → Bool
+body8 b p = onValue wrongTags (valueAt b (p .tags))
+
+unfoldable pub bodyRow : List ℕ → Body → ℕ
+bodyRow b p = lowest (body2 b p) (body4 b p) (body5 b p) (body6 p) (body7 b p) (body8 b p)
+
+-- ---- the parts of an event
+unfoldable pub event2 : List ℕ → EventParts → Bool
+event2 b p = string2 b (p .id) || (body2 b (p .body) || string2 b (p .sig))
+
+unfoldable pub event4 : List ℕ → EventParts → Bool
+event4 b p = string4 b (p .id) || (body4 b (p .body) || string4 b (p .sig))
+
+unfoldable pub event5 : List ℕ → EventParts → Bool
+event5 b p = string5 b (p .id) || (body5 b (p .body) || string5 b (p .sig))
+
+unfoldable pub event7 : List ℕ → EventParts → Bool
+event7 b p = string7 64 b (p .id) || (body7 b (p .body) || string7 128 b (p .sig))
+
+unfoldable pub eventRow : List ℕ → EventParts → ℕ
+eventRow b p = lowest (event2 b p) (event4 b p) (event5 b p) (body6 (p .body)) (event7 b p) (body8 b (p .body))
+
+-- ---- the parts of a filter: each is absent or tested
+abbrev pub inList : (ℕ → Bool) → Listed → Bool
+inList f listed.Absent = false
+inList f (listed.At v) = f v
+
+abbrev pub inBound : (ℤ → Bool) → Bound → Bool
+inBound f bound.Absent = false
+inBound f (bound.Number z) = f z
+
+abbrev pub someHex : List ℕ → Json → Bool
+someHex b t = onArray (anyItem (λ q u. wrongHex 64 b u)) t
+
+abbrev pub someSmall : List ℕ → Json → Bool
+someSmall b t = onArray (anyItem (λ q u. wrongSmall b u)) t
+
+unfoldable pub filter2 : List ℕ → FilterParts → Bool
+filter2 b p = inList (value2 b) (p .ids) || (inList (value2 b) (p .authors) || (inList (value2 b) (p .kinds) || inList (value2 b) (p .conditions)))
+
+unfoldable pub filter4 : List ℕ → FilterParts → Bool
+filter4 b p = inList (value4 b) (p .ids) || (inList (value4 b) (p .authors) || (inList (value4 b) (p .kinds) || inList (value4 b) (p .conditions)))
+
+-- the object at `conditions` is a filter; of its members those with # are taken
+unfoldable pub filter5 : List ℕ → FilterParts → Bool
+filter5 b p =
+    inList (value5 (isArrayOf isString) b) (p .ids)
+    || (inList (value5 (isArrayOf isString) b) (p .authors)
+    || (inList (value5 (isArrayOf isNumber) b) (p .kinds) || inList (value5 (isFilter b) b) (p .conditions)))
+
+unfoldable pub filter6 : List ℕ → FilterParts → Bool
+filter6 b p =
+    inList (λ v. onValue (someSmall b) (valueAt b v)) (p .kinds)
+    || (inBound time6 (p .since)
+    || (inBound time6 (p .until)
+    || (inBound small6 (p .limit) || inList (λ v. onValue (onObject (anyItem (filterNumber b))) (valueAt b v)) (p .conditions))))
+
+unfoldable pub filter7 : List ℕ → FilterParts → Bool
+filter7 b p =
+    inList (λ v. onValue (someHex b) (valueAt b v)) (p .ids)
+    || (inList (λ v. onValue (someHex b) (valueAt b v)) (p .authors) || inList (λ v. onValue (onObject (anyItem (filterHex b))) (valueAt b v)) (p .conditions))
+
+unfoldable pub filter8 : List ℕ → FilterParts → Bool
+filter8 b p =
+    inList (λ v. onValue wrongList (valueAt b v)) (p .ids)
+    || (inList (λ v. onValue wrongList (valueAt b v)) (p .authors)
+    || (inList (λ v. onValue wrongList (valueAt b v)) (p .kinds) || inList (λ v. onValue (onObject (filterCounts b)) (valueAt b v)) (p .conditions)))
+
+unfoldable pub filterRow : List ℕ → FilterParts → ℕ
+filterRow b p = lowest (filter2 b p) (filter4 b p) (filter5 b p) (filter6 b p) (filter7 b p) (filter8 b p)

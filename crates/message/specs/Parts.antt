@@ -1,0 +1,125 @@
+-- 01, "Shape": the parts of an event and of a filter, as places in the text s, over the items of its object. On an object of another
+-- shape what is not there is empty, 0 or absent.
+use Prim.Native.Nat.{ℕ}
+use mathlib.Core.List.{List}
+use mathlib.Core.Bool.{cond}
+use lib.IntN.{ℤ, pos}
+use Rattle.json.specs.Tree.{Json, word, num, str, arr, obj, Items, nil, item, Got, none, got, depth, treeAt}
+use Rattle.rows.specs.Strings.{part}
+use Rattle.numeral.specs.Whole.{wholeOf, answerOf}
+use Rattle.numeral.specs.declared.Whole.{Whole}
+use Rattle.numeral.specs.declared.Whole.the-variants.{Value, Large, Malformed}
+use Rattle.shape.specs.Shape.{named, idName, pubkeyName, createdAtName, kindName, tagsName, contentName, sigName, idsName, authorsName, kindsName, sinceName, untilName, limitName}
+use Rattle.message.specs.declared.Span.{Span}
+use Rattle.message.specs.declared.Body.{Body}
+use Rattle.message.specs.declared.EventParts.{EventParts}
+use Rattle.message.specs.declared.Bound.{Bound}
+use Rattle.message.specs.declared.Bound.the-variants as bound
+use Rattle.message.specs.declared.Listed.{Listed}
+use Rattle.message.specs.declared.Listed.the-variants as listed
+use Rattle.message.specs.declared.FilterParts.{FilterParts}
+
+-- the member of a name: the place of its value, and the value
+pub data Member : Type 0 where
+  missing : Member
+  member : ℕ → Json → Member
+
+unfoldable pub memberOf : List ℕ → List ℕ → Items → Member
+memberOf s w nil = missing
+memberOf s w (item p v t ts) = cond (named s w p) (member v t) (memberOf s w ts)
+
+-- ---- what a member holds
+abbrev pub nowhere : Span
+nowhere = record { start = 0; len = 0 }
+
+abbrev pub spanOf : Json → Span
+spanOf (word a n) = nowhere
+spanOf (num a n) = nowhere
+spanOf (str a n) = record { start = a; len = n }
+spanOf (arr ts) = nowhere
+spanOf (obj ts) = nowhere
+
+abbrev pub valueOf : Whole → ℤ
+valueOf (Value z) = z
+valueOf Large = pos 0
+valueOf Malformed = pos 0
+
+abbrev pub numberOf : List ℕ → Json → ℤ
+numberOf s (word a n) = pos 0
+numberOf s (num a n) = valueOf (answerOf (wholeOf (part s a n)))
+numberOf s (str a n) = pos 0
+numberOf s (arr ts) = pos 0
+numberOf s (obj ts) = pos 0
+
+abbrev pub spanIn : Member → Span
+spanIn missing = nowhere
+spanIn (member v t) = spanOf t
+
+abbrev pub numberIn : List ℕ → Member → ℤ
+numberIn s missing = pos 0
+numberIn s (member v t) = numberOf s t
+
+abbrev pub placeIn : Member → ℕ
+placeIn missing = 0
+placeIn (member v t) = v
+
+abbrev pub boundIn : List ℕ → Member → Bound
+boundIn s missing = bound.Absent
+boundIn s (member v t) = bound.Number (numberOf s t)
+
+abbrev pub listedIn : Member → Listed
+listedIn missing = listed.Absent
+listedIn (member v t) = listed.At v
+
+-- ---- the parts
+unfoldable pub bodyOf : List ℕ → Items → Body
+bodyOf s ts = record {
+  pubkey = spanIn (memberOf s pubkeyName ts);
+  «created_at» = numberIn s (memberOf s createdAtName ts);
+  kind = numberIn s (memberOf s kindName ts);
+  tags = placeIn (memberOf s tagsName ts);
+  content = spanIn (memberOf s contentName ts);
+}
+
+unfoldable pub eventOf : List ℕ → Items → EventParts
+eventOf s ts = record {
+  id = spanIn (memberOf s idName ts);
+  body = bodyOf s ts;
+  sig = spanIn (memberOf s sigName ts);
+}
+
+-- the filter whose object stands at v
+unfoldable pub filterOf : List ℕ → ℕ → Items → FilterParts
+filterOf s v ts = record {
+  ids = listedIn (memberOf s idsName ts);
+  authors = listedIn (memberOf s authorsName ts);
+  kinds = listedIn (memberOf s kindsName ts);
+  since = boundIn s (memberOf s sinceName ts);
+  until = boundIn s (memberOf s untilName ts);
+  limit = boundIn s (memberOf s limitName ts);
+  conditions = listed.At v;
+}
+
+-- the items of an object; none of any other value
+abbrev pub membersOf : Json → Items
+membersOf (word a n) = nil
+membersOf (num a n) = nil
+membersOf (str a n) = nil
+membersOf (arr ts) = nil
+membersOf (obj ts) = ts
+
+-- ---- the parts at a place. The value there may have as many brackets and braces open at once as a message: so what stands inside a
+-- message is read there as it is in the message's own tree
+abbrev pub membersGot : Got Json → Items
+membersGot none = nil
+membersGot (got t n) = membersOf t
+
+-- the items of the object at a place; none where there is no object
+unfoldable pub membersAt : List ℕ → ℕ → Items
+membersAt s at = membersGot (treeAt s depth at)
+
+unfoldable pub eventAt : List ℕ → ℕ → EventParts
+eventAt s at = eventOf s (membersAt s at)
+
+unfoldable pub filterAt : List ℕ → ℕ → FilterParts
+filterAt s at = filterOf s at (membersAt s at)

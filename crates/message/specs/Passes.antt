@@ -1,0 +1,26 @@
+-- What was read from an accepted message passes the test of lent parts: proved in proofs/Passes.antt.
+use Prim.Native.Nat.{ℕ, _≤_}
+use mathlib.Core.Path.{_≡_}
+use mathlib.Core.List.{List, List·Memᴰ}
+use lib.ListN.{length}
+use Rattle.message.specs.declared.EventParts.{EventParts}
+use Rattle.message.specs.declared.ReqParts.{ReqParts}
+use Rattle.message.specs.declared.Listed.the-variants.{At}
+use Rattle.message.specs.declared.Message.the-variants.{Event, Req}
+use Rattle.message.specs.Parts.{filterAt}
+use Rattle.message.specs.Lists.{elementsFrom}
+use Rattle.message.specs.Read.{readOf}
+use Rattle.message.specs.Lent.{eventRow, filterRow}
+
+abbrev pub EventPasses : Type 0
+EventPasses = (s : List ℕ) (p : EventParts) → readOf s ≡ Event p → eventRow s p ≡ 0
+
+-- the filters of a REQ, one after the other
+abbrev pub filtersOf : List ℕ → ReqParts → List ℕ
+filtersOf s r = elementsFrom s (At (r .filters))
+
+abbrev pub FiltersPass : Type 0
+FiltersPass = (s : List ℕ) (r : ReqParts) → readOf s ≡ Req r → (v : ℕ) → List·Memᴰ v (filtersOf s r) → filterRow s (filterAt s v) ≡ 0
+
+abbrev pub FiltersCounted : Type 0
+FiltersCounted = (s : List ℕ) (r : ReqParts) → readOf s ≡ Req r → (1 ≤ length (filtersOf s r)) × (length (filtersOf s r) ≤ 4)

@@ -1,0 +1,66 @@
+-- A message read: rows 1 to 8 and then its parts; and what a refusal's reply names.
+use Prim.Native.Nat.{ℕ}
+use mathlib.Core.List.{List}
+use mathlib.Core.Bool.{Bool, cond, _&&_}
+use lib.Dec.{eqb, leb}
+use Rattle.json.specs.Tree.{Json, word, num, str, arr, obj, Items, nil, item, Got, none, got, root}
+use Rattle.rows.specs.Strings.{part}
+use Rattle.spell.specs.Spell.{isHexOf}
+use Rattle.shape.specs.Shape.{Word, event, req, close, other, Opened, opened, idName}
+use Rattle.shape.specs.Rows.{messageRow, wrongSubscription}
+use Rattle.message.specs.Parts.{spanOf, eventOf, membersOf, memberOf, spanIn}
+use Rattle.message.specs.declared.Span.{Span}
+use Rattle.message.specs.declared.Message.{Message}
+use Rattle.message.specs.declared.Message.the-variants as message
+use Rattle.message.specs.declared.Named.{Named}
+use Rattle.message.specs.declared.Named.the-variants as names
+
+-- the first of some elements, and the place of the second
+abbrev pub firstOf : Items → Json
+firstOf nil = word 0 0
+firstOf (item p v t ts) = t
+
+abbrev pub secondPlace : Items → ℕ
+secondPlace nil = 0
+secondPlace (item p v t nil) = 0
+secondPlace (item p v t (item q w u us)) = w
+
+-- the elements after the first word
+abbrev pub partsOf : List ℕ → Word → Items → Message
+partsOf s event ts = message.Event (eventOf s (membersOf (firstOf ts)))
+partsOf s req ts = message.Req (record { subscription = spanOf (firstOf ts); filters = secondPlace ts })
+partsOf s close ts = message.Close (spanOf (firstOf ts))
+partsOf s other ts = message.Refused 5
+
+abbrev pub inRoot : List ℕ → Got Json → Message
+inRoot s none = message.Refused 3
+inRoot s (got t n) = partsOf s (opened s t .first) (opened s t .rest)
+
+-- 01: "A read message is an EVENT, a REQ or a CLOSE, each with its own parts"; "A refusal carries its number and no other value"
+unfoldable pub readOf : List ℕ → Message
+readOf s = cond (eqb (messageRow s) 0) (inRoot s (root s)) (message.Refused (messageRow s))
+
+-- ---- 01, "Filters and replies": "Rows 6-12 give OK with false if the id field is 64 lower-case hex; CLOSED for a REQ whose subscription
+-- id is within bounds; otherwise NOTICE". What is found in a text that has its shape (rows 1 to 5 do not hold); nothing elsewhere
+abbrev pub idNamed : List ℕ → Span → Named
+idNamed s p = cond (isHexOf 64 (part s (p .start) (p .len))) (names.Id p) names.Nothing
+
+abbrev pub subscriptionNamed : List ℕ → Json → Named
+subscriptionNamed s t = cond (wrongSubscription s t) names.Nothing (names.Subscription (spanOf t))
+
+abbrev pub namedIn : List ℕ → Word → Items → Named
+namedIn s event ts = idNamed s (spanIn (memberOf s idName (membersOf (firstOf ts))))
+namedIn s req ts = subscriptionNamed s (firstOf ts)
+namedIn s close ts = names.Nothing
+namedIn s other ts = names.Nothing
+
+abbrev pub namedRoot : List ℕ → Got Json → Named
+namedRoot s none = names.Nothing
+namedRoot s (got t n) = namedIn s (opened s t .first) (opened s t .rest)
+
+-- whether a row is one of 1 to 5
+abbrev pub isEarly : ℕ → Bool
+isEarly r = leb 1 r && leb r 5
+
+unfoldable pub namedOf : List ℕ → Named
+namedOf s = cond (isEarly (messageRow s)) names.Nothing (namedRoot s (root s))

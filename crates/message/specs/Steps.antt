@@ -1,0 +1,176 @@
+-- What the private functions promise each other: the first member of each name as places, found in one walk, and what stands at a place.
+use Prim.Native.Nat.{ℕ}
+use mathlib.Core.Path.{_≡_}
+use mathlib.Core.List.{List}
+use mathlib.Core.Bool.{Bool, true, false, cond, not}
+use lib.Dec.{eqb}
+use lib.IntN.{ℤ, pos}
+use Rattle.json.specs.Grammar.{wsAt, scalarAt, startAt}
+use Rattle.json.specs.Tree.{Json, Items, Got, none, got, foldItems, onLeaf}
+use Rattle.json.specs.declared.Kind.{Kind}
+use Rattle.json.specs.declared.Kind.the-variants.{None}
+use Rattle.json.specs.declared.Start.{Start}
+use Rattle.json.specs.declared.Start.the-variants.{Leaf, Empty, Many}
+use Rattle.spell.specs.Spell.{characterCount, isHexOf}
+use Rattle.rows.specs.Strings.{part}
+use Rattle.shape.specs.Shape.{named, nameAt, Word, event, req, close, other, wordOf, idName, pubkeyName, createdAtName, kindName, tagsName, contentName, sigName, idsName, authorsName, kindsName, sinceName, untilName, limitName}
+use Rattle.message.specs.declared.Span.{Span}
+use Rattle.message.specs.declared.Bound.{Bound}
+use Rattle.message.specs.declared.Bound.the-variants as bound
+use Rattle.message.specs.declared.Listed.{Listed}
+use Rattle.message.specs.declared.Listed.the-variants.{Absent, At}
+use Rattle.message.specs.declared.Body.{Body}
+use Rattle.message.specs.declared.Members.{Members}
+use Rattle.shape.specs.Rows.{outside, mostCharacters}
+use Rattle.message.specs.declared.Message.{Message}
+use Rattle.message.specs.declared.Message.the-variants as message
+use Rattle.message.specs.declared.Named.{Named}
+use Rattle.message.specs.declared.Named.the-variants as names
+use Rattle.message.specs.declared.Opening.{Opening}
+use Rattle.message.specs.declared.Opening.the-variants as opening
+use Rattle.message.specs.Parts.{nowhere, spanOf, numberOf, eventAt}
+use Rattle.message.specs.Lists.{firstOf, nextOf}
+use Rattle.message.specs.Read.{idNamed}
+use Rattle.message.specs.Lent.{valueAt, onValue, value2, value4, value5, inList}
+use Rattle.shape.specs.Values.{fits, sort6, sort7, sort8}
+use Rattle.shape.specs.declared.Sort.{Sort}
+
+-- the member that begins at p, with its value at v, is the first one named w, or what was found before it stays
+unfoldable pub kept : List ℕ → List ℕ → Listed → ℕ → ℕ → Listed
+kept s w (At u) p v = At u
+kept s w Absent p v = cond (named s w p) (At v) Absent
+
+unfoldable pub eventStep : List ℕ → Members → ℕ → ℕ → Members
+eventStep s a p v = record {
+  m1 = kept s idName (a .m1) p v;
+  m2 = kept s pubkeyName (a .m2) p v;
+  m3 = kept s createdAtName (a .m3) p v;
+  m4 = kept s kindName (a .m4) p v;
+  m5 = kept s tagsName (a .m5) p v;
+  m6 = kept s contentName (a .m6) p v;
+  m7 = kept s sigName (a .m7) p v;
+}
+
+unfoldable pub filterStep : List ℕ → Members → ℕ → ℕ → Members
+filterStep s a p v = record {
+  m1 = kept s idsName (a .m1) p v;
+  m2 = kept s authorsName (a .m2) p v;
+  m3 = kept s kindsName (a .m3) p v;
+  m4 = kept s sinceName (a .m4) p v;
+  m5 = kept s untilName (a .m5) p v;
+  m6 = kept s limitName (a .m6) p v;
+  m7 = a .m7;
+}
+
+abbrev pub stepOf : List ℕ → Bool → Members → ℕ → ℕ → Members
+stepOf s true a p v = eventStep s a p v
+stepOf s false a p v = filterStep s a p v
+
+abbrev pub noMembers : Members
+noMembers = record { m1 = Absent; m2 = Absent; m3 = Absent; m4 = Absent; m5 = Absent; m6 = Absent; m7 = Absent }
+
+abbrev pub foundIn : List ℕ → Bool → Items → Members
+foundIn s e ts = foldItems (λ a p v t. stepOf s e a p v) noMembers ts
+
+-- ---- what stands at a place, where a value may hold no value
+abbrev pub onStart : Kind → Start → Kind
+onStart k Leaf = k
+onStart k (Empty n named) = None
+onStart k (Many n named) = None
+
+unfoldable pub leafAt : List ℕ → ℕ → Kind
+leafAt s at = onStart (scalarAt s at) (startAt s at)
+
+-- f of the value there
+abbrev pub gotOr : {A : Type 0} → (Json → A) → A → Got Json → A
+gotOr f z none = z
+gotOr f z (got t n) = f t
+
+unfoldable pub spanAt : List ℕ → ℕ → Span
+spanAt s v = gotOr spanOf nowhere (onLeaf s v (leafAt s v))
+
+unfoldable pub numberAt : List ℕ → ℕ → ℤ
+numberAt s v = gotOr (numberOf s) (pos 0) (onLeaf s v (leafAt s v))
+
+abbrev pub spanFound : List ℕ → Listed → Span
+spanFound s Absent = nowhere
+spanFound s (At v) = spanAt s v
+
+abbrev pub numberFound : List ℕ → Listed → ℤ
+numberFound s Absent = pos 0
+numberFound s (At v) = numberAt s v
+
+abbrev pub boundFound : List ℕ → Listed → Bound
+boundFound s Absent = bound.Absent
+boundFound s (At v) = bound.Number (numberAt s v)
+
+abbrev pub placeFound : Listed → ℕ
+placeFound Absent = 0
+placeFound (At v) = v
+
+unfoldable pub bodyFound : List ℕ → Members → Body
+bodyFound s m = record {
+  pubkey = spanFound s (m .m2);
+  «created_at» = numberFound s (m .m3);
+  kind = numberFound s (m .m4);
+  tags = placeFound (m .m5);
+  content = spanFound s (m .m6);
+}
+
+-- ---- a message by places: its first element, which is a word, and its second at j
+abbrev pub openingOf : Word → Opening
+openingOf event = opening.Event
+openingOf req = opening.Req
+openingOf close = opening.Close
+openingOf other = opening.Other
+
+unfoldable pub openingAt : List ℕ → ℕ → Opening
+openingAt s i = openingOf (wordOf (nameAt s i))
+
+unfoldable pub wordPlace : List ℕ → ℕ
+wordPlace s = placeFound (firstOf (startAt s (wsAt s 0)))
+
+unfoldable pub secondFrom : List ℕ → ℕ → ℕ
+secondFrom s i = placeFound (nextOf s i)
+
+unfoldable pub partsAt : List ℕ → Opening → ℕ → Message
+partsAt s opening.Event j = message.Event (eventAt s j)
+partsAt s opening.Req j = message.Req (record { subscription = spanAt s j; filters = secondFrom s j })
+partsAt s opening.Close j = message.Close (spanAt s j)
+partsAt s opening.Other j = message.Refused 5
+
+unfoldable pub labelNamed : List ℕ → Span → Named
+labelNamed s p = cond (outside 1 mostCharacters (characterCount (part s (p .start) (p .len)))) names.Nothing (names.Subscription p)
+
+unfoldable pub namedAt : List ℕ → Opening → ℕ → Named
+namedAt s opening.Event j = idNamed s (eventAt s j .id)
+namedAt s opening.Req j = labelNamed s (spanAt s j)
+namedAt s opening.Close j = names.Nothing
+namedAt s opening.Other j = names.Nothing
+
+-- ---- lent parts: the lowest row that holds, and FINE where none does
+abbrev pub FINE : ℕ
+FINE = 9
+
+unfoldable pub rank : Bool → Bool → Bool → Bool → Bool → Bool → ℕ
+rank row2 row4 row5 row6 row7 row8 = cond row2 2 (cond row4 4 (cond row5 5 (cond row6 6 (cond row7 7 (cond row8 8 FINE)))))
+
+abbrev pub toldOf : ℕ → ℕ
+toldOf row = cond (eqb row FINE) 0 row
+
+abbrev pub rankOf : ℕ → ℕ
+rankOf row = cond (eqb row 0) FINE row
+
+-- x is the lowest of the rows that hold
+pub record Lowest (x : ℕ) (row2 row4 row5 row6 row7 row8 : Bool) : Type 0 where
+  pub is : x ≡ rank row2 row4 row5 row6 row7 row8
+
+-- the rows of the value at a place, where a sort must stand
+abbrev pub ValueRank : List ℕ → ℕ → Sort → ℕ → Type 0
+ValueRank b at k x =
+    Lowest x (value2 b at) (value4 b at) (value5 (fits b k) b at) (onValue (sort6 b k) (valueAt b at)) (onValue (sort7 b k) (valueAt b at)) (onValue (sort8 b k) (valueAt b at))
+
+abbrev pub ListRank : List ℕ → Listed → Sort → ℕ → Type 0
+ListRank b l k x =
+    Lowest x (inList (value2 b) l) (inList (value4 b) l) (inList (value5 (fits b k) b) l) (inList (λ v. onValue (sort6 b k) (valueAt b v)) l)
+    (inList (λ v. onValue (sort7 b k) (valueAt b v)) l) (inList (λ v. onValue (sort8 b k) (valueAt b v)) l)

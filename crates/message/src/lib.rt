@@ -1,0 +1,741 @@
+// A client message read: its parts as places in the text, or the number of the row that refuses it. Parts of an event and of a filter
+// as values that other calls take, whoever made them.
+ghost use mathlib.Core.Path.{_≡_};
+ghost use mathlib.Core.Bool.{true, false};
+ghost use Prim.Native.Nat.{_-_, min};
+ghost use Rattle.json.specs.Grammar.{startAt};
+ghost use Rattle.rows.specs.Strings.{part, spelledAt};
+ghost use Rattle.message.specs.Parts.{valueOf, membersAt, eventAt, filterAt};
+ghost use Rattle.message.specs.Lists.{firstOf, nextOf};
+ghost use Rattle.message.specs.Read.{readOf, idNamed, isEarly, namedOf};
+ghost use Rattle.message.specs.Lent.{isInside, string2, string4, string5, string7, wrongNumber, inBound, body2, body4, body5, body6, body7, body8, bodyRow, eventRow, filterRow};
+ghost use Rattle.message.specs.Steps.{kept, eventStep, filterStep, stepOf, noMembers, foundIn, leafAt, spanAt, numberAt, spanFound, numberFound, boundFound, placeFound, bodyFound, openingAt, wordPlace, secondFrom, partsAt, labelNamed, namedAt, toldOf, rankOf, Lowest, ValueRank, ListRank};
+use json::Kind;
+use json::Next;
+use json::Out;
+use json::Start;
+use numeral::Whole;
+use shape::Sort;
+
+// The brackets and braces that may be open at once within an item of what stands at a place.
+const WITHIN: usize = 7;
+
+const DEPTH: usize = 8;
+
+// The most characters of a subscription id.
+const CHARACTERS: usize = 64;
+
+// The ranges of numbers.
+const LEAST: i64 = -9007199254740991;
+
+const WIDEST: i64 = 9007199254740991;
+
+const SMALL: i64 = 65535;
+
+// Above all rows: none holds.
+const FINE: u8 = 9;
+
+// A part of a buffer: a string as spelled between its quotes.
+pub struct Span {
+    pub start: usize,
+    pub len: usize,
+}
+
+// The fields of an event that its text has. `tags` is the place of the array in the buffer: the list stands beside the struct, in the
+// text.
+pub struct Body {
+    pub pubkey: Span,
+    pub created_at: i64,
+    pub kind: i64,
+    pub tags: usize,
+    pub content: Span,
+}
+
+pub struct EventParts {
+    pub id: Span,
+    pub body: Body,
+    pub sig: Span,
+}
+
+// 01: "since, until and limit are each absent or a number".
+pub enum Bound {
+    Absent,
+    Number(i64),
+}
+
+// A list that may be absent: the place of its array.
+pub enum Listed {
+    Absent,
+    At(usize),
+}
+
+// `conditions` is the place of the object whose # members are the conditions.
+pub struct FilterParts {
+    pub ids: Listed,
+    pub authors: Listed,
+    pub kinds: Listed,
+    pub since: Bound,
+    pub until: Bound,
+    pub limit: Bound,
+    pub conditions: Listed,
+}
+
+// `filters` is the place of the first filter; the others follow it in the text.
+pub struct ReqParts {
+    pub subscription: Span,
+    pub filters: usize,
+}
+
+pub enum Message {
+    Event(EventParts),
+    Req(ReqParts),
+    Close(Span),
+    Refused(u8),
+}
+
+// What the reply to a refused message names.
+pub enum Named {
+    Id(Span),
+    Subscription(Span),
+    Nothing,
+}
+
+// The places of an object's members, the first of each name: id, pubkey, created_at, kind, tags, content, sig of an event; ids,
+// authors, kinds, since, until, limit of a filter.
+struct Members {
+    m1: Listed,
+    m2: Listed,
+    m3: Listed,
+    m4: Listed,
+    m5: Listed,
+    m6: Listed,
+    m7: Listed,
+}
+
+// The first word of a message.
+enum Opening {
+    Event,
+    Req,
+    Close,
+    Other,
+}
+
+fn less(a: usize, b: usize) -> usize
+    ensures { λ r. ⌜ r ≡ a - b ⌝ }
+{
+    if a < b { 0 } else { a - b }
+}
+
+// The part of s of so many bytes from a place on, cut off where s ends.
+fn piece(s: &[u8], start: usize, len: usize) -> &[u8]
+    ensures { λ r. ⌜ now r ≡ part (now (s .entry)) start len ⌝ }
+{
+    let size = s.len();
+    if size < start {
+        return &s[size..];
+    }
+    if size - start < len {
+        return &s[start..];
+    }
+    &s[start..start + len]
+}
+
+// The string that begins at a place, between its quotes.
+fn spelled(s: &[u8], at: usize) -> &[u8]
+    ensures { λ r. ⌜ now r ≡ spelledAt (now (s .entry)) at ⌝ }
+{
+    match json::string(s, at) {
+        Out::End(n) => piece(s, at + 1, n - at - 2),
+        Out::Bad => piece(s, 0, 0),
+    }
+}
+
+// The member that begins at p, with its value at v, after what was found before it.
+fn keep(s: &[u8], word: &[u8], a: Listed, p: usize, v: usize) -> Listed
+    ensures { λ r. ⌜ r ≡ kept (now (s .entry)) (now (word .entry)) a p v ⌝ }
+{
+    match a {
+        Listed::At(u) => Listed::At(u),
+        Listed::Absent => {
+            if spell::spells(spelled(s, p), word) {
+                Listed::At(v)
+            } else {
+                Listed::Absent
+            }
+        }
+    }
+}
+
+fn event_step(s: &[u8], a: Members, p: usize, v: usize) -> Members
+    ensures { λ r. ⌜ r ≡ eventStep (now (s .entry)) a p v ⌝ }
+{
+    let a1 = a.m1;
+    let m1 = keep(s, b"id", a1, p, v);
+    let a2 = a.m2;
+    let m2 = keep(s, b"pubkey", a2, p, v);
+    let a3 = a.m3;
+    let m3 = keep(s, b"created_at", a3, p, v);
+    let a4 = a.m4;
+    let m4 = keep(s, b"kind", a4, p, v);
+    let a5 = a.m5;
+    let m5 = keep(s, b"tags", a5, p, v);
+    let a6 = a.m6;
+    let m6 = keep(s, b"content", a6, p, v);
+    let a7 = a.m7;
+    let m7 = keep(s, b"sig", a7, p, v);
+    Members {
+        m1,
+        m2,
+        m3,
+        m4,
+        m5,
+        m6,
+        m7,
+    }
+}
+
+fn filter_step(s: &[u8], a: Members, p: usize, v: usize) -> Members
+    ensures { λ r. ⌜ r ≡ filterStep (now (s .entry)) a p v ⌝ }
+{
+    let a1 = a.m1;
+    let m1 = keep(s, b"ids", a1, p, v);
+    let a2 = a.m2;
+    let m2 = keep(s, b"authors", a2, p, v);
+    let a3 = a.m3;
+    let m3 = keep(s, b"kinds", a3, p, v);
+    let a4 = a.m4;
+    let m4 = keep(s, b"since", a4, p, v);
+    let a5 = a.m5;
+    let m5 = keep(s, b"until", a5, p, v);
+    let a6 = a.m6;
+    let m6 = keep(s, b"limit", a6, p, v);
+    let m7 = a.m7;
+    Members {
+        m1,
+        m2,
+        m3,
+        m4,
+        m5,
+        m6,
+        m7,
+    }
+}
+
+fn step(s: &[u8], event: bool, a: Members, p: usize, v: usize) -> Members
+    ensures { λ r. ⌜ r ≡ stepOf (now (s .entry)) event a p v ⌝ }
+{
+    if event {
+        event_step(s, a, p, v)
+    } else {
+        filter_step(s, a, p, v)
+    }
+}
+
+fn no_members() -> Members
+    ensures { λ r. ⌜ r ≡ noMembers ⌝ }
+{
+    Members {
+        m1: Listed::Absent,
+        m2: Listed::Absent,
+        m3: Listed::Absent,
+        m4: Listed::Absent,
+        m5: Listed::Absent,
+        m6: Listed::Absent,
+        m7: Listed::Absent,
+    }
+}
+
+// The members of the object at a place, of an event or of a filter.
+fn find(s: &[u8], at: usize, event: bool) -> Members
+    ensures { λ r. ⌜ r ≡ foundIn (now (s .entry)) event (membersAt (now (s .entry)) at) ⌝ }
+{
+    let none = no_members();
+    match json::begin(s, at) {
+        Start::Leaf => none,
+        Start::Empty(_, _) => none,
+        Start::Many(first, named) => {
+            if named {
+                let mut a = none;
+                let mut i = first;
+                let mut k: usize = 0;
+                while k < s.len() {
+                    let Out::End(v) = json::head(s, i, true) else {
+                        return none;
+                    };
+                    let Out::End(n) = json::value(s, v, WITHIN) else {
+                        return none;
+                    };
+                    a = step(s, event, a, i, v);
+                    match json::after(s, n, true) {
+                        Next::More(j) => {
+                            i = j;
+                        }
+                        Next::Done(_) => {
+                            return a;
+                        }
+                        Next::Wrong => {
+                            return none;
+                        }
+                    }
+                    k += 1;
+                }
+                return none;
+            }
+            none
+        }
+    }
+}
+
+// The value at a place, if it holds no value.
+fn leaf(s: &[u8], at: usize) -> Kind
+    ensures { λ r. ⌜ r ≡ leafAt (now (s .entry)) at ⌝ }
+{
+    match json::begin(s, at) {
+        Start::Leaf => json::scalar(s, at),
+        Start::Empty(_, _) => Kind::None,
+        Start::Many(_, _) => Kind::None,
+    }
+}
+
+// The string at a place.
+fn span_at(s: &[u8], v: usize) -> Span
+    ensures { λ r. ⌜ r ≡ spanAt (now (s .entry)) v ⌝ }
+{
+    match leaf(s, v) {
+        Kind::Str(n) => Span {
+            start: v + 1,
+            len: n - v - 2,
+        },
+        Kind::Num(_) => Span { start: 0, len: 0 },
+        Kind::Word(_) => Span { start: 0, len: 0 },
+        Kind::None => Span { start: 0, len: 0 },
+    }
+}
+
+fn value_of(w: Whole) -> i64
+    ensures { λ r. ⌜ r ≡ valueOf w ⌝ }
+{
+    match w {
+        Whole::Value(z) => z,
+        Whole::Large => 0,
+        Whole::Malformed => 0,
+    }
+}
+
+// The number at a place.
+fn number_at(s: &[u8], v: usize) -> i64
+    ensures { λ r. ⌜ r ≡ numberAt (now (s .entry)) v ⌝ }
+{
+    match leaf(s, v) {
+        Kind::Str(_) => 0,
+        Kind::Num(n) => value_of(numeral::read_whole(piece(s, v, less(n, v)))),
+        Kind::Word(_) => 0,
+        Kind::None => 0,
+    }
+}
+
+fn span_in(s: &[u8], x: Listed) -> Span
+    ensures { λ r. ⌜ r ≡ spanFound (now (s .entry)) x ⌝ }
+{
+    match x {
+        Listed::Absent => Span { start: 0, len: 0 },
+        Listed::At(v) => span_at(s, v),
+    }
+}
+
+fn number_in(s: &[u8], x: Listed) -> i64
+    ensures { λ r. ⌜ r ≡ numberFound (now (s .entry)) x ⌝ }
+{
+    match x {
+        Listed::Absent => 0,
+        Listed::At(v) => number_at(s, v),
+    }
+}
+
+fn bound_in(s: &[u8], x: Listed) -> Bound
+    ensures { λ r. ⌜ r ≡ boundFound (now (s .entry)) x ⌝ }
+{
+    match x {
+        Listed::Absent => Bound::Absent,
+        Listed::At(v) => Bound::Number(number_at(s, v)),
+    }
+}
+
+fn place_in(x: Listed) -> usize
+    ensures { λ r. ⌜ r ≡ placeFound x ⌝ }
+{
+    match x {
+        Listed::Absent => 0,
+        Listed::At(v) => v,
+    }
+}
+
+// The fields of an event's text, where its members are found.
+fn body_in(s: &[u8], m: Members) -> Body
+    ensures { λ r. ⌜ r ≡ bodyFound (now (s .entry)) m ⌝ }
+{
+    let m2 = m.m2;
+    let m3 = m.m3;
+    let m4 = m.m4;
+    let m5 = m.m5;
+    let m6 = m.m6;
+    let pubkey = span_in(s, m2);
+    let created_at = number_in(s, m3);
+    let kind = number_in(s, m4);
+    let tags = place_in(m5);
+    let content = span_in(s, m6);
+    Body {
+        pubkey,
+        created_at,
+        kind,
+        tags,
+        content,
+    }
+}
+
+// The parts of the event whose object stands at a place.
+pub fn event_at(s: &[u8], at: usize) -> EventParts
+    ensures { λ r. ⌜ r ≡ eventAt (now (s .entry)) at ⌝ }
+{
+    let m = find(s, at, true);
+    let m1 = m.m1;
+    let m7 = m.m7;
+    let id = span_in(s, m1);
+    let body = body_in(s, m);
+    let sig = span_in(s, m7);
+    EventParts { id, body, sig }
+}
+
+// The parts of the filter whose object stands at a place.
+pub fn filter_at(s: &[u8], at: usize) -> FilterParts
+    ensures { λ r. ⌜ r ≡ filterAt (now (s .entry)) at ⌝ }
+{
+    let m = find(s, at, false);
+    let ids = m.m1;
+    let authors = m.m2;
+    let kinds = m.m3;
+    let m4 = m.m4;
+    let m5 = m.m5;
+    let m6 = m.m6;
+    let since = bound_in(s, m4);
+    let until = bound_in(s, m5);
+    let limit = bound_in(s, m6);
+    FilterParts {
+        ids,
+        authors,
+        kinds,
+        since,
+        until,
+        limit,
+        conditions: Listed::At(at),
+    }
+}
+
+// The first element of the array at a place.
+pub fn first(s: &[u8], at: usize) -> Listed
+    ensures { λ r. ⌜ r ≡ firstOf (startAt (now (s .entry)) at) ⌝ }
+{
+    match json::begin(s, at) {
+        Start::Leaf => Listed::Absent,
+        Start::Empty(_, _) => Listed::Absent,
+        Start::Many(i, named) => { if named { Listed::Absent } else { Listed::At(i) } }
+    }
+}
+
+// The element after the one at a place.
+pub fn next(s: &[u8], at: usize) -> Listed
+    ensures { λ r. ⌜ r ≡ nextOf (now (s .entry)) at ⌝ }
+{
+    match json::value(s, at, WITHIN) {
+        Out::End(n) => match json::after(s, n, false) {
+            Next::More(j) => Listed::At(j),
+            Next::Done(_) => Listed::Absent,
+            Next::Wrong => Listed::Absent,
+        },
+        Out::Bad => Listed::Absent,
+    }
+}
+
+fn opening_at(s: &[u8], at: usize) -> Opening
+    ensures { λ r. ⌜ r ≡ openingAt (now (s .entry)) at ⌝ }
+{
+    let w = spelled(s, at);
+    if spell::spells(w, b"EVENT") {
+        Opening::Event
+    } else if spell::spells(w, b"REQ") {
+        Opening::Req
+    } else if spell::spells(w, b"CLOSE") {
+        Opening::Close
+    } else {
+        Opening::Other
+    }
+}
+
+// The place of a message's first element.
+fn word_place(s: &[u8]) -> usize
+    ensures { λ r. ⌜ r ≡ wordPlace (now (s .entry)) ⌝ }
+{
+    place_in(first(s, json::space(s, 0)))
+}
+
+// The place of the element after the one at a place.
+fn second(s: &[u8], at: usize) -> usize
+    ensures { λ r. ⌜ r ≡ secondFrom (now (s .entry)) at ⌝ }
+{
+    place_in(next(s, at))
+}
+
+// The parts of a message, by its first word; its second element stands at j.
+fn parts(s: &[u8], x: Opening, j: usize) -> Message
+    ensures { λ r. ⌜ r ≡ partsAt (now (s .entry)) x j ⌝ }
+{
+    match x {
+        Opening::Event => {
+            let e = event_at(s, j);
+            Message::Event(e)
+        }
+        Opening::Req => {
+            let subscription = span_at(s, j);
+            let filters = second(s, j);
+            Message::Req(ReqParts {
+                subscription,
+                filters,
+            })
+        }
+        Opening::Close => Message::Close(span_at(s, j)),
+        Opening::Other => Message::Refused(5),
+    }
+}
+
+// A message read: its parts, or the lowest of rows 1 to 8 that holds of it.
+pub fn read(s: &[u8]) -> Message
+    ensures { λ r. ⌜ r ≡ readOf (now (s .entry)) ⌝ }
+{
+    let row = shape::message_row(s);
+    if row != 0 {
+        return Message::Refused(row);
+    }
+    let i = word_place(s);
+    parts(s, opening_at(s, i), second(s, i))
+}
+
+fn early(row: u8) -> bool
+    ensures { λ r. ⌜ r ≡ isEarly row ⌝ }
+{
+    1 <= row && row <= 5
+}
+
+fn id_named(s: &[u8], p: Span) -> Named
+    ensures { λ r. ⌜ r ≡ idNamed (now (s .entry)) p ⌝ }
+{
+    if spell::is_hex(piece(s, p.start, p.len), 64) {
+        Named::Id(p)
+    } else {
+        Named::Nothing
+    }
+}
+
+fn label_named(s: &[u8], p: Span) -> Named
+    ensures { λ r. ⌜ r ≡ labelNamed (now (s .entry)) p ⌝ }
+{
+    let n = spell::characters(piece(s, p.start, p.len));
+    if n < 1 {
+        return Named::Nothing;
+    }
+    if CHARACTERS < n {
+        return Named::Nothing;
+    }
+    Named::Subscription(p)
+}
+
+fn named_in(s: &[u8], x: Opening, j: usize) -> Named
+    ensures { λ r. ⌜ r ≡ namedAt (now (s .entry)) x j ⌝ }
+{
+    match x {
+        Opening::Event => {
+            let e = event_at(s, j);
+            let id = e.id;
+            id_named(s, id)
+        }
+        Opening::Req => label_named(s, span_at(s, j)),
+        Opening::Close => Named::Nothing,
+        Opening::Other => Named::Nothing,
+    }
+}
+
+// What the reply to a message that rows 6 to 12 refuse names: the event's id if it is 64 lower-case hex, the subscription id of a REQ if
+// it is within bounds.
+pub fn names(s: &[u8]) -> Named
+    ensures { λ r. ⌜ r ≡ namedOf (now (s .entry)) ⌝ }
+{
+    if early(shape::message_row(s)) {
+        return Named::Nothing;
+    }
+    let i = word_place(s);
+    named_in(s, opening_at(s, i), second(s, i))
+}
+
+// ---- Parts lent by anybody. Every part answers the lowest row that it breaks, and FINE for none; parts are joined by the least.
+fn least(a: u8, b: u8) -> u8
+    ensures { λ r. ⌜ r ≡ min a b ⌝ }
+{
+    if a < b { a } else { b }
+}
+
+fn told(row: u8) -> u8
+    ensures { λ r. ⌜ r ≡ toldOf row ⌝ }
+{
+    if row == FINE { 0 } else { row }
+}
+
+fn ranked(row: u8) -> u8
+    ensures { λ r. ⌜ r ≡ rankOf row ⌝ }
+{
+    if row == 0 { FINE } else { row }
+}
+
+fn inside(b: &[u8], p: Span) -> bool
+    ensures { λ r. ⌜ r ≡ isInside (now (b .entry)) p ⌝ }
+{
+    let start = p.start;
+    let size = b.len();
+    if size < start {
+        return false;
+    }
+    p.len <= size - start
+}
+
+// A string part.
+fn string_rank(b: &[u8], p: Span) -> u8
+    ensures { λ r. ⌜ Lowest r (string2 (now (b .entry)) p) (string4 (now (b .entry)) p) (string5 (now (b .entry)) p) false false false ⌝ }
+{
+    if !inside(b, p) {
+        return 5;
+    }
+    let w = piece(b, p.start, p.len);
+    if !utf8::is_utf8(w) {
+        return 2;
+    }
+    if !json::spelling(w) {
+        return 5;
+    }
+    if spell::refused(w) {
+        return 4;
+    }
+    FINE
+}
+
+// A string part of k characters of lower-case hex.
+fn hex_rank(b: &[u8], p: Span, k: usize) -> u8
+    ensures { λ r. ⌜ Lowest r (string2 (now (b .entry)) p) (string4 (now (b .entry)) p) (string5 (now (b .entry)) p) false (string7 k (now (b .entry)) p) false ⌝ }
+{
+    let row = string_rank(b, p);
+    if row != FINE {
+        return row;
+    }
+    if spell::is_hex(piece(b, p.start, p.len), k) {
+        FINE
+    } else {
+        7
+    }
+}
+
+fn number_rank(z: i64, low: i64, high: i64) -> u8
+    ensures { λ r. ⌜ Lowest r false false false (wrongNumber low high z) false false ⌝ }
+{
+    if numeral::within(Whole::Value(z), low, high) {
+        FINE
+    } else {
+        6
+    }
+}
+
+fn bound_rank(x: Bound, low: i64, high: i64) -> u8
+    ensures { λ r. ⌜ Lowest r false false false (inBound (wrongNumber low high) x) false false ⌝ }
+{
+    match x {
+        Bound::Absent => FINE,
+        Bound::Number(z) => number_rank(z, low, high),
+    }
+}
+
+// The value at a place, where a sort must stand.
+fn value_rank(b: &[u8], at: usize, k: Sort) -> u8
+    ensures { λ r. ⌜ ValueRank (now (b .entry)) at k r ⌝ }
+{
+    match json::value(b, at, DEPTH) {
+        Out::End(n) => {
+            if !utf8::is_utf8(piece(b, at, less(n, at))) {
+                return 2;
+            }
+            ranked(shape::value_row(b, at, k))
+        }
+        Out::Bad => 5,
+    }
+}
+
+fn list_rank(b: &[u8], x: Listed, k: Sort) -> u8
+    ensures { λ r. ⌜ ListRank (now (b .entry)) x k r ⌝ }
+{
+    match x {
+        Listed::Absent => FINE,
+        Listed::At(v) => value_rank(b, v, k),
+    }
+}
+
+fn body_rank(b: &[u8], p: Body) -> u8
+    ensures { λ r. ⌜ Lowest r (body2 (now (b .entry)) p) (body4 (now (b .entry)) p) (body5 (now (b .entry)) p) (body6 p) (body7 (now (b .entry)) p) (body8 (now (b .entry)) p) ⌝ }
+{
+    let pubkey = p.pubkey;
+    let content = p.content;
+    let tags = least(value_rank(b, p.tags, Sort::Tags), string_rank(b, content));
+    let texts = least(hex_rank(b, pubkey, 64), tags);
+    let kind = least(number_rank(p.kind, 0, SMALL), texts);
+    least(number_rank(p.created_at, LEAST, WIDEST), kind)
+}
+
+// The lowest of rows 2 and 4 to 8 that holds of the fields of an event's text, lent in b; 0 where none does.
+pub fn body_row(b: &[u8], p: Body) -> u8
+    ensures { λ r. ⌜ r ≡ bodyRow (now (b .entry)) p ⌝ }
+{
+    told(body_rank(b, p))
+}
+
+// The same of an event's parts.
+pub fn event_row(b: &[u8], p: EventParts) -> u8
+    ensures { λ r. ⌜ r ≡ eventRow (now (b .entry)) p ⌝ }
+{
+    let id = p.id;
+    let body = p.body;
+    let sig = p.sig;
+    told(least(
+        hex_rank(b, id, 64),
+        least(body_rank(b, body), hex_rank(b, sig, 128)),
+    ))
+}
+
+// The same of a filter's.
+pub fn filter_row(b: &[u8], p: FilterParts) -> u8
+    ensures { λ r. ⌜ r ≡ filterRow (now (b .entry)) p ⌝ }
+{
+    let ids = p.ids;
+    let authors = p.authors;
+    let kinds = p.kinds;
+    let since = p.since;
+    let until = p.until;
+    let limit = p.limit;
+    let conditions = p.conditions;
+    let rest = least(
+        bound_rank(limit, 0, SMALL),
+        list_rank(b, conditions, Sort::Filter),
+    );
+    let times = least(
+        bound_rank(since, LEAST, WIDEST),
+        least(bound_rank(until, LEAST, WIDEST), rest),
+    );
+    let lists = least(
+        list_rank(b, authors, Sort::Hexes),
+        least(list_rank(b, kinds, Sort::Smalls), times),
+    );
+    told(least(list_rank(b, ids, Sort::Hexes), lists))
+}
