@@ -2,6 +2,7 @@
 // Built and started by bench/run.
 mod messages;
 mod plain_json;
+mod plain_message;
 mod plain_sha256;
 mod stack;
 
@@ -11,6 +12,7 @@ use std::time::Instant;
 extern "C" {
     fn plavdrosa_digest(bytes: *const u8, len: usize, out: *mut u8, out_len: usize) -> u8;
     fn plavdrosa_text_row(bytes: *const u8, len: usize) -> u8;
+    fn plavdrosa_message_row(bytes: *const u8, len: usize) -> u8;
 }
 
 fn proved_digest(bytes: &[u8]) -> [u8; 32] {
@@ -22,6 +24,10 @@ fn proved_digest(bytes: &[u8]) -> [u8; 32] {
 
 fn proved_text_row(bytes: &[u8]) -> u8 {
     unsafe { plavdrosa_text_row(bytes.as_ptr(), bytes.len()) }
+}
+
+fn proved_message_row(bytes: &[u8]) -> u8 {
+    unsafe { plavdrosa_message_row(bytes.as_ptr(), bytes.len()) }
 }
 
 // Nanoseconds a call of each, the best of many short batches taken in turn, so that other work on the machine spoils few of them.
@@ -112,8 +118,40 @@ fn text_row() {
     println!("stack of rows 1 to 4: {used} bytes");
 }
 
+fn message_row() {
+    let cases = include_bytes!("../crates/message_cases/stdin");
+    for line in cases.split(|&b| b == b'\n') {
+        assert_eq!(proved_message_row(line), plain_message::message_row(line), "{}", String::from_utf8_lossy(line));
+    }
+    let texts = [
+        ("an EVENT with tags", messages::event(1024)),
+        ("an EVENT with tags", messages::event(5000)),
+        ("an EVENT with long content", messages::content(8192)),
+        ("a REQ of four filters", messages::req(8192)),
+        ("a REQ of four filters", messages::req(2048)),
+        ("a CLOSE", b"[\"CLOSE\",\"tablet 4\"]".to_vec()),
+    ];
+    for (name, text) in &texts {
+        assert_eq!((proved_message_row(text), plain_message::message_row(text)), (0, 0), "{name}");
+        let (proved, plain) = race(
+            || {
+                black_box(proved_message_row(black_box(text)));
+            },
+            || {
+                black_box(plain_message::message_row(black_box(text)));
+            },
+        );
+        row(&format!("rows 1 to 8, {name}, {} bytes", text.len()), proved, plain);
+    }
+    let used = stack::used(|| {
+        black_box(proved_message_row(black_box(&texts[3].1)));
+    });
+    println!("stack of rows 1 to 8: {used} bytes");
+}
+
 fn main() {
     println!("{:<54} {:>12} {:>12} {:>7}", "", "proved, ns", "plain, ns", "ratio");
     digest();
     text_row();
+    message_row();
 }

@@ -49,6 +49,27 @@ pub fn event(size: usize) -> Vec<u8> {
     filled(size, &open, "[\"e\",\"5c83da77af1dec6d7289834998ad7aafbd9e2191396d75ec3cc27f5a77226f36\",\"wss://r\"]", &close)
 }
 
+// A REQ of four filters with full lists.
+pub fn req(size: usize) -> Vec<u8> {
+    let hex = "0123456789abcdef".repeat(4);
+    let list = vec![format!("\"{hex}\""); (size / 4 - 200).min(2400) / 67 / 2].join(",");
+    let filter = format!(
+        "{{\"ids\":[{list}],\"authors\":[{list}],\"kinds\":[1,30078],\"since\":-7200,\"until\":1700000000,\"limit\":10,\"#d\":[\"t1\",\"t2\"]}}"
+    );
+    format!("[\"REQ\",\"tablet 4\",{filter},{filter},{filter},{filter}]").into_bytes()
+}
+
+// An EVENT that is mostly content.
+pub fn content(size: usize) -> Vec<u8> {
+    let hex = "0123456789abcdef".repeat(4);
+    let open = format!(
+        "[\"EVENT\",{{\"id\":\"{hex}\",\"pubkey\":\"{hex}\",\"created_at\":-7200,\"kind\":1,\"tags\":[],\"content\":\""
+    );
+    let close = format!("\",\"sig\":\"{hex}{hex}\"}}]");
+    let room = size - open.len() - close.len();
+    (open + &"a tile of floor 3, read by cart 17 ".repeat(room / 35) + &close).into_bytes()
+}
+
 pub const KINDS: [(&str, fn(usize) -> Vec<u8>); 7] = [
     ("one ASCII string", ascii),
     ("two- to four-byte UTF-8", high),

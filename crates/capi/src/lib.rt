@@ -1,6 +1,7 @@
 // The calls that Rust or C link (`rt staticlib capi`): numbers and byte slices only, each slice a pointer and a length.
 ghost use mathlib.Core.Path.{_≡_};
 ghost use Rattle.rows.specs.Rows.{textRow};
+ghost use Rattle.shape.specs.Rows.{messageRow};
 ghost use Rattle.capi.specs.Calls.{digestRow, digestOut};
 
 // The SHA-256 of `bytes` into the first 32 bytes of `out`: 0, 8 or 13.
@@ -30,4 +31,12 @@ pub extern "C" fn plavdrosa_text_row(bytes: &[u8]) -> u8
     ensures { λ r. ⌜ r ≡ textRow (now (bytes .entry)) ⌝ }
 {
     rows::text_row(bytes)
+}
+
+// Rows 1 to 8 of a client message: the lowest that holds, or 0.
+#[no_mangle]
+pub extern "C" fn plavdrosa_message_row(bytes: &[u8]) -> u8
+    ensures { λ r. ⌜ r ≡ messageRow (now (bytes .entry)) ⌝ }
+{
+    shape::message_row(bytes)
 }
