@@ -1,15 +1,15 @@
 -- Facts of items: what all satisfy, some satisfies, or the tree reads, for one of them.
-use mathlib.Core.Path.{_≡_, refl, sym, ap, _∙_}
-use mathlib.Core.List.{List, [], _∷_}
-use mathlib.Core.Bool.{Bool, true, false, cond, not, _&&_, _||_, false≢true}
+use mathlib.Core.Path.{_≡_, refl, sym}
+use mathlib.Core.List.{List}
+use mathlib.Core.Bool.{Bool, true, false, cond, _&&_, _||_, false≢true}
 use Prim.Native.Nat.{ℕ, suc}
 use native.Mathlib.Omega.{arith}
 use borrow.Author.Tests.{eqb-true}
-use lib.Dec.{eqb}
 use Rattle.json.specs.Tree.{Json, Items, nil, item, Got, got}
-use Rattle.spell.specs.Spell.{sameBytes, refuses}
+use Rattle.spell.specs.Spell.{refuses}
 use Rattle.rows.specs.Strings.{spelledAt, refusedIn, refusedItems}
 use Rattle.shape.specs.Shape.{anyItem, allItems, countItems, nameAt, named, once}
+use Rattle.shape.proofs.Names.{same-is}
 use Rattle.message.specs.Parts.{Member, missing, member, memberOf}
 use Rattle.message.proofs.Found.{Reads, end, one}
 
@@ -21,18 +21,6 @@ and-true false b e = absurd (false≢true e)
 pub or-not : (a b : Bool) → (a || b) ≡ false → (a ≡ false) × (b ≡ false)
 or-not true b e = absurd (false≢true (sym e))
 or-not false b e = (refl, e)
-
--- two lists that test as the same are the same
-pub same-is : (x y : List ℕ) → sameBytes x y ≡ true → x ≡ y
-unfolding sameBytes
-same-is [] [] e = refl
-same-is [] (b ∷ y) e = absurd (false≢true e)
-same-is (a ∷ x) [] e = absurd (false≢true e)
-same-is (a ∷ x) (b ∷ y) e =
-    let (p, q) = and-true (eqb a b) (sameBytes x y) e in
-    let h = eqb-true a b p in
-    let t = same-is x y q in
-    cc
 
 -- ---- one of some items
 pub data In (p v : ℕ) (t : Json) : Items → Type 0 where

@@ -12,7 +12,8 @@ use Rattle.json.specs.declared.Kind.the-variants.{Str, Num, Word, None}
 use Rattle.json.specs.declared.Start.{Start}
 use Rattle.json.specs.declared.Start.the-variants.{Leaf, Empty, Many}
 use Rattle.json.proofs.Trees.{tree-open, foldGot}
-use Rattle.shape.specs.Shape.{named, idName, pubkeyName, createdAtName, kindName, tagsName, contentName, sigName, idsName, authorsName, kindsName, sinceName, untilName, limitName}
+use Rattle.rows.specs.Strings.{spelledAt}
+use Rattle.shape.specs.Shape.{nameAt, named, idName, pubkeyName, createdAtName, kindName, tagsName, contentName, sigName, idsName, authorsName, kindsName, sinceName, untilName, limitName}
 use Rattle.message.specs.declared.Listed.{Listed}
 use Rattle.message.specs.declared.Listed.the-variants.{Absent, At}
 use Rattle.message.specs.declared.Members.{Members}
@@ -69,8 +70,8 @@ or-missing (At u) = refl
 or-missing Absent = refl
 
 module _ (s w : List ℕ) where
-  or-kept : (x : Listed) (p v : ℕ) (t : Json) (ts : Items) → orElse (kept s w x p v) (memberOf s w ts) ≡ orElse x (memberOf s w (item p v t ts))
-  unfolding kept memberOf
+  or-kept : (x : Listed) (p v : ℕ) (t : Json) (ts : Items) → orElse (kept (spelledAt s p) w x v) (memberOf s w ts) ≡ orElse x (memberOf s w (item p v t ts))
+  unfolding kept memberOf nameAt
   or-kept (At u) p v t ts = refl
   or-kept Absent p v t ts = go (named s w p)
     where
@@ -79,7 +80,7 @@ module _ (s w : List ℕ) where
       go false = refl
 
   fold-first : (f : Members → ℕ → ℕ → Json → Members) (part : Members → Listed)
-      → ((a : Members) (p v : ℕ) (t : Json) → part (f a p v t) ≡ kept s w (part a) p v)
+      → ((a : Members) (p v : ℕ) (t : Json) → part (f a p v t) ≡ kept (spelledAt s p) w (part a) v)
       → (a : Members) (ts : Items) → part (foldItems f a ts) ≡ orElse (part a) (memberOf s w ts)
   unfolding memberOf
   fold-first f part step a nil = or-missing (part a)
@@ -182,7 +183,7 @@ module _ (s : List ℕ) (at : ℕ) (m : Members) where
   seen w = member-seen s w (members-read s at)
 
   module _ (event : Bool) (e : m ≡ foundIn s event (membersAt s at)) where
-    found : (w : List ℕ) (part : Members → Listed) → ((a : Members) (p v : ℕ) (t : Json) → part (stepOf s event a p v) ≡ kept s w (part a) p v)
+    found : (w : List ℕ) (part : Members → Listed) → ((a : Members) (p v : ℕ) (t : Json) → part (stepOf s event a p v) ≡ kept (spelledAt s p) w (part a) v)
         → part noMembers ≡ Absent → part m ≡ listedIn (memberOf s w (membersAt s at))
     found w part step z = ap part e ∙ fold-first s w (by s event) part step noMembers (membersAt s at) ∙ ap (λ x. orElse x (memberOf s w (membersAt s at))) z
 

@@ -3,7 +3,7 @@ mod Pieces
 pub mod Walks
 pub mod Elements
 pub mod Found
-mod Reading
+pub mod Reading
 mod Ranks
 mod Edges
 mod Facts

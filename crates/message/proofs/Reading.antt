@@ -4,6 +4,7 @@ use mathlib.Core.List.{List}
 use mathlib.Core.Bool.{Bool, true, false, cond, not, false≢true}
 use Prim.Native.Nat.{ℕ, suc, _+_, _-_}
 use native.Mathlib.Omega.{arith}
+use borrow.Author.Tests.{eqb-true}
 use lib.Dec.{eqb}
 use lib.ListN.{length}
 use Rattle.json.specs.Grammar.{wsAt, stringAt, scalarAt, startAt}
@@ -25,7 +26,7 @@ use Rattle.message.specs.declared.Named.{Named}
 use Rattle.message.specs.declared.Named.the-variants as names
 use Rattle.message.specs.Lists.{firstOf, within, nextOf}
 use Rattle.message.specs.Parts.{memberOf, spanOf, spanIn, membersOf, membersGot, membersAt, eventOf, eventAt}
-use Rattle.message.specs.Read.{firstOf as firstElement, secondPlace, partsOf, inRoot, readOf, idNamed, subscriptionNamed, namedIn, namedRoot, isEarly, namedOf}
+use Rattle.message.specs.Read.{firstOf as firstElement, secondPlace, partsOf, inRoot, readOf, rowOf, RowRead, idNamed, subscriptionNamed, namedIn, namedRoot, isEarly, namedOf}
 use Rattle.message.specs.Steps.{placeFound, spanAt, openingOf, openingAt, wordPlace, secondFrom, partsAt, labelNamed, namedAt}
 use Rattle.message.proofs.Walks.{never, bind-got, deeper}
 use Rattle.message.proofs.Pieces.{scalar-string}
@@ -197,3 +198,21 @@ named-is s z = rw z (go (late-shaped s z))
 
     go : Shaped s → namedAt s (openingAt s (wordPlace s)) (secondFrom s (wordPlace s)) ≡ namedRoot s (root s)
     go (shaped {t = t} r h) = on r h (begun-of s t h)
+
+-- the number of an answer is the message's row: a message that has its shape begins with one of the three words
+pub row-read : RowRead
+unfolding readOf
+row-read s = go (eqb (messageRow s) 0) refl
+  where
+    by : (x : Word) (ts : Items) → hasShape s x ts ≡ true → rowOf (partsOf s x ts) ≡ 0
+    by event ts h = refl
+    by req ts h = refl
+    by close ts h = refl
+    by other ts h = absurd (false≢true h)
+
+    on : messageRow s ≡ 0 → Shaped s → rowOf (inRoot s (root s)) ≡ messageRow s
+    on z (shaped {t = t} r h) = rw (r, z) (by (opened s t .first) (opened s t .rest) h)
+
+    go : (b : Bool) → eqb (messageRow s) 0 ≡ b → rowOf (cond b (inRoot s (root s)) (message.Refused (messageRow s))) ≡ messageRow s
+    go true e = let z = eqb-true (messageRow s) 0 e in on z (late-shaped s (ap isEarly z))
+    go false e = refl

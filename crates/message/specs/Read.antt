@@ -1,5 +1,6 @@
 -- A message read: rows 1 to 8 and then its parts; and what a refusal's reply names.
 use Prim.Native.Nat.{ℕ}
+use mathlib.Core.Path.{_≡_}
 use mathlib.Core.List.{List}
 use mathlib.Core.Bool.{Bool, cond, _&&_}
 use lib.Dec.{eqb, leb}
@@ -39,6 +40,16 @@ inRoot s (got t n) = partsOf s (opened s t .first) (opened s t .rest)
 -- 01: "A read message is an EVENT, a REQ or a CLOSE, each with its own parts"; "A refusal carries its number and no other value"
 unfoldable pub readOf : List ℕ → Message
 readOf s = cond (eqb (messageRow s) 0) (inRoot s (root s)) (message.Refused (messageRow s))
+
+-- 01's number of an answer: 0 where none of rows 1 to 8 holds. That it is the message's row is proved in proofs/Reading.antt
+abbrev pub rowOf : Message → ℕ
+rowOf (message.Event p) = 0
+rowOf (message.Req r) = 0
+rowOf (message.Close p) = 0
+rowOf (message.Refused r) = r
+
+abbrev pub RowRead : Type 0
+RowRead = (s : List ℕ) → rowOf (readOf s) ≡ messageRow s
 
 -- ---- 01, "Filters and replies": "Rows 6-12 give OK with false if the id field is 64 lower-case hex; CLOSED for a REQ whose subscription
 -- id is within bounds; otherwise NOTICE". What is found in a text that has its shape (rows 1 to 5 do not hold); nothing elsewhere

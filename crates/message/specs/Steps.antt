@@ -11,9 +11,9 @@ use Rattle.json.specs.declared.Kind.{Kind}
 use Rattle.json.specs.declared.Kind.the-variants.{None}
 use Rattle.json.specs.declared.Start.{Start}
 use Rattle.json.specs.declared.Start.the-variants.{Leaf, Empty, Many}
-use Rattle.spell.specs.Spell.{characterCount, isHexOf}
-use Rattle.rows.specs.Strings.{part}
-use Rattle.shape.specs.Shape.{named, nameAt, Word, event, req, close, other, wordOf, idName, pubkeyName, createdAtName, kindName, tagsName, contentName, sigName, idsName, authorsName, kindsName, sinceName, untilName, limitName}
+use Rattle.spell.specs.Spell.{decode, sameBytes, characterCount}
+use Rattle.rows.specs.Strings.{part, spelledAt}
+use Rattle.shape.specs.Shape.{nameAt, Word, event, req, close, other, wordOf, idName, pubkeyName, createdAtName, kindName, tagsName, contentName, sigName, idsName, authorsName, kindsName, sinceName, untilName, limitName}
 use Rattle.message.specs.declared.Span.{Span}
 use Rattle.message.specs.declared.Bound.{Bound}
 use Rattle.message.specs.declared.Bound.the-variants as bound
@@ -35,30 +35,30 @@ use Rattle.message.specs.Lent.{valueAt, onValue, value2, value4, value5,
 use Rattle.shape.specs.Values.{fits, sort6, sort7, sort8}
 use Rattle.shape.specs.declared.Sort.{Sort}
 
--- the member that begins at p, with its value at v, is the first one named w, or what was found before it stays
-unfoldable pub kept : List ℕ → List ℕ → Listed → ℕ → ℕ → Listed
-kept s w (At u) p v = At u
-kept s w Absent p v = cond (named s w p) (At v) Absent
+-- a member whose name is spelled l and whose value stands at v is the first one named w, or what was found before it stays
+unfoldable pub kept : List ℕ → List ℕ → Listed → ℕ → Listed
+kept l w (At u) v = At u
+kept l w Absent v = cond (sameBytes (decode l) w) (At v) Absent
 
 unfoldable pub eventStep : List ℕ → Members → ℕ → ℕ → Members
 eventStep s a p v = record {
-  m1 = kept s idName (a .m1) p v;
-  m2 = kept s pubkeyName (a .m2) p v;
-  m3 = kept s createdAtName (a .m3) p v;
-  m4 = kept s kindName (a .m4) p v;
-  m5 = kept s tagsName (a .m5) p v;
-  m6 = kept s contentName (a .m6) p v;
-  m7 = kept s sigName (a .m7) p v;
+  m1 = kept (spelledAt s p) idName (a .m1) v;
+  m2 = kept (spelledAt s p) pubkeyName (a .m2) v;
+  m3 = kept (spelledAt s p) createdAtName (a .m3) v;
+  m4 = kept (spelledAt s p) kindName (a .m4) v;
+  m5 = kept (spelledAt s p) tagsName (a .m5) v;
+  m6 = kept (spelledAt s p) contentName (a .m6) v;
+  m7 = kept (spelledAt s p) sigName (a .m7) v;
 }
 
 unfoldable pub filterStep : List ℕ → Members → ℕ → ℕ → Members
 filterStep s a p v = record {
-  m1 = kept s idsName (a .m1) p v;
-  m2 = kept s authorsName (a .m2) p v;
-  m3 = kept s kindsName (a .m3) p v;
-  m4 = kept s sinceName (a .m4) p v;
-  m5 = kept s untilName (a .m5) p v;
-  m6 = kept s limitName (a .m6) p v;
+  m1 = kept (spelledAt s p) idsName (a .m1) v;
+  m2 = kept (spelledAt s p) authorsName (a .m2) v;
+  m3 = kept (spelledAt s p) kindsName (a .m3) v;
+  m4 = kept (spelledAt s p) sinceName (a .m4) v;
+  m5 = kept (spelledAt s p) untilName (a .m5) v;
+  m6 = kept (spelledAt s p) limitName (a .m6) v;
   m7 = a .m7;
 }
 

@@ -150,14 +150,14 @@ fn spelled(s: &[u8], at: usize) -> &[u8]
     }
 }
 
-// The member that begins at p, with its value at v, after what was found before it.
-fn keep(s: &[u8], word: &[u8], a: Listed, p: usize, v: usize) -> Listed
-    ensures { λ r. ⌜ r ≡ kept (now (s .entry)) (now (word .entry)) a p v ⌝ }
+// A member whose value stands at v, after what was found before it: its name is spelled `name`, and `word` is looked for.
+fn keep(name: &[u8], word: &[u8], a: Listed, v: usize) -> Listed
+    ensures { λ r. ⌜ r ≡ kept (now (name .entry)) (now (word .entry)) a v ⌝ }
 {
     match a {
         Listed::At(u) => Listed::At(u),
         Listed::Absent => {
-            if spell::spells(spelled(s, p), word) {
+            if spell::spells(name, word) {
                 Listed::At(v)
             } else {
                 Listed::Absent
@@ -169,20 +169,21 @@ fn keep(s: &[u8], word: &[u8], a: Listed, p: usize, v: usize) -> Listed
 fn event_step(s: &[u8], a: Members, p: usize, v: usize) -> Members
     ensures { λ r. ⌜ r ≡ eventStep (now (s .entry)) a p v ⌝ }
 {
+    let name = spelled(s, p);
     let a1 = a.m1;
-    let m1 = keep(s, b"id", a1, p, v);
+    let m1 = keep(name, b"id", a1, v);
     let a2 = a.m2;
-    let m2 = keep(s, b"pubkey", a2, p, v);
+    let m2 = keep(name, b"pubkey", a2, v);
     let a3 = a.m3;
-    let m3 = keep(s, b"created_at", a3, p, v);
+    let m3 = keep(name, b"created_at", a3, v);
     let a4 = a.m4;
-    let m4 = keep(s, b"kind", a4, p, v);
+    let m4 = keep(name, b"kind", a4, v);
     let a5 = a.m5;
-    let m5 = keep(s, b"tags", a5, p, v);
+    let m5 = keep(name, b"tags", a5, v);
     let a6 = a.m6;
-    let m6 = keep(s, b"content", a6, p, v);
+    let m6 = keep(name, b"content", a6, v);
     let a7 = a.m7;
-    let m7 = keep(s, b"sig", a7, p, v);
+    let m7 = keep(name, b"sig", a7, v);
     Members {
         m1,
         m2,
@@ -197,18 +198,19 @@ fn event_step(s: &[u8], a: Members, p: usize, v: usize) -> Members
 fn filter_step(s: &[u8], a: Members, p: usize, v: usize) -> Members
     ensures { λ r. ⌜ r ≡ filterStep (now (s .entry)) a p v ⌝ }
 {
+    let name = spelled(s, p);
     let a1 = a.m1;
-    let m1 = keep(s, b"ids", a1, p, v);
+    let m1 = keep(name, b"ids", a1, v);
     let a2 = a.m2;
-    let m2 = keep(s, b"authors", a2, p, v);
+    let m2 = keep(name, b"authors", a2, v);
     let a3 = a.m3;
-    let m3 = keep(s, b"kinds", a3, p, v);
+    let m3 = keep(name, b"kinds", a3, v);
     let a4 = a.m4;
-    let m4 = keep(s, b"since", a4, p, v);
+    let m4 = keep(name, b"since", a4, v);
     let a5 = a.m5;
-    let m5 = keep(s, b"until", a5, p, v);
+    let m5 = keep(name, b"until", a5, v);
     let a6 = a.m6;
-    let m6 = keep(s, b"limit", a6, p, v);
+    let m6 = keep(name, b"limit", a6, v);
     let m7 = a.m7;
     Members {
         m1,

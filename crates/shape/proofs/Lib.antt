@@ -1,9 +1,9 @@
--- Tests and Places serve the code's proofs, Names says which names there are.
+-- Tests and Places serve the code's proofs. Names, on equal names, and Low, on the least of rows, are for others too.
 mod Tests
 mod Places
-mod Names
+pub mod Names
 mod Bits
-mod Low
+pub mod Low
 mod Never
 mod Leaves
 mod Lists
