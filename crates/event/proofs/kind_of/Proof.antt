@@ -1,0 +1,17 @@
+-- Below zero is 0, and otherwise the bits are the number.
+use mathlib.Core.Path.{_∙_}
+use borrow.Author.Needs.{needs}
+use Rattle.event.proofs.Strings.{natural-below, natural-above}
+use Rattle.event.proofs.kind_of.Statement.{statement}
+use Rattle.event.proofs.kind_of.Tie as tie
+
+returns : tie.Need-returns
+returns c = natural-below (c .before .args .kind) (c .before .fits .kind) (c .if1 .taken)
+
+returns-2 : tie.Need-returns-2
+returns-2 c = c .to-unsigned .ensures ∙ natural-above (c .before .before .args .kind) (c .before .before .fits .kind) (c .before .if1 .left)
+
+pub kind-of-spec : {M : Type 1} → statement M
+kind-of-spec =
+    tie.close
+    (tie.spec returns (λ c κs. search needs) returns-2)

@@ -1,0 +1,76 @@
+-- 01, "Numbers the relay answers with", of an event given as parts p over the buffer b: what serialising, identifying and offering it answer.
+use Prim.Native.Nat.{ℕ, _+_, _/_, _%_}
+use mathlib.Core.Bool.{Bool, true, false, cond}
+use mathlib.Core.List.{List, [], _∷_, _++_}
+use lib.Dec.{eqb, ltb}
+use lib.ListN.{length, drop, replicate}
+use Rattle.spell.specs.Spell.{sameBytes}
+use Rattle.digest.specs.Digest.{digest}
+use Rattle.text.specs.Event.{mostText}
+use Rattle.message.specs.declared.Body.{Body}
+use Rattle.message.specs.declared.EventParts.{EventParts}
+use Rattle.message.specs.Lent.{bodyRow, eventRow}
+use Rattle.event.specs.Lent.{said, textOf}
+use Rattle.event.specs.declared.Written.{Written}
+use Rattle.event.specs.declared.Written.the-variants.{Wrote, Refused}
+use Rattle.event.specs.declared.Identified.{Identified}
+
+-- row 9: "serialised text over 4,096 bytes"
+unfoldable pub isLarge : List ℕ → Body → Bool
+isLarge b p = ltb mostText (length (textOf b p))
+
+-- a row, or else the next
+abbrev pub orElse : ℕ → ℕ → ℕ
+orElse r s = cond (eqb r 0) s r
+
+-- ---- serialising: rows 2 and 4 to 9; then 13, "lent output too short"
+unfoldable pub textRow : List ℕ → Body → ℕ
+textRow b p = orElse (bodyRow b p) (cond (isLarge b p) 9 0)
+
+unfoldable pub serialisedRow : List ℕ → Body → List ℕ → ℕ
+serialisedRow b p out = orElse (textRow b p) (cond (ltb (length out) (length (textOf b p))) 13 0)
+
+abbrev pub answered : ℕ → ℕ → Written
+answered r n = cond (eqb r 0) (Wrote n) (Refused r)
+
+unfoldable pub serialised : List ℕ → Body → List ℕ → Written
+serialised b p out = answered (serialisedRow b p out) (length (textOf b p))
+
+-- "Output is written from its start, and its rest stays"; on a refusal "every lent buffer stays as found"
+unfoldable pub serialisedOut : List ℕ → Body → List ℕ → List ℕ
+serialisedOut b p out = cond (eqb (serialisedRow b p out) 0) (textOf b p ++ drop (length (textOf b p)) out) out
+
+-- the number of 01, and the value
+abbrev pub numberOf : Written → ℕ
+numberOf (Wrote n) = 0
+numberOf (Refused r) = r
+
+abbrev pub valueOf : Written → ℕ
+valueOf (Wrote n) = n
+valueOf (Refused r) = 0
+
+-- ---- the id: SHA-256 of the text; zeros on a refusal
+abbrev pub identifiedBy : ℕ → List ℕ → Identified
+identifiedBy r t = record { row = r; id = cond (eqb r 0) (digest t) (replicate 32 0) }
+
+-- by the text alone: row 9, or none
+unfoldable pub hashedOf : List ℕ → Identified
+hashedOf t = identifiedBy (cond (ltb mostText (length t)) 9 0) t
+
+unfoldable pub identified : List ℕ → Body → Identified
+identified b p = identifiedBy (textRow b p) (textOf b p)
+
+-- ---- offering: row 10, "id is not the SHA-256 of the text"; the id is its hex, in lower case
+abbrev pub hexDigit : ℕ → ℕ
+hexDigit d = cond (ltb d 10) (48 + d) (87 + d)
+
+unfoldable pub hexOf : List ℕ → List ℕ
+hexOf [] = []
+hexOf (x ∷ l) = hexDigit (x / 16) ∷ hexDigit (x % 16) ∷ hexOf l
+
+unfoldable pub hasId : List ℕ → EventParts → Bool
+hasId b p = sameBytes (said b (p .id)) (hexOf (digest (textOf b (p .body))))
+
+-- rows 2 and 4 to 8 of all parts, then 9, then 10
+unfoldable pub offeredRow : List ℕ → EventParts → ℕ
+offeredRow b p = orElse (eventRow b p) (cond (isLarge b (p .body)) 9 (cond (hasId b p) 0 10))

@@ -1,0 +1,66 @@
+-- The event that lent parts spell: every string decoded. The client's own spelling never reaches the text.
+use Prim.Native.Nat.{ℕ}
+use mathlib.Core.List.{List, [], _∷_}
+use lib.IntN.{ℤ, pos, negsuc}
+use Rattle.json.specs.Tree.{Json, word, num, str, arr, obj, Items, nil, item, Got, none, got, treeAt, depth}
+use Rattle.rows.specs.Strings.{part}
+use Rattle.spell.specs.Spell.{decode}
+use Rattle.text.specs.Event.{Tag, Event, serialise}
+use Rattle.message.specs.declared.Span.{Span}
+use Rattle.message.specs.declared.Body.{Body}
+
+-- what a string part decodes to
+abbrev pub said : List ℕ → Span → List ℕ
+said b p = decode (part b (p .start) (p .len))
+
+-- ---- the tags at a place; what is no string, no tag or no array of them counts as empty
+abbrev pub stringOf : List ℕ → Json → List ℕ
+stringOf b (word a n) = []
+stringOf b (num a n) = []
+stringOf b (str a n) = decode (part b a n)
+stringOf b (arr ts) = []
+stringOf b (obj ts) = []
+
+unfoldable pub stringsOf : List ℕ → Items → Tag
+stringsOf b nil = []
+stringsOf b (item p v t ts) = stringOf b t ∷ stringsOf b ts
+
+abbrev pub tagOf : List ℕ → Json → Tag
+tagOf b (word a n) = []
+tagOf b (num a n) = []
+tagOf b (str a n) = []
+tagOf b (arr ts) = stringsOf b ts
+tagOf b (obj ts) = []
+
+unfoldable pub tagsOf : List ℕ → Items → List Tag
+tagsOf b nil = []
+tagsOf b (item p v t ts) = tagOf b t ∷ tagsOf b ts
+
+abbrev pub tagsIn : List ℕ → Got Json → List Tag
+tagsIn b none = []
+tagsIn b (got (word a n) m) = []
+tagsIn b (got (num a n) m) = []
+tagsIn b (got (str a n) m) = []
+tagsIn b (got (arr ts) m) = tagsOf b ts
+tagsIn b (got (obj ts) m) = []
+
+unfoldable pub tagsAt : List ℕ → ℕ → List Tag
+tagsAt b at = tagsIn b (treeAt b depth at)
+
+-- a kind is not negative
+abbrev pub natural : ℤ → ℕ
+natural (pos n) = n
+natural (negsuc n) = 0
+
+unfoldable pub eventOf : List ℕ → Body → Event
+eventOf b p = record {
+  pubkey = said b (p .pubkey);
+  time = p .«created_at»;
+  kind = natural (p .kind);
+  tags = tagsAt b (p .tags);
+  content = said b (p .content);
+}
+
+-- 01, "The text that is hashed"
+unfoldable pub textOf : List ℕ → Body → List ℕ
+textOf b p = serialise (eventOf b p)

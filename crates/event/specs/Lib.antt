@@ -1,0 +1,5 @@
+-- An event given as parts: its text, its id, and which of two events is newer.
+pub mod Lent
+pub mod Walk
+pub mod Order
+pub mod Answer

@@ -1,0 +1,66 @@
+-- What the private functions promise each other as they walk over the tags, be it to write them or to count their bytes.
+use Prim.Native.Nat.{ℕ, _+_, min}
+use mathlib.Core.Bool.{true, false}
+use mathlib.Core.Path.{_≡_}
+use mathlib.Core.List.{List, _++_}
+use lib.ListN.{length}
+use Rattle.json.specs.Grammar.{case, startAt}
+use Rattle.json.specs.Tree.{Json, Items, Got, got, endOf, treeAt, depth}
+use Rattle.json.specs.declared.Out.{Out}
+use Rattle.json.specs.declared.Out.the-variants.{End, Bad}
+use Rattle.json.specs.declared.Start.{Start}
+use Rattle.json.specs.declared.Start.the-variants.{Leaf, Empty, Many}
+use Rattle.wire.specs.Put.{Puts}
+use Rattle.numeral.specs.Decimal.{digits, decimal}
+use Rattle.text.specs.Event.{opening, closing, comma, bracket, quoted, membersText, tagText, tagsText}
+use Rattle.message.specs.declared.Body.{Body}
+use Rattle.event.specs.Lent.{said, natural, stringOf, stringsOf, tagOf, tagsOf, tagsAt}
+
+-- a writer's state: the buffer and the index in it
+abbrev pub puts : List ℕ × ℕ → List ℕ → List ℕ × ℕ → Type 0
+puts x s y = Puts (x .0) (x .1) s (y .1) (y .0)
+
+-- a counter's state: the count so far, which stops at the most that a number holds
+abbrev pub mostLength : ℕ
+mostLength = 18446744073709551615
+
+abbrev pub lengthOf : List ℕ → ℕ
+lengthOf s = min (length s) mostLength
+
+pub record Counts (n : ℕ) (s : List ℕ) (m : ℕ) : Type 0 where
+  pub is : m ≡ min (n + length s) mostLength
+
+-- what is read at a place, if anything is, is done as p says, from one state to another, and the place after it is found
+pub record Does {A S : Type 0} (does : S → List ℕ → S → Type 0) (g : Got A) (p : A → List ℕ) (x y : S) (next : ℕ) : Type 0 where
+  pub done : (a : A) (n : ℕ) → g ≡ got a n → does x (p a) y
+  pub ends : (a : A) (n : ℕ) → g ≡ got a n → next ≡ n
+
+-- a string of a tag, the strings to the closing bracket; a tag, the tags to the closing bracket
+unfoldable pub stringText : List ℕ → Json → List ℕ
+stringText b t = quoted (stringOf b t)
+
+unfoldable pub stringsText : List ℕ → Items → List ℕ
+stringsText b ts = membersText quoted (stringsOf b ts)
+
+unfoldable pub oneTagText : List ℕ → Json → List ℕ
+oneTagText b t = tagText (tagOf b t)
+
+unfoldable pub allTagsText : List ℕ → Items → List ℕ
+allTagsText b ts = membersText tagText (tagsOf b ts)
+
+-- the first item of the array at a place that holds some, if the whole of it stands there
+abbrev pub firstOf : Start → Out
+firstOf Leaf = Bad
+firstOf (Empty n named) = Bad
+firstOf (Many first true) = Bad
+firstOf (Many first false) = End first
+
+unfoldable pub firstTag : List ℕ → ℕ → Out
+firstTag b at = case (endOf (treeAt b depth at)) (λ n. firstOf (startAt b at)) Bad
+
+-- the text up to the tags, and from them on
+unfoldable pub frontText : List ℕ → Body → List ℕ
+frontText b p = opening ++ (said b (p .pubkey) ++ (closing ++ (decimal (p .«created_at») ++ (comma ++ (digits (natural (p .kind)) ++ comma)))))
+
+unfoldable pub backText : List ℕ → Body → List ℕ
+backText b p = tagsText (tagsAt b (p .tags)) ++ (comma ++ (quoted (said b (p .content)) ++ bracket))

@@ -1,0 +1,535 @@
+// An event given as parts: its text serialised, its id, and the order of two events.
+ghost use mathlib.Core.Path.{_≡_};
+ghost use mathlib.Core.Bool.{false};
+ghost use Prim.Native.Nat.{_+_, _<_, min};
+ghost use lib.ListN.{length};
+ghost use Rattle.wire.specs.Put.{Puts};
+ghost use Rattle.json.specs.Grammar.{case};
+ghost use Rattle.json.specs.Tree.{endOf, treeAt, itemsAt};
+ghost use Rattle.rows.specs.Strings.{part};
+ghost use Rattle.spell.specs.Spell.{decode, sameBytes};
+ghost use Rattle.text.specs.Event.{quoted, tagsText};
+ghost use Rattle.event.specs.Lent.{said, natural, tagsAt, textOf};
+ghost use Rattle.event.specs.Walk.{puts, Counts, mostLength, lengthOf, Does, firstTag, frontText, backText, stringText, stringsText, oneTagText, allTagsText};
+ghost use Rattle.event.specs.Answer.{hexDigit, hexOf, hashedOf, serialised, serialisedOut, identified, offeredRow};
+ghost use Rattle.event.specs.Order.{isLower, isNewer};
+
+// The most brackets and braces open at once in the tags' array, in a tag and in what a tag holds.
+const TAGS_DEPTH: usize = 8;
+
+const TAG_DEPTH: usize = 7;
+
+const STRING_DEPTH: usize = 6;
+
+// The most bytes that a text may have.
+const MOST_TEXT: usize = 4096;
+
+// The most that a length can be.
+const MOST_LENGTH: usize = 18446744073709551615;
+
+// Where a writer stopped in its output or what a counter counted, and where what it read ends.
+pub struct Reached {
+    pub at: usize,
+    pub next: usize,
+}
+
+// What serialising answers: how many bytes it wrote, or the row that refuses the parts.
+pub enum Written {
+    Wrote(usize),
+    Refused(u8),
+}
+
+// A row, or 0, and beside it the id; zeros where a row refuses the parts.
+pub struct Identified {
+    pub row: u8,
+    pub id: [u8; 32],
+}
+
+// The part of a buffer at a place, as far as it lies in it.
+fn piece(b: &[u8], start: usize, len: usize) -> &[u8]
+    ensures { λ r. ⌜ now r ≡ part (now (b .entry)) start len ⌝ }
+{
+    if b.len() <= start {
+        return &b[..0];
+    }
+    let room = b.len() - start;
+    if room < len {
+        return &b[start..];
+    }
+    let end = start + len;
+    &b[start..end]
+}
+
+// A string as spelled, decoded and escaped between quotes.
+fn put_quoted(out: &mut [u8], at: usize, p: &[u8]) -> usize
+    ensures { λ r. ⌜ Puts (now (out .entry)) at (quoted (decode (now (p .entry)))) r (now (out .exit)) ⌝ }
+{
+    let a = wire::put(out, at, b"\"");
+    let c = spell::put_escaped(out, a, p);
+    wire::put(out, c, b"\"")
+}
+
+// The place after the value at v, or v where there is none.
+fn past(b: &[u8], v: usize, d: usize) -> usize
+    ensures { λ r. ⌜ r ≡ case (endOf (treeAt (now (b .entry)) d v)) (λ n. n) v ⌝ }
+{
+    match json::value(b, v, d) {
+        json::Out::End(n) => n,
+        json::Out::Bad => v,
+    }
+}
+
+// One string of a tag; "" for what is no string.
+fn put_string(out: &mut [u8], at: usize, b: &[u8], v: usize) -> Reached
+    ensures { λ r. ⌜ Does puts (treeAt (now (b .entry)) 6 v) (stringText (now (b .entry))) (now (out .entry), at) (now (out .exit), r .at) (r .next) ⌝ }
+{
+    match json::string(b, v) {
+        json::Out::End(n) => {
+            let o = put_quoted(out, at, piece(b, v + 1, n - v - 2));
+            Reached {
+                at: o,
+                next: json::space(b, n),
+            }
+        }
+        json::Out::Bad => {
+            let o = wire::put(out, at, b"\"\"");
+            Reached {
+                at: o,
+                next: past(b, v, STRING_DEPTH),
+            }
+        }
+    }
+}
+
+// The strings of a tag, commas between them, and the closing bracket; the first stands at `first`.
+fn put_strings(out: &mut [u8], at: usize, b: &[u8], first: usize) -> Reached
+    ensures { λ r. ⌜ Does puts (itemsAt (treeAt (now (b .entry)) 6) (now (b .entry)) false (length (now (b .entry))) first) (stringsText (now (b .entry))) (now (out .entry), at) (now (out .exit), r .at) (r .next) ⌝ }
+{
+    let mut o = at;
+    let mut i = first;
+    let mut k: usize = 0;
+    while k < b.len() {
+        let w = put_string(out, o, b, i);
+        match json::after(b, w.next, false) {
+            json::Next::More(j) => {
+                o = wire::put(out, w.at, b",");
+                i = j;
+            }
+            json::Next::Done(n) => {
+                let e = wire::put(out, w.at, b"]");
+                return Reached { at: e, next: n };
+            }
+            json::Next::Wrong => {
+                return w;
+            }
+        }
+        k += 1;
+    }
+    Reached { at: o, next: i }
+}
+
+// One tag; [] for what is no array.
+fn put_tag(out: &mut [u8], at: usize, b: &[u8], v: usize) -> Reached
+    ensures { λ r. ⌜ Does puts (treeAt (now (b .entry)) 7 v) (oneTagText (now (b .entry))) (now (out .entry), at) (now (out .exit), r .at) (r .next) ⌝ }
+{
+    match json::begin(b, v) {
+        json::Start::Many(first, named) => {
+            if named {
+                let o = wire::put(out, at, b"[]");
+                return Reached {
+                    at: o,
+                    next: past(b, v, TAG_DEPTH),
+                };
+            }
+            let o = wire::put(out, at, b"[");
+            put_strings(out, o, b, first)
+        }
+        json::Start::Empty(n, _) => {
+            let o = wire::put(out, at, b"[]");
+            Reached { at: o, next: n }
+        }
+        json::Start::Leaf => {
+            let o = wire::put(out, at, b"[]");
+            Reached {
+                at: o,
+                next: past(b, v, TAG_DEPTH),
+            }
+        }
+    }
+}
+
+// The tags, commas between them, and the closing bracket; the first stands at `first`.
+fn put_all(out: &mut [u8], at: usize, b: &[u8], first: usize) -> Reached
+    ensures { λ r. ⌜ Does puts (itemsAt (treeAt (now (b .entry)) 7) (now (b .entry)) false (length (now (b .entry))) first) (allTagsText (now (b .entry))) (now (out .entry), at) (now (out .exit), r .at) (r .next) ⌝ }
+{
+    let mut o = at;
+    let mut i = first;
+    let mut k: usize = 0;
+    while k < b.len() {
+        let w = put_tag(out, o, b, i);
+        match json::after(b, w.next, false) {
+            json::Next::More(j) => {
+                o = wire::put(out, w.at, b",");
+                i = j;
+            }
+            json::Next::Done(n) => {
+                let e = wire::put(out, w.at, b"]");
+                return Reached { at: e, next: n };
+            }
+            json::Next::Wrong => {
+                return w;
+            }
+        }
+        k += 1;
+    }
+    Reached { at: o, next: i }
+}
+
+// The first item of an array that holds some, or that no such array stands there.
+fn first_tag(b: &[u8], tags: usize) -> json::Out
+    ensures { λ r. ⌜ r ≡ firstTag (now (b .entry)) tags ⌝ }
+{
+    match json::value(b, tags, TAGS_DEPTH) {
+        json::Out::End(_) => match json::begin(b, tags) {
+            json::Start::Many(first, named) => {
+                if named {
+                    return json::Out::Bad;
+                }
+                json::Out::End(first)
+            }
+            json::Start::Empty(_, _) => json::Out::Bad,
+            json::Start::Leaf => json::Out::Bad,
+        },
+        json::Out::Bad => json::Out::Bad,
+    }
+}
+
+// The tags of the array at `tags`; [] where there is none.
+pub fn put_tags(out: &mut [u8], at: usize, b: &[u8], tags: usize) -> usize
+    ensures { λ r. ⌜ Puts (now (out .entry)) at (tagsText (tagsAt (now (b .entry)) tags)) r (now (out .exit)) ⌝ }
+{
+    match first_tag(b, tags) {
+        json::Out::End(first) => {
+            let o = wire::put(out, at, b"[");
+            let w = put_all(out, o, b, first);
+            w.at
+        }
+        json::Out::Bad => wire::put(out, at, b"[]"),
+    }
+}
+
+// A kind that is not negative, and 0 for one that is.
+fn kind_of(kind: i64) -> u64
+    ensures { λ r. ⌜ r ≡ natural kind ⌝ }
+{
+    if kind < 0 {
+        return 0;
+    }
+    wire::to_unsigned(kind)
+}
+
+// [0,"PUBKEY",TIME,KIND, of the event that the parts spell.
+fn put_front(out: &mut [u8], at: usize, b: &[u8], p: message::Body) -> usize
+    ensures { λ r. ⌜ Puts (now (out .entry)) at (frontText (now (b .entry)) p) r (now (out .exit)) ⌝ }
+{
+    let pubkey = p.pubkey;
+    let a = wire::put(out, at, b"[0,\"");
+    let c = spell::put_decoded(out, a, piece(b, pubkey.start, pubkey.len));
+    let d = wire::put(out, c, b"\",");
+    let e = numeral::put_decimal(out, d, p.created_at);
+    let f = wire::put(out, e, b",");
+    let g = numeral::put_natural(out, f, kind_of(p.kind));
+    wire::put(out, g, b",")
+}
+
+// TAGS,"CONTENT"]
+fn put_back(out: &mut [u8], at: usize, b: &[u8], p: message::Body) -> usize
+    ensures { λ r. ⌜ Puts (now (out .entry)) at (backText (now (b .entry)) p) r (now (out .exit)) ⌝ }
+{
+    let content = p.content;
+    let a = put_tags(out, at, b, p.tags);
+    let c = wire::put(out, a, b",");
+    let d = put_quoted(out, c, piece(b, content.start, content.len));
+    wire::put(out, d, b"]")
+}
+
+// 01, "The text that is hashed", of the event that the parts spell, into `out` from `at` on; the index after it.
+pub fn put_text(out: &mut [u8], at: usize, b: &[u8], p: message::Body) -> usize
+    ensures { λ r. ⌜ Puts (now (out .entry)) at (textOf (now (b .entry)) p) r (now (out .exit)) ⌝ }
+{
+    let a = put_front(out, at, b, p);
+    put_back(out, a, b, p)
+}
+
+// k more, and no more than a number holds.
+fn more(n: usize, k: usize) -> usize
+    ensures { λ r. ⌜ r ≡ min (n + k) mostLength ⌝ }
+{
+    if MOST_LENGTH - n < k {
+        return MOST_LENGTH;
+    }
+    n + k
+}
+
+// The count after one string of a tag.
+fn count_string(n: usize, b: &[u8], v: usize) -> Reached
+    ensures { λ r. ⌜ Does Counts (treeAt (now (b .entry)) 6 v) (stringText (now (b .entry))) n (r .at) (r .next) ⌝ }
+{
+    match json::string(b, v) {
+        json::Out::End(e) => {
+            let k = spell::escaped_len(piece(b, v + 1, e - v - 2));
+            Reached {
+                at: more(more(n, k), 2),
+                next: json::space(b, e),
+            }
+        }
+        json::Out::Bad => Reached {
+            at: more(n, 2),
+            next: past(b, v, STRING_DEPTH),
+        },
+    }
+}
+
+// The count after the strings of a tag and the closing bracket.
+fn count_strings(n: usize, b: &[u8], first: usize) -> Reached
+    ensures { λ r. ⌜ Does Counts (itemsAt (treeAt (now (b .entry)) 6) (now (b .entry)) false (length (now (b .entry))) first) (stringsText (now (b .entry))) n (r .at) (r .next) ⌝ }
+{
+    let mut o = n;
+    let mut i = first;
+    let mut k: usize = 0;
+    while k < b.len() {
+        let w = count_string(o, b, i);
+        match json::after(b, w.next, false) {
+            json::Next::More(j) => {
+                o = more(w.at, 1);
+                i = j;
+            }
+            json::Next::Done(e) => {
+                return Reached {
+                    at: more(w.at, 1),
+                    next: e,
+                };
+            }
+            json::Next::Wrong => {
+                return w;
+            }
+        }
+        k += 1;
+    }
+    Reached { at: o, next: i }
+}
+
+// The count after one tag.
+fn count_tag(n: usize, b: &[u8], v: usize) -> Reached
+    ensures { λ r. ⌜ Does Counts (treeAt (now (b .entry)) 7 v) (oneTagText (now (b .entry))) n (r .at) (r .next) ⌝ }
+{
+    match json::begin(b, v) {
+        json::Start::Many(first, named) => {
+            if named {
+                return Reached {
+                    at: more(n, 2),
+                    next: past(b, v, TAG_DEPTH),
+                };
+            }
+            count_strings(more(n, 1), b, first)
+        }
+        json::Start::Empty(e, _) => Reached {
+            at: more(n, 2),
+            next: e,
+        },
+        json::Start::Leaf => Reached {
+            at: more(n, 2),
+            next: past(b, v, TAG_DEPTH),
+        },
+    }
+}
+
+// The count after the tags and the closing bracket.
+fn count_all(n: usize, b: &[u8], first: usize) -> Reached
+    ensures { λ r. ⌜ Does Counts (itemsAt (treeAt (now (b .entry)) 7) (now (b .entry)) false (length (now (b .entry))) first) (allTagsText (now (b .entry))) n (r .at) (r .next) ⌝ }
+{
+    let mut o = n;
+    let mut i = first;
+    let mut k: usize = 0;
+    while k < b.len() {
+        let w = count_tag(o, b, i);
+        match json::after(b, w.next, false) {
+            json::Next::More(j) => {
+                o = more(w.at, 1);
+                i = j;
+            }
+            json::Next::Done(e) => {
+                return Reached {
+                    at: more(w.at, 1),
+                    next: e,
+                };
+            }
+            json::Next::Wrong => {
+                return w;
+            }
+        }
+        k += 1;
+    }
+    Reached { at: o, next: i }
+}
+
+// How long the text of the tags is, up to the most that a number holds.
+pub fn tags_len(b: &[u8], tags: usize) -> usize
+    ensures { λ r. ⌜ r ≡ lengthOf (tagsText (tagsAt (now (b .entry)) tags)) ⌝ }
+{
+    match first_tag(b, tags) {
+        json::Out::End(first) => {
+            let w = count_all(1, b, first);
+            w.at
+        }
+        json::Out::Bad => 2,
+    }
+}
+
+// How long the text is, up to the most that a number holds: parts of absurd buffers may overlap.
+pub fn text_len(b: &[u8], p: message::Body) -> usize
+    ensures { λ r. ⌜ r ≡ lengthOf (textOf (now (b .entry)) p) ⌝ }
+{
+    let pubkey = p.pubkey;
+    let content = p.content;
+    let a = more(12, spell::decoded_len(piece(b, pubkey.start, pubkey.len)));
+    let c = more(a, numeral::decimal_len(p.created_at));
+    let d = more(c, numeral::natural_len(kind_of(p.kind)));
+    let e = more(d, tags_len(b, p.tags));
+    more(e, spell::escaped_len(piece(b, content.start, content.len)))
+}
+
+// One hex digit, and the digits of bytes, in lower case.
+fn hex_digit(d: u8) -> u8
+    requires { ⌜ d < 16 ⌝ }
+    ensures { λ r. ⌜ r ≡ hexDigit d ⌝ }
+{
+    if d < 10 { b'0' + d } else { b'a' - 10 + d }
+}
+
+pub fn put_hex(out: &mut [u8], at: usize, s: &[u8]) -> usize
+    ensures { λ r. ⌜ Puts (now (out .entry)) at (hexOf (now (s .entry))) r (now (out .exit)) ⌝ }
+{
+    if out.len() < at {
+        return out.len();
+    }
+    let mut o = at;
+    let mut i = 0;
+    while i < s.len() {
+        o = wire::put_byte(out, o, hex_digit(s[i] / 16));
+        o = wire::put_byte(out, o, hex_digit(s[i] % 16));
+        i += 1;
+    }
+    o
+}
+
+// SHA-256 of the text, or row 9. A byte more than a text may have shows that it is too long.
+fn hashed(b: &[u8], p: message::Body) -> Identified
+    ensures { λ r. ⌜ r ≡ hashedOf (textOf (now (b .entry)) p) ⌝ }
+{
+    let mut t = [0u8; 4097];
+    let n = put_text(&mut t, 0, b, p);
+    if MOST_TEXT < n {
+        return Identified {
+            row: 9,
+            id: [0u8; 32],
+        };
+    }
+    let d = digest::digest_of(&t[..n]);
+    let id = d.bytes;
+    Identified { row: 0, id }
+}
+
+// The text of the event that the parts spell, from the start of `out`. Nothing is written before every row is tested.
+pub fn serialise(b: &[u8], p: message::Body, out: &mut [u8]) -> Written
+    ensures { λ r. ⌜ r ≡ serialised (now (b .entry)) p (now (out .entry)) ⌝ }
+    ensures { λ _. ⌜ now (out .exit) ≡ serialisedOut (now (b .entry)) p (now (out .entry)) ⌝ }
+{
+    let row = message::body_row(b, p);
+    if row != 0 {
+        return Written::Refused(row);
+    }
+    let n = text_len(b, p);
+    if MOST_TEXT < n {
+        return Written::Refused(9);
+    }
+    if out.len() < n {
+        return Written::Refused(13);
+    }
+    Written::Wrote(put_text(out, 0, b, p))
+}
+
+// The id of the event that the parts spell.
+pub fn id_of(b: &[u8], p: message::Body) -> Identified
+    ensures { λ r. ⌜ r ≡ identified (now (b .entry)) p ⌝ }
+{
+    let row = message::body_row(b, p);
+    if row != 0 {
+        return Identified { row, id: [0u8; 32] };
+    }
+    hashed(b, p)
+}
+
+// Whether a string part decodes to the hex of an id.
+fn spells_id(b: &[u8], s: message::Span, id: [u8; 32]) -> bool
+    ensures { λ r. ⌜ r ≡ sameBytes (said (now (b .entry)) s) (hexOf id) ⌝ }
+{
+    let mut hex = [0u8; 64];
+    put_hex(&mut hex, 0, &id);
+    spell::spells(piece(b, s.start, s.len), &hex)
+}
+
+// Rows 2 and 4 to 10 of an event that is offered as parts.
+pub fn offered_row(b: &[u8], p: message::EventParts) -> u8
+    ensures { λ r. ⌜ r ≡ offeredRow (now (b .entry)) p ⌝ }
+{
+    let row = message::event_row(b, p);
+    if row != 0 {
+        return row;
+    }
+    let given = p.id;
+    let body = p.body;
+    let h = hashed(b, body);
+    let large = h.row;
+    if large != 0 {
+        return large;
+    }
+    let id = h.id;
+    if spells_id(b, given, id) {
+        return 0;
+    }
+    10
+}
+
+// Whether p is the lower: by the first byte that differs, and of two where one begins the other, the shorter.
+fn is_lower(p: &[u8], q: &[u8]) -> bool
+    ensures { λ r. ⌜ r ≡ isLower (now (p .entry)) (now (q .entry)) ⌝ }
+{
+    let mut i = 0;
+    while i < p.len() {
+        if q.len() <= i {
+            return false;
+        }
+        if p[i] < q[i] {
+            return true;
+        }
+        if q[i] < p[i] {
+            return false;
+        }
+        i += 1;
+    }
+    i < q.len()
+}
+
+// 01, "Kinds and keys": whether event a is newer than event b.
+pub fn newer(time_a: i64, id_a: &[u8], time_b: i64, id_b: &[u8]) -> bool
+    ensures { λ r. ⌜ r ≡ isNewer «time_a» (now («id_a» .entry)) «time_b» (now («id_b» .entry)) ⌝ }
+{
+    if time_b < time_a {
+        return true;
+    }
+    if time_a < time_b {
+        return false;
+    }
+    is_lower(id_a, id_b)
+}
