@@ -1,0 +1,230 @@
+// Events on standard input, one a line. A line is a message: the lowest of rows 1 to 10 that refuses it when offered, or 0, and, where
+// none of rows 1 to 9 does, the SHA-256 of its text in hex and the text. A line that begins with `T` and a space is a text to read back
+// alone: 9, 5, or 0 and what writing it again gives.
+use event::Written;
+use json::Out;
+use json::Start;
+use libc::STDIN_FILENO;
+use libc::STDOUT_FILENO;
+use message::Body;
+use message::EventParts;
+use message::Message;
+use message::Span;
+use text::Text;
+use text::TextAnswer;
+
+// Whether the string that begins at a place is the word EVENT.
+fn is_word(s: &[u8], at: usize) -> bool {
+    match json::string(s, at) {
+        Out::End(n) => {
+            if s.len() < n {
+                return false;
+            }
+            if n < 2 {
+                return false;
+            }
+            let end = n - 1;
+            if end <= at {
+                return false;
+            }
+            let start = at + 1;
+            spell::spells(&s[start..end], b"EVENT")
+        }
+        Out::Bad => false,
+    }
+}
+
+fn is_event(s: &[u8]) -> bool {
+    match json::begin(s, json::space(s, 0)) {
+        Start::Leaf => false,
+        Start::Empty(_, _) => false,
+        Start::Many(i, _) => is_word(s, i),
+    }
+}
+
+// A row of one or two digits.
+fn put_row(out: &mut [u8], at: usize, row: u8) -> usize {
+    numeral::put_natural(out, at, row as u64)
+}
+
+// The text of a body, after a space; nothing where it is refused.
+fn put_text(out: &mut [u8], at: usize, s: &[u8], b: Body) -> usize {
+    let mut buffer = io::buffer();
+    match event::serialise(s, b, &mut buffer) {
+        Written::Wrote(n) => {
+            if n <= 4096 {
+                let a = wire::put(out, at, b" ");
+                return wire::put(out, a, &buffer[..n]);
+            }
+            at
+        }
+        Written::Refused(_) => at,
+    }
+}
+
+fn put_id(out: &mut [u8], at: usize, s: &[u8], b: Body) -> usize {
+    let x = event::id_of(s, b);
+    let id = x.id;
+    let a = wire::put(out, at, b" ");
+    event::put_hex(out, a, &id)
+}
+
+fn put_event(out: &mut [u8], s: &[u8], p: EventParts) -> usize {
+    let row = event::offered_row(s, p);
+    let body = p.body;
+    let a = put_row(out, 0, row);
+    if row == 0 {
+        let b = put_id(out, a, s, body);
+        return put_text(out, b, s, body);
+    }
+    if row == 10 {
+        let b = put_id(out, a, s, body);
+        return put_text(out, b, s, body);
+    }
+    a
+}
+
+// Row 5 also if the message is no EVENT; rows 1 to 4 go first.
+fn put_refused(out: &mut [u8], s: &[u8], row: u8) -> usize {
+    if row <= 5 {
+        return put_row(out, 0, row);
+    }
+    if is_event(s) {
+        return put_row(out, 0, row);
+    }
+    put_row(out, 0, 5)
+}
+
+fn put_offer(out: &mut [u8], s: &[u8]) -> usize {
+    let m = message::read(s);
+    match m {
+        Message::Event(p) => put_event(out, s, p),
+        Message::Req(_) => put_row(out, 0, 5),
+        Message::Close(_) => put_row(out, 0, 5),
+        Message::Refused(n) => put_refused(out, s, n),
+    }
+}
+
+fn put_again(out: &mut [u8], s: &[u8], x: Text) -> usize {
+    let b = Body {
+        pubkey: Span { start: 4, len: 64 },
+        created_at: x.time,
+        kind: x.kind as i64,
+        tags: x.tags,
+        content: Span {
+            start: x.content,
+            len: x.content_len,
+        },
+    };
+    let a = put_row(out, 0, 0);
+    put_text(out, a, s, b)
+}
+
+fn put_read(out: &mut [u8], s: &[u8]) -> usize {
+    match text::read_text(s) {
+        TextAnswer::Read(x) => put_again(out, s, x),
+        TextAnswer::TooLarge => put_row(out, 0, 9),
+        TextAnswer::WrongShape => put_row(out, 0, 5),
+    }
+}
+
+fn put_answer(out: &mut [u8], line: &[u8]) -> usize {
+    if 2 <= line.len() {
+        if line[0] == b'T' {
+            if line[1] == b' ' {
+                return put_read(out, &line[2..]);
+            }
+        }
+    }
+    put_offer(out, line)
+}
+
+fn write_line(out: &mut [u8], n: usize) {
+    let e = wire::put(out, n, b"\n");
+    if e <= out.len() {
+        io::write_all(STDOUT_FILENO, &out[..e]);
+    }
+}
+
+fn respond(line: &[u8]) {
+    let mut buffer = io::large_buffer();
+    let out: &mut [u8] = &mut buffer;
+    let n = put_answer(out, line);
+    write_line(out, n);
+}
+
+// A line that was read: the first n bytes of `line`, which is longer. One that fills it is too long.
+fn answer(line: &[u8], n: usize) {
+    if n < line.len() {
+        respond(&line[..n]);
+    } else {
+        io::write_all(STDOUT_FILENO, b"1\n");
+    }
+}
+
+// A byte more of standard input; how many bytes of the line are there now.
+fn push(line: &mut [u8], n: usize, b: u8) -> usize {
+    if b == b'\n' {
+        answer(line, n);
+        return 0;
+    }
+    if n < line.len() {
+        line[n] = b;
+        return n + 1;
+    }
+    n
+}
+
+fn feed(line: &mut [u8], n: usize, chunk: &[u8]) -> usize {
+    let mut k = n;
+    for i in 0..chunk.len() {
+        k = push(line, k, chunk[i]);
+    }
+    k
+}
+
+// Reads once; how many bytes of the line are there now, or that the input has ended.
+struct Turn {
+    more: bool,
+    n: usize,
+}
+
+fn read_once(line: &mut [u8], n: usize) -> Turn {
+    let mut chunk = io::large_buffer();
+    let got = libc::read(STDIN_FILENO, &mut chunk);
+    let k = io::count(got, &chunk);
+    if k == 0 {
+        return Turn { more: false, n };
+    }
+    let next = feed(line, n, &chunk[..k]);
+    Turn {
+        more: true,
+        n: next,
+    }
+}
+
+// A last line without its end counts if it is not empty.
+fn end(line: &[u8], n: usize) {
+    if 0 < n {
+        answer(line, n);
+    }
+}
+
+fn run(line: &mut [u8]) {
+    let mut n: usize = 0;
+    let mut turns: u64 = 0;
+    while turns < 0xffff_ffff_ffff {
+        let t = read_once(line, n);
+        n = t.n;
+        if !t.more {
+            end(line, n);
+            return;
+        }
+        turns += 1;
+    }
+}
+
+fn main() {
+    let mut line = io::large_buffer();
+    run(&mut line);
+}
