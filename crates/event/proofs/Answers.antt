@@ -2,17 +2,17 @@
 use mathlib.Core.Path.{_≡_, refl, sym, ap, _∙_}
 use mathlib.Core.Bool.{Bool, true, false, cond}
 use mathlib.Core.List.{List, [], _∷_, _++_, append-nil}
-use Prim.Native.Nat.{ℕ, suc, _+_, _/_, _%_, _≤_, _<_}
+use Prim.Native.Nat.{ℕ, _+_, _/_, _%_, _≤_, _<_}
 use native.Mathlib.Numerals.{add-one}
 use native.Mathlib.Omega.{arith}
 use borrow.Author.Tests.{lt-ltb, le-ltb, eq-eqb, ne-eqb}
-use lib.Dec.{eqb, ltb}
+use lib.Dec.{ltb}
 use lib.ListN.{length, take, drop, getD, replicate, drop-of-length-le}
 use lib.Seq.{take-append-seam, drop-cons}
-use Rattle.wire.specs.Put.{put, Puts}
+use Rattle.wire.specs.Put.{Puts}
 use Rattle.wire.proofs.Laws.{length-put, puts-whole}
 use Rattle.digest.specs.Digest.{digest}
-use Rattle.digest.specs.State.{most, digested}
+use Rattle.digest.specs.State.{digested}
 use Rattle.digest.specs.declared.Digest.{Digest}
 use Rattle.digest.specs.Pieces.{digest-done}
 use Rattle.spell.specs.Spell.{decode, sameBytes}

@@ -1,28 +1,26 @@
 -- Parts that rows 2 and 4 to 8 let pass spell an event within the limits, so its text is read back.
-use mathlib.Core.Bool.{Bool, true, false, cond, not, _&&_, _||_}
+use mathlib.Core.Bool.{Bool, true, false, not, _&&_}
 use mathlib.Core.Path.{_≡_, refl, sym, ap, _∙_}
 use mathlib.Core.List.{List, [], _∷_, _++_}
 use Prim.Native.Nat.{ℕ, suc, _+_, _-_, _≤_, _<_}
 use native.Mathlib.Numerals.{add-one}
 use native.Mathlib.Omega.{arith}
 use borrow.Author.Tests.{le-leb, eq-eqb, ltb-false, not-true}
-use lib.Dec.{ltb, leb, eqb, lit<}
+use lib.Dec.{ltb, lit<}
 use lib.IntN.{ℤ, pos, negsuc, negℤ}
-use lib.Signed.{ltZ}
 use lib.ListN.{length, getD, take, drop}
 use lib.Seq.{take-add, drop-drop, drop-cons}
 use Rattle.utf8.specs.Utf8.{next, utf8From, isUtf8}
 use Rattle.utf8.specs.declared.Want.{Want}
 use Rattle.utf8.specs.declared.Want.the-variants.{Lead}
 use Rattle.json.specs.Grammar.{case, past, charsAt, tokenAt, openedAt, stringAt, scalarAt, startAt, nextAt, wsAt, isSpelling}
-use Rattle.json.specs.Tree.{Json, word, num, str, arr, obj, Items, nil, item, Got, none, got, bind, onLeaf, itemsAt, groupAt, treeAt, depth}
+use Rattle.json.specs.Tree.{Json, str, arr, Items, nil, item, Got, none, got, onLeaf, itemsAt, groupAt, treeAt, depth}
 use Rattle.json.specs.declared.Out.{Out}
 use Rattle.json.specs.declared.Out.the-variants.{End, Bad}
 use Rattle.json.specs.declared.Kind.{Kind}
 use Rattle.json.specs.declared.Kind.the-variants.{Str, Num, Word, None}
 use Rattle.json.specs.declared.Start.{Start}
 use Rattle.json.specs.declared.Start.the-variants.{Leaf, Empty, Many}
-use Rattle.json.specs.declared.Next.{Next}
 use Rattle.json.specs.declared.Next.the-variants.{More, Done, Wrong}
 use Rattle.json.proofs.Ends.{then-end, one-is, byte-is}
 use Rattle.json.proofs.Spelled.{string-parts, string-spelled}
@@ -36,7 +34,7 @@ use Rattle.spell.proofs.Laws.{hex-length, hex-all}
 use Rattle.shape.specs.Shape.{anyItem, allItems, countItems, count, isArrayOf}
 use Rattle.shape.specs.Shape as shape
 use Rattle.shape.specs.Rows.{outside, wrongTag}
-use Rattle.text.specs.Event.{all, isHexDigit, isPubkey, isTime, isKind, isString, isTag, isTags, isFit, mostText, serialise}
+use Rattle.text.specs.Event.{all, isHexDigit, isPubkey, isTime, isKind, isString, isTag, isTags, isFit, mostText}
 use Rattle.text.specs.Read.{read, readText}
 use Rattle.text.proofs.Strings.{High, lead-high}
 use Rattle.text.proofs.RoundTrip.{read-back, serialise-once}
@@ -44,9 +42,11 @@ use Rattle.message.specs.declared.Span.{Span}
 use Rattle.message.specs.declared.Body.{Body}
 use Rattle.message.specs.Lent.{lowest, isInside, isSpelled, string2, string4, string5, string7, wrongNumber, value2, value4, value5, onValue, ownText, wrongTags, body2, body4, body5, body6, body7, body8, bodyRow}
 use Rattle.message.specs.Lent as lent
+use Rattle.message.proofs.Walks.{never, bind-got}
 use Rattle.event.specs.Lent.{said, stringOf, stringsOf, tagOf, tagsOf, tagsIn, tagsAt, natural, eventOf, textOf}
+use Rattle.event.specs.Answer.{isLarge, textRow, identified}
 use Rattle.event.proofs.Strings.{string-tree, string-out}
-use Rattle.event.proofs.Walks.{never, bind-got, Walk, last, more, walk-of}
+use Rattle.event.proofs.Walks.{Walk, last, more, walk-of}
 use Rattle.event.proofs.Decoded.{and-both, or-neither, next-high, low-lead, decoded-string}
 
 -- ---- Bools
@@ -408,8 +408,19 @@ pub lent-once : (b : List ℕ) (p : Body) (c : List ℕ) (q : Body) → bodyRow 
 unfolding textOf
 lent-once b p c q e f h = serialise-once (eventOf b p) (eventOf c q) (lent-fit b p e) (lent-fit c q f) h
 
--- and nothing but the event matters: parts spelled anew, in any buffer, have the same text
-pub lent-same : (b : List ℕ) (p : Body) (c : List ℕ) (q : Body) → said b (p .pubkey) ≡ said c (q .pubkey) → p .«created_at» ≡ q .«created_at» → p .kind ≡ q .kind
-    → tagsAt b (p .tags) ≡ tagsAt c (q .tags) → said b (p .content) ≡ said c (q .content) → textOf b p ≡ textOf c q
-unfolding textOf eventOf
-lent-same b p c q k t n g x = rw (k, t, n, g, x)
+-- and nothing but what the parts decode to matters: spelled anew, in any buffer, they have the same text, and the same id
+pub record Alike (b : List ℕ) (p : Body) (c : List ℕ) (q : Body) : Type 0 where
+  pub pubkey : said b (p .pubkey) ≡ said c (q .pubkey)
+  pub time : p .«created_at» ≡ q .«created_at»
+  pub kind : p .kind ≡ q .kind
+  pub tags : tagsAt b (p .tags) ≡ tagsAt c (q .tags)
+  pub content : said b (p .content) ≡ said c (q .content)
+
+module _ {b : List ℕ} {p : Body} {c : List ℕ} {q : Body} (a : Alike b p c q) where
+  pub text-alike : textOf b p ≡ textOf c q
+  unfolding textOf eventOf
+  text-alike = rw (a .pubkey, a .time, a .kind, a .tags, a .content)
+
+  pub id-alike : bodyRow b p ≡ bodyRow c q → identified b p ≡ identified c q
+  unfolding identified textRow isLarge
+  id-alike e = rw (text-alike, e)

@@ -1,10 +1,10 @@
--- Parts and strings; items written one after the other; the text; the order.
+-- Fit has what other crates may cite: parts that pass the rows spell an event within the limits, and parts that decode alike have one text.
 mod Strings
 mod Walks
 mod Tags
 mod Text
 mod Lengths
 mod Order
-mod Decoded
-mod Fit
 mod Answers
+pub mod Decoded
+pub mod Fit

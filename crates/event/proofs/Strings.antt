@@ -1,8 +1,8 @@
 -- A part of a buffer, cut off where that ends; a string between quotes; what is read as a string is one.
 use mathlib.Core.Path.{_≡_, refl, sym, ap, _∙_}
 use mathlib.Core.Bool.{Bool, true, false}
-use mathlib.Core.List.{List, [], _∷_, _++_}
-use Prim.Native.Nat.{ℕ, zero, suc, _+_, _-_, _<_, _≤_}
+use mathlib.Core.List.{List, [], _∷_}
+use Prim.Native.Nat.{ℕ, suc, _+_, _-_, _<_, _≤_}
 use native.Mathlib.Omega.{arith}
 use borrow.Author.Tests.{ltb-true}
 use lib.IntN.{ℤ, pos, negsuc}
@@ -10,7 +10,7 @@ use lib.Signed.{ltZ}
 use mir.Syntax.{w64}
 use mir.Val.{toZ, ofZ, SFits}
 use mir.ValLaws.{toZ-ofZ}
-use lib.ListN.{length, getD, take, drop, length-drop, drop-of-length-le}
+use lib.ListN.{length, take, drop, length-drop, drop-of-length-le}
 use lib.Seq.{take-all, take-nil}
 use Rattle.wire.specs.Put.{Puts}
 use Rattle.wire.specs.Escape.{escape}
@@ -18,11 +18,10 @@ use Rattle.wire.specs.Field.{unsigned}
 use Rattle.wire.proofs.Laws.{puts-then}
 use Rattle.spell.specs.Spell.{decode}
 use Rattle.json.specs.Grammar.{case, classOf, oneAt, tokenAt, stringAt, numberAt, literalAt, scalarAt, startAt, wsAt}
-use Rattle.json.specs.Tree.{Json, word, num, str, arr, obj, Items, nil, item, Got, none, got, endOf, bind, onLeaf, node, itemsAt, groupAt, treeAt}
+use Rattle.json.specs.Tree.{Json, word, num, str, arr, obj, Items, nil, Got, none, got, endOf, bind, onLeaf, node, itemsAt, groupAt, treeAt}
 use Rattle.json.specs.declared.Out.{Out}
 use Rattle.json.specs.declared.Out.the-variants.{End, Bad}
-use Rattle.json.specs.declared.Kind.{Kind}
-use Rattle.json.specs.declared.Kind.the-variants.{Str, Num, Word, None}
+use Rattle.json.specs.declared.Kind.the-variants.{Num, Word, None}
 use Rattle.json.specs.declared.Start.{Start}
 use Rattle.json.specs.declared.Start.the-variants.{Leaf, Empty, Many}
 use Rattle.json.proofs.Ends.{byte-is}
@@ -30,6 +29,7 @@ use Rattle.json.proofs.Spelled.{string-parts}
 use Rattle.json.proofs.Trees.{tree-open}
 use Rattle.rows.specs.Strings.{part}
 use Rattle.text.specs.Event.{quoted}
+use Rattle.message.proofs.Walks.{never}
 use Rattle.event.specs.Lent.{stringOf, natural}
 use Rattle.event.specs.Walk.{Does, stringText}
 
@@ -86,9 +86,6 @@ module _ (s : List ℕ) (v : ℕ) where
   module _ (P : Json → Type 0) (words : (a n : ℕ) → P (word a n)) (nums : (a n : ℕ) → P (num a n)) (arrays : (ts : Items) → P (arr ts)) (objects : (ts : Items) → P (obj ts)) (t : Json) (n : ℕ) where
     same : (u : Json) (m : ℕ) → got u m ≡ got t n → P u → P t
     same u m e q = let z : u ≡ t = cc in rw z at q
-
-    never : {A : Type 0} → none ≡ got t n → A
-    never e = absurd (let z : _≡_ {A = ℕ} 0 1 = cc in omega arith)
 
     leaf-out : (p q : Out) → onLeaf s v (case p Num (case q Word None)) ≡ got t n → P t
     leaf-out (End m) q e = same _ _ e (nums _ _)

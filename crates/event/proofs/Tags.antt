@@ -1,12 +1,12 @@
 -- A tag and the tags by what begins at their place; the text of what is no array.
 use mathlib.Core.Path.{_≡_, refl, sym, ap, _∙_}
 use mathlib.Core.Bool.{Bool, true, false}
-use mathlib.Core.List.{List, [], _∷_, _++_}
+use mathlib.Core.List.{List, [], _∷_}
 use Prim.Native.Nat.{ℕ, suc}
 use native.Mathlib.Omega.{arith}
 use lib.ListN.{length}
 use Rattle.json.specs.Grammar.{case, scalarAt, startAt}
-use Rattle.json.specs.Tree.{Json, word, num, str, arr, obj, Items, nil, item, Got, none, got, endOf, bind, onLeaf, node, itemsAt, groupAt, treeAt, depth}
+use Rattle.json.specs.Tree.{Json, arr, obj, Items, Got, none, got, endOf, bind, onLeaf, itemsAt, groupAt, treeAt}
 use Rattle.json.specs.declared.Out.{Out}
 use Rattle.json.specs.declared.Out.the-variants.{End, Bad}
 use Rattle.json.specs.declared.Kind.{Kind}
@@ -14,10 +14,11 @@ use Rattle.json.specs.declared.Kind.the-variants.{Str, Num, Word, None}
 use Rattle.json.specs.declared.Start.{Start}
 use Rattle.json.specs.declared.Start.the-variants.{Leaf, Empty, Many}
 use Rattle.json.proofs.Trees.{tree-open}
-use Rattle.text.specs.Event.{membersText, tagText, tagsText, quoted}
-use Rattle.event.specs.Lent.{stringOf, stringsOf, tagOf, tagsOf, tagsIn, tagsAt}
+use Rattle.text.specs.Event.{membersText, tagText, tagsText}
+use Rattle.message.proofs.Walks.{never, bind-got}
+use Rattle.event.specs.Lent.{stringsOf, tagOf, tagsOf, tagsIn, tagsAt}
 use Rattle.event.specs.Walk.{Does, stringText, stringsText, oneTagText, allTagsText, firstOf, firstTag}
-use Rattle.event.proofs.Walks.{never, bind-got, Printer, Chains}
+use Rattle.event.proofs.Walks.{Printer, Chains}
 
 -- ---- the two printers
 pub strings-printer : (b : List ℕ) → Printer (stringText b) (stringsText b)

@@ -1,26 +1,18 @@
 -- Items are written, or counted, one after the other in step with the tree's items: what is still to be done gives the whole.
 use mathlib.Core.Path.{_≡_, refl, sym, ap, _∙_}
-use mathlib.Core.Bool.{Bool, true, false}
+use mathlib.Core.Bool.{false}
 use mathlib.Core.List.{List, [], _∷_, _++_}
-use Prim.Native.Nat.{ℕ, zero, suc, _+_, _-_, _<_, _≤_}
+use Prim.Native.Nat.{ℕ, zero, suc, _+_, _-_, _≤_}
 use native.Mathlib.Nat.{sub-zero}
 use native.Mathlib.Omega.{arith}
 use lib.ListN.{length, length-append}
 use Rattle.wire.proofs.Laws.{puts-then}
-use Rattle.json.specs.Grammar.{case, headAt, nextAt}
-use Rattle.json.specs.Tree.{Json, Items, nil, item, Got, none, got, bind, follow, itemsAt}
-use Rattle.json.specs.declared.Out.{Out}
-use Rattle.json.specs.declared.Out.the-variants.{End, Bad}
+use Rattle.json.specs.Grammar.{nextAt}
+use Rattle.json.specs.Tree.{Json, Items, nil, item, Got, got, follow, itemsAt}
 use Rattle.json.specs.declared.Next.{Next}
 use Rattle.json.specs.declared.Next.the-variants.{More, Done, Wrong}
+use Rattle.message.proofs.Walks.{never, bind-got}
 use Rattle.event.specs.Walk.{puts, Counts, Does}
-
-pub never : {A B : Type 0} {t : A} {n : ℕ} → _≡_ {A = Got A} none (got t n) → B
-never e = absurd (let z : _≡_ {A = ℕ} 0 1 = cc in omega arith)
-
-pub bind-got : {A B : Type 0} {b : B} {n : ℕ} (g : Got A) (f : A → ℕ → Got B) → bind g f ≡ got b n → (a : A) × (m : ℕ) × (g ≡ got a m) × (f a m ≡ got b n)
-bind-got none f e = never e
-bind-got (got a m) f e = (a, m, refl, e)
 
 -- an array's items from i on, of at most f, up to n
 pub data Walk (value : ℕ → Got Json) (s : List ℕ) : ℕ → ℕ → Items → ℕ → Type 0 where

@@ -3,3 +3,4 @@ pub mod Lent
 pub mod Walk
 pub mod Order
 pub mod Answer
+pub mod Cases

@@ -16,6 +16,13 @@ use Rattle.text.specs.Event.{opening, closing, comma, bracket, quoted, membersT
 use Rattle.message.specs.declared.Body.{Body}
 use Rattle.event.specs.Lent.{said, natural, stringOf, stringsOf, tagOf, tagsOf, tagsAt}
 
+-- the brackets and braces that may be open at once in a tag, and in what it holds
+abbrev pub tagDepth : ℕ
+tagDepth = 7
+
+abbrev pub stringDepth : ℕ
+stringDepth = 6
+
 -- a writer's state: the buffer and the index in it
 abbrev pub puts : List ℕ × ℕ → List ℕ → List ℕ × ℕ → Type 0
 puts x s y = Puts (x .0) (x .1) s (y .1) (y .0)

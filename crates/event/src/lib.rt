@@ -10,7 +10,7 @@ ghost use Rattle.rows.specs.Strings.{part};
 ghost use Rattle.spell.specs.Spell.{decode, sameBytes};
 ghost use Rattle.text.specs.Event.{quoted, tagsText};
 ghost use Rattle.event.specs.Lent.{said, natural, tagsAt, textOf};
-ghost use Rattle.event.specs.Walk.{puts, Counts, mostLength, lengthOf, Does, firstTag, frontText, backText, stringText, stringsText, oneTagText, allTagsText};
+ghost use Rattle.event.specs.Walk.{tagDepth, stringDepth, puts, Counts, mostLength, lengthOf, Does, firstTag, frontText, backText, stringText, stringsText, oneTagText, allTagsText};
 ghost use Rattle.event.specs.Answer.{hexDigit, hexOf, hashedOf, serialised, serialisedOut, identified, offeredRow};
 ghost use Rattle.event.specs.Order.{isLower, isNewer};
 
@@ -28,9 +28,9 @@ const MOST_TEXT: usize = 4096;
 const MOST_LENGTH: usize = 18446744073709551615;
 
 // Where a writer stopped in its output or what a counter counted, and where what it read ends.
-pub struct Reached {
-    pub at: usize,
-    pub next: usize,
+struct Reached {
+    at: usize,
+    next: usize,
 }
 
 // What serialising answers: how many bytes it wrote, or the row that refuses the parts.
@@ -81,7 +81,7 @@ fn past(b: &[u8], v: usize, d: usize) -> usize
 
 // One string of a tag; "" for what is no string.
 fn put_string(out: &mut [u8], at: usize, b: &[u8], v: usize) -> Reached
-    ensures { λ r. ⌜ Does puts (treeAt (now (b .entry)) 6 v) (stringText (now (b .entry))) (now (out .entry), at) (now (out .exit), r .at) (r .next) ⌝ }
+    ensures { λ r. ⌜ Does puts (treeAt (now (b .entry)) stringDepth v) (stringText (now (b .entry))) (now (out .entry), at) (now (out .exit), r .at) (r .next) ⌝ }
 {
     match json::string(b, v) {
         json::Out::End(n) => {
@@ -103,7 +103,7 @@ fn put_string(out: &mut [u8], at: usize, b: &[u8], v: usize) -> Reached
 
 // The strings of a tag, commas between them, and the closing bracket; the first stands at `first`.
 fn put_strings(out: &mut [u8], at: usize, b: &[u8], first: usize) -> Reached
-    ensures { λ r. ⌜ Does puts (itemsAt (treeAt (now (b .entry)) 6) (now (b .entry)) false (length (now (b .entry))) first) (stringsText (now (b .entry))) (now (out .entry), at) (now (out .exit), r .at) (r .next) ⌝ }
+    ensures { λ r. ⌜ Does puts (itemsAt (treeAt (now (b .entry)) stringDepth) (now (b .entry)) false (length (now (b .entry))) first) (stringsText (now (b .entry))) (now (out .entry), at) (now (out .exit), r .at) (r .next) ⌝ }
 {
     let mut o = at;
     let mut i = first;
@@ -130,7 +130,7 @@ fn put_strings(out: &mut [u8], at: usize, b: &[u8], first: usize) -> Reached
 
 // One tag; [] for what is no array.
 fn put_tag(out: &mut [u8], at: usize, b: &[u8], v: usize) -> Reached
-    ensures { λ r. ⌜ Does puts (treeAt (now (b .entry)) 7 v) (oneTagText (now (b .entry))) (now (out .entry), at) (now (out .exit), r .at) (r .next) ⌝ }
+    ensures { λ r. ⌜ Does puts (treeAt (now (b .entry)) tagDepth v) (oneTagText (now (b .entry))) (now (out .entry), at) (now (out .exit), r .at) (r .next) ⌝ }
 {
     match json::begin(b, v) {
         json::Start::Many(first, named) => {
@@ -160,7 +160,7 @@ fn put_tag(out: &mut [u8], at: usize, b: &[u8], v: usize) -> Reached
 
 // The tags, commas between them, and the closing bracket; the first stands at `first`.
 fn put_all(out: &mut [u8], at: usize, b: &[u8], first: usize) -> Reached
-    ensures { λ r. ⌜ Does puts (itemsAt (treeAt (now (b .entry)) 7) (now (b .entry)) false (length (now (b .entry))) first) (allTagsText (now (b .entry))) (now (out .entry), at) (now (out .exit), r .at) (r .next) ⌝ }
+    ensures { λ r. ⌜ Does puts (itemsAt (treeAt (now (b .entry)) tagDepth) (now (b .entry)) false (length (now (b .entry))) first) (allTagsText (now (b .entry))) (now (out .entry), at) (now (out .exit), r .at) (r .next) ⌝ }
 {
     let mut o = at;
     let mut i = first;
@@ -273,7 +273,7 @@ fn more(n: usize, k: usize) -> usize
 
 // The count after one string of a tag.
 fn count_string(n: usize, b: &[u8], v: usize) -> Reached
-    ensures { λ r. ⌜ Does Counts (treeAt (now (b .entry)) 6 v) (stringText (now (b .entry))) n (r .at) (r .next) ⌝ }
+    ensures { λ r. ⌜ Does Counts (treeAt (now (b .entry)) stringDepth v) (stringText (now (b .entry))) n (r .at) (r .next) ⌝ }
 {
     match json::string(b, v) {
         json::Out::End(e) => {
@@ -292,7 +292,7 @@ fn count_string(n: usize, b: &[u8], v: usize) -> Reached
 
 // The count after the strings of a tag and the closing bracket.
 fn count_strings(n: usize, b: &[u8], first: usize) -> Reached
-    ensures { λ r. ⌜ Does Counts (itemsAt (treeAt (now (b .entry)) 6) (now (b .entry)) false (length (now (b .entry))) first) (stringsText (now (b .entry))) n (r .at) (r .next) ⌝ }
+    ensures { λ r. ⌜ Does Counts (itemsAt (treeAt (now (b .entry)) stringDepth) (now (b .entry)) false (length (now (b .entry))) first) (stringsText (now (b .entry))) n (r .at) (r .next) ⌝ }
 {
     let mut o = n;
     let mut i = first;
@@ -321,7 +321,7 @@ fn count_strings(n: usize, b: &[u8], first: usize) -> Reached
 
 // The count after one tag.
 fn count_tag(n: usize, b: &[u8], v: usize) -> Reached
-    ensures { λ r. ⌜ Does Counts (treeAt (now (b .entry)) 7 v) (oneTagText (now (b .entry))) n (r .at) (r .next) ⌝ }
+    ensures { λ r. ⌜ Does Counts (treeAt (now (b .entry)) tagDepth v) (oneTagText (now (b .entry))) n (r .at) (r .next) ⌝ }
 {
     match json::begin(b, v) {
         json::Start::Many(first, named) => {
@@ -346,7 +346,7 @@ fn count_tag(n: usize, b: &[u8], v: usize) -> Reached
 
 // The count after the tags and the closing bracket.
 fn count_all(n: usize, b: &[u8], first: usize) -> Reached
-    ensures { λ r. ⌜ Does Counts (itemsAt (treeAt (now (b .entry)) 7) (now (b .entry)) false (length (now (b .entry))) first) (allTagsText (now (b .entry))) n (r .at) (r .next) ⌝ }
+    ensures { λ r. ⌜ Does Counts (itemsAt (treeAt (now (b .entry)) tagDepth) (now (b .entry)) false (length (now (b .entry))) first) (allTagsText (now (b .entry))) n (r .at) (r .next) ⌝ }
 {
     let mut o = n;
     let mut i = first;

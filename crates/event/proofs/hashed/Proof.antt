@@ -8,13 +8,21 @@ returns : tie.Need-returns
 returns c = text-large (c .before .t2 .given) (c .before .before .put-text .ensures) (c .if1 .taken)
 
 slice-aggregate-digest-of : tie.Need-slice-aggregate-digest-of
-slice-aggregate-digest-of c = prefix-length (c .before .before .t2 .given) (c .before .before .before .put-text .ensures) (c .before .if1 .left)
+slice-aggregate-digest-of c =
+    let c1 = c .before in
+    let c2 = c1 .before in
+    let c3 = c2 .before in
+    prefix-length (c2 .t2 .given) (c3 .put-text .ensures) (c1 .if1 .left)
 
 returns-2 : tie.Need-returns-2
-returns-2 c = text-hashed (c .before .before .before .before .t2 .given) (c .before .before .before .before .before .put-text .ensures) (c .before .before .before .if1 .left) (c .before .digest-of .ensures)
+returns-2 c =
+    let c1 = c .before in
+    let c3 = c1 .before .before in
+    let c4 = c3 .before in
+    let c5 = c4 .before in
+    text-hashed (c4 .t2 .given) (c5 .put-text .ensures) (c3 .if1 .left) (c1 .digest-of .ensures)
 
 pub hashed-spec : {M : Type 1} → statement M
 hashed-spec =
     tie.close
-    (tie.spec (λ c. search needs) (λ c κs. search needs) returns (λ c. search needs) slice-aggregate-digest-of
-    (λ c κs. search needs) returns-2)
+    (tie.spec (search needs) (search needs) returns (search needs) slice-aggregate-digest-of (search needs) returns-2)

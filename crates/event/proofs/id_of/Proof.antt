@@ -13,4 +13,4 @@ returns-2 c = id-hashed _ _ (c .before .before .body-row .ensures) (c .before .i
 pub id-of-spec : {M : Type 1} → statement M
 id-of-spec =
     tie.close
-    (tie.spec (λ c κs. search needs) returns (λ c κs. search needs) returns-2)
+    (tie.spec (search needs) returns (search needs) returns-2)

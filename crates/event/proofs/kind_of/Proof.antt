@@ -9,9 +9,12 @@ returns : tie.Need-returns
 returns c = natural-below (c .before .args .kind) (c .before .fits .kind) (c .if1 .taken)
 
 returns-2 : tie.Need-returns-2
-returns-2 c = c .to-unsigned .ensures ∙ natural-above (c .before .before .args .kind) (c .before .before .fits .kind) (c .before .if1 .left)
+returns-2 c =
+    let c1 = c .before in
+    let c2 = c1 .before in
+    c .to-unsigned .ensures ∙ natural-above (c2 .args .kind) (c2 .fits .kind) (c1 .if1 .left)
 
 pub kind-of-spec : {M : Type 1} → statement M
 kind-of-spec =
     tie.close
-    (tie.spec returns (λ c κs. search needs) returns-2)
+    (tie.spec returns (search needs) returns-2)

@@ -1,22 +1,9 @@
 -- The sum, or the most.
-use borrow.Author.Needs.{needs}
 use native.Mathlib.Omega.{arith}
 use Rattle.event.proofs.more.Statement.{statement}
 use Rattle.event.proofs.more.Tie as tie
 
-sub-if1 : tie.Need-sub-if1
-sub-if1 c = omega arith
-
-returns : tie.Need-returns
-returns c = omega arith
-
-add-result : tie.Need-add-result
-add-result c = omega arith
-
-returns-2 : tie.Need-returns-2
-returns-2 c = omega arith
-
 pub more-spec : {M : Type 1} → statement M
 more-spec =
     tie.close
-    (tie.spec sub-if1 returns add-result returns-2)
+    (tie.spec (λ c. omega arith) (λ c. omega arith) (λ c. omega arith) (λ c. omega arith))

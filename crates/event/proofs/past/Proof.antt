@@ -1,5 +1,4 @@
 -- The end, or the place itself.
-use mathlib.Core.Path.{sym, ap, _∙_}
 use borrow.Author.Needs.{needs}
 use Rattle.event.proofs.past.Statement.{statement}
 use Rattle.event.proofs.past.Tie as tie
@@ -13,4 +12,4 @@ returns-2 c = simp (← c .before .before .value .ensures, c .enum-told .given .
 pub past-spec : {M : Type 1} → statement M
 past-spec =
     tie.close
-    (tie.spec (λ c κs. search needs) (λ c. search needs) (λ c. search needs) returns returns-2)
+    (tie.spec (search needs) (search needs) (search needs) returns returns-2)

@@ -16,6 +16,5 @@ returns-3 c = let a = c .before .before .before .args in part-in (a .b .now) (a 
 pub piece-spec : {M : Type 1} → statement M
 piece-spec =
     tie.close
-    (tie.spec (λ c. search needs) returns (λ c. search needs) (λ c. search needs) (λ c. search needs)
-    (λ c. search needs) returns-2 (λ c. search needs) (λ c. search needs) (λ c. search needs) (λ c. search needs)
-    returns-3)
+    (tie.spec (search needs) returns (search needs) (search needs) (search needs) (search needs) returns-2
+    (search needs) (search needs) (search needs) (search needs) returns-3)

@@ -1,7 +1,6 @@
 -- The invariant: what is still to be written gives the whole.
-use mathlib.Core.Bool.{false}
 use mathlib.Core.Path.{_≡_, refl, sym, _∙_}
-use Prim.Native.Nat.{ℕ, _-_}
+use Prim.Native.Nat.{_-_}
 use native.Mathlib.Omega.{arith}
 use borrow.Author.Needs.{needs}
 use lib.ListN.{length}
@@ -20,23 +19,35 @@ abbrev μ-loop : tie.MeasureT-loop
 
 returns : tie.Need-returns Inv-loop μ-loop
 returns c =
-    let w = c .before .before .before .before .before .before .before .before .before .before .before in
-    left-done (w .before .before .before .loop .inv .0) puts-chain (tags-printer _) (w .put-tag .ensures) (sym (c .before .before .before .before .before .before .before .before .after .ensures) ∙ c .before .before .before .before .before .before .n .given .1) (c .before .before .put2 .ensures)
+    let c2 = c .before .before in
+    let c6 = c2 .before .before .before .before in
+    let c8 = c6 .before .before in
+    let c11 = c8 .before .before .before in
+    let c14 = c11 .before .before .before in
+    left-done (c14 .loop .inv .0) puts-chain (tags-printer _) (c11 .put-tag .ensures) (sym (c8 .after .ensures) ∙ c6 .n .given .1) (c2 .put2 .ensures)
 
 returns-2 : tie.Need-returns-2 Inv-loop μ-loop
 returns-2 c =
-    let w = c .before .before .before .before .before in
-    left-wrong (w .before .before .before .loop .inv .0) puts-chain (tags-printer _) (w .put-tag .ensures) (sym (c .before .before .after .ensures) ∙ c .enum-told .given .1) _ _
+    let c2 = c .before .before in
+    let c5 = c2 .before .before .before in
+    let c8 = c5 .before .before .before in
+    left-wrong (c8 .loop .inv .0) puts-chain (tags-printer _) (c5 .put-tag .ensures) (sym (c2 .after .ensures) ∙ c .enum-told .given .1) _ _
 
 loop-again : tie.Need-loop-again Inv-loop μ-loop
 loop-again c =
-    let w = c .before .before .before .before .before .before .before .before .before .before .before in
-    (left-more (w .before .before .before .loop .inv .0) puts-chain (tags-printer _) (w .put-tag .ensures) (sym (c .before .before .before .before .before .before .before .before .after .ensures) ∙ c .before .before .before .before .before .before .j .given .1) (c .before .before .put .ensures), c .before .out2 .given ∙ c .before .before .before .before .before .before .before .before .before .before .out .given ∙ w .before .before .before .loop .inv .1)
+    let c1 = c .before in
+    let c2 = c1 .before in
+    let c6 = c2 .before .before .before .before in
+    let c8 = c6 .before .before in
+    let c10 = c8 .before .before in
+    let c11 = c10 .before in
+    let c14 = c11 .before .before .before in
+    (left-more (c14 .loop .inv .0) puts-chain (tags-printer _) (c11 .put-tag .ensures) (sym (c8 .after .ensures) ∙ c6 .j .given .1) (c2 .put .ensures), c1 .out2 .given ∙ c10 .out .given ∙ c14 .loop .inv .1)
 
 pub put-all-spec : {M : Type 1} → statement M
 put-all-spec =
     tie.close
-    (tie.spec Inv-loop μ-loop (λ c. (left-start _ _ _ _ _ _, refl)) (λ c κs. search needs) (λ c κs. search needs) (λ c. search needs)
-    (λ c. search needs) (λ c κs. search needs) (λ c. search needs) (λ c. search needs) (λ c κs. search needs)
-    (λ c. search needs) returns (λ c. search needs) (λ c. search needs) returns-2 (λ c. search needs)
-    (λ c. omega arith) loop-again (λ c. search needs) (λ c. left-gone (c .before .loop .inv .0) (c .loop-test .left) _ _))
+    (tie.spec Inv-loop μ-loop (λ c. (left-start _ _ _ _ _ _, refl)) (search needs) (search needs) (search needs)
+    (search needs) (search needs) (search needs) (search needs) (search needs) (search needs) returns (search needs)
+    (search needs) returns-2 (search needs) (λ c. omega arith) loop-again (search needs)
+    (λ c. left-gone (c .before .loop .inv .0) (c .loop-test .left) _ _))

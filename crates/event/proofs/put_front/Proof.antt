@@ -6,14 +6,32 @@ use Rattle.event.proofs.put_front.Statement.{statement}
 use Rattle.event.proofs.put_front.Tie as tie
 
 same-length : tie.Need-same-length
-same-length c = c .before .out7 .given ∙ c .before .before .before .before .before .before .out6 .given ∙ c .before .before .before .before .before .before .before .before .before .before .before .before .out5 .given ∙ c .before .before .before .before .before .before .before .before .before .before .before .before .before .before .before .before .before .out4 .given ∙ c .before .before .before .before .before .before .before .before .before .before .before .before .before .before .before .before .before .before .before .before .before .before .out3 .given ∙ c .before .before .before .before .before .before .before .before .before .before .before .before .before .before .before .before .before .before .before .before .before .before .before .before .before .before .before .out2 .given ∙ c .before .before .before .before .before .before .before .before .before .before .before .before .before .before .before .before .before .before .before .before .before .before .before .before .before .before .before .before .before .before .before .before .out .given
+same-length c =
+    let c1 = c .before in
+    let c6 = c1 .before .before .before .before .before in
+    let c12 = c6 .before .before .before .before .before .before in
+    let c17 = c12 .before .before .before .before .before in
+    let c22 = c17 .before .before .before .before .before in
+    let c27 = c22 .before .before .before .before .before in
+    let c32 = c27 .before .before .before .before .before in
+    c1 .out7 .given ∙ c6 .out6 .given ∙ c12 .out5 .given ∙ c17 .out4 .given ∙ c22 .out3 .given ∙ c27 .out2 .given ∙ c32 .out .given
 
 returns : tie.Need-returns
-returns c = front-put _ _ (c .before .before .before .before .before .before .before .before .before .before .before .before .before .before .before .before .before .before .before .before .before .before .before .before .before .before .before .before .before .before .before .before .before .before .before .before .before .before .before .good .1 .1 .1 .0 .1 .1 .1 .0 .1) (c .before .before .before .before .before .before .before .before .before .before .before .before .before .before .before .before .before .before .before .before .before .before .before .before .before .before .before .before .before .before .before .before .before .before .before .before .before .before .before .good .1 .1 .1 .0 .1 .1 .1 .1 .0 .1) (c .before .before .before .before .before .before .before .before .before .before .before .before .before .before .before .before .before .before .before .before .before .before .before .before .before .before .before .before .before .piece .ensures) (c .before .before .before .before .before .before .before .before .kind-of .ensures) (c .before .before .before .before .before .before .before .before .before .before .before .before .before .before .before .before .before .before .before .before .before .before .before .before .before .before .before .before .before .before .before .before .before .put .ensures) (c .before .before .before .before .before .before .before .before .before .before .before .before .before .before .before .before .before .before .before .before .before .before .before .before .before .before .before .before .put-decoded .ensures) (c .before .before .before .before .before .before .before .before .before .before .before .before .before .before .before .before .before .before .before .before .before .before .before .put2 .ensures) (c .before .before .before .before .before .before .before .before .before .before .before .before .before .before .before .before .before .before .put-decimal .ensures) (c .before .before .before .before .before .before .before .before .before .before .before .before .before .put3 .ensures) (c .before .before .before .before .before .before .before .put-natural .ensures) (c .before .before .put4 .ensures)
+returns c =
+    let c2 = c .before .before in
+    let c7 = c2 .before .before .before .before .before in
+    let c8 = c7 .before in
+    let c13 = c8 .before .before .before .before .before in
+    let c18 = c13 .before .before .before .before .before in
+    let c23 = c18 .before .before .before .before .before in
+    let c28 = c23 .before .before .before .before .before in
+    let c29 = c28 .before in
+    let c33 = c29 .before .before .before .before in
+    let c39 = c33 .before .before .before .before .before .before in
+    front-put _ _ (c39 .good .1 .1 .1 .0 .1 .1 .1 .0 .1) (c39 .good .1 .1 .1 .0 .1 .1 .1 .1 .0 .1) (c29 .piece .ensures) (c8 .kind-of .ensures) (c33 .put .ensures) (c28 .put-decoded .ensures) (c23 .put2 .ensures) (c18 .put-decimal .ensures) (c13 .put3 .ensures) (c7 .put-natural .ensures) (c2 .put4 .ensures)
 
 pub put-front-spec : {M : Type 1} → statement M
 put-front-spec =
     tie.close
-    (tie.spec (λ c. search needs) (λ c κs. search needs) (λ c κs. search needs) (λ c κs. search needs)
-    (λ c. search needs) (λ c κs. search needs) (λ c κs. search needs) (λ c. search needs) (λ c κs. search needs)
-    (λ c κs. search needs) (λ c κs. search needs) (λ c. search needs) (λ c κs. search needs) same-length returns)
+    (tie.spec (search needs) (search needs) (search needs) (search needs) (search needs) (search needs) (search needs)
+    (search needs) (search needs) (search needs) (search needs) (search needs) (search needs) same-length returns)

@@ -5,9 +5,12 @@ use Rattle.event.proofs.put_text.Statement.{statement}
 use Rattle.event.proofs.put_text.Tie as tie
 
 returns : tie.Need-returns
-returns c = text-put _ _ (c .before .before .before .before .before .before .put-front .ensures) (c .before .before .put-back .ensures)
+returns c =
+    let c2 = c .before .before in
+    let c6 = c2 .before .before .before .before in
+    text-put _ _ (c6 .put-front .ensures) (c2 .put-back .ensures)
 
 pub put-text-spec : {M : Type 1} → statement M
 put-text-spec =
     tie.close
-    (tie.spec (λ c κs. search needs) (λ c κs. search needs) (λ c. search needs) returns)
+    (tie.spec (search needs) (search needs) (search needs) returns)

@@ -5,10 +5,14 @@ use Rattle.event.proofs.spells_id.Statement.{statement}
 use Rattle.event.proofs.spells_id.Tie as tie
 
 returns : tie.Need-returns
-returns c = id-spelled (c .before .before .piece .ensures) (hex-whole _ (c .before .before .before .hex2 .given) (c .before .before .before .before .before .before .before .before .good .1 .1 .0 .1 .0 .1) (c .before .before .before .before .put-hex .ensures)) (c .spells .ensures)
+returns c =
+    let c2 = c .before .before in
+    let c3 = c2 .before in
+    let c4 = c3 .before in
+    let c8 = c4 .before .before .before .before in
+    id-spelled (c2 .piece .ensures) (hex-whole _ (c3 .hex2 .given) (c8 .good .1 .1 .0 .1 .0 .1) (c4 .put-hex .ensures)) (c .spells .ensures)
 
 pub spells-id-spec : {M : Type 1} → statement M
 spells-id-spec =
     tie.close
-    (tie.spec (λ c. search needs) (λ c. search needs) (λ c κs. search needs) (λ c κs. search needs)
-    (λ c. search needs) (λ c κs. search needs) returns)
+    (tie.spec (search needs) (search needs) (search needs) (search needs) (search needs) (search needs) returns)
