@@ -58,6 +58,13 @@ fn short(b: u8) -> bool
             || (b == 0x2f || (b == 0x62 || (b == 0x66 || (b == 0x6e || (b == 0x72 || b == 0x74))))))
 }
 
+// A hexadecimal digit, in either case.
+fn hex_digit(b: u8) -> bool
+    ensures { λ r. ⌜ r ≡ classOf Class.Hex b ⌝ }
+{
+    between(0x30, 0x39, b) || (between(0x41, 0x46, b) || between(0x61, 0x66, b))
+}
+
 // Whether a byte is of a class.
 fn is(class: Class, b: u8) -> bool
     ensures { λ r. ⌜ r ≡ classOf class b ⌝ }
@@ -66,7 +73,7 @@ fn is(class: Class, b: u8) -> bool
         Class::Space => b == 0x20 || (b == 0x09 || (b == 0x0a || b == 0x0d)),
         Class::Digit => between(0x30, 0x39, b),
         Class::Plain => plain(b),
-        Class::Hex => between(0x30, 0x39, b) || (between(0x41, 0x46, b) || between(0x61, 0x66, b)),
+        Class::Hex => hex_digit(b),
         Class::Short => short(b),
         Class::Exponent => b == 0x65 || b == 0x45,
         Class::Sign => b == 0x2d || b == 0x2b,
@@ -222,19 +229,41 @@ fn number(s: &[u8], at: usize) -> Out
     }
 }
 
+// A hexadecimal digit: `one` again, small enough to be compiled in place.
+fn nibble(s: &[u8], at: usize) -> Out
+    ensures { λ r. ⌜ r ≡ oneAt (now (s .entry)) Class.Hex at ⌝ }
+{
+    if hex_digit(byte(s, at)) {
+        Out::End(at + 1)
+    } else {
+        Out::Bad
+    }
+}
+
 // Four hexadecimal digits.
 fn hex4(s: &[u8], at: usize) -> Out
     ensures { λ r. ⌜ r ≡ hexAt (now (s .entry)) at ⌝ }
 {
-    match one(s, at, Class::Hex) {
-        Out::End(a) => match one(s, a, Class::Hex) {
-            Out::End(b) => match one(s, b, Class::Hex) {
-                Out::End(c) => one(s, c, Class::Hex),
+    match nibble(s, at) {
+        Out::End(a) => match nibble(s, a) {
+            Out::End(b) => match nibble(s, b) {
+                Out::End(c) => nibble(s, c),
                 Out::Bad => Out::Bad,
             },
             Out::Bad => Out::Bad,
         },
         Out::Bad => Out::Bad,
+    }
+}
+
+// What a backslash may stand before, but for u: `one` again, small enough to be compiled in place.
+fn letter(s: &[u8], at: usize) -> Out
+    ensures { λ r. ⌜ r ≡ oneAt (now (s .entry)) Class.Short at ⌝ }
+{
+    if short(byte(s, at)) {
+        Out::End(at + 1)
+    } else {
+        Out::Bad
     }
 }
 
@@ -245,7 +274,7 @@ fn escaped(s: &[u8], at: usize) -> Out
     match this(s, at, b'\\') {
         Out::End(n) => match this(s, n, b'u') {
             Out::End(m) => hex4(s, m),
-            Out::Bad => one(s, n, Class::Short),
+            Out::Bad => letter(s, n),
         },
         Out::Bad => Out::Bad,
     }

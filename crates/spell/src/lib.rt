@@ -22,22 +22,19 @@ fn byte(s: &[u8], i: usize) -> u8
     if i < s.len() { s[i] } else { 0 }
 }
 
+// The number of a hex digit, and 0 of any other byte: the digits are told first, then a-f, which most texts spell.
 fn hex_val(x: u8) -> u32
     ensures { λ r. ⌜ r ≡ hexVal x ⌝ }
     ensures { λ r. ⌜ r ≤ 15 ⌝ }
 {
-    if x < 0x30 {
-        0
-    } else if x <= 0x39 {
-        (x - 0x30) as u32
+    if x <= 0x39 {
+        if x < 0x30 { 0 } else { (x - 0x30) as u32 }
+    } else if 0x61 <= x {
+        if x <= 0x66 { (x - 0x61 + 10) as u32 } else { 0 }
     } else if x < 0x41 {
         0
     } else if x <= 0x46 {
         (x - 0x41 + 10) as u32
-    } else if x < 0x61 {
-        0
-    } else if x <= 0x66 {
-        (x - 0x61 + 10) as u32
     } else {
         0
     }

@@ -1,9 +1,9 @@
-// UTF-8 (RFC 3629), a byte at a time: what the next byte has to be, and one step.
+// UTF-8 (RFC 3629), a character at a time, and ASCII at a run.
 ghost use mathlib.Core.Path.{_≡_};
-ghost use Prim.Native.Nat.{_≤_};
-ghost use lib.ListN.{length};
-ghost use Rattle.utf8.specs.Steps.{Past};
-ghost use Rattle.utf8.specs.Utf8.{leadOf, next, ends, isUtf8};
+ghost use Prim.Native.Nat.{_+_, _≤_, _<_};
+ghost use lib.ListN.{length, getD};
+ghost use Rattle.utf8.specs.Steps.{Past, Passed, Small};
+ghost use Rattle.utf8.specs.Utf8.{leadOf, isUtf8};
 
 // What the next byte has to be: the first of a character, one from the first number to the second with so many tails after it, or nothing will do.
 pub enum Want {
@@ -14,6 +14,7 @@ pub enum Want {
 
 fn lead(x: u8) -> Want
     ensures { λ r. ⌜ r ≡ leadOf x ⌝ }
+    ensures { λ r. ⌜ Small r ⌝ }
 {
     if x <= 0x7f {
         Want::Lead
@@ -40,36 +41,6 @@ fn lead(x: u8) -> Want
     }
 }
 
-fn step(w: Want, x: u8) -> Want
-    ensures { λ r. ⌜ r ≡ next w x ⌝ }
-{
-    match w {
-        Want::Lead => lead(x),
-        Want::Tail(lo, hi, more) => {
-            if x < lo {
-                Want::Bad
-            } else if hi < x {
-                Want::Bad
-            } else if more == 0 {
-                Want::Lead
-            } else {
-                Want::Tail(0x80, 0xbf, more - 1)
-            }
-        }
-        Want::Bad => Want::Bad,
-    }
-}
-
-fn ended(w: Want) -> bool
-    ensures { λ r. ⌜ r ≡ ends w ⌝ }
-{
-    match w {
-        Want::Lead => true,
-        Want::Tail(_, _, _) => false,
-        Want::Bad => false,
-    }
-}
-
 // The first place from i on that holds no ASCII, or the end.
 fn past_ascii(s: &[u8], i: usize) -> usize
     requires { ⌜ i ≤ length (now s) ⌝ }
@@ -85,18 +56,73 @@ fn past_ascii(s: &[u8], i: usize) -> usize
     k
 }
 
+// The byte at a place, and 0 past the end.
+fn byte(s: &[u8], at: usize) -> u8
+    ensures { λ r. ⌜ r ≡ getD (now (s .entry)) at 0 ⌝ }
+{
+    if at < s.len() { s[at] } else { 0 }
+}
+
+// The place after a character whose first byte stands at i: an octet from lo to hi comes next, and after it so many tails. Or i itself, if
+// that is not what comes.
+fn past_tails(s: &[u8], i: usize, lo: u8, hi: u8, more: u8) -> usize
+    requires { ⌜ i < length (now s) ⌝ }
+    requires { ⌜ Small (Want.Tail lo hi more) ⌝ }
+    ensures { λ r. ⌜ Passed (Want.Tail lo hi more) (now (s .entry)) (i + 1) i r ⌝ }
+{
+    let a = byte(s, i + 1);
+    if a < lo {
+        return i;
+    }
+    if hi < a {
+        return i;
+    }
+    if more == 0 {
+        return i + 2;
+    }
+    let b = byte(s, i + 2);
+    if b < 0x80 {
+        return i;
+    }
+    if 0xbf < b {
+        return i;
+    }
+    if more == 1 {
+        return i + 3;
+    }
+    let d = byte(s, i + 3);
+    if d < 0x80 {
+        return i;
+    }
+    if 0xbf < d {
+        return i;
+    }
+    i + 4
+}
+
+// The place after the character at i, or i itself where none stands.
+fn past_char(s: &[u8], i: usize) -> usize
+    requires { ⌜ i < length (now s) ⌝ }
+    ensures { λ r. ⌜ Passed Want.Lead (now (s .entry)) i i r ⌝ }
+{
+    match lead(s[i]) {
+        Want::Lead => i + 1,
+        Want::Tail(lo, hi, more) => past_tails(s, i, lo, hi, more),
+        Want::Bad => i,
+    }
+}
+
 // Whether the bytes are UTF-8.
 pub fn is_utf8(s: &[u8]) -> bool
     ensures { λ r. ⌜ r ≡ isUtf8 (now (s .entry)) ⌝ }
 {
-    let mut w = Want::Lead;
     let mut i = past_ascii(s, 0);
     while i < s.len() {
-        w = step(w, s[i]);
-        i += 1;
-        if ended(w) {
-            i = past_ascii(s, i);
+        let n = past_char(s, i);
+        if n == i {
+            return false;
         }
+        i = past_ascii(s, n);
     }
-    ended(w)
+    true
 }

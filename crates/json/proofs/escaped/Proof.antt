@@ -10,10 +10,10 @@ unfolding classOf escapedAt
 escaped-spec =
     tie.close
     (tie.spec
-    (λ c κs. search needs) (search needs) (λ c κs. search needs) (search needs) (search needs) (search needs) (λ c κs. refl)
+    (λ c κs. search needs) (search needs) (λ c κs. search needs) (search needs) (search needs) (search needs) (search needs)
     (search needs)
     (λ c. let d = c .before .before .before .before in
     c .hex4 .ensures ∙ simp (← d .before .before .before .before .this .ensures, d .before .before .n .given .1, ← d .this2 .ensures, c .before .before .m .given .1))
     (λ c. let d = c .before .before .before in
-    c .one .ensures ∙ simp (← d .before .before .before .before .this .ensures, d .before .before .n .given .1, ← d .this2 .ensures, c .before .enum-told .given .1))
+    c .letter .ensures ∙ simp (← d .before .before .before .before .this .ensures, d .before .before .n .given .1, ← d .this2 .ensures, c .before .enum-told .given .1))
     (λ c. simp (← c .before .before .this .ensures, c .enum-told2 .given .1)))

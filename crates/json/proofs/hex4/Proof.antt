@@ -10,12 +10,12 @@ unfolding classOf hexAt
 hex4-spec =
     tie.close
     (tie.spec
-    (λ c κs. refl) (search needs) (λ c κs. refl) (search needs) (λ c κs. refl) (search needs) (λ c κs. refl) (search needs)
+    (search needs) (search needs) (search needs) (search needs) (search needs) (search needs) (search needs) (search needs)
     (search needs) (search needs)
     (λ c. let d = c .before .before .before .before in let e = d .before .before .before .before in
-    c .one4 .ensures ∙ simp (← e .before .before .before .before .one .ensures, e .before .before .a .given .1, ← e .one2 .ensures, d .before .before .b .given .1, ← d .one3 .ensures, c .before .before .c .given .1))
+    c .nibble4 .ensures ∙ simp (← e .before .before .before .before .nibble .ensures, e .before .before .a .given .1, ← e .nibble2 .ensures, d .before .before .b .given .1, ← d .nibble3 .ensures, c .before .before .c .given .1))
     (λ c. let d = c .before .before in let e = d .before .before .before .before in
-    simp (← e .before .before .before .before .one .ensures, e .before .before .a .given .1, ← e .one2 .ensures, d .before .before .b .given .1, ← d .one3 .ensures, c .enum-told .given .1))
+    simp (← e .before .before .before .before .nibble .ensures, e .before .before .a .given .1, ← e .nibble2 .ensures, d .before .before .b .given .1, ← d .nibble3 .ensures, c .enum-told .given .1))
     (λ c. let e = c .before .before in
-    simp (← e .before .before .before .before .one .ensures, e .before .before .a .given .1, ← e .one2 .ensures, c .enum-told2 .given .1))
-    (λ c. simp (← c .before .before .one .ensures, c .enum-told3 .given .1)))
+    simp (← e .before .before .before .before .nibble .ensures, e .before .before .a .given .1, ← e .nibble2 .ensures, c .enum-told2 .given .1))
+    (λ c. simp (← c .before .before .nibble .ensures, c .enum-told3 .given .1)))

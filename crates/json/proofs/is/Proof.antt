@@ -11,18 +11,14 @@ is-spec =
     tie.close
     (tie.spec
     (search needs) (search needs) (search needs) (search needs) (search needs) (search needs) (search needs)
-    (search needs) (search needs) (search needs) (search needs) (search needs) (search needs) (search needs)
+    (search needs) (search needs) (search needs) (search needs) (search needs)
     (λ c. search (tests, c .before .enum-told .given .1))
     (λ c. search (tests, c .before .before .enum-told .given .1))
     (λ c. search (tests, c .before .before .before .enum-told .given .1))
     (λ c. search (tests, c .before .before .before .enum-told .given .1))
     (λ c. simp (c .before .enum-told2 .given .1, c .between .ensures))
     (λ c. simp (c .before .enum-told3 .given .1, c .plain .ensures))
-    (λ c. simp (c .before .before .enum-told4 .given .1, ← c .before .between2 .ensures, c .if4 .taken))
-    (λ c. let d = c .before .before .before in
-    simp (d .before .enum-told4 .given .1, ← d .between2 .ensures, c .before .before .if4 .left, ← c .before .between3 .ensures, c .if5 .taken))
-    (λ c. let d = c .before .before .before in
-    simp (d .before .before .enum-told4 .given .1, ← d .before .between2 .ensures, d .if4 .left, ← c .before .before .between3 .ensures, c .before .if5 .left, c .between4 .ensures))
+    (λ c. simp (c .before .enum-told4 .given .1, c .hex-digit .ensures))
     (λ c. simp (c .before .enum-told5 .given .1, c .short .ensures))
     (λ c. search (tests, c .before .enum-told6 .given .1))
     (λ c. search (tests, c .before .enum-told6 .given .1))
