@@ -15,7 +15,8 @@ use Rattle.digest.specs.Digest.{digest}
 use Rattle.digest.specs.State.{digested}
 use Rattle.digest.specs.declared.Digest.{Digest}
 use Rattle.digest.specs.Pieces.{digest-done}
-use Rattle.spell.specs.Spell.{decode, sameBytes}
+use Rattle.wire.specs.Bytes.{sameBytes}
+use Rattle.spell.specs.Spell.{decode}
 use Rattle.message.specs.declared.Body.{Body}
 use Rattle.message.specs.declared.EventParts.{EventParts}
 use Rattle.message.specs.Lent.{bodyRow, eventRow}

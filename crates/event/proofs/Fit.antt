@@ -25,16 +25,18 @@ use Rattle.json.specs.declared.Next.the-variants.{More, Done, Wrong}
 use Rattle.json.proofs.Ends.{then-end, one-is, byte-is}
 use Rattle.json.proofs.Spelled.{string-parts, string-spelled}
 use Rattle.json.proofs.Trees.{tree-open}
-use Rattle.numeral.specs.Whole.{isWithin, widest}
+use Rattle.wire.specs.Limits.{mostText, widest}
+use Rattle.wire.specs.Bytes.{isHex}
+use Rattle.numeral.specs.Whole.{isWithin}
 use Rattle.numeral.specs.declared.Whole.the-variants.{Value}
 use Rattle.rows.specs.Strings.{part, refusedIn, refusedItems}
-use Rattle.spell.specs.Spell.{decode, refuses, isHex, isHexOf}
+use Rattle.spell.specs.Spell.{decode, refuses, isHexOf}
 use Rattle.spell.specs.Spell as spell
 use Rattle.spell.proofs.Laws.{hex-length, hex-all}
 use Rattle.shape.specs.Shape.{anyItem, allItems, countItems, count, isArrayOf}
 use Rattle.shape.specs.Shape as shape
 use Rattle.shape.specs.Rows.{outside, wrongTag}
-use Rattle.text.specs.Event.{all, isHexDigit, isPubkey, isTime, isKind, isString, isTag, isTags, isFit, mostText}
+use Rattle.text.specs.Event.{all, isPubkey, isTime, isKind, isString, isTag, isTags, isFit}
 use Rattle.text.specs.Read.{read, readText}
 use Rattle.text.proofs.Strings.{High, lead-high}
 use Rattle.text.proofs.RoundTrip.{read-back, serialise-once}
@@ -326,7 +328,7 @@ value-fits b at r2 r4 r5 r8 = go (treeAt b depth at) refl r2 r4 r5 r8
         let s = not-false (lent.isTags t) r5 in
         on (array b (isArrayOf shape.isString) 7 at t n w s) (not-false (isUtf8 (part b at (n - at))) r2) r4 s r8
 
-hex-same : (l : List ℕ) → all isHexDigit l ≡ spell.all isHex l
+hex-same : (l : List ℕ) → all isHex l ≡ spell.all isHex l
 unfolding all spell.all isHex
 hex-same [] = refl
 hex-same (x ∷ l) = rw (hex-same l)
@@ -352,7 +354,7 @@ module _ (b : List ℕ) (p : Span) (r5 : string5 b p ≡ false) where
       let h = not-false (isHexOf 64 s) (and-fails (isSpelled b p) _ spelled r7) in
       rw (eq-eqb (length (decode s)) 64 (hex-length 64 s h)) (digits (decode s) (hex-all 64 s h))
     where
-      digits : (l : List ℕ) → spell.all isHex l ≡ true → all isHexDigit l ≡ true
+      digits : (l : List ℕ) → spell.all isHex l ≡ true → all isHex l ≡ true
       digits l e = hex-same l ∙ e
 
 -- numbers

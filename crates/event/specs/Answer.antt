@@ -4,9 +4,9 @@ use mathlib.Core.Bool.{Bool, cond}
 use mathlib.Core.List.{List, [], _∷_, _++_}
 use lib.Dec.{eqb, ltb}
 use lib.ListN.{length, drop, replicate}
-use Rattle.spell.specs.Spell.{sameBytes}
+use Rattle.wire.specs.Limits.{mostText}
+use Rattle.wire.specs.Bytes.{sameBytes}
 use Rattle.digest.specs.Digest.{digest}
-use Rattle.text.specs.Event.{mostText}
 use Rattle.message.specs.declared.Body.{Body}
 use Rattle.message.specs.declared.EventParts.{EventParts}
 use Rattle.message.specs.Lent.{bodyRow, eventRow}

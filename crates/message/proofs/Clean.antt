@@ -12,7 +12,8 @@ use Rattle.json.specs.Grammar.{isSpelling}
 use Rattle.json.specs.Tree.{Json, word, num, str, arr, obj, Items, Got, got, depth, treeAt}
 use Rattle.json.proofs.Spelled.{string-parts, string-spelled}
 use Rattle.spell.specs.Spell.{refuses, isHexOf}
-use Rattle.numeral.specs.Whole.{wholeOf, answerOf, isWithin, widest}
+use Rattle.wire.specs.Limits.{widest}
+use Rattle.numeral.specs.Whole.{wholeOf, answerOf, isWithin}
 use Rattle.numeral.specs.declared.Whole.{Whole}
 use Rattle.numeral.specs.declared.Whole.the-variants.{Value, Large, Malformed}
 use Rattle.rows.specs.Strings.{part, refusedIn}

@@ -9,7 +9,7 @@ use Rattle.json.specs.Tree.{Json, Items, nil, item, Got, got}
 use Rattle.spell.specs.Spell.{refuses}
 use Rattle.rows.specs.Strings.{spelledAt, refusedIn, refusedItems}
 use Rattle.shape.specs.Shape.{anyItem, allItems, countItems, nameAt, named, once}
-use Rattle.shape.proofs.Names.{same-is}
+use Rattle.wire.proofs.Bytes.{same-equal}
 use Rattle.message.specs.Parts.{Member, missing, member, memberOf}
 use Rattle.message.proofs.Found.{Reads, end, one}
 
@@ -62,7 +62,7 @@ member-holds s w (item p v t ts) = go (named s w p) refl (member-holds s w ts)
     wider (present i e) = present (later i) e
 
     go : (b : Bool) → named s w p ≡ b → Holds s w ts (memberOf s w ts) → Holds s w (item p v t ts) (cond b (member v t) (memberOf s w ts))
-    go true e h = present here (same-is (nameAt s p) w e)
+    go true e h = present here (same-equal (nameAt s p) w e)
     go false e h = wider h
 
 none-counted : (s w : List ℕ) (ts : Items) → memberOf s w ts ≡ missing → countItems (λ p t. named s w p) ts ≡ 0

@@ -10,7 +10,8 @@ use lib.Dec.{eqb, ltb}
 use lib.ListN.{length}
 use Rattle.utf8.specs.Utf8.{isUtf8}
 use Rattle.json.specs.Tree.{Json, word, num, str, arr, obj, Items, nil, item, Got, none, got, treeAt, root}
-use Rattle.spell.specs.Spell.{decode, sameBytes, refuses}
+use Rattle.wire.specs.Bytes.{sameBytes}
+use Rattle.spell.specs.Spell.{decode, refuses}
 use Rattle.json.specs.Grammar.{wsAt}
 use Rattle.rows.specs.Strings.{part, refusedIn, refusedItems}
 use Rattle.rows.specs.Rows.{row1, row2, row3}

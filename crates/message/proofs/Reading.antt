@@ -19,7 +19,8 @@ use Rattle.spell.specs.Spell.{decode, characterCount}
 use Rattle.rows.specs.Strings.{part, spelledAt}
 use Rattle.rows.specs.Rows.{row1, row2, row3}
 use Rattle.shape.specs.Shape.{Word, event, req, close, other, wordOf, nameAt, Opened, opened, hasShape, isOne, isThen, isString, isEvent, isFilter, idName}
-use Rattle.shape.specs.Rows.{row4, row5, row6, row7, row8, treeRow, rootRow, messageRow, outside, mostCharacters, wrongSubscription}
+use Rattle.wire.specs.Limits.{mostCharacters}
+use Rattle.shape.specs.Rows.{row4, row5, row6, row7, row8, treeRow, rootRow, messageRow, outside, wrongSubscription}
 use Rattle.message.specs.declared.Listed.the-variants.{At}
 use Rattle.message.specs.declared.Message.the-variants as message
 use Rattle.message.specs.declared.Named.{Named}

@@ -10,11 +10,12 @@ use Rattle.utf8.specs.Utf8.{isUtf8}
 use Rattle.json.specs.Grammar.{isSpelling}
 use Rattle.json.specs.Tree.{Json, Got, none, got, depth, treeAt}
 use Rattle.spell.specs.Spell.{refuses, isHexOf}
-use Rattle.numeral.specs.Whole.{isWithin, widest}
+use Rattle.wire.specs.Limits.{widest, mostSmall, hexLength, sigLength, mostTags}
+use Rattle.numeral.specs.Whole.{isWithin}
 use Rattle.numeral.specs.declared.Whole.the-variants.{Value}
 use Rattle.rows.specs.Strings.{part, refusedIn}
 use Rattle.shape.specs.Shape.{anyItem, count, isString, isNumber, isArrayOf, isFilter}
-use Rattle.shape.specs.Rows.{onArray, onObject, outside, mostTags, wrongSmall, wrongHex, wrongTag, wrongList, filterNumber, filterHex, filterCounts}
+use Rattle.shape.specs.Rows.{onArray, onObject, outside, wrongSmall, wrongHex, wrongTag, wrongList, filterNumber, filterHex, filterCounts}
 use Rattle.message.specs.declared.Span.{Span}
 use Rattle.message.specs.declared.Body.{Body}
 use Rattle.message.specs.declared.EventParts.{EventParts}
@@ -60,7 +61,7 @@ time6 z = wrongNumber (negℤ (pos widest)) (pos widest) z
 
 -- kind, limit
 abbrev pub small6 : ℤ → Bool
-small6 z = wrongNumber (pos 0) (pos 65535) z
+small6 z = wrongNumber (pos 0) (pos mostSmall) z
 
 -- ---- the value at a place, an array or an object. Row 5 where none stands there
 abbrev pub onValue : (Json → Bool) → Got Json → Bool
@@ -105,7 +106,7 @@ unfoldable pub body6 : Body → Bool
 body6 p = time6 (p .«created_at») || small6 (p .kind)
 
 unfoldable pub body7 : List ℕ → Body → Bool
-body7 b p = string7 64 b (p .pubkey)
+body7 b p = string7 hexLength b (p .pubkey)
 
 unfoldable pub body8 : List ℕ → Body → Bool
 body8 b p = onValue wrongTags (valueAt b (p .tags))
@@ -124,7 +125,7 @@ unfoldable pub event5 : List ℕ → EventParts → Bool
 event5 b p = string5 b (p .id) || (body5 b (p .body) || string5 b (p .sig))
 
 unfoldable pub event7 : List ℕ → EventParts → Bool
-event7 b p = string7 64 b (p .id) || (body7 b (p .body) || string7 128 b (p .sig))
+event7 b p = string7 hexLength b (p .id) || (body7 b (p .body) || string7 sigLength b (p .sig))
 
 unfoldable pub eventRow : List ℕ → EventParts → ℕ
 eventRow b p = lowest (event2 b p) (event4 b p) (event5 b p) (body6 (p .body)) (event7 b p) (body8 b (p .body))
@@ -139,7 +140,7 @@ inBound f bound.Absent = false
 inBound f (bound.Number z) = f z
 
 abbrev pub someHex : List ℕ → Json → Bool
-someHex b t = onArray (anyItem (λ q u. wrongHex 64 b u)) t
+someHex b t = onArray (anyItem (λ q u. wrongHex hexLength b u)) t
 
 abbrev pub someSmall : List ℕ → Json → Bool
 someSmall b t = onArray (anyItem (λ q u. wrongSmall b u)) t

@@ -4,6 +4,7 @@ use mathlib.Core.Path.{_≡_}
 use mathlib.Core.List.{List}
 use mathlib.Core.Bool.{Bool, cond, _&&_}
 use lib.Dec.{eqb, leb}
+use Rattle.wire.specs.Limits.{hexLength}
 use Rattle.json.specs.Tree.{Json, word, num, str, arr, obj, Items, nil, item, Got, none, got, root}
 use Rattle.rows.specs.Strings.{part}
 use Rattle.spell.specs.Spell.{isHexOf}
@@ -54,7 +55,7 @@ RowRead = (s : List ℕ) → rowOf (readOf s) ≡ messageRow s
 -- ---- 01, "Filters and replies": "Rows 6-12 give OK with false if the id field is 64 lower-case hex; CLOSED for a REQ whose subscription
 -- id is within bounds; otherwise NOTICE". What is found in a text that has its shape (rows 1 to 5 do not hold); nothing elsewhere
 abbrev pub idNamed : List ℕ → Span → Named
-idNamed s p = cond (isHexOf 64 (part s (p .start) (p .len))) (names.Id p) names.Nothing
+idNamed s p = cond (isHexOf hexLength (part s (p .start) (p .len))) (names.Id p) names.Nothing
 
 abbrev pub subscriptionNamed : List ℕ → Json → Named
 subscriptionNamed s t = cond (wrongSubscription s t) names.Nothing (names.Subscription (spanOf t))

@@ -11,7 +11,9 @@ use Rattle.json.specs.declared.Kind.{Kind}
 use Rattle.json.specs.declared.Kind.the-variants.{None}
 use Rattle.json.specs.declared.Start.{Start}
 use Rattle.json.specs.declared.Start.the-variants.{Leaf, Empty, Many}
-use Rattle.spell.specs.Spell.{decode, sameBytes, characterCount}
+use Rattle.wire.specs.Limits.{mostCharacters}
+use Rattle.wire.specs.Bytes.{sameBytes}
+use Rattle.spell.specs.Spell.{decode, characterCount}
 use Rattle.rows.specs.Strings.{part, spelledAt}
 use Rattle.shape.specs.Shape.{nameAt, Word, event, req, close, other, wordOf, idName, pubkeyName, createdAtName, kindName, tagsName, contentName, sigName, idsName, authorsName, kindsName, sinceName, untilName, limitName}
 use Rattle.message.specs.declared.Span.{Span}
@@ -21,7 +23,7 @@ use Rattle.message.specs.declared.Listed.{Listed}
 use Rattle.message.specs.declared.Listed.the-variants.{Absent, At}
 use Rattle.message.specs.declared.Body.{Body}
 use Rattle.message.specs.declared.Members.{Members}
-use Rattle.shape.specs.Rows.{outside, mostCharacters}
+use Rattle.shape.specs.Rows.{outside}
 use Rattle.message.specs.declared.Message.{Message}
 use Rattle.message.specs.declared.Message.the-variants as message
 use Rattle.message.specs.declared.Named.{Named}

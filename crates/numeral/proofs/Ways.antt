@@ -20,7 +20,8 @@ use Rattle.wire.specs.Put.{Puts}
 use Rattle.wire.specs.Field.{unsigned}
 use Rattle.wire.proofs.Laws.{puts-then}
 use Rattle.numeral.specs.Decimal.{digits, decimal}
-use Rattle.numeral.specs.Whole.{isDigit, allDigits, valueFrom, valueOf, isNatural, widest, malformed, whole, naturalOf, negativeOf, wholeOf, isWithin, answerOf}
+use Rattle.wire.specs.Limits.{widest}
+use Rattle.numeral.specs.Whole.{isDigit, allDigits, valueFrom, valueOf, isNatural, malformed, whole, naturalOf, negativeOf, wholeOf, isWithin, answerOf}
 use Rattle.numeral.specs.Sum.{over, digitsSum, naturalSum, aboveOf, belowOf}
 use Rattle.numeral.specs.declared.Whole.{Whole}
 use Rattle.numeral.specs.declared.Whole.the-variants.{Value, Malformed}

@@ -10,7 +10,8 @@ use lib.IntN.{ℤ, pos, negsuc, negℤ}
 use lib.Signed.{mag}
 use lib.ListN.{length, getD}
 use Rattle.numeral.specs.Decimal.{digits, decimal}
-use Rattle.numeral.specs.Whole.{isDigit, allDigits, valueFrom, valueOf, isEmpty, isNatural, Read, malformed, whole, naturalOf, negativeOf, wholeOf, widest, isWithin, answerOf}
+use Rattle.wire.specs.Limits.{widest}
+use Rattle.numeral.specs.Whole.{isDigit, allDigits, valueFrom, valueOf, isEmpty, isNatural, Read, malformed, whole, naturalOf, negativeOf, wholeOf, isWithin, answerOf}
 use Rattle.numeral.specs.declared.Whole.the-variants.{Value, Large}
 use Rattle.numeral.proofs.Digits.{digits-one, digits-more, digits-all, digits-first, value-digits, some-digit, digits-few, digits-20}
 

@@ -4,7 +4,8 @@ use mathlib.Core.List.{List}
 use Prim.Native.Nat.{ℕ, suc, min}
 use lib.Dec.{eqb, ltb}
 use lib.IntN.{pos, negℤ}
-use Rattle.numeral.specs.Whole.{allDigits, valueFrom, valueOf, isNatural, widest}
+use Rattle.wire.specs.Limits.{widest}
+use Rattle.numeral.specs.Whole.{allDigits, valueFrom, valueOf, isNatural}
 use Rattle.numeral.specs.declared.Whole.{Whole}
 use Rattle.numeral.specs.declared.Whole.the-variants.{Value, Large, Malformed}
 use Rattle.numeral.specs.declared.Natural.{Natural}

@@ -5,6 +5,7 @@ use Prim.Native.Nat.{ℕ, _+_, _-_, _*_}
 use lib.Dec.{leb, eqb}
 use lib.IntN.{ℤ, pos, negℤ}
 use lib.Signed.{ltZ}
+use Rattle.wire.specs.Limits.{widest}
 use Rattle.numeral.specs.declared.Whole.{Whole}
 use Rattle.numeral.specs.declared.Whole.the-variants.{Value, Large, Malformed}
 
@@ -46,10 +47,6 @@ negativeOf l = cond (isNatural l) (cond (eqb (valueOf l) 0) malformed (whole (ne
 unfoldable pub wholeOf : List ℕ → Read
 wholeOf [] = malformed
 wholeOf (x ∷ l) = cond (eqb x 45) (negativeOf l) (naturalOf (x ∷ l))
-
--- the widest range of 01: -9007199254740991 to 9007199254740991
-abbrev pub widest : ℕ
-widest = 9007199254740991
 
 unfoldable pub isWithin : Whole → ℤ → ℤ → Bool
 isWithin (Value z) lo hi = not (ltZ z lo) && not (ltZ hi z)

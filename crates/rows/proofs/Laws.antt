@@ -22,7 +22,8 @@ use Rattle.spell.specs.Spell.{refuses}
 use Rattle.rows.specs.declared.Seen.{Seen}
 use Rattle.rows.specs.declared.Seen.the-variants.{Clean, Missing}
 use Rattle.rows.specs.Strings.{spelledAt, refusedIn, refusedItems}
-use Rattle.rows.specs.Rows.{mostMessage, onRoot, row4, textRow}
+use Rattle.wire.specs.Limits.{mostMessage}
+use Rattle.rows.specs.Rows.{onRoot, row4, textRow}
 use Rattle.rows.specs.Seen.{made, seenOf, nameAt, placeOf, isRefused, toldOf}
 
 -- ---- strings

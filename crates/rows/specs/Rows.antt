@@ -4,13 +4,10 @@ use mathlib.Core.List.{List}
 use mathlib.Core.Bool.{Bool, true, false, cond, not}
 use lib.ListN.{length}
 use lib.Dec.{ltb}
+use Rattle.wire.specs.Limits.{mostMessage}
 use Rattle.utf8.specs.Utf8.{isUtf8}
 use Rattle.json.specs.Tree.{Json, Got, none, got, root, isText}
 use Rattle.rows.specs.Strings.{refusedIn}
-
--- "message over 8,192 bytes"
-abbrev pub mostMessage : ℕ
-mostMessage = 8192
 
 -- what holds of the value of a text; false where there is none
 abbrev pub onRoot : (Json → Bool) → Got Json → Bool

@@ -7,7 +7,7 @@ use native.Mathlib.Omega.{arith}
 use borrow.Author.Tests.{lt-ltb, eq-eqb, eqb-true, ltb-true}
 use lib.Dec.{eqb, ltb}
 use Rattle.json.specs.Tree.{Json, word, num, str, arr, obj, Items, nil, item}
-use Rattle.spell.specs.Spell.{sameBytes}
+use Rattle.wire.specs.Bytes.{sameBytes}
 use Rattle.rows.specs.Strings.{refusedIn}
 use Rattle.shape.specs.Shape.{allItems, anyItem, countItems, nameAt, named, idName, pubkeyName, createdAtName, kindName, tagsName, contentName, sigName, eventMember, once, isEvent}
 use Rattle.shape.specs.Rows.{onObject, eventNumber, eventHex, eventCount}

@@ -8,10 +8,11 @@ use borrow.Author.Tests.{lt-ltb, le-ltb, eq-eqb, eqb-true}
 use lib.Dec.{eqb, ltb}
 use lib.ListN.{length, getD}
 use Rattle.json.specs.Grammar.{within}
-use Rattle.spell.specs.Spell.{sameBytes}
+use Rattle.wire.specs.Bytes.{sameBytes}
 use Rattle.shape.specs.Shape.{idName, pubkeyName, createdAtName, kindName, tagsName, contentName, sigName, idsName, authorsName, kindsName, sinceName, untilName, limitName, isLetter, isCondition}
 use Rattle.shape.specs.Walk.{UNKNOWN, LOWER, UPPER, eventSlot, letterSlot, conditionSlot, filterSlot}
-use Rattle.shape.proofs.Names.{no, same-is, same-self, both-ways, within-ends, condition-is, condition-letter}
+use Rattle.wire.proofs.Bytes.{same-equal, same-self}
+use Rattle.shape.proofs.Names.{no, both-ways, within-ends, condition-is, condition-letter}
 
 -- ---- a name is one of these, or none of them
 pub data EventName : List ℕ → Type 0 where
@@ -38,7 +39,7 @@ pub data FilterName : List ℕ → Type 0 where
 
 -- one name more
 named : (F : List ℕ → Type 0) (w n : List ℕ) (b : Bool) → sameBytes w n ≡ b → F n → (sameBytes w n ≡ false → F w) → F w
-named F w n true e y k = subst F (sym (same-is w n e)) y
+named F w n true e y k = subst F (sym (same-equal w n e)) y
 named F w n false e y k = k e
 
 pub event-name : (w : List ℕ) → EventName w
@@ -127,4 +128,4 @@ module _ (slot : List ℕ → ℕ) (back : ℕ → List ℕ) (is : (w : List ℕ
   same-slot x y n =
       both-ways (eqb (slot x) (slot y)) (sameBytes x y)
       (λ e. let q = eqb-true (slot x) (slot y) e in ap (λ (z : List ℕ). sameBytes z y) (is x (λ z. n (sym q ∙ z)) ∙ ap back q ∙ sym (is y n)) ∙ same-self y)
-      (λ e. eq-eqb (slot x) (slot y) (ap slot (same-is x y e)))
+      (λ e. eq-eqb (slot x) (slot y) (ap slot (same-equal x y e)))

@@ -7,10 +7,11 @@ use lib.Dec.{ltb}
 use lib.IntN.{pos, negℤ}
 use Rattle.json.specs.Tree.{Json, word, num, str, arr, obj}
 use Rattle.spell.specs.Spell.{refuses, characterCount, isHexOf}
-use Rattle.numeral.specs.Whole.{wholeOf, answerOf, isWithin, widest}
+use Rattle.wire.specs.Limits.{widest, mostCharacters}
+use Rattle.numeral.specs.Whole.{wholeOf, answerOf, isWithin}
 use Rattle.rows.specs.Strings.{part, refusedIn}
 use Rattle.shape.specs.Shape.{isString, isNumber}
-use Rattle.shape.specs.Rows.{outside, mostCharacters, wrongTime, wrongSmall, wrongHex, wrongSubscription}
+use Rattle.shape.specs.Rows.{outside, wrongTime, wrongSmall, wrongHex, wrongSubscription}
 use Rattle.shape.specs.Walk.{COUNT, FINE, TEXT, LABEL, HEX64, HEX128, TIME, SMALL, bounds, hexRow, stringForm, stringRow, rangeRow, numberRow, groupForm, fresh, rowOf}
 use Rattle.shape.proofs.Low.{low, Lowest, begins}
 use Rattle.shape.proofs.Never.{never-after}

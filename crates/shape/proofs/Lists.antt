@@ -9,7 +9,8 @@ use Rattle.json.specs.Tree.{Json, word, num, str, arr, obj, Items, nil, item}
 use Rattle.rows.specs.Strings.{refusedIn, refusedItems}
 use Rattle.shape.specs.declared.Tally.{Tally}
 use Rattle.shape.specs.Shape.{anyItem, allItems, countItems, count, isString, isNumber, isArrayOf}
-use Rattle.shape.specs.Rows.{outside, mostTags, mostStrings, mostMembers, onArray, wrongSmall, wrongHex, wrongTag, wrongList}
+use Rattle.wire.specs.Limits.{mostTags, mostStrings, mostMembers}
+use Rattle.shape.specs.Rows.{outside, onArray, wrongSmall, wrongHex, wrongTag, wrongList}
 use Rattle.shape.specs.Walk.{TEXT, HEX64, SMALL, TAGLIST, TAG, TEXTS, HEXES, SMALLS, stringForm, stringRow, numberRow, groupForm, placeSlot, itemOf, slotForm, fresh, endRow, closed, rowOf, rowItems}
 use Rattle.shape.proofs.Low.{low, Lowest, After, said, after-said, ends, begins, not-both, either-first}
 use Rattle.shape.proofs.Never.{turn-after, never-after}

@@ -11,7 +11,8 @@ use Rattle.spell.specs.Spell.{decode}
 use Rattle.rows.specs.Strings.{part, refusedIn, refusedItems}
 use Rattle.shape.specs.declared.Tally.{Tally}
 use Rattle.shape.specs.Shape.{anyItem, allItems, countItems, count, isString, isEvent, isFilter, isOne, Word, event, req, close, other, wordOf, opened, hasShape}
-use Rattle.shape.specs.Rows.{row4, row5, row6, row7, row8, treeRow, onObject, inMessage, wrongRequest, outside, mostFilters, eventNumber, eventHex, eventCount, filterNumber, filterHex, filterCounts, wrongSubscription}
+use Rattle.wire.specs.Limits.{mostFilters}
+use Rattle.shape.specs.Rows.{row4, row5, row6, row7, row8, treeRow, onObject, inMessage, wrongRequest, outside, eventNumber, eventHex, eventCount, filterNumber, filterHex, filterCounts, wrongSubscription}
 use Rattle.shape.specs.Walk.{SHAPE, FINE, NEVER, TEXT, LABEL, EVENT, FILTER, OFFER, REQUEST, CLOSING, FIRST, SECOND, LATER, bounds, groupForm, placeSlot, itemOf, elementForm, slotForm, fresh, endRow, closed, rowOf, rowItems, wordForm, toldOf}
 use Rattle.shape.proofs.Names.{both-ways}
 use Rattle.shape.proofs.Low.{low, Lowest, After, said, after-said, after-hidden, ends, begins, not-both, between-last}

@@ -1,4 +1,4 @@
--- Names: two lists that test as the same are the same; a condition's name is # and its letter.
+-- Names: a condition's name is # and its letter.
 use mathlib.Core.Path.{_≡_, refl, sym, ap, _∙_}
 use mathlib.Core.List.{List, [], _∷_}
 use mathlib.Core.Bool.{Bool, true, false, cond, _&&_, _||_}
@@ -8,7 +8,9 @@ use borrow.Author.Tests.{eqb-true, eqb-false, leb-true, eq-eqb, ne-eqb}
 use lib.Dec.{eqb, leb}
 use lib.ListN.{length, getD}
 use Rattle.json.specs.Grammar.{within}
-use Rattle.spell.specs.Spell.{charOf, charsFrom, bytesOf, joined, decode, sameBytes}
+use Rattle.wire.proofs.Bytes.{same-self}
+use Rattle.wire.specs.Bytes.{sameBytes}
+use Rattle.spell.specs.Spell.{charOf, charsFrom, bytesOf, joined, decode}
 use Rattle.shape.specs.Shape.{isLetter, isCondition}
 use Rattle.shape.specs.Walk.{UNKNOWN, LOWER, UPPER, letterSlot, conditionSlot}
 
@@ -27,22 +29,6 @@ pub both-ways : (x y : Bool) → (x ≡ true → y ≡ true) → (y ≡ true →
 both-ways true y f g = sym (f refl)
 both-ways false true f g = g refl
 both-ways false false f g = refl
-
--- ---- the same bytes
-pub same-is : (x y : List ℕ) → sameBytes x y ≡ true → x ≡ y
-unfolding sameBytes
-same-is [] [] e = refl
-same-is [] (b ∷ y) e = no cc
-same-is (a ∷ x) [] e = no cc
-same-is (a ∷ x) (b ∷ y) e =
-    let h = eqb-true a b (and-left (eqb a b) (sameBytes x y) e) in
-    let t = same-is x y (and-right (eqb a b) (sameBytes x y) e) in
-    cc
-
-pub same-self : (x : List ℕ) → sameBytes x x ≡ true
-unfolding sameBytes
-same-self [] = refl
-same-self (a ∷ x) = rw (eq-eqb a a refl) (same-self x)
 
 -- ---- letters
 pub letter-not : (b : ℕ) → isLetter b ≡ false → letterSlot b ≡ UNKNOWN

@@ -20,11 +20,13 @@ use Rattle.json.specs.declared.Next.the-variants.{More, Done}
 use Rattle.json.specs.declared.Next.the-variants.{Wrong as NextWrong}
 use Rattle.json.proofs.Ends.{ends-bad}
 use Rattle.json.proofs.Trees.{tree-open, value-flat}
-use Rattle.spell.specs.Spell.{charsFrom, joined, decode, sameBytes}
+use Rattle.wire.specs.Limits.{mostMessage}
+use Rattle.wire.specs.Bytes.{sameBytes}
+use Rattle.spell.specs.Spell.{charsFrom, joined, decode}
 use Rattle.rows.specs.Strings.{part, spelledAt}
 use Rattle.shape.specs.Shape.{nameAt, other, wordOf, opened}
 use Rattle.shape.specs.Shape.{Word as TheWord}
-use Rattle.rows.specs.Rows.{mostMessage, row3}
+use Rattle.rows.specs.Rows.{row3}
 use Rattle.utf8.specs.Utf8.{isUtf8}
 use Rattle.shape.specs.declared.Judged.the-variants.{Ends, Wrong}
 use Rattle.shape.specs.Rows.{treeRow, rootRow, messageRow}

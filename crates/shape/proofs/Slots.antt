@@ -8,7 +8,8 @@ use lib.Dec.{eqb}
 use lib.ListN.{getD}
 use Rattle.json.specs.Grammar.{within}
 use Rattle.rows.specs.Strings.{spelledAt}
-use Rattle.spell.specs.Spell.{decode, sameBytes}
+use Rattle.wire.specs.Bytes.{sameBytes}
+use Rattle.spell.specs.Spell.{decode}
 use Rattle.shape.specs.Shape.{idName, pubkeyName, createdAtName, kindName, tagsName, contentName, sigName, idsName, authorsName, kindsName, sinceName, untilName, limitName, isCondition}
 use Rattle.shape.specs.declared.Item.{Item}
 use Rattle.shape.specs.Walk.{EVENT, FILTER, UNKNOWN, LOWER, UPPER, placeSlot, eventSlot, letterSlot, conditionSlot, filterSlot, nameSlot, memberOf, itemOf}

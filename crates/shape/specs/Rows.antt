@@ -9,7 +9,8 @@ use Rattle.json.specs.Tree.{Json, word, num, str, arr, obj, Items, nil, item, G
 use Rattle.rows.specs.Strings.{part, refusedIn}
 use Rattle.rows.specs.Rows.{row1, row2, row3}
 use Rattle.spell.specs.Spell.{characterCount, isHexOf}
-use Rattle.numeral.specs.Whole.{wholeOf, answerOf, isWithin, widest}
+use Rattle.wire.specs.Limits.{widest, mostSmall, hexLength, sigLength, mostTags, mostStrings, mostFilters, mostMembers, mostConditions, mostCharacters}
+use Rattle.numeral.specs.Whole.{wholeOf, answerOf, isWithin}
 use Rattle.shape.specs.Shape.{anyItem, countItems, count, nameAt, named, idName, pubkeyName, createdAtName, kindName, tagsName, contentName, sigName, idsName, authorsName, kindsName, sinceName, untilName, limitName, isCondition, Word, event, req, close, other, opened, hasShape}
 
 -- ---- row 4: "some string, names included, decodes to .."
@@ -63,7 +64,7 @@ wrongTime s t = onNumber (λ a n. not (isWithin (answerOf (wholeOf (part s a n))
 
 -- kind, kinds, limit: 0 to 65,535
 unfoldable pub wrongSmall : List ℕ → Json → Bool
-wrongSmall s t = onNumber (λ a n. not (isWithin (answerOf (wholeOf (part s a n))) (pos 0) (pos 65535))) t
+wrongSmall s t = onNumber (λ a n. not (isWithin (answerOf (wholeOf (part s a n))) (pos 0) (pos mostSmall))) t
 
 unfoldable pub eventNumber : List ℕ → ℕ → Json → Bool
 eventNumber s p t = cond (named s createdAtName p) (wrongTime s t) (cond (named s kindName p) (wrongSmall s t) false)
@@ -84,36 +85,18 @@ wrongHex k s t = onString (λ a n. not (isHexOf k (part s a n))) t
 
 unfoldable pub eventHex : List ℕ → ℕ → Json → Bool
 eventHex s p t =
-    cond (named s idName p) (wrongHex 64 s t) (cond (named s pubkeyName p) (wrongHex 64 s t) (cond (named s sigName p) (wrongHex 128 s t) false))
+    cond (named s idName p) (wrongHex hexLength s t) (cond (named s pubkeyName p) (wrongHex hexLength s t) (cond (named s sigName p) (wrongHex sigLength s t) false))
 
 unfoldable pub filterHex : List ℕ → ℕ → Json → Bool
 filterHex s p t =
-    cond (named s idsName p) (onArray (anyItem (λ q u. wrongHex 64 s u)) t)
-    (cond (named s authorsName p) (onArray (anyItem (λ q u. wrongHex 64 s u)) t) false)
+    cond (named s idsName p) (onArray (anyItem (λ q u. wrongHex hexLength s u)) t)
+    (cond (named s authorsName p) (onArray (anyItem (λ q u. wrongHex hexLength s u)) t) false)
 
 unfoldable pub row7 : List ℕ → Json → Bool
 row7 s t = inMessage (onObject (anyItem (eventHex s))) (onObject (anyItem (filterHex s))) (opened s t .first) (opened s t .rest)
 
 -- ---- row 8: "At most 64 tags, 1 to 16 strings in a tag; 1 to 4 filters; 1 to 16 members in a list; at most 4 # conditions in a filter;
 -- subscription ids of 1 to 64 characters (code points)"
-abbrev pub mostTags : ℕ
-mostTags = 64
-
-abbrev pub mostStrings : ℕ
-mostStrings = 16
-
-abbrev pub mostFilters : ℕ
-mostFilters = 4
-
-abbrev pub mostMembers : ℕ
-mostMembers = 16
-
-abbrev pub mostConditions : ℕ
-mostConditions = 4
-
-abbrev pub mostCharacters : ℕ
-mostCharacters = 64
-
 abbrev pub outside : ℕ → ℕ → ℕ → Bool
 outside low high n = ltb n low || ltb high n
 

@@ -6,7 +6,8 @@ use mathlib.Core.Bool.{Bool, true, false, cond, not, _&&_, _||_}
 use lib.Dec.{eqb, leb}
 use lib.ListN.{length, getD}
 use Rattle.json.specs.Tree.{Json, word, num, str, arr, obj, Items, nil, item}
-use Rattle.spell.specs.Spell.{decode, sameBytes}
+use Rattle.wire.specs.Bytes.{sameBytes}
+use Rattle.spell.specs.Spell.{decode}
 use Rattle.rows.specs.Strings.{part, spelledAt}
 
 -- ---- the items of an array or an object

@@ -6,7 +6,8 @@ use mathlib.Core.Bool.{Bool, true, false, cond, not, _||_}
 use Rattle.json.specs.Tree.{Json, Got, none, got}
 use Rattle.rows.specs.Strings.{refusedIn}
 use Rattle.shape.specs.Shape.{anyItem, count, isString, isNumber, isArrayOf, isFilter}
-use Rattle.shape.specs.Rows.{onArray, onObject, outside, mostTags, wrongSmall, wrongHex, wrongTag, wrongList, filterNumber, filterHex, filterCounts}
+use Rattle.wire.specs.Limits.{hexLength, mostTags}
+use Rattle.shape.specs.Rows.{onArray, onObject, outside, wrongSmall, wrongHex, wrongTag, wrongList, filterNumber, filterHex, filterCounts}
 use Rattle.shape.specs.Walk.{TAGLIST, HEXES, SMALLS, FILTER}
 use Rattle.shape.specs.declared.Sort.{Sort}
 use Rattle.shape.specs.declared.Sort.the-variants.{Tags, Hexes, Smalls, Filter}
@@ -25,7 +26,7 @@ sort6 s Filter t = onObject (anyItem (filterNumber s)) t
 
 abbrev pub sort7 : List ℕ → Sort → Json → Bool
 sort7 s Tags t = false
-sort7 s Hexes t = onArray (anyItem (λ q u. wrongHex 64 s u)) t
+sort7 s Hexes t = onArray (anyItem (λ q u. wrongHex hexLength s u)) t
 sort7 s Smalls t = false
 sort7 s Filter t = onObject (anyItem (filterHex s)) t
 

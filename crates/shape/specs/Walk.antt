@@ -12,14 +12,15 @@ use Rattle.json.specs.Tree.{Json, word, num, str, arr, obj, Items, nil, item, G
 use Rattle.json.specs.declared.Start.{Start}
 use Rattle.json.specs.declared.Start.the-variants.{Leaf, Empty, Many}
 use Rattle.rows.specs.Strings.{part, spelledAt}
-use Rattle.spell.specs.Spell.{decode, refuses, sameBytes, characterCount, isHexOf}
-use Rattle.numeral.specs.Whole.{wholeOf, answerOf, isWithin, widest}
+use Rattle.wire.specs.Limits.{widest, mostSmall, hexLength, sigLength, mostTags, mostStrings, mostFilters, mostMembers, mostConditions, mostCharacters}
+use Rattle.wire.specs.Bytes.{sameBytes}
+use Rattle.spell.specs.Spell.{decode, refuses, characterCount, isHexOf}
+use Rattle.numeral.specs.Whole.{wholeOf, answerOf, isWithin}
 use Rattle.shape.specs.declared.Judged.{Judged}
 use Rattle.shape.specs.declared.Judged.the-variants.{Ends, Wrong}
 use Rattle.shape.specs.declared.Item.{Item}
 use Rattle.shape.specs.declared.Tally.{Tally}
 use Rattle.shape.specs.Shape.{nameAt, idName, pubkeyName, createdAtName, kindName, tagsName, contentName, sigName, idsName, authorsName, kindsName, sinceName, untilName, limitName, isCondition, Word, event, req, close, other, wordOf}
-use Rattle.shape.specs.Rows.{mostTags, mostStrings, mostFilters, mostMembers, mostConditions, mostCharacters}
 
 -- ---- the rows, and a number above them all
 abbrev pub STRING : ℕ
@@ -165,8 +166,8 @@ unfoldable pub stringForm : ℕ → List ℕ → ℕ
 stringForm f p =
     cond (eqb f TEXT) FINE
     (cond (eqb f LABEL) (bounds 1 mostCharacters (characterCount p))
-    (cond (eqb f HEX64) (hexRow 64 p)
-    (cond (eqb f HEX128) (hexRow 128 p) SHAPE)))
+    (cond (eqb f HEX64) (hexRow hexLength p)
+    (cond (eqb f HEX128) (hexRow sigLength p) SHAPE)))
 
 unfoldable pub stringRow : ℕ → List ℕ → ℕ
 stringRow f p = cond (refuses p) STRING (stringForm f p)
@@ -175,7 +176,7 @@ unfoldable pub rangeRow : ℤ → ℤ → List ℕ → ℕ
 rangeRow low high p = cond (isWithin (answerOf (wholeOf p)) low high) FINE NUMBER
 
 unfoldable pub numberRow : ℕ → List ℕ → ℕ
-numberRow f p = cond (eqb f TIME) (rangeRow (negℤ (pos widest)) (pos widest) p) (cond (eqb f SMALL) (rangeRow (pos 0) (pos 65535) p) SHAPE)
+numberRow f p = cond (eqb f TIME) (rangeRow (negℤ (pos widest)) (pos widest) p) (cond (eqb f SMALL) (rangeRow (pos 0) (pos mostSmall) p) SHAPE)
 
 -- ---- arrays and objects: the form inside
 unfoldable pub groupForm : ℕ → Bool → ℕ

@@ -6,7 +6,7 @@ ghost use lib.IntN.{pos, negℤ};
 ghost use Rattle.json.specs.Grammar.{within, scalarAt, startAt};
 ghost use Rattle.json.specs.Tree.{onLeaf, depth, treeAt};
 ghost use Rattle.spell.specs.Spell.{decode};
-ghost use Rattle.numeral.specs.Whole.{widest};
+ghost use Rattle.wire.specs.Limits.{widest, mostSmall};
 ghost use Rattle.rows.specs.Strings.{part, spelledAt};
 ghost use Rattle.shape.specs.Shape.{wordOf};
 ghost use Rattle.shape.specs.Rows.{messageRow};
@@ -231,7 +231,7 @@ fn time_row(p: &[u8]) -> u8
 }
 
 fn small_row(p: &[u8]) -> u8
-    ensures { λ r. ⌜ r ≡ rangeRow (pos 0) (pos 65535) (now (p .entry)) ⌝ }
+    ensures { λ r. ⌜ r ≡ rangeRow (pos 0) (pos mostSmall) (now (p .entry)) ⌝ }
 {
     if numeral::within(numeral::read_whole(p), 0, 65535) {
         FINE

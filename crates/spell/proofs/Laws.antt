@@ -1,34 +1,16 @@
--- What other crates may cite of decoding: equality of lists, spellings without a backslash, the seven escapes read back, and hex.
+-- What other crates may cite of decoding: spellings without a backslash, the seven escapes read back, and hex.
 use mathlib.Core.Bool.{Bool, true, false, cond, not, _&&_, _||_}
-use mathlib.Core.Path.{_≡_, refl, sym, _∙_, ap, ap₂}
+use mathlib.Core.Path.{_≡_, refl, sym, _∙_, ap}
 use mathlib.Core.List.{List, [], _∷_, _++_}
 use Prim.Native.Nat.{ℕ, zero, suc, _≤_, _<_}
 use native.Mathlib.Omega.{arith}
 use borrow.Author.Tests.{eq-eqb, ne-eqb, eqb-true, eqb-false, ltb-true, leb-true, lt-leb, lt-ltb, le-ltb, not-true}
 use lib.Dec.{ltb, leb, eqb}
 use lib.ListN.{length, getD}
-use Rattle.spell.specs.Spell.{shortOf, charOf, chars, charsFrom, bytesOf, joined, decode, isControl, isRefused, any, refuses, sameBytes, points, characterCount, isHex, all, isHexOf, notSlash, isText}
+use Rattle.wire.specs.Bytes.{isHex}
+use Rattle.spell.specs.Spell.{shortOf, charOf, chars, charsFrom, bytesOf, joined, decode, isControl, isRefused, any, refuses, points, characterCount, all, isHexOf, notSlash, isText}
 use Rattle.wire.specs.Escape.{letterOf, escOne, escape}
 use Rattle.spell.proofs.Chars.{and-left, and-right, char-raw, char-short, first, choose, decode-few}
-
--- sameBytes is equality
-pub same-equal : (s t : List ℕ) → sameBytes s t ≡ true → s ≡ t
-unfolding sameBytes
-same-equal [] [] e = refl
-same-equal [] (y ∷ t) e = absurd (let z : _≡_ {A = ℕ} 0 1 = cc in omega arith)
-same-equal (x ∷ s) [] e = absurd (let z : _≡_ {A = ℕ} 0 1 = cc in omega arith)
-same-equal (x ∷ s) (y ∷ t) e = ap₂ (λ (n : ℕ) (l : List ℕ). n ∷ l) (eqb-true x y (and-left (eqb x y) (sameBytes s t) e)) (same-equal s t (and-right (eqb x y) (sameBytes s t) e))
-
-pub equal-same : (s t : List ℕ) → s ≡ t → sameBytes s t ≡ true
-unfolding sameBytes
-equal-same s t e = rw (sym e) (itself s)
-  where
-    itself : (s : List ℕ) → sameBytes s s ≡ true
-    itself [] = refl
-    itself (x ∷ s) = rw (eq-eqb x x refl) (itself s)
-
-pub same-differ : (s t : List ℕ) → sameBytes s t ≡ false → s ≡ t → ⊥
-same-differ s t f e = let g = equal-same s t e in let z : _≡_ {A = ℕ} 0 1 = cc in omega arith
 
 -- no more bytes than spell them
 pub decode-length : (l : List ℕ) → length (decode l) ≤ length l

@@ -11,7 +11,8 @@ use lib.ListN.{length, getD, drop, length-append}
 use lib.Seq.{drop-cons}
 use Rattle.wire.specs.Escape.{escOne, escape}
 use Rattle.wire.proofs.Escapes.{esc-two}
-use Rattle.spell.specs.Spell.{sameBytes, isTail, points, isHex, all}
+use Rattle.wire.specs.Bytes.{sameBytes, isHex}
+use Rattle.spell.specs.Spell.{isTail, points, all}
 
 -- the elements from i on
 pub byte-turn : (s : List ℕ) (i : ℕ) → i < length s → drop i s ≡ getD s i 0 ∷ drop (i + 1) s

@@ -5,6 +5,7 @@ use mathlib.Core.List.{List, [], _∷_, _++_}
 use Prim.Native.Nat.{ℕ, zero, suc, pred, _+_, _-_, _*_, _/_, _%_}
 use lib.Dec.{ltb, leb, eqb}
 use lib.ListN.{getD, length}
+use Rattle.wire.specs.Bytes.{isHex}
 use Rattle.spell.specs.declared.Char.{Char}
 
 -- the number of a hex digit: 0-9, A-F, a-f; 0 of any other byte
@@ -94,13 +95,6 @@ any f (c ∷ cs) = f c || any f cs
 unfoldable pub refuses : List ℕ → Bool
 refuses l = any isRefused (chars l)
 
--- two lists are equal
-unfoldable pub sameBytes : List ℕ → List ℕ → Bool
-sameBytes [] [] = true
-sameBytes [] (y ∷ t) = false
-sameBytes (x ∷ s) [] = false
-sameBytes (x ∷ s) (y ∷ t) = eqb x y && sameBytes s t
-
 -- UTF8-tail of RFC 3629 section 4
 abbrev pub isTail : ℕ → Bool
 isTail x = leb 0x80 x && leb x 0xbf
@@ -112,10 +106,6 @@ points (x ∷ s) = cond (isTail x) (points s) (suc (points s))
 
 unfoldable pub characterCount : List ℕ → ℕ
 characterCount l = points (decode l)
-
--- lower-case hex (01): 0-9 and a-f
-unfoldable pub isHex : ℕ → Bool
-isHex x = (leb 0x30 x && leb x 0x39) || (leb 0x61 x && leb x 0x66)
 
 unfoldable pub all : (ℕ → Bool) → List ℕ → Bool
 all f [] = true

@@ -3,7 +3,8 @@ ghost use mathlib.Core.Path.{_≡_};
 ghost use Prim.Native.Nat.{_+_, _≤_, _<_};
 ghost use lib.ListN.{length, getD, drop};
 ghost use Rattle.wire.specs.Put.{Puts};
-ghost use Rattle.spell.specs.Spell.{hexVal, four, fourAt, shortOf, isPair, pairOf, unicodeOf, utf8Of, isSurrogate, isControl, isRefused, refuses, decode, sameBytes, isTail, characterCount, isHex, isHexOf};
+ghost use Rattle.wire.specs.Bytes.{sameBytes, isHex};
+ghost use Rattle.spell.specs.Spell.{hexVal, four, fourAt, shortOf, isPair, pairOf, unicodeOf, utf8Of, isSurrogate, isControl, isRefused, refuses, decode, isTail, characterCount, isHexOf};
 ghost use Rattle.wire.specs.Escape.{escape};
 ghost use Rattle.spell.specs.Steps.{Sized, Begins, Within, Stepped};
 

@@ -7,6 +7,7 @@ use native.Mathlib.Omega.{arith}
 use lib.Dec.{lit≤}
 use lib.IntN.{pos, negsuc}
 use lib.ListN.{length, replicate, length-replicate}
+use Rattle.wire.specs.Bytes.{isHex}
 use Rattle.wire.specs.Escape.{letterOf, escOne, escape}
 use Rattle.numeral.specs.Decimal.{digitsIn, digits, decimal}
 use Rattle.numeral.specs.Whole.{isWithin}
@@ -37,7 +38,7 @@ abbrev pub xs : ℕ → Event
 xs n = record { pubkey = A; time = pos 0; kind = 0; tags = []; content = replicate n 120 }
 
 pub one-text : (serialise one ≡ oneText) × (length oneText ≡ 100) × (isFit one ≡ true)
-unfolding letterOf escOne escape digitsIn digits decimal quoted membersText tagText tagsText serialise all isPubkey isTime isPlainByte isString isTag isTags isFit isWithin isUtf8 utf8From leadOf
+unfolding letterOf escOne escape digitsIn digits decimal quoted membersText tagText tagsText serialise all isHex isPubkey isTime isPlainByte isString isTag isTags isFit isWithin isUtf8 utf8From leadOf
 one-text = (refl, refl, refl)
 
 pub one-read : readText oneText ≡ read one
@@ -60,7 +61,7 @@ utf8-xs zero = refl
 utf8-xs (suc n) = utf8-xs n
 
 fit-xs : (n : ℕ) → isFit (xs n) ≡ true
-unfolding isFit isPubkey isTime isWithin isTags isString all
+unfolding isFit isHex isPubkey isTime isWithin isTags isString all
 fit-xs n = and-true (all isPlainByte (replicate n 120)) (isUtf8 (replicate n 120)) (plain-xs n) (utf8-xs n)
 
 pub xs-length : (n : ℕ) → length (serialise (xs n)) ≡ 80 + n

@@ -7,7 +7,8 @@ use native.Mathlib.Omega.{arith}
 use lib.Dec.{eqb, leb}
 use lib.ListN.{length, getD}
 use borrow.Author.Tests.{le-leb, eqb-true, leb-true}
-use Rattle.text.specs.Event.{Tag, quoted, membersText, tagText, tagsText, mostTags, mostStrings, all, isString, isTag, isTags}
+use Rattle.wire.specs.Limits.{mostTags, mostStrings}
+use Rattle.text.specs.Event.{Tag, quoted, membersText, tagText, tagsText, all, isString, isTag, isTags}
 use Rattle.text.specs.Read.{Got, none, got, bind, cons, follow, stringAt, membersAt, tagAt, tagsAt}
 use Rattle.text.proofs.Pieces.{Spelt, Piece, Exact, both, and-true, join, byte-is, byte-at, tail, left, right}
 use Rattle.text.proofs.Strings.{string-exact}

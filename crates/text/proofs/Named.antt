@@ -9,7 +9,8 @@ use lib.ListN.{length, getD, drop}
 use lib.Seq.{drop-drop}
 use borrow.Author.Tests.{ne-eqb, eqb-true}
 use Rattle.wire.specs.Escape.{letterOf, escOne, escape}
-use Rattle.text.specs.Event.{Tag, quoted, membersText, tagText, mostStrings, mostTags, isPlainByte, all, isString, isTag}
+use Rattle.wire.specs.Limits.{mostTags, mostStrings}
+use Rattle.text.specs.Event.{Tag, quoted, membersText, tagText, isPlainByte, all, isString, isTag}
 use Rattle.text.specs.Read.{Got, none, got, standsAt, bodyFrom, cons, membersAt, tagAt, tagsAt}
 use Rattle.text.specs.Kinds.{isNamedD, second}
 use Rattle.text.specs.Answer.{spanOf, dSpan}

@@ -9,7 +9,8 @@ use lib.Seq.{drop-drop, take-append-seam}
 use borrow.Author.Tests.{eqb-true}
 use Rattle.wire.specs.Escape.{letterOf, escOne, escape}
 use Rattle.numeral.specs.Decimal.{digits, decimal}
-use Rattle.text.specs.Event.{Tag, Event, quoted, membersText, tagText, tagsText, opening, closing, comma, bracket, serialise, pubkeyLength}
+use Rattle.wire.specs.Limits.{hexLength}
+use Rattle.text.specs.Event.{Tag, Event, quoted, membersText, tagText, tagsText, opening, closing, comma, bracket, serialise}
 use Rattle.text.specs.Read.{IsTextOf}
 use Rattle.text.specs.Kinds.{isNamedD, second, dOf}
 use Rattle.text.specs.Answer.{Span, spanOf, dSpan, tagsPlace, contentPlace, textOf}
@@ -96,7 +97,7 @@ abbrev front : Event → List ℕ
 front e = opening ++ (e .pubkey ++ (closing ++ (decimal (e .time) ++ (comma ++ (digits (e .kind) ++ comma)))))
 
 module _ (t : List ℕ) (e : Event) (a : IsTextOf t e) where
-  hex : length (e .pubkey) ≡ pubkeyLength
+  hex : length (e .pubkey) ≡ hexLength
   hex = pubkey-length (e .pubkey) (limits-of e (a .fit) .pubkey)
 
   front-length : length (front e) ≡ tagsPlace e
@@ -119,7 +120,7 @@ module _ (t : List ℕ) (e : Event) (a : IsTextOf t e) where
       closed : List ℕ
       closed = 44 ∷ 34 ∷ []
 
-  pub pubkey-stands : take pubkeyLength (drop 4 t) ≡ e .pubkey
+  pub pubkey-stands : take hexLength (drop 4 t) ≡ e .pubkey
   unfolding serialise
   pubkey-stands = rw hex at (spelt-take (amid t opening (e .pubkey) _ 4 (sym (a .same)) refl))
 

@@ -11,7 +11,8 @@ use lib.ListN.{length, length-append}
 use borrow.Author.Tests.{le-leb, lt-leb, eq-eqb, eqb-true, leb-true, leb-false}
 use Rattle.wire.specs.Escape.{escape}
 use Rattle.numeral.specs.Decimal.{digits, decimal}
-use Rattle.text.specs.Event.{Event, quoted, tagsText, opening, serialise, mostText, isFit}
+use Rattle.wire.specs.Limits.{mostText}
+use Rattle.text.specs.Event.{Event, quoted, tagsText, opening, serialise, isFit}
 use Rattle.text.specs.Read.{Got, none, got, standsAt, Fields, fieldsAt, eventOf, opened, ending, Read, tooLarge, wrongShape, read, readText, IsTextOf}
 use Rattle.text.specs.Answer.{answerOf, numberOf}
 use Rattle.text.proofs.Pieces.{Spelt, join, left, right, whole, all-of}

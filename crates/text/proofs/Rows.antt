@@ -10,7 +10,9 @@ use lib.ListN.{length, getD, take, drop, take-append-drop}
 use lib.Seq.{take-at}
 use borrow.Author.Tests.{eq-eqb, eqb-true, ltb-true}
 use Rattle.numeral.specs.Decimal.{digits, decimal}
-use Rattle.text.specs.Event.{Tag, quoted, tagsText, closing, comma, bracket, pubkeyLength, all, isHexDigit, isPubkey, isTime, isKind, isTags, isString}
+use Rattle.wire.specs.Limits.{hexLength}
+use Rattle.wire.specs.Bytes.{isHex}
+use Rattle.text.specs.Event.{Tag, quoted, tagsText, closing, comma, bracket, all, isPubkey, isTime, isKind, isTags, isString}
 use Rattle.text.specs.Read.{Got, none, got, bind, standsAt, closedAt, pairAt, stringAt, tagsAt, timeAt, kindAt, pubkeyAt, Fields, fieldsAt}
 use Rattle.text.specs.Parts.{noZero}
 use Rattle.text.proofs.Pieces.{Spelt, Piece, Exact, both, and-true, spelt, join, left, right, byte-is, byte-at, tail, spelt-inside}
@@ -42,32 +44,32 @@ module _ (s : List ℕ) where
 abbrev itself : List ℕ → List ℕ
 itself k = k
 
-pub pubkey-length : (k : List ℕ) → isPubkey k ≡ true → length k ≡ pubkeyLength
+pub pubkey-length : (k : List ℕ) → isPubkey k ≡ true → length k ≡ hexLength
 unfolding isPubkey
-pubkey-length k e = eqb-true (length k) pubkeyLength (both (eqb (length k) pubkeyLength) (all isHexDigit k) e .0)
+pubkey-length k e = eqb-true (length k) hexLength (both (eqb (length k) hexLength) (all isHex k) e .0)
 
 pub pubkey-exact : (s : List ℕ) → Exact itself isPubkey s (pubkeyAt s)
 unfolding pubkeyAt
-pubkey-exact s = record { same = λ at k n q. pubkey-same at k n (take pubkeyLength (drop at s)) refl (isPubkey (take pubkeyLength (drop at s))) refl q; back = pubkey-back }
+pubkey-exact s = record { same = λ at k n q. pubkey-same at k n (take hexLength (drop at s)) refl (isPubkey (take hexLength (drop at s))) refl q; back = pubkey-back }
   where
-    pubkey-same : (at : ℕ) (k : List ℕ) (n : ℕ) (p : List ℕ) → take pubkeyLength (drop at s) ≡ p → (t : Bool) → isPubkey p ≡ t
-        → cond t (got p (at + pubkeyLength)) none ≡ got k n → Piece itself isPubkey s at k n
+    pubkey-same : (at : ℕ) (k : List ℕ) (n : ℕ) (p : List ℕ) → take hexLength (drop at s) ≡ p → (t : Bool) → isPubkey p ≡ t
+        → cond t (got p (at + hexLength)) none ≡ got k n → Piece itself isPubkey s at k n
     pubkey-same at k n p w false e r = absurd (let z : _≡_ {A = ℕ} 0 1 = cc in omega arith)
     pubkey-same at k n p w true e r =
         let zk : p ≡ k = cc in
-        let zn : at + pubkeyLength ≡ n = cc in
+        let zn : at + hexLength ≡ n = cc in
         let l = pubkey-length p e in
         rw (← zk, ← zn)
         (record {
-          is = spelt s p (drop pubkeyLength (drop at s)) at (at + pubkeyLength) (sym (take-append-drop pubkeyLength (drop at s)) ∙ rw w) (omega arith);
+          is = spelt s p (drop hexLength (drop at s)) at (at + hexLength) (sym (take-append-drop hexLength (drop at s)) ∙ rw w) (omega arith);
           fine = e;
         })
 
     pubkey-back : (at : ℕ) (k : List ℕ) (n : ℕ) → Piece itself isPubkey s at k n → pubkeyAt s at ≡ got k n
     pubkey-back at k n a =
         let l = pubkey-length k (a .fine) in
-        let z : at + pubkeyLength ≡ n = omega (arith, a .is .end) in
-        rw (a .is .is, take-at k (drop n s) pubkeyLength l, a .fine, z)
+        let z : at + hexLength ≡ n = omega (arith, a .is .end) in
+        rw (a .is .is, take-at k (drop n s) hexLength l, a .fine, z)
 
 -- ---- in a row
 module _ {A B : Type 0} (p : A → List ℕ) (q : B → List ℕ) (ok : A → Bool) (fine : B → Bool) where

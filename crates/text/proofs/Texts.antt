@@ -10,7 +10,8 @@ use lib.ListN.{length, getD, take, drop, length-append}
 use borrow.Author.Tests.{le-leb, lt-leb, eq-eqb, ne-eqb, eqb-true}
 use Rattle.wire.specs.Escape.{escape}
 use Rattle.numeral.specs.Decimal.{digits, decimal}
-use Rattle.text.specs.Event.{Tag, quoted, tagsText, opening, closing, comma, mostText, isPubkey}
+use Rattle.wire.specs.Limits.{mostText}
+use Rattle.text.specs.Event.{Tag, quoted, tagsText, opening, closing, comma, isPubkey}
 use Rattle.text.specs.Read.{Got, none, got, bind, standsAt, closedAt, pairAt, stringAt, tagsAt, timeAt, kindAt, pubkeyAt, fieldsAt, opened, readText}
 use Rattle.text.specs.Answer.{dSpan, answerOf}
 use Rattle.text.specs.Parts.{endOf, timeIn, kindIn, isGot, opens, taggedOf, restAt, restOf}

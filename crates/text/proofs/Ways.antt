@@ -11,7 +11,9 @@ use lib.Seq.{drop-cons, take-at}
 use borrow.Author.Tests.{lt-ltb, le-ltb, le-leb, lt-leb, eq-eqb, ne-eqb, eqb-true, ltb-true}
 use Rattle.utf8.specs.Utf8.{isUtf8}
 use Rattle.wire.specs.Escape.{letterOf, escape}
-use Rattle.text.specs.Event.{mostStrings, isPlainByte, all, isHexDigit}
+use Rattle.wire.specs.Limits.{mostStrings}
+use Rattle.wire.specs.Bytes.{isHex}
+use Rattle.text.specs.Event.{isPlainByte, all}
 use Rattle.text.specs.Read.{Got, none, got, standsAt, isRaw, moveOf, saidOf, push, bodyFrom, checked, stringAt, cons, follow, membersAt, tagAt, runOf}
 use Rattle.text.specs.Kinds.{isEphemeral, isAddressable, classOf}
 use Rattle.text.specs.Parts.{endOf, noZero}
@@ -249,26 +251,29 @@ module _ {A : Type 0} (one : ℕ → Got A) (s : List ℕ) (k at : ℕ) where
 
 -- ---- hex
 module _ (x : ℕ) where
-  pub hex-under : x < 48 → false ≡ isHexDigit x
+  pub hex-under : x < 48 → false ≡ isHex x
+  unfolding isHex
   hex-under h = rw (lt-leb 48 x h, lt-leb 97 x (omega arith))
 
-  pub hex-between : 57 < x → x < 97 → false ≡ isHexDigit x
+  pub hex-between : 57 < x → x < 97 → false ≡ isHex x
+  unfolding isHex
   hex-between h l = rw (le-leb 48 x (omega arith), lt-leb x 57 h, lt-leb 97 x l)
 
-  pub hex-letter : 97 ≤ x → leb x 102 ≡ isHexDigit x
+  pub hex-letter : 97 ≤ x → leb x 102 ≡ isHex x
+  unfolding isHex
   hex-letter h = rw (le-leb 48 x (omega arith), lt-leb x 57 (omega arith), le-leb 97 x h)
 
 module _ (p : List ℕ) (i : ℕ) where
-  pub hex-over : length p ≤ i → all isHexDigit (drop i p) ≡ true
+  pub hex-over : length p ≤ i → all isHex (drop i p) ≡ true
   unfolding all
   hex-over h = rw (drop-of-length-le p {i = i} h)
 
   module _ (h : i < length p) where
-    pub hex-bad : isHexDigit (getD p i 0) ≡ false → all isHexDigit (drop i p) ≡ false
+    pub hex-bad : isHex (getD p i 0) ≡ false → all isHex (drop i p) ≡ false
     unfolding all
     hex-bad e = rw (drop-cons p i 0, all, e)
 
-    pub hex-good : isHexDigit (getD p i 0) ≡ true → all isHexDigit (drop i p) ≡ all isHexDigit (drop (i + 1) p)
+    pub hex-good : isHex (getD p i 0) ≡ true → all isHex (drop i p) ≡ all isHex (drop (i + 1) p)
     unfolding all
     hex-good e = rw (drop-cons p i 0, all, e, add-one)
 

@@ -7,7 +7,9 @@ use lib.IntN.{ℤ, pos, negℤ}
 use lib.ListN.{length}
 use Rattle.wire.specs.Escape.{escape}
 use Rattle.numeral.specs.Decimal.{digits, decimal}
-use Rattle.numeral.specs.Whole.{widest, isWithin}
+use Rattle.wire.specs.Limits.{widest, mostSmall, hexLength, mostTags, mostStrings}
+use Rattle.wire.specs.Bytes.{isHex}
+use Rattle.numeral.specs.Whole.{isWithin}
 use Rattle.numeral.specs.declared.Whole.the-variants.{Value}
 use Rattle.utf8.specs.Utf8.{isUtf8}
 
@@ -59,38 +61,18 @@ serialise e =
     opening ++ (e .pubkey ++ (closing ++ (decimal (e .time) ++ (comma ++ (digits (e .kind) ++ (comma ++ (tagsText (e .tags) ++ (comma ++ (quoted (e .content) ++ bracket)))))))))
 
 -- ---- limits
--- row 9
-abbrev pub mostText : ℕ
-mostText = 4096
-
-abbrev pub mostTags : ℕ
-mostTags = 64
-
-abbrev pub mostStrings : ℕ
-mostStrings = 16
-
-abbrev pub mostKind : ℕ
-mostKind = 65535
-
-abbrev pub pubkeyLength : ℕ
-pubkeyLength = 64
-
 unfoldable pub all : {A : Type 0} → (A → Bool) → List A → Bool
 all p [] = true
 all p (x ∷ xs) = p x && all p xs
 
--- lower-case hex
-abbrev pub isHexDigit : ℕ → Bool
-isHexDigit x = (leb 48 x && leb x 57) || (leb 97 x && leb x 102)
-
 unfoldable pub isPubkey : List ℕ → Bool
-isPubkey k = eqb (length k) pubkeyLength && all isHexDigit k
+isPubkey k = eqb (length k) hexLength && all isHex k
 
 unfoldable pub isTime : ℤ → Bool
 isTime z = isWithin (Value z) (negℤ (pos widest)) (pos widest)
 
 abbrev pub isKind : ℕ → Bool
-isKind k = leb k mostKind
+isKind k = leb k mostSmall
 
 -- row 4: no character below U+0020 other than 08, 09, 0A, 0C, 0D
 unfoldable pub isPlainByte : ℕ → Bool

@@ -3,6 +3,7 @@ use mathlib.Core.Bool.{Bool, true, false, cond, _&&_, _||_}
 use mathlib.Core.List.{List, [], _∷_}
 use Prim.Native.Nat.{ℕ}
 use lib.Dec.{eqb, leb}
+use Rattle.wire.specs.Bytes.{sameBytes}
 use Rattle.text.specs.Event.{Tag, Event}
 use Rattle.text.specs.declared.Class.{Class}
 use Rattle.text.specs.declared.Class.the-variants.{Regular, Replaceable, Ephemeral, Addressable}
@@ -60,12 +61,6 @@ abbrev pub hasKey : Key → Bool
 hasKey none = false
 hasKey (replaceable k p) = true
 hasKey (addressable k p d) = true
-
-abbrev pub sameBytes : List ℕ → List ℕ → Bool
-sameBytes [] [] = true
-sameBytes [] (y ∷ m) = false
-sameBytes (x ∷ l) [] = false
-sameBytes (x ∷ l) (y ∷ m) = eqb x y && sameBytes l m
 
 -- equality of keys
 abbrev pub sameKey : Key → Key → Bool

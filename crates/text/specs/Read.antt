@@ -12,7 +12,8 @@ use Rattle.wire.specs.Escape.{letterOf}
 use Rattle.numeral.specs.Whole.{wholeOf}
 use Rattle.numeral.specs.Whole as numeral
 use Rattle.utf8.specs.Utf8.{isUtf8}
-use Rattle.text.specs.Event.{Tag, Event, opening, closing, comma, bracket, serialise, isFit, mostText, mostTags, mostStrings, pubkeyLength, isPubkey, isTime, isKind, isPlainByte}
+use Rattle.wire.specs.Limits.{mostText, hexLength, mostTags, mostStrings}
+use Rattle.text.specs.Event.{Tag, Event, opening, closing, comma, bracket, serialise, isFit, isPubkey, isTime, isKind, isPlainByte}
 use Rattle.text.specs.declared.Move.{Move}
 use Rattle.text.specs.declared.Move.the-variants.{Go, Stop, Refuse}
 
@@ -120,7 +121,7 @@ abbrev pub pubkeyIn : List ℕ → ℕ → Got (List ℕ)
 pubkeyIn k n = cond (isPubkey k) (got k n) none
 
 unfoldable pub pubkeyAt : List ℕ → ℕ → Got (List ℕ)
-pubkeyAt s at = pubkeyIn (take pubkeyLength (drop at s)) (at + pubkeyLength)
+pubkeyAt s at = pubkeyIn (take hexLength (drop at s)) (at + hexLength)
 
 -- ---- the whole text
 abbrev pub Fields : Type 0

@@ -5,7 +5,8 @@ ghost use mathlib.Core.List.{[]};
 ghost use Prim.Native.Nat.{ℕ, _+_, _<_, _≤_};
 ghost use lib.ListN.{length, getD, drop};
 ghost use Rattle.wire.specs.Escape.{escape};
-ghost use Rattle.text.specs.Event.{Tag, comma, isHexDigit, isPubkey};
+ghost use Rattle.wire.specs.Bytes.{isHex};
+ghost use Rattle.text.specs.Event.{Tag, comma, isPubkey};
 ghost use Rattle.text.specs.Read.{got, standsAt, closedAt, byteOf, moveOf, bodyFrom, stringAt, tagAt, tagsAt, runOf, timeAt, kindAt, readText};
 ghost use Rattle.text.specs.Kinds.{classOf, isNamedD, second};
 ghost use Rattle.text.specs.Answer.{spanOf, answerOf};
@@ -379,7 +380,7 @@ fn kind_at(s: &[u8], at: usize) -> Kind
 }
 
 fn is_hex_digit(x: u8) -> bool
-    ensures { λ r. ⌜ r ≡ isHexDigit x ⌝ }
+    ensures { λ r. ⌜ r ≡ isHex x ⌝ }
 {
     if x < b'0' {
         return false;

@@ -6,10 +6,12 @@ use mathlib.Core.Bool.{true, false}
 use mathlib.Core.List.{[], _∷_}
 use Prim.Native.Nat.{ℕ, _-_, _≤_, _<_}
 use native.Mathlib.Omega.{arith}
-use Rattle.spell.specs.Spell.{decode, sameBytes}
+use Rattle.wire.specs.Bytes.{sameBytes}
+use Rattle.spell.specs.Spell.{decode}
 use Rattle.shape.specs.Shape.{isCondition}
 use Rattle.shape.specs.Walk.{conditionSlot}
-use Rattle.shape.proofs.Names.{same-is, condition-letter, condition-none, one-more}
+use Rattle.wire.proofs.Bytes.{same-equal}
+use Rattle.shape.proofs.Names.{condition-letter, condition-none, one-more}
 use Rattle.shape.proofs.escaped_condition.Statement.{statement}
 use Rattle.shape.proofs.escaped_condition.Tie as tie
 
@@ -27,7 +29,7 @@ loop-holds : tie.Need-loop-holds Inv-loop μ-loop
 loop-holds c = (omega arith, omega arith, λ k h l. absurd (omega arith))
 
 returns-2 : tie.Need-returns-2 Inv-loop μ-loop
-returns-2 c = c .letter-slot .ensures ∙ condition-letter _ ∙ ap conditionSlot (sym (same-is _ _ (sym (c .before .before .spells .ensures) ∙ c .before .if2 .taken)))
+returns-2 c = c .letter-slot .ensures ∙ condition-letter _ ∙ ap conditionSlot (sym (same-equal _ _ (sym (c .before .before .spells .ensures) ∙ c .before .if2 .taken)))
 
 loop-again : tie.Need-loop-again Inv-loop μ-loop
 loop-again c = (omega arith, omega arith, one-more _ _ (c .before .before .before .before .loop .inv .2) (sym (c .before .spells .ensures) ∙ c .if2 .left))

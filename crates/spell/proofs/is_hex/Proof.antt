@@ -7,7 +7,8 @@ use denote.Ref.{now}
 use borrow.Author.Tests.{not-true, not-false}
 use lib.Dec.{eqb}
 use lib.ListN.{length}
-use Rattle.spell.specs.Spell.{isHexOf, isHex, all}
+use Rattle.wire.specs.Bytes.{isHex}
+use Rattle.spell.specs.Spell.{isHexOf, all}
 use Rattle.spell.specs.Steps.{leftOf, Within}
 use Rattle.spell.proofs.Chars.{begin, left-over, left-some, step-byte}
 use Rattle.spell.proofs.Loops.{hex-end, hex-long, hex-bad, hex-good}

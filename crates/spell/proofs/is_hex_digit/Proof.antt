@@ -1,7 +1,7 @@
 -- Each return is what the tests on the way say of the two ranges.
 use native.Mathlib.Omega.{arith}
 use borrow.Author.Tests.{lt-leb, le-leb}
-use Rattle.spell.specs.Spell.{isHex}
+use Rattle.wire.specs.Bytes.{isHex}
 use Rattle.spell.proofs.is_hex_digit.Statement.{statement}
 use Rattle.spell.proofs.is_hex_digit.Tie as tie
 

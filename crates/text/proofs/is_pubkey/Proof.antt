@@ -5,13 +5,14 @@ use native.Mathlib.Omega.{arith}
 use borrow.Author.Needs.{needs}
 use borrow.Author.Tests.{eq-eqb, ne-eqb, not-true, not-false}
 use lib.ListN.{length, drop}
-use Rattle.text.specs.Event.{all, isHexDigit, isPubkey}
+use Rattle.wire.specs.Bytes.{isHex}
+use Rattle.text.specs.Event.{all, isPubkey}
 use Rattle.text.proofs.Ways.{hex-over, hex-bad, hex-good}
 use Rattle.text.proofs.is_pubkey.Statement.{statement}
 use Rattle.text.proofs.is_pubkey.Tie as tie
 
 abbrev Inv-loop : tie.InvT-loop
-Inv-loop p i₀ i = isPubkey p ≡ all isHexDigit (drop i p)
+Inv-loop p i₀ i = isPubkey p ≡ all isHex (drop i p)
 
 abbrev μ-loop : tie.MeasureT-loop
 μ-loop p i₀ i = length p - i
