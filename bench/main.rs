@@ -11,6 +11,9 @@ use plain_message::{Body, Message};
 use std::hint::black_box;
 use std::time::Instant;
 
+// How far the code behind this is shifted: short loops gain or lose a third by where they stand, so bench/run builds several times.
+std::arch::global_asm!(".section .text.shift,\"axR\",@progbits", concat!(".skip ", env!("SHIFT")), ".text");
+
 extern "C" {
     fn plavdrosa_digest(bytes: *const u8, len: usize, out: *mut u8, out_len: usize) -> u8;
     fn plavdrosa_text_row(bytes: *const u8, len: usize) -> u8;
