@@ -11,7 +11,7 @@ use plain_message::{Body, Message};
 use std::hint::black_box;
 use std::time::Instant;
 
-// How far the code behind this is shifted: short loops gain or lose a third by where they stand, so bench/run builds several times.
+// How far the code behind this is shifted: short loops gain or lose up to a half by where they stand, so bench/run builds several times.
 std::arch::global_asm!(".section .text.shift,\"axR\",@progbits", concat!(".skip ", env!("SHIFT")), ".text");
 
 extern "C" {
