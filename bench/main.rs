@@ -1,18 +1,51 @@
 // Times the proved library beside plain Rust on the same input, in one run, and measures the stack of its calls.
 // Built and started by bench/run.
 mod messages;
+mod plain_event;
 mod plain_json;
 mod plain_message;
 mod plain_sha256;
 mod stack;
 
+use plain_message::{Body, Message};
 use std::hint::black_box;
 use std::time::Instant;
+
+// How far the code behind this is shifted: short loops gain or lose up to a half by where they stand, so bench/run builds several times.
+std::arch::global_asm!(".section .text.shift,\"axR\",@progbits", concat!(".skip ", env!("SHIFT")), ".text");
 
 extern "C" {
     fn plavdrosa_digest(bytes: *const u8, len: usize, out: *mut u8, out_len: usize) -> u8;
     fn plavdrosa_text_row(bytes: *const u8, len: usize) -> u8;
     fn plavdrosa_message_row(bytes: *const u8, len: usize) -> u8;
+    fn plavdrosa_read(bytes: *const u8, len: usize, out: *mut u64, out_len: usize) -> u8;
+    fn plavdrosa_read_text(bytes: *const u8, len: usize, out: *mut u64, out_len: usize) -> u8;
+    fn plavdrosa_serialise(
+        bytes: *const u8,
+        len: usize,
+        pubkey: usize,
+        pubkey_len: usize,
+        created_at: i64,
+        kind: i64,
+        tags: usize,
+        content: usize,
+        content_len: usize,
+        out: *mut u8,
+        out_len: usize,
+    ) -> usize;
+    fn plavdrosa_id(
+        bytes: *const u8,
+        len: usize,
+        pubkey: usize,
+        pubkey_len: usize,
+        created_at: i64,
+        kind: i64,
+        tags: usize,
+        content: usize,
+        content_len: usize,
+        out: *mut u8,
+        out_len: usize,
+    ) -> u8;
 }
 
 fn proved_digest(bytes: &[u8]) -> [u8; 32] {
@@ -28,6 +61,78 @@ fn proved_text_row(bytes: &[u8]) -> u8 {
 
 fn proved_message_row(bytes: &[u8]) -> u8 {
     unsafe { plavdrosa_message_row(bytes.as_ptr(), bytes.len()) }
+}
+
+type Numbers = [u64; 43];
+
+fn proved_read(bytes: &[u8], out: &mut Numbers) -> u8 {
+    unsafe { plavdrosa_read(bytes.as_ptr(), bytes.len(), out.as_mut_ptr(), out.len()) }
+}
+
+fn plain_read(bytes: &[u8], out: &mut Numbers) -> u8 {
+    match plain_message::read(bytes) {
+        Ok(m) => {
+            m.numbers(out);
+            0
+        }
+        Err(row) => row,
+    }
+}
+
+fn proved_read_text(bytes: &[u8], out: &mut [u64; 7]) -> u8 {
+    unsafe { plavdrosa_read_text(bytes.as_ptr(), bytes.len(), out.as_mut_ptr(), out.len()) }
+}
+
+fn plain_read_text(bytes: &[u8], out: &mut [u64; 7]) -> u8 {
+    match plain_event::read_text(bytes) {
+        Ok(p) => {
+            p.numbers(out);
+            0
+        }
+        Err(row) => row,
+    }
+}
+
+// No text has fewer than 80 bytes.
+fn proved_serialise(b: &[u8], p: &Body, out: &mut [u8]) -> Result<usize, u8> {
+    let (k, c) = (p.pubkey, p.content);
+    let n = unsafe {
+        plavdrosa_serialise(
+            b.as_ptr(),
+            b.len(),
+            k.start,
+            k.len,
+            p.created_at,
+            p.kind,
+            p.tags,
+            c.start,
+            c.len,
+            out.as_mut_ptr(),
+            out.len(),
+        )
+    };
+    if n < 80 { Err(n as u8) } else { Ok(n) }
+}
+
+fn proved_id(b: &[u8], p: &Body) -> Result<[u8; 32], u8> {
+    let (k, c) = (p.pubkey, p.content);
+    let mut out = [0u8; 32];
+    let row = unsafe {
+        plavdrosa_id(
+            b.as_ptr(),
+            b.len(),
+            k.start,
+            k.len,
+            p.created_at,
+            p.kind,
+            p.tags,
+            c.start,
+            c.len,
+            out.as_mut_ptr(),
+            32,
+        )
+    };
+    if row == 0 { Ok(out) } else { Err(row) }
 }
 
 // Nanoseconds a call of each, the best of many short batches taken in turn, so that other work on the machine spoils few of them.
@@ -118,19 +223,29 @@ fn text_row() {
     println!("stack of rows 1 to 4: {used} bytes");
 }
 
-fn message_row() {
-    let cases = include_bytes!("../crates/message_cases/stdin");
-    for line in cases.split(|&b| b == b'\n') {
-        assert_eq!(proved_message_row(line), plain_message::message_row(line), "{}", String::from_utf8_lossy(line));
-    }
-    let texts = [
+const MESSAGE_CASES: &[u8] = include_bytes!("../crates/message_cases/stdin");
+const EVENT_CASES: &[u8] = include_bytes!("../crates/event_cases/stdin");
+
+fn lines(cases: &[u8]) -> impl Iterator<Item = &[u8]> {
+    cases.split(|&b| b == b'\n')
+}
+
+fn client_messages() -> [(&'static str, Vec<u8>); 6] {
+    [
         ("an EVENT with tags", messages::event(1024)),
         ("an EVENT with tags", messages::event(5000)),
         ("an EVENT with long content", messages::content(8192)),
         ("a REQ of four filters", messages::req(8192)),
         ("a REQ of four filters", messages::req(2048)),
         ("a CLOSE", b"[\"CLOSE\",\"tablet 4\"]".to_vec()),
-    ];
+    ]
+}
+
+fn message_row() {
+    for line in lines(MESSAGE_CASES).chain(lines(EVENT_CASES)) {
+        assert_eq!(proved_message_row(line), plain_message::message_row(line), "{}", String::from_utf8_lossy(line));
+    }
+    let texts = client_messages();
     for (name, text) in &texts {
         assert_eq!((proved_message_row(text), plain_message::message_row(text)), (0, 0), "{name}");
         let (proved, plain) = race(
@@ -149,9 +264,182 @@ fn message_row() {
     println!("stack of rows 1 to 8: {used} bytes");
 }
 
+// Both sides read alike: the row, and every part.
+fn read_alike(text: &[u8]) -> u8 {
+    let (mut proved, mut plain) = ([7; 43], [7; 43]);
+    let row = proved_read(text, &mut proved);
+    assert_eq!(row, plain_read(text, &mut plain), "{}", String::from_utf8_lossy(text));
+    assert_eq!(proved, plain, "{}", String::from_utf8_lossy(text));
+    row
+}
+
+fn read() {
+    for line in lines(MESSAGE_CASES).chain(lines(EVENT_CASES)) {
+        read_alike(line);
+    }
+    let texts = client_messages();
+    for (name, text) in &texts {
+        assert_eq!(read_alike(text), 0, "{name}");
+        let (mut p, mut q) = ([0; 43], [0; 43]);
+        let (proved, plain) = race(
+            || {
+                black_box(proved_read(black_box(text), &mut p));
+                black_box(&mut p);
+            },
+            || {
+                black_box(plain_read(black_box(text), &mut q));
+                black_box(&mut q);
+            },
+        );
+        row(&format!("read, {name}, {} bytes", text.len()), proved, plain);
+    }
+    for k in [1, 3] {
+        let (name, text) = &texts[k];
+        let used = stack::used(|| {
+            black_box(proved_read(black_box(text), &mut [0; 43]));
+        });
+        println!("stack of reading, {name}: {used} bytes");
+    }
+}
+
+// Both sides answer and write alike, whatever the parts: the text, the id, and the text read back.
+fn event_alike(b: &[u8], p: &Body, room: usize) -> Result<usize, u8> {
+    let (mut proved, mut plain) = (vec![b'.'; room], vec![b'.'; room]);
+    let n = proved_serialise(b, p, &mut proved);
+    let say = || format!("{n:?} {room} {}", String::from_utf8_lossy(b));
+    assert_eq!(n, plain_event::serialise(b, p, &mut plain), "{}", say());
+    assert!(proved == plain, "{}", say());
+    assert_eq!(proved_id(b, p), plain_event::id(b, p), "{}", say());
+    if let Ok(n) = n {
+        assert_eq!(text_alike(&proved[..n]), 0, "{}", say());
+    }
+    n
+}
+
+fn text_alike(t: &[u8]) -> u8 {
+    let (mut proved, mut plain) = ([7; 7], [7; 7]);
+    let row = proved_read_text(t, &mut proved);
+    assert_eq!(row, plain_read_text(t, &mut plain), "{}", String::from_utf8_lossy(t));
+    assert_eq!(proved, plain, "{}", String::from_utf8_lossy(t));
+    row
+}
+
+// The parts of an event as they were read, and with each of them moved a little.
+fn parts_alike(text: &[u8]) {
+    let Ok(Message::Event(e)) = plain_message::read(text) else { return };
+    let p = e.body;
+    let n = event_alike(text, &p, 4200).unwrap_or(100);
+    event_alike(text, &p, n).ok();
+    event_alike(text, &p, n - 1).ok();
+    for by in [1usize, 2, 5, text.len(), usize::MAX, usize::MAX - 1, usize::MAX - 60] {
+        let (mut a, mut b, mut c, mut d, mut f) = (p, p, p, p, p);
+        a.pubkey.start = p.pubkey.start.wrapping_add(by);
+        b.pubkey.len = p.pubkey.len.wrapping_add(by);
+        c.tags = p.tags.wrapping_add(by);
+        d.content.start = p.content.start.wrapping_add(by);
+        f.content.len = p.content.len.wrapping_add(by);
+        for q in [a, b, c, d, f] {
+            event_alike(text, &q, 4200).ok();
+        }
+    }
+    for at in [p.tags + 1, p.content.start] {
+        let mut wrong = text.to_vec();
+        for byte in [b'"', b'\\', b'[', b' ', 0x1f, 0x80, 0xff] {
+            wrong[at] = byte;
+            event_alike(&wrong, &p, 4200).ok();
+        }
+    }
+    for time in [plain_message::TIME, plain_message::TIME + 1, -plain_message::TIME - 1, i64::MIN, i64::MAX] {
+        event_alike(text, &Body { created_at: time, ..p }, 4200).ok();
+        event_alike(text, &Body { kind: time, ..p }, 4200).ok();
+    }
+}
+
+fn event() {
+    for line in lines(MESSAGE_CASES).chain(lines(EVENT_CASES)) {
+        parts_alike(line);
+        text_alike(line.strip_prefix(b"T ").unwrap_or(line));
+    }
+    let cases = [
+        ("a small event", messages::sized(200, "[\"d\",\"floor 3\"]", "the shelf by the door has moved")),
+        ("a full event, content", messages::sized(4096, "[\"d\",\"floor 3\"]", "a tile of floor 3, read by cart 17 ")),
+        (
+            "a full event, tags",
+            messages::sized(
+                4096,
+                &vec!["[\"e\",\"5c83da77af1dec6d7289834998ad7aafbd9e2191396d75ec3cc27f5a77226f36\",\"wss://r\"]"; 45].join(","),
+                "the shelf by the door has moved",
+            ),
+        ),
+        ("a full event, escapes", messages::sized(4096, "[\"d\",\"floor 3\"]", "\\n\\t\\\"")),
+        ("a full event, UTF-8", messages::sized(4096, "[\"d\",\"floor 3\"]", "é€𝄞жあ😀ßñ")),
+    ];
+    let mut out = vec![0u8; 4096];
+    for (name, text) in &cases {
+        let Ok(Message::Event(e)) = plain_message::read(text) else { panic!("{name}") };
+        let p = e.body;
+        parts_alike(text);
+        let n = event_alike(text, &p, 4096).unwrap();
+        let mut other = vec![0u8; 4096];
+        let (proved, plain) = race(
+            || {
+                black_box(proved_serialise(black_box(text), black_box(&p), &mut out)).ok();
+            },
+            || {
+                black_box(plain_event::serialise(black_box(text), black_box(&p), &mut other)).ok();
+            },
+        );
+        row(&format!("serialise, {name}, {n} bytes"), proved, plain);
+        let (mut a, mut b) = ([0; 7], [0; 7]);
+        let t = out[..n].to_vec();
+        let (proved, plain) = race(
+            || {
+                black_box(proved_read_text(black_box(&t), &mut a));
+                black_box(&mut a);
+            },
+            || {
+                black_box(plain_read_text(black_box(&t), &mut b));
+                black_box(&mut b);
+            },
+        );
+        row(&format!("read back, {name}, {n} bytes"), proved, plain);
+        let (proved, plain) = race(
+            || {
+                black_box(proved_id(black_box(text), black_box(&p))).ok();
+            },
+            || {
+                black_box(plain_event::id(black_box(text), black_box(&p))).ok();
+            },
+        );
+        row(&format!("id, {name}, {n} bytes"), proved, plain);
+    }
+    let text = &cases[2].1;
+    let Ok(Message::Event(e)) = plain_message::read(text) else { panic!() };
+    let p = e.body;
+    let n = proved_serialise(text, &p, &mut out).unwrap();
+    let t = out[..n].to_vec();
+    let used = stack::used(|| {
+        black_box(proved_serialise(black_box(text), black_box(&p), &mut out)).ok();
+    });
+    println!("stack of serialise: {used} bytes");
+    let used = stack::used(|| {
+        black_box(proved_read_text(black_box(&t), &mut [0; 7]));
+    });
+    println!("stack of read back: {used} bytes");
+    let used = stack::used(|| {
+        black_box(proved_id(black_box(text), black_box(&p))).ok();
+    });
+    println!("stack of id: {used} bytes");
+}
+
+// All, or those named.
 fn main() {
+    let named: Vec<String> = std::env::args().skip(1).collect();
     println!("{:<54} {:>12} {:>12} {:>7}", "", "proved, ns", "plain, ns", "ratio");
-    digest();
-    text_row();
-    message_row();
+    let all: [(&str, fn()); 5] = [("digest", digest), ("text_row", text_row), ("message_row", message_row), ("read", read), ("event", event)];
+    for (name, run) in all {
+        if named.is_empty() || named.iter().any(|n| n == name) {
+            run();
+        }
+    }
 }

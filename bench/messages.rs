@@ -70,6 +70,18 @@ pub fn content(size: usize) -> Vec<u8> {
     (open + &"a tile of floor 3, read by cart 17 ".repeat(room / 35) + &close).into_bytes()
 }
 
+// An EVENT whose text has so many bytes: these tags, and content of `piece` filled up with `x`.
+pub fn sized(size: usize, tags: &str, piece: &str) -> Vec<u8> {
+    let hex = "0123456789abcdef".repeat(4);
+    let text = format!("[0,\"{hex}\",1700000000,30078,[{tags}],\"\"]").len();
+    let room = size.checked_sub(text).unwrap();
+    let content = piece.repeat(room / piece.len()) + &"x".repeat(room % piece.len());
+    format!(
+        "[\"EVENT\",{{\"id\":\"{hex}\",\"pubkey\":\"{hex}\",\"created_at\":1700000000,\"kind\":30078,\"tags\":[{tags}],\"content\":\"{content}\",\"sig\":\"{hex}{hex}\"}}]"
+    )
+    .into_bytes()
+}
+
 pub const KINDS: [(&str, fn(usize) -> Vec<u8>); 7] = [
     ("one ASCII string", ascii),
     ("two- to four-byte UTF-8", high),

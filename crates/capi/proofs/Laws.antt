@@ -1,19 +1,33 @@
--- What an answer of the digest says of its message.
+-- What an answer of the digest says of its message; a law for each way out of a call that writes into a lent row; the numbers of filters.
 use mathlib.Core.Path.{_≡_, refl, sym, ap, _∙_}
-use mathlib.Core.List.{List, _++_}
-use Prim.Native.Nat.{ℕ, _≤_, _<_}
+use mathlib.Core.List.{List, [], _++_}
+use Prim.Native.Nat.{ℕ, suc, _+_, _-_, _^_, _≤_, _<_}
 use native.Mathlib.Decide.{decLe}
 use native.Mathlib.Omega.{arith}
-use borrow.Author.Tests.{le-leb, lt-leb}
+use borrow.Author.Tests.{le-leb, lt-leb, eq-eqb, ne-eqb}
+use lib.IntN.{ℤ}
 use lib.ListN.{length, drop}
+use lib.Signed.{mag}
+use mir.Syntax.{w64}
+use mir.Val.{toZ, ofZ, SFits}
+use mir.ValLaws.{toZ-ofZ}
 use Rattle.digest.specs.declared.Answer.the-variants.{Done, TooLong}
 use Rattle.digest.specs.declared.Digest.{Digest}
 use Rattle.digest.specs.Digest.{digest, digestBytes}
 use Rattle.digest.specs.State.{most, digested}
 use Rattle.digest.specs.Pieces.{digest-done, digest-refused}
 use Rattle.wire.specs.Put.{put, Puts}
-use Rattle.wire.proofs.Laws.{put-over}
-use Rattle.capi.specs.Calls.{digestRow, digestOut}
+use Rattle.wire.specs.Field.{unsigned}
+use Rattle.wire.proofs.Laws.{put-over, Rest, rest-start}
+use Rattle.message.specs.Parts.{filterAt}
+use Rattle.message.specs.Lists.{upTo, nextOf, elementsFrom}
+use Rattle.message.specs.declared.Body.{Body}
+use Rattle.message.specs.declared.Listed.{Listed}
+use Rattle.message.specs.declared.Listed.the-variants.{Absent, At}
+use Rattle.event.specs.Answer.{serialised, serialisedOut}
+use Rattle.event.specs.declared.Written.{Written}
+use Rattle.capi.specs.Numbers.{filterNumbers, filtersAt, filtersFrom, bodyFrom}
+use Rattle.capi.specs.Calls.{digestRow, digestOut, lentRow, lentOut, writtenOf}
 
 length-digest : (l : List ℕ) → length (digest l) ≡ 32
 unfolding digest digestBytes
@@ -49,3 +63,65 @@ module _ (l out : List ℕ) (d : Digest) (e : d ≡ digested l) where
       let q : length (digest l) ≤ length out = omega (arith, length-digest l) in
       simp (le-leb (length l) most (taken a .0), le-leb 32 (length out) h)
       (refl, p .bytes ∙ rw (taken a .1) (put-over out (digest l) q ∙ rw (length-digest l)))
+
+-- ---- row r, or the list l into a row that has room for k
+module _ (r k : ℕ) (l out : List ℕ) where
+  pub lent-refused : {x : ℕ} → x ≡ r → (x ≡ 0 → ⊥) → (x ≡ lentRow r k out) × (out ≡ lentOut r k l out)
+  unfolding lentRow lentOut
+  lent-refused e n = let h = ne-eqb r 0 (λ q. n (e ∙ q)) in (simp (h, e), simp h)
+
+  module _ (z : r ≡ 0) where
+    pub lent-short : length out < k → (13 ≡ lentRow r k out) × (out ≡ lentOut r k l out)
+    unfolding lentRow lentOut
+    lent-short h =
+        let a = eq-eqb r 0 z in
+        let b = lt-leb k (length out) h in
+        (simp (a, b), simp (a, b))
+
+    pub lent-wrote : k ≤ length out → {l′ o : List ℕ} {m : ℕ} → l′ ≡ l → Puts out 0 l′ m o → (0 ≡ lentRow r k out) × (o ≡ lentOut r k l out)
+    unfolding lentRow lentOut
+    lent-wrote h e p =
+        let a = eq-eqb r 0 z in
+        let b = le-leb k (length out) h in
+        (simp (a, b), rw (a, b, sym e) (p .bytes))
+
+pub puts-as : {d l l′ o : List ℕ} {i r : ℕ} → l ≡ l′ → Puts d i l r o → Puts d i l′ r o
+puts-as e p = rw (sym e) p
+
+-- ---- signed numbers: what is lent on is the number itself
+pub bits-back : (x : ℤ) {r : ℕ} → mag x < 2 ^ 63 → r ≡ unsigned (toZ w64 (ofZ w64 x)) → r ≡ unsigned x
+bits-back x f e = e ∙ ap unsigned (toZ-ofZ w64 x (record { sfits = f }))
+
+pub body-back : (a n : ℕ) (t k : ℤ) (g c m : ℕ) {x : Body} → SFits w64 t → SFits w64 k → x ≡ bodyFrom a n (toZ w64 (ofZ w64 t)) (toZ w64 (ofZ w64 k)) g c m → x ≡ bodyFrom a n t k g c m
+body-back a n t k g c m ft fk e = rw (toZ-ofZ w64 t ft, toZ-ofZ w64 k fk) at e
+
+pub wrote-is : (b : List ℕ) (p : Body) (out : List ℕ) {x : Body} {w v : Written} {o : List ℕ} → x ≡ p → w ≡ serialised b x out → o ≡ serialisedOut b x out → w ≡ v
+    → (writtenOf v ≡ writtenOf (serialised b p out)) × (o ≡ serialisedOut b p out)
+wrote-is b p out g e f h =
+    (ap writtenOf (sym h ∙ e ∙ ap (λ (y : Body). serialised b y out) g), f ∙ ap (λ (y : Body). serialisedOut b y out) g)
+
+-- ---- the filters of a REQ, and those that are left after k
+pub filters-all : (s : List ℕ) (first : ℕ) (d : List ℕ) (i : ℕ) → i ≤ length d → Rest d i (filtersFrom s first) d i (filtersAt s (upTo (length s - 0) s (At first)))
+unfolding filtersFrom elementsFrom
+filters-all s first d i h =
+    let n : length s - 0 ≡ length s = omega arith in
+    rw n (rest-start d i (filtersAt s (upTo (length s) s (At first))) h)
+
+module _ (s : List ℕ) (k : ℕ) (x : Listed) where
+  module _ (h : k < length s) where
+    pub filters-turn : (v : ℕ) (y : Listed) → x ≡ At v → y ≡ nextOf s v
+        → filtersAt s (upTo (length s - k) s x) ≡ filterNumbers (filterAt s v) ++ filtersAt s (upTo (length s - (k + 1)) s y)
+    unfolding filtersAt upTo
+    filters-turn v y e f =
+        let n : length s - k ≡ suc (length s - (k + 1)) = omega arith in
+        rw (e, n, f)
+
+    pub filters-none : x ≡ Absent → filtersAt s (upTo (length s - k) s x) ≡ []
+    unfolding filtersAt upTo
+    filters-none e =
+        let n : length s - k ≡ suc (length s - (k + 1)) = omega arith in
+        rw (e, n)
+
+  pub filters-past : length s ≤ k → filtersAt s (upTo (length s - k) s x) ≡ []
+  unfolding filtersAt upTo
+  filters-past h = let n : length s - k ≡ 0 = omega arith in rw n

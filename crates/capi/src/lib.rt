@@ -1,8 +1,26 @@
-// The calls that Rust or C link (`rt staticlib capi`): numbers and byte slices only, each slice a pointer and a length.
+// The calls that Rust or C link (`rt staticlib capi`): numbers and slices of numbers only, each slice a pointer and a length.
 ghost use mathlib.Core.Path.{_≡_};
+ghost use Rattle.wire.specs.Put.{Puts};
 ghost use Rattle.rows.specs.Rows.{textRow};
 ghost use Rattle.shape.specs.Rows.{messageRow};
-ghost use Rattle.capi.specs.Calls.{digestRow, digestOut};
+ghost use Rattle.message.specs.Read.{rowOf};
+ghost use Rattle.capi.specs.Calls.{digestRow, digestOut, readRow, readOut, readTextRow, readTextOut, serialiseAnswer, serialiseOut, idRow, idOut};
+ghost use Rattle.capi.specs.Numbers.{placeOf, flagOf, bitsOf, bodyFrom, eventNumbers, filterNumbers, filtersFrom, messageNumbers, textNumbers};
+use message::Body;
+use message::Bound;
+use message::EventParts;
+use message::FilterParts;
+use message::Listed;
+use message::Message;
+use message::Span;
+use text::Text;
+use text::TextAnswer;
+
+// The most numbers that a message's parts take: three of a REQ and ten of each filter.
+const MOST_NUMBERS: usize = 43;
+
+// The numbers of a text that is read back.
+const TEXT_NUMBERS: usize = 7;
 
 // The SHA-256 of `bytes` into the first 32 bytes of `out`: 0, 8 or 13.
 #[no_mangle]
@@ -39,4 +57,311 @@ pub extern "C" fn plavdrosa_message_row(bytes: &[u8]) -> u8
     ensures { λ r. ⌜ r ≡ messageRow (now (bytes .entry)) ⌝ }
 {
     shape::message_row(bytes)
+}
+
+// ---- Parts as numbers.
+// Numbers into `out` from `at` on, as wire::put does with bytes.
+fn put_numbers(out: &mut [u64], at: usize, part: &[u64]) -> usize
+    ensures { λ r. ⌜ Puts (now (out .entry)) at (now (part .entry)) r (now (out .exit)) ⌝ }
+{
+    let n = out.len();
+    if n < at {
+        return n;
+    }
+    let mut i = 0;
+    while i < part.len() {
+        if n - at <= i {
+            return n;
+        }
+        out[at + i] = part[i];
+        i += 1;
+    }
+    at + i
+}
+
+fn place(x: Listed) -> u64
+    ensures { λ r. ⌜ r ≡ placeOf x ⌝ }
+{
+    match x {
+        Listed::Absent => 0,
+        Listed::At(v) => v as u64,
+    }
+}
+
+fn flag(x: Bound) -> u64
+    ensures { λ r. ⌜ r ≡ flagOf x ⌝ }
+{
+    match x {
+        Bound::Absent => 0,
+        Bound::Number(_) => 1,
+    }
+}
+
+fn bits(x: Bound) -> u64
+    ensures { λ r. ⌜ r ≡ bitsOf x ⌝ }
+{
+    match x {
+        Bound::Absent => 0,
+        Bound::Number(n) => wire::to_unsigned(n),
+    }
+}
+
+fn event_numbers(p: EventParts) -> [u64; 12]
+    ensures { λ r. ⌜ r ≡ eventNumbers p ⌝ }
+{
+    let id = p.id;
+    let body = p.body;
+    let pubkey = body.pubkey;
+    let content = body.content;
+    let sig = p.sig;
+    let time = wire::to_unsigned(body.created_at);
+    let kind = wire::to_unsigned(body.kind);
+    [
+        1,
+        id.start as u64,
+        id.len as u64,
+        pubkey.start as u64,
+        pubkey.len as u64,
+        time,
+        kind,
+        body.tags as u64,
+        content.start as u64,
+        content.len as u64,
+        sig.start as u64,
+        sig.len as u64,
+    ]
+}
+
+fn filter_numbers(p: FilterParts) -> [u64; 10]
+    ensures { λ r. ⌜ r ≡ filterNumbers p ⌝ }
+{
+    let ids = p.ids;
+    let authors = p.authors;
+    let kinds = p.kinds;
+    let since = p.since;
+    let until = p.until;
+    let limit = p.limit;
+    let conditions = p.conditions;
+    [
+        place(ids),
+        place(authors),
+        place(kinds),
+        flag(since),
+        bits(since),
+        flag(until),
+        bits(until),
+        flag(limit),
+        bits(limit),
+        place(conditions),
+    ]
+}
+
+// The filters of a REQ from the first one on.
+fn put_filters(out: &mut [u64], at: usize, s: &[u8], first: usize) -> usize
+    ensures { λ r. ⌜ Puts (now (out .entry)) at (filtersFrom (now (s .entry)) first) r (now (out .exit)) ⌝ }
+{
+    if out.len() < at {
+        return out.len();
+    }
+    let mut o = at;
+    let mut x = Listed::At(first);
+    let mut k: usize = 0;
+    while k < s.len() {
+        match x {
+            Listed::Absent => {
+                return o;
+            }
+            Listed::At(v) => {
+                let f = filter_numbers(message::filter_at(s, v));
+                o = put_numbers(out, o, &f);
+                x = message::next(s, v);
+            }
+        }
+        k += 1;
+    }
+    o
+}
+
+fn put_message(out: &mut [u64], s: &[u8], m: Message) -> usize
+    ensures { λ r. ⌜ Puts (now (out .entry)) 0 (messageNumbers (now (s .entry)) m) r (now (out .exit)) ⌝ }
+{
+    match m {
+        Message::Event(p) => {
+            let l = event_numbers(p);
+            put_numbers(out, 0, &l)
+        }
+        Message::Req(p) => {
+            let subscription = p.subscription;
+            let l = [2, subscription.start as u64, subscription.len as u64];
+            let o = put_numbers(out, 0, &l);
+            put_filters(out, o, s, p.filters)
+        }
+        Message::Close(p) => {
+            let l = [3, p.start as u64, p.len as u64];
+            put_numbers(out, 0, &l)
+        }
+        Message::Refused(_) => 0,
+    }
+}
+
+fn row_of(m: Message) -> u8
+    ensures { λ r. ⌜ r ≡ rowOf m ⌝ }
+{
+    match m {
+        Message::Event(_) => 0,
+        Message::Req(_) => 0,
+        Message::Close(_) => 0,
+        Message::Refused(r) => r,
+    }
+}
+
+// A client message read, and its parts as numbers into `out`: the lowest of rows 1 to 8 that holds, 13 if `out` has room for fewer than 43
+// numbers, or 0.
+#[no_mangle]
+pub extern "C" fn plavdrosa_read(bytes: &[u8], out: &mut [u64]) -> u8
+    ensures { λ r. ⌜ r ≡ readRow (now (bytes .entry)) (now (out .entry)) ⌝ }
+    ensures { λ _. ⌜ now (out .exit) ≡ readOut (now (bytes .entry)) (now (out .entry)) ⌝ }
+{
+    let m = message::read(bytes);
+    let row = row_of(m);
+    if row != 0 {
+        return row;
+    }
+    if out.len() < MOST_NUMBERS {
+        return 13;
+    }
+    put_message(out, bytes, m);
+    0
+}
+
+fn text_numbers(x: Text) -> [u64; 7]
+    ensures { λ r. ⌜ r ≡ textNumbers x ⌝ }
+{
+    let time = wire::to_unsigned(x.time);
+    [
+        time,
+        x.kind as u64,
+        x.tags as u64,
+        x.content as u64,
+        x.content_len as u64,
+        x.d as u64,
+        x.d_len as u64,
+    ]
+}
+
+// A text read back alone, and its parts as numbers into `out`: 9, 5, 13 if `out` has room for fewer than seven numbers, or 0.
+#[no_mangle]
+pub extern "C" fn plavdrosa_read_text(bytes: &[u8], out: &mut [u64]) -> u8
+    ensures { λ r. ⌜ r ≡ readTextRow (now (bytes .entry)) (now (out .entry)) ⌝ }
+    ensures { λ _. ⌜ now (out .exit) ≡ readTextOut (now (bytes .entry)) (now (out .entry)) ⌝ }
+{
+    match text::read_text(bytes) {
+        TextAnswer::TooLarge => 9,
+        TextAnswer::WrongShape => 5,
+        TextAnswer::Read(x) => {
+            if out.len() < TEXT_NUMBERS {
+                return 13;
+            }
+            let l = text_numbers(x);
+            put_numbers(out, 0, &l);
+            0
+        }
+    }
+}
+
+// An event's parts, from their numbers.
+fn body_from(
+    pubkey: usize,
+    pubkey_len: usize,
+    created_at: i64,
+    kind: i64,
+    tags: usize,
+    content: usize,
+    content_len: usize,
+) -> Body
+    ensures { λ r. ⌜ r ≡ bodyFrom pubkey «pubkey_len» «created_at» kind tags content «content_len» ⌝ }
+{
+    Body {
+        pubkey: Span {
+            start: pubkey,
+            len: pubkey_len,
+        },
+        created_at,
+        kind,
+        tags,
+        content: Span {
+            start: content,
+            len: content_len,
+        },
+    }
+}
+
+// The text of the event that the parts spell, from the start of `out`: how many bytes it has, or the row that refuses it. No text has fewer
+// than 80 bytes.
+#[no_mangle]
+pub extern "C" fn plavdrosa_serialise(
+    bytes: &[u8],
+    pubkey: usize,
+    pubkey_len: usize,
+    created_at: i64,
+    kind: i64,
+    tags: usize,
+    content: usize,
+    content_len: usize,
+    out: &mut [u8],
+) -> usize
+    ensures { λ r. ⌜ r ≡ serialiseAnswer (now (bytes .entry)) (bodyFrom pubkey «pubkey_len» «created_at» kind tags content «content_len») (now (out .entry)) ⌝ }
+    ensures { λ _. ⌜ now (out .exit) ≡ serialiseOut (now (bytes .entry)) (bodyFrom pubkey «pubkey_len» «created_at» kind tags content «content_len») (now (out .entry)) ⌝ }
+{
+    let p = body_from(
+        pubkey,
+        pubkey_len,
+        created_at,
+        kind,
+        tags,
+        content,
+        content_len,
+    );
+    match event::serialise(bytes, p, out) {
+        event::Written::Wrote(n) => n,
+        event::Written::Refused(r) => r as usize,
+    }
+}
+
+// The id of the event that the parts spell, into the first 32 bytes of `out`: the row that refuses it, 13, or 0.
+#[no_mangle]
+pub extern "C" fn plavdrosa_id(
+    bytes: &[u8],
+    pubkey: usize,
+    pubkey_len: usize,
+    created_at: i64,
+    kind: i64,
+    tags: usize,
+    content: usize,
+    content_len: usize,
+    out: &mut [u8],
+) -> u8
+    ensures { λ r. ⌜ r ≡ idRow (now (bytes .entry)) (bodyFrom pubkey «pubkey_len» «created_at» kind tags content «content_len») (now (out .entry)) ⌝ }
+    ensures { λ _. ⌜ now (out .exit) ≡ idOut (now (bytes .entry)) (bodyFrom pubkey «pubkey_len» «created_at» kind tags content «content_len») (now (out .entry)) ⌝ }
+{
+    let p = body_from(
+        pubkey,
+        pubkey_len,
+        created_at,
+        kind,
+        tags,
+        content,
+        content_len,
+    );
+    let x = event::id_of(bytes, p);
+    let row = x.row;
+    if row != 0 {
+        return row;
+    }
+    if out.len() < 32 {
+        return 13;
+    }
+    let id = x.id;
+    wire::put(out, 0, &id);
+    0
 }

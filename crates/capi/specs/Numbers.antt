@@ -1,0 +1,71 @@
+-- Parts as numbers: what a call for Rust and C writes into a lent row of them, and the parts that it makes of numbers.
+use Prim.Native.Nat.{ℕ}
+use mathlib.Core.List.{List, [], _∷_, _++_}
+use lib.IntN.{ℤ}
+use Rattle.wire.specs.Field.{unsigned}
+use Rattle.message.specs.Parts.{filterAt}
+use Rattle.message.specs.Lists.{elementsFrom}
+use Rattle.message.specs.declared.Span.{Span}
+use Rattle.message.specs.declared.Body.{Body}
+use Rattle.message.specs.declared.EventParts.{EventParts}
+use Rattle.message.specs.declared.FilterParts.{FilterParts}
+use Rattle.message.specs.declared.Bound.{Bound}
+use Rattle.message.specs.declared.Bound.the-variants as bound
+use Rattle.message.specs.declared.Listed.{Listed}
+use Rattle.message.specs.declared.Listed.the-variants as listed
+use Rattle.message.specs.declared.Message.{Message}
+use Rattle.message.specs.declared.Message.the-variants as message
+use Rattle.text.specs.declared.Text.{Text}
+use Rattle.text.specs.declared.TextAnswer.{TextAnswer}
+use Rattle.text.specs.declared.TextAnswer.the-variants as answer
+
+-- a place, and 0 where there is none: no list of a message stands at 0
+abbrev pub placeOf : Listed → ℕ
+placeOf listed.Absent = 0
+placeOf (listed.At v) = v
+
+-- whether there is a number, and its 64 bits
+abbrev pub flagOf : Bound → ℕ
+flagOf bound.Absent = 0
+flagOf (bound.Number z) = 1
+
+abbrev pub bitsOf : Bound → ℕ
+bitsOf bound.Absent = 0
+bitsOf (bound.Number z) = unsigned z
+
+abbrev pub eventNumbers : EventParts → List ℕ
+eventNumbers p =
+    1 ∷ p .id .start ∷ p .id .len ∷ p .body .pubkey .start ∷ p .body .pubkey .len ∷ unsigned (p .body .«created_at») ∷ unsigned (p .body .kind) ∷ p .body .tags
+    ∷ p .body .content .start ∷ p .body .content .len ∷ p .sig .start ∷ p .sig .len ∷ []
+
+abbrev pub filterNumbers : FilterParts → List ℕ
+filterNumbers p =
+    placeOf (p .ids) ∷ placeOf (p .authors) ∷ placeOf (p .kinds) ∷ flagOf (p .since) ∷ bitsOf (p .since) ∷ flagOf (p .until) ∷ bitsOf (p .until)
+    ∷ flagOf (p .limit) ∷ bitsOf (p .limit) ∷ placeOf (p .conditions) ∷ []
+
+-- of the filters at some places, and of all from one on
+unfoldable pub filtersAt : List ℕ → List ℕ → List ℕ
+filtersAt s [] = []
+filtersAt s (v ∷ vs) = filterNumbers (filterAt s v) ++ filtersAt s vs
+
+unfoldable pub filtersFrom : List ℕ → ℕ → List ℕ
+filtersFrom s first = filtersAt s (elementsFrom s (listed.At first))
+
+-- the first number says what was read: 1 an EVENT, 2 a REQ, 3 a CLOSE
+abbrev pub messageNumbers : List ℕ → Message → List ℕ
+messageNumbers s (message.Event p) = eventNumbers p
+messageNumbers s (message.Req p) = (2 ∷ p .subscription .start ∷ p .subscription .len ∷ []) ++ filtersFrom s (p .filters)
+messageNumbers s (message.Close p) = 3 ∷ p .start ∷ p .len ∷ []
+messageNumbers s (message.Refused r) = []
+
+abbrev pub textNumbers : Text → List ℕ
+textNumbers x = unsigned (x .time) ∷ x .kind ∷ x .tags ∷ x .content ∷ x .«content_len» ∷ x .d ∷ x .«d_len» ∷ []
+
+abbrev pub answerNumbers : TextAnswer → List ℕ
+answerNumbers (answer.Read x) = textNumbers x
+answerNumbers answer.TooLarge = []
+answerNumbers answer.WrongShape = []
+
+abbrev pub bodyFrom : ℕ → ℕ → ℤ → ℤ → ℕ → ℕ → ℕ → Body
+bodyFrom a n t k g c m =
+    record { pubkey = record { start = a; len = n }; «created_at» = t; kind = k; tags = g; content = record { start = c; len = m } }
