@@ -9,7 +9,8 @@ use lib.Dec.{T, T-not, not-T, eqb, eqb→eq, eqb-refl, ltb, ltb→lt, lt→ltb, 
 use lib.IntN.{ℤ, pos, negsuc}
 use lib.Signed.{_<ℤ_}
 use Rattle.law.specs.Table.{Class, Laws}
-use Rattle.law.specs.Event.{Event, Key, sameBytes, sameKey, lower, earlier, newer, events}
+use Rattle.wire.specs.Bytes.{sameBytes}
+use Rattle.law.specs.Event.{Event, lower, earlier, newer, events}
 use Rattle.law.proofs.Lists.{either, or-cases, or-left, or-right, and-both, and-left, and-right}
 
 -- ---- times
@@ -129,6 +130,7 @@ strict-bytes = record { irreflexive = irr; transitive = trans; total = tri }
 -- ---- equality
 
 pub same-bytes : (a b : List ℕ) → T (sameBytes a b) ↔ (a ≡ b)
+unfolding sameBytes
 same-bytes a b = (to a b, λ q. rw q (self b))
   where
     to : (a b : List ℕ) → T (sameBytes a b) → a ≡ b
@@ -143,24 +145,6 @@ same-bytes a b = (to a b, λ q. rw q (self b))
     self : (a : List ℕ) → T (sameBytes a a)
     self [] = tt
     self (x ∷ xs) = and-both (eqb x x) (sameBytes xs xs) (eqb-refl x) (self xs)
-
-pub same-key : (a b : Key) → T (sameKey a b) ↔ (a ≡ b)
-same-key a b = (to, λ q. rw q (self b))
-  where
-    to : T (sameKey a b) → a ≡ b
-    to t = go (eqb (a .kind) (b .kind)) (sameBytes (a .pubkey) (b .pubkey)) (sameBytes (a .d) (b .d))
-        (eqb→eq (a .kind) (b .kind)) (same-bytes (a .pubkey) (b .pubkey) .0) (same-bytes (a .d) (b .d) .0) t
-      where
-        go : (x y z : Bool) → (T x → a .kind ≡ b .kind) → (T y → a .pubkey ≡ b .pubkey) → (T z → a .d ≡ b .d) → T (x && (y && z)) → a ≡ b
-        go x y z k p d t =
-            let u = and-right x (y && z) t in
-            λ i. record { kind = k (and-left x (y && z) t) i; pubkey = p (and-left y z u) i; d = d (and-right y z u) i }
-
-    self : (k : Key) → T (sameKey k k)
-    self k =
-        let p = same-bytes (k .pubkey) (k .pubkey) .1 refl in
-        let d = same-bytes (k .d) (k .d) .1 refl in
-        and-both (eqb (k .kind) (k .kind)) _ (eqb-refl (k .kind)) (and-both (sameBytes (k .pubkey) (k .pubkey)) _ p d)
 
 -- ---- newer
 
@@ -197,8 +181,10 @@ module _ (time : List ℕ → ℤ) where
       go (inr (inl q)) (inr (inl p)) = absurd (ne p)
       go (inr (inl q)) (inr (inr t)) = inr (newer-means b a .1 (inr (sym q, t)))
 
-pub laws : (class : List ℕ → Class Key) (time : List ℕ → ℤ) → Laws (events class time)
-laws class time = record {
+-- where the test on keys means equality
+pub laws : (Key : Type 0) (sameKey : Key → Key → Bool) → ((a b : Key) → T (sameKey a b) ↔ (a ≡ b))
+    → (class : List ℕ → Class Key) (time : List ℕ → ℤ) → Laws (events Key sameKey class time)
+laws Key sameKey same-key class time = record {
   id-eq = same-bytes;
   key-eq = same-key;
   irreflexive = newer-irreflexive time;
