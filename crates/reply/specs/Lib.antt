@@ -1,0 +1,5 @@
+-- Replies, which of them a message gets, and the program's output.
+pub mod Ascii
+pub mod Replies
+pub mod Lent
+pub mod Program
