@@ -3,3 +3,4 @@ pub mod Ascii
 pub mod Replies
 pub mod Lent
 pub mod Program
+pub mod Starred
