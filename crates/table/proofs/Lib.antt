@@ -1,5 +1,20 @@
--- Fields: laws of bytes in a row. Slots: an event written to a slot is read back, and a sound slot is what its event writes.
--- Formatted: a table just formatted is sound and empty.
+-- Demand3 has the theorem. Below it: Formatted, a table just formatted is fresh; Faithful, an offer does at the bytes what the law says, and
+-- which bytes it leaves; Passes, held events pass rows 2 to 10 when they are offered again as parts.
+-- Fields, Slots: an event written to a slot is read back, and a sound slot is what its event writes. Lists, Distinct, Bytes, Stored: the
+-- table after a store. Unread: what stands behind the last slot. Hex, Valid: what holds of a valid offer. Refused, Again: a spelling that
+-- decodes to a string within the limits is not refused.
 pub mod Fields
 pub mod Slots
 pub mod Formatted
+pub mod Lists
+pub mod Distinct
+pub mod Bytes
+pub mod Hex
+pub mod Valid
+pub mod Stored
+pub mod Faithful
+pub mod Unread
+pub mod Refused
+pub mod Again
+pub mod Passes
+pub mod Demand3

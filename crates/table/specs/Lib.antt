@@ -5,3 +5,4 @@ pub mod Sound
 pub mod Offer
 pub mod Format
 pub mod Relay
+pub mod Examples
