@@ -20,7 +20,8 @@ use Rattle.table.specs.Layout.{Fits, tableSize, capacityOf, slotBytes}
 use Rattle.table.specs.Events.{SignedEvent, Signature, tiles, signedTiles, ofHeld, classOfEvent, classOfText, view}
 use Rattle.table.specs.Sound.{sound}
 use Rattle.table.specs.Offer.{Offering, rowOf, isValid, offeredOf, judge, answerOf, verdictOn, answer, isStored, slotFor, countAfter, storedIn, next}
-use Rattle.table.specs.Relay.{Good, verdictOf, relay, OtherBytes, BytesAfter}
+use Rattle.table.specs.Relay.{Good, verdictOf, relay}
+use Rattle.table.specs.Claims.{Unchanged, OtherBytes, BytesAfter}
 use Rattle.table.specs.declared.Offered.{Offered}
 use Rattle.table.specs.declared.Offered.the-variants.{Ephemeral, Duplicate, Older, Stored, Refused}
 use Rattle.table.proofs.Lists.{is-true}
@@ -206,6 +207,10 @@ module _ (b : List ℕ) (o : Offering) (g : Good b) where
 
 pub faithful : Faithful tiles Signature relay
 faithful = record { good = good; keeps = keeps; says = says; does = does }
+
+pub unchanged : Unchanged
+unfolding next
+unchanged b o e = rw e
 
 pub other-bytes : OtherBytes
 unfolding next storedIn

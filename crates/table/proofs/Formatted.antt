@@ -1,11 +1,12 @@
--- A table just formatted is sound, empty and of its capacity: FormattedFresh of specs/Relay.
-use mathlib.Core.Path.{_≡_, refl, ap, _∙_}
+-- A table just formatted is sound, empty and of its capacity: FormattedFresh of specs/Claims.
+use mathlib.Core.Path.{_≡_, refl, sym, ap, _∙_}
 use mathlib.Core.Bool.{Bool, true, false, cond}
 use mathlib.Core.List.{List, [], _++_, append-assoc, List·Memᴰ·not-nil}
 use Prim.Native.Nat.{ℕ, _+_, _-_, _*_, _≤_}
 use native.Mathlib.Omega.{arith}
 use lib.Dec.{leb, ltb}
 use lib.ListN.{length, drop, replicate, length-append, length-replicate, length-drop}
+use lib.Seq.{drop-at, drop-drop}
 use borrow.Author.Tests.{leb-true, ltb-false, le-leb}
 use Rattle.wire.specs.Limits.{mostSlots}
 use Rattle.wire.specs.Field.{leBytes}
@@ -17,7 +18,7 @@ use Rattle.table.specs.Layout.{headerSize, slotSize, tableSize, capacity
 use Rattle.table.specs.Events.{SignedEvent, view}
 use Rattle.table.specs.Sound.{isCapacity, hasHeader, capacityFits, slotsFit, countFits, othersAsAbove, slotsSound, noneTwice, noIdTwice, noKeyTwice, laterZero, sound}
 use Rattle.table.specs.Format.{formatRow, formatted}
-use Rattle.table.specs.Relay.{FormattedFresh}
+use Rattle.table.specs.Claims.{FormattedFresh}
 use Rattle.table.proofs.Fields.{piece, field, after-field, zeros-zero}
 
 -- rows 14 and 13 let the capacity and the buffer pass
@@ -108,6 +109,13 @@ module _ (N : ℕ) (b : List ℕ) (r : formatRow N b ≡ 0) where
       )
       (zeros-zero (N * slotSize))
 
+-- what stands behind the table stays
+pub formatted-rest : (N : ℕ) (b : List ℕ) → formatRow N b ≡ 0 → drop (tableSize N) (formatted N b) ≡ drop (tableSize N) b
+formatted-rest N b r =
+    sym (drop-drop (N * slotSize) headerSize (formatted N b))
+    ∙ ap (drop (N * slotSize)) (at-slots N b r)
+    ∙ drop-at (replicate (N * slotSize) 0) (drop (tableSize N) b) (N * slotSize) (length-replicate {A = ℕ} (N * slotSize) 0)
+
 pub formatted-fresh : FormattedFresh
 formatted-fresh N b r = (
   record {
@@ -120,6 +128,9 @@ formatted-fresh N b r = (
     empty = formatted-view N b r;
   },
   formatted-capacity N b r,
+  formatted-count N b r,
+  formatted-length N b r,
+  formatted-rest N b r,
 )
   where
     none : (s : SignedEvent) → s ∈ view (formatted N b) → ⊥

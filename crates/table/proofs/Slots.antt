@@ -1,6 +1,6 @@
 -- An event written to a slot is read back from it, and a slot that is sound is what its event writes.
 use mathlib.Core.Path.{_≡_, refl, sym, ap, ap₂, _∙_}
-use mathlib.Core.Bool.{true, false, _&&_}
+use mathlib.Core.Bool.{true, false, not, _&&_}
 use mathlib.Core.List.{List, _++_}
 use Prim.Native.Nat.{ℕ, _+_, _-_, _≤_, _<_, _^_}
 use native.Mathlib.Omega.{arith}
@@ -8,10 +8,11 @@ use lib.Dec.{eqb, leb, ltb}
 use lib.IntN.{ℤ, pos, negsuc}
 use lib.ListN.{length, drop, replicate, length-append, length-replicate, length-take, length-drop}
 use lib.Seq.{drop-at}
+use lib.Signed.{mag}
 use borrow.Author.Tests.{ltb-false, not-true, le-leb, leb-true, eq-eqb, eqb-true}
 use Rattle.wire.specs.Limits.{widest, mostText}
-use Rattle.wire.specs.Field.{leBytes, fieldAt, unsigned}
-use Rattle.wire.proofs.Fields.{length-leBytes}
+use Rattle.wire.specs.Field.{leBytes, fieldAt, signed, unsigned}
+use Rattle.wire.proofs.Fields.{length-leBytes, signed-unsigned}
 use Rattle.numeral.specs.Whole.{isWithin}
 use Rattle.text.specs.Event.{Event, serialise, isTime, all}
 use Rattle.text.specs.Read.{read, readText, IsTextOf}
@@ -22,7 +23,7 @@ use Rattle.text.proofs.Pieces.{both}
 use Rattle.text.proofs.Limits.{limits-of}
 use Rattle.text.proofs.RoundTrip.{read-back, read-same}
 use Rattle.text.proofs.Places.{d-inside}
-use Rattle.table.specs.Layout.{Held, Fits, slotSize, idIn, sigIn, kindIn, lengthIn, dIn, textIn, restIn, isByte, dIfAddressable, dPlace, textBytes, slotBytes}
+use Rattle.table.specs.Layout.{Held, Fits, slotSize, idIn, sigIn, timeIn, kindIn, lengthIn, dIn, textIn, restIn, isByte, dIfAddressable, dPlace, textBytes, slotBytes}
 use Rattle.table.specs.Events.{inSlot, ofHeld}
 use Rattle.table.specs.Sound.{isRead, textReads, agreesWith, fieldsAgree, isLasting, isZero, zeroAfterText, slotSound}
 use Rattle.table.proofs.Fields.{piece, after, cut, field, after-field, field-back, byte-small, zeros-zero, zero-zeros}
@@ -32,6 +33,11 @@ small-time : (z : ℤ) → isTime z ≡ true → unsigned z < 256 ^ 8
 unfolding isTime isWithin unsigned
 small-time (pos n) h = let l = ltb-false widest n (not-true (ltb widest n) h) in omega arith
 small-time (negsuc n) h = omega arith
+
+mag-time : (z : ℤ) → isTime z ≡ true → mag z < 2 ^ 63
+unfolding isTime isWithin
+mag-time (pos n) h = let l = ltb-false widest n (not-true (ltb widest n) h) in omega arith
+mag-time (negsuc n) h = let l = ltb-false 9007199254740990 n (not-true (ltb 9007199254740990 n) (both (not (ltb 9007199254740990 n)) true h .0)) in omega arith
 
 d-in-text : (e : Event) → IsTextOf (serialise e) e → dPlace e .at + dPlace e .len ≤ length (serialise e)
 unfolding dPlace
@@ -180,6 +186,10 @@ module _ (s : List ℕ) (ok : slotSound s ≡ true) where
     pub sound-time : fieldAt s 96 8 ≡ unsigned (e .time)
     unfolding agreesWith
     sound-time = eqb-true (fieldAt s 96 8) (unsigned (e .time)) (both (eqb (fieldAt s 96 8) (unsigned (e .time))) _ sound-fields .0)
+
+    -- the event's time, not its bits
+    pub sound-signed : signed (timeIn s) ≡ e .time
+    sound-signed = ap signed sound-time ∙ signed-unsigned (e .time) (mag-time (e .time) (limits-of e (read-same (textIn s) e r .fit) .time))
 
     sound-others : (eqb (kindIn s) (e .kind) && (eqb (dIn s .at) (dPlace e .at) && eqb (dIn s .len) (dPlace e .len))) ≡ true
     unfolding agreesWith

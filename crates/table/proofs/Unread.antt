@@ -20,11 +20,9 @@ use Rattle.table.specs.Events.{signedTiles, inSlot, ofHeld, view}
 use Rattle.table.specs.Sound.{slotSound, slotsSound, noneTwice, noIdTwice, noKeyTwice, isZero, laterZero, sound}
 use Rattle.table.specs.Offer.{Offering, rowOf, isValid, offeredOf, answerOf, answer, isStored, slotFor, countAfter, storedIn, next}
 use Rattle.table.proofs.Slots.{slot-length}
+use Rattle.table.specs.Claims.{NeverRead}
 use Rattle.table.proofs.Bytes.{Clauses, clauses, is-sound}
 use Rattle.table.proofs.Faithful.{answer-invalid, answer-unsound, answer-valid, stores-if, fits, leaves}
-
-abbrev pub NeverRead : Type 0
-NeverRead = (b t : List ℕ) (o : Offering) → length b ≡ tableSize (capacityOf b) → (answer (b ++ t) o ≡ answer b o) × (next (b ++ t) o ≡ next b o ++ t)
 
 -- ---- lists with more behind them
 field-append : (b t : List ℕ) (i k : ℕ) → i + k ≤ length b → fieldAt (b ++ t) i k ≡ fieldAt b i k

@@ -4,10 +4,9 @@ use mathlib.Core.Bool.{Bool, true}
 use mathlib.Core.List.{List, [], _∷_, _++_}
 use Prim.Native.Nat.{ℕ, _+_, _-_, _*_, _≤_}
 use lib.Dec.{ltb}
-use lib.IntN.{ℤ}
 use lib.ListN.{length, drop, replicate}
 use Rattle.wire.specs.Limits.{mostText}
-use Rattle.wire.specs.Field.{leBytes, fieldAt, signed, unsigned}
+use Rattle.wire.specs.Field.{leBytes, fieldAt, unsigned}
 use Rattle.rows.specs.Strings.{part}
 use Rattle.text.specs.Event.{Event, serialise, isFit, all}
 use Rattle.text.specs.Kinds.{classOf}
@@ -69,8 +68,9 @@ idIn s = part s 0 32
 unfoldable pub sigIn : List ℕ → List ℕ
 sigIn s = part s 32 64
 
-unfoldable pub timeIn : List ℕ → ℤ
-timeIn s = signed (fieldAt s 96 8)
+-- the bits of created_at; in a sound slot it is the time as a signed number (proofs/Slots, `sound-signed`)
+abbrev pub timeIn : List ℕ → ℕ
+timeIn s = fieldAt s 96 8
 
 unfoldable pub kindIn : List ℕ → ℕ
 kindIn s = fieldAt s 104 2

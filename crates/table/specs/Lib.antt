@@ -5,4 +5,5 @@ pub mod Sound
 pub mod Offer
 pub mod Format
 pub mod Relay
+pub mod Claims
 pub mod Examples

@@ -2,12 +2,11 @@
 -- answers and the bytes of specs/Offer. Quotes are from 01.
 use mathlib.Core.Path.{_≡_}
 use mathlib.Core.Bool.{Bool, true, false, cond}
-use mathlib.Core.List.{List, []}
-use Prim.Native.Nat.{ℕ, _+_, _*_, _<_, _≤_}
+use mathlib.Core.List.{List}
+use Prim.Native.Nat.{ℕ}
 use lib.Dec.{eqb}
 use lib.IntN.{pos}
-use lib.ListN.{length, getD, drop}
-use mathlib.Core.Logic.{_⊎_}
+use lib.ListN.{length}
 use Rattle.utf8.specs.Utf8.{isUtf8}
 use Rattle.json.specs.Grammar.{isSpelling}
 use Rattle.digest.specs.Digest.{digest}
@@ -20,12 +19,11 @@ use Rattle.event.specs.Lent.{said, tagsAt}
 use Rattle.event.specs.Answer.{hexOf}
 use Rattle.law.specs.Lists.{_∈_}
 use Rattle.law.specs.Table.{Verdict, refused, wasEphemeral, duplicate, older, stored, noRoom}
-use Rattle.law.specs.Machine.{Machine, Fresh, Demand3On}
-use Rattle.table.specs.Layout.{slotSize, tableSize, slotPlace, capacityOf, isByte}
+use Rattle.law.specs.Machine.{Machine, Demand3On}
+use Rattle.table.specs.Layout.{capacityOf, isByte}
 use Rattle.table.specs.Events.{SignedEvent, Signature, tiles, view}
 use Rattle.table.specs.Sound.{sound}
-use Rattle.table.specs.Offer.{Offering, asMessage, asParts, judge, answer, offeredOf, slotFor, next}
-use Rattle.table.specs.Format.{formatRow, formatted}
+use Rattle.table.specs.Offer.{Offering, asMessage, asParts, judge, answer, next}
 use Rattle.table.specs.declared.Offered.{Offered}
 use Rattle.table.specs.declared.Offered.the-variants.{Ephemeral, Duplicate, Older, Stored, Refused}
 
@@ -90,23 +88,6 @@ relay = record {
   Good = Good;
 }
 
--- ---- what is proved of it (proofs/Demand3)
--- "A fresh table is one just formatted, with any capacity and buffer that rows 13 and 14 let pass; its C is 0."
-abbrev pub FormattedFresh : Type 0
-FormattedFresh = (N : ℕ) (b : List ℕ) → formatRow N b ≡ 0 → Fresh tiles Signature relay (formatted N b) × (capacityOf (formatted N b) ≡ N)
-
--- what a relay holds can be told: parts of it exist
-abbrev pub Tellable : Type 0
-Tellable = (b : List ℕ) (s : SignedEvent) → Good b → s ∈ view b → (o : Offering) × AsParts o s
-
+-- demand 3, whole: proofs/Demand3
 abbrev pub Demand3 : Type 0
 Demand3 = Demand3On tiles Signature relay
-
--- "A store writes only the bytes of the one slot it fills, and the count": byte i is neither
-abbrev pub OtherBytes : Type 0
-OtherBytes = (b : List ℕ) (o : Offering) (i : ℕ) → (i < 4) ⊎ (8 ≤ i) →
-    (i < slotPlace (slotFor b (offeredOf o))) ⊎ (slotPlace (slotFor b (offeredOf o)) + slotSize ≤ i) → getD (next b o) i 0 ≡ getD b i 0
-
--- "Bytes after slot N-1 are never .. written", and the buffer keeps its length
-abbrev pub BytesAfter : Type 0
-BytesAfter = (b : List ℕ) (o : Offering) → (length (next b o) ≡ length b) × (drop (tableSize (capacityOf b)) (next b o) ≡ drop (tableSize (capacityOf b)) b)

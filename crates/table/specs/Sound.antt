@@ -7,13 +7,13 @@ use Prim.Native.Nat.{ℕ}
 use lib.Dec.{eqb, leb}
 use lib.ListN.{length}
 use Rattle.wire.specs.Limits.{mostText, mostSlots}
-use Rattle.wire.specs.Field.{fieldAt, unsigned}
+use Rattle.wire.specs.Field.{unsigned}
 use Rattle.text.specs.Event.{Event, all}
 use Rattle.text.specs.Read.{Read, tooLarge, wrongShape, read, readText}
 use Rattle.text.specs.Kinds.{isEphemeral}
 use Rattle.law.specs.Lists.{any}
 use Rattle.law.specs.Table.{hasId, hasKey}
-use Rattle.table.specs.Layout.{headerSize, slotSize, capacityOf, countOf, slotSizeOf, firstSlotOf, tableSize, heldSlots, laterSlots, kindIn, lengthIn, dIn, textIn, restIn, dPlace}
+use Rattle.table.specs.Layout.{headerSize, slotSize, capacityOf, countOf, slotSizeOf, firstSlotOf, tableSize, heldSlots, laterSlots, timeIn, kindIn, lengthIn, dIn, textIn, restIn, dPlace}
 use Rattle.table.specs.Events.{SignedEvent, signedTiles, view}
 
 -- "the buffer has at least 16 bytes"
@@ -52,7 +52,7 @@ textReads s = leb (lengthIn s) mostText && isRead (readText (textIn s))
 -- ".. that agree with their slot fields"
 unfoldable pub agreesWith : List ℕ → Event → Bool
 agreesWith s e =
-    eqb (fieldAt s 96 8) (unsigned (e .time))
+    eqb (timeIn s) (unsigned (e .time))
     && (eqb (kindIn s) (e .kind) && (eqb (dIn s .at) (dPlace e .at) && eqb (dIn s .len) (dPlace e .len)))
 
 abbrev pub agreesIn : List ℕ → Read → Bool
