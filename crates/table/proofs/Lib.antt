@@ -14,6 +14,7 @@ pub mod Valid
 pub mod Stored
 pub mod Faithful
 pub mod Unread
+pub mod Shown
 pub mod Refused
 pub mod Again
 pub mod Passes

@@ -47,13 +47,13 @@ abbrev pub NeverRead : Type 0
 NeverRead = (b t : List ℕ) (o : Offering) → length b ≡ tableSize (capacityOf b) → (answer (b ++ t) o ≡ answer b o) × (next (b ++ t) o ≡ next b o ++ t)
 
 -- ---- showing
--- "Showing a slot hands back the very bytes of its text": entry k of what is held
+-- "Showing a slot hands back the very bytes of its text": the text of a held event
 abbrev pub ShownHeld : Type 0
 ShownHeld = (b : List ℕ) (k : ℕ) → shownRow b k ≡ 0 → (inSlot (slotAt b k) ∈ view b) × (shown b k ≡ inSlot (slotAt b k) .0 .text)
 
--- the k-th entry is slot k
+-- entry k of what is held is slot k
 abbrev pub ViewAt : Type 0
-ViewAt = (b : List ℕ) (k : ℕ) (e : SignedEvent) → k < countOf b → getD (view b) k e ≡ inSlot (slotAt b k)
+ViewAt = (b : List ℕ) (k : ℕ) → k < countOf b → getD (view b) k (inSlot []) ≡ inSlot (slotAt b k)
 
 abbrev pub ShownNeverRead : Type 0
 ShownNeverRead = (b t : List ℕ) (k : ℕ) → length b ≡ tableSize (capacityOf b) → (shownRow (b ++ t) k ≡ shownRow b k) × (shown (b ++ t) k ≡ shown b k)
