@@ -38,7 +38,7 @@ pub or-neither : (a b : Bool) → (a || b) ≡ false → (a ≡ false) × (b ≡
 or-neither true b e = absurd (let z : _≡_ {A = ℕ} 0 1 = cc in omega arith)
 or-neither false b e = (refl, e)
 
-pub within-bounds : (low high x : ℕ) → within low high x ≡ true → (low ≤ x) × (x ≤ high)
+within-bounds : (low high x : ℕ) → within low high x ≡ true → (low ≤ x) × (x ≤ high)
 within-bounds low high x e = let (p, q) = and-both (leb low x) (leb x high) e in (leb-true low x p, leb-true x high q)
 
 -- ---- bytes of a spelling, by RFC 8259's classes
@@ -167,7 +167,7 @@ digit-few x = go (ltb x 0x30) (leb x 0x39) refl (ltb x 0x41) (leb x 0x46) refl (
     go false false p false false q false true r = omega (arith, leb-true x 0x66 r)
     go false false p false false q false false r = omega arith
 
-pub four-few : (a b c d : ℕ) → four a b c d ≤ 0xffff
+four-few : (a b c d : ℕ) → four a b c d ≤ 0xffff
 unfolding four
 four-few a b c d = omega (arith, digit-few a, digit-few b, digit-few c, digit-few d)
 
@@ -188,7 +188,7 @@ paired u x y v e =
 
 -- ---- the octets of a code point
 module _ (n : ℕ) where
-  pub not-surrogate : {A : Type 0} → (n < 0xd800 → A) → (0xdfff < n → A) → isSurrogate n ≡ false → A
+  not-surrogate : {A : Type 0} → (n < 0xd800 → A) → (0xdfff < n → A) → isSurrogate n ≡ false → A
   not-surrogate f g e = elim (decLt n 0xd800) [
     | yes h ↦ f h
     | no h ↦ elim (decLt 0xdfff n) [
@@ -300,7 +300,7 @@ pub lead-low : (x : ℕ) (t : List ℕ) → x < 128 → utf8From Lead t ≡ true
 unfolding utf8From leadOf
 lead-low x t l e = rw (le-leb x 127 (omega arith)) e
 
-pub lead-of : (n : ℕ) (t : List ℕ) → n ≤ 0x10ffff → isSurrogate n ≡ false → utf8From Lead t ≡ true → utf8From Lead (utf8Of n ++ t) ≡ true
+lead-of : (n : ℕ) (t : List ℕ) → n ≤ 0x10ffff → isSurrogate n ≡ false → utf8From Lead t ≡ true → utf8From Lead (utf8Of n ++ t) ≡ true
 unfolding isUtf8
 lead-of n t h e u = as-in-abnf (utf8Of n ++ t) .1 (octets-of n t (as-in-abnf t .0 u) h e)
 

@@ -58,7 +58,7 @@ pub and-fails : (a b : Bool) → a ≡ true → (a && b) ≡ false → b ≡ fal
 and-fails a b p e = rw p at e
 
 -- ---- UTF-8 between two quotes
-pub cut : (x : List ℕ) (q : ℕ) (y : List ℕ) (w : Want) → High w → q < 128 → utf8From w (x ++ (q ∷ y)) ≡ true → (utf8From w x ≡ true) × (utf8From Lead y ≡ true)
+cut : (x : List ℕ) (q : ℕ) (y : List ℕ) (w : Want) → High w → q < 128 → utf8From w (x ++ (q ∷ y)) ≡ true → (utf8From w x ≡ true) × (utf8From Lead y ≡ true)
 unfolding utf8From
 cut [] q y w h l e = let (z, u) = low-lead w q y h l e in (rw z, u)
 cut (a ∷ x) q y w h l e = cut x q y (next w a) (next-high w a h) l e
@@ -71,7 +71,7 @@ module _ (s : List ℕ) where
   apart : (at n m : ℕ) → at + n < length s → take (n + suc m) (drop at s) ≡ take n (drop at s) ++ (getD s (at + n) 0 ∷ take m (drop (at + n + 1) s))
   apart at n m h = take-add n (suc m) (drop at s) ∙ ap (λ (l : List ℕ). take n (drop at s) ++ take (suc m) l) (drop-drop n at s ∙ here (at + n) h)
 
-  pub quotes : (v e : ℕ) → stringAt s v ≡ End e → (getD s v 0 ≡ 34) × (getD s (e - 1) 0 ≡ 34) × (v + 2 ≤ e) × (e ≤ length s)
+  quotes : (v e : ℕ) → stringAt s v ≡ End e → (getD s v 0 ≡ 34) × (getD s (e - 1) 0 ≡ 34) × (v + 2 ≤ e) × (e ≤ length s)
   quotes v e q =
       let p = string-parts s v e q in
       let z : e - 1 ≡ charsAt s (v + 1) = omega (arith, p .1) in
@@ -98,7 +98,7 @@ module _ (s : List ℕ) where
   unfolding past
   ws-after at = omega arith
 
-  pub token-after : (b at n : ℕ) → tokenAt s b at ≡ End n → at ≤ n
+  token-after : (b at n : ℕ) → tokenAt s b at ≡ End n → at ≤ n
   unfolding tokenAt
   token-after b at n e =
       let (m, p, q) = then-end _ _ e in
@@ -230,10 +230,10 @@ module _ (s : List ℕ) where
       go (full h y) e = omega (arith, walk-after shape.isString 6 (string-after 5) y e)
 
 -- ---- what passes the rows fits
-pub both-true : (a b : Bool) → a ≡ true → b ≡ true → (a && b) ≡ true
+both-true : (a b : Bool) → a ≡ true → b ≡ true → (a && b) ≡ true
 both-true a b p q = rw (p, q)
 
-pub bounded : (low high n : ℕ) → outside low high n ≡ false → (low ≤ n) × (n ≤ high)
+bounded : (low high n : ℕ) → outside low high n ≡ false → (low ≤ n) × (n ≤ high)
 bounded low high n e = let (p, q) = or-neither (ltb n low) (ltb high n) e in (ltb-false n low p, ltb-false high n q)
 
 module _ (b : List ℕ) where

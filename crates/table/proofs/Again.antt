@@ -1,20 +1,19 @@
 -- The converse of event/proofs/Fit for tags and strings: parts whose decoded strings, tags and counts are within the limits break none of
 -- rows 4, 7 and 8. Over the tree as in Fit, an item at a time; that its own text is UTF-8 is known of all of it.
-use mathlib.Core.Bool.{Bool, true, false, not, _&&_, _||_}
-use mathlib.Core.Path.{_≡_, refl, sym, ap, _∙_}
-use mathlib.Core.List.{List, [], _∷_, _++_}
-use Prim.Native.Nat.{ℕ, suc, _+_, _-_, _≤_, _<_}
+use mathlib.Core.Bool.{Bool, true, false, not, _||_}
+use mathlib.Core.Path.{_≡_, refl}
+use mathlib.Core.List.{List, [], _∷_}
+use Prim.Native.Nat.{ℕ, _+_, _-_, _≤_}
 use native.Mathlib.Omega.{arith}
-use borrow.Author.Tests.{le-leb, le-ltb, leb-true, eq-eqb, eqb-true, not-false}
-use lib.Dec.{ltb, leb, eqb}
+use borrow.Author.Tests.{le-ltb, leb-true, eq-eqb, not-false}
+use lib.Dec.{leb}
 use lib.ListN.{length}
 use Rattle.utf8.specs.Utf8.{utf8From, isUtf8}
 use Rattle.utf8.specs.declared.Want.the-variants.{Lead}
-use Rattle.json.specs.Grammar.{stringAt, wsAt, isSpelling}
 use Rattle.json.specs.Tree.{Json, word, num, str, arr, obj, Items, nil, item, Got, none, got, treeAt, depth}
 use Rattle.json.proofs.Spelled.{string-spelled}
 use Rattle.rows.specs.Strings.{part, refusedIn, refusedItems}
-use Rattle.spell.specs.Spell.{decode, refuses, isHex, isHexOf}
+use Rattle.spell.specs.Spell.{decode, isHex, isHexOf}
 use Rattle.spell.specs.Spell as spell
 use Rattle.spell.proofs.Laws.{HexDigit, digit, letter, hex-digit}
 use Rattle.shape.specs.Shape.{anyItem, allItems, countItems, count, isArrayOf}
@@ -25,11 +24,11 @@ use Rattle.text.proofs.Pieces.{both, and-true}
 use Rattle.message.specs.declared.Span.{Span}
 use Rattle.message.specs.Lent.{bytesOf, isInside, isSpelled, string2, string4, string5, string7, value2, value4, value5, onValue, ownText, wrongTags}
 use Rattle.message.specs.Lent as lent
-use Rattle.event.specs.Lent.{said, stringOf, stringsOf, tagOf, tagsOf, tagsIn, tagsAt}
+use Rattle.event.specs.Lent.{stringOf, stringsOf, tagOf, tagsOf, tagsIn, tagsAt}
 use Rattle.event.proofs.Walks.{Walk, last, more}
 use Rattle.event.proofs.Decoded.{lead-low, plain-high}
-use Rattle.event.proofs.Fit.{inner, ws-after, more-after, done-after, Quoted, quoted, Array, bare, full, array, string-after, walk-after, tag-after, strings-count, tags-count}
-use Rattle.table.specs.Relay.{Spells, SpellsTags}
+use Rattle.event.proofs.Fit.{inner, ws-after, more-after, done-after, quoted, Array, bare, full, array, string-after, walk-after, tag-after, strings-count, tags-count}
+use Rattle.table.specs.Relay.{Spells}
 use Rattle.table.proofs.Refused.{not-refused}
 
 -- ---- tests

@@ -1,22 +1,20 @@
 -- Hex and bytes: what hexOf writes is lower-case hex and is read back by unhex; a digest is 32 bytes.
-use mathlib.Core.Bool.{Bool, true, false, cond, _&&_, _||_}
-use mathlib.Core.Path.{_≡_, refl, sym, ap, ap₂, _∙_}
+use mathlib.Core.Bool.{true}
+use mathlib.Core.Path.{_≡_, refl, ap, ap₂}
 use mathlib.Core.List.{List, [], _∷_, _++_}
-use Prim.Native.Nat.{ℕ, zero, suc, _+_, _-_, _*_, _/_, _%_, _≤_, _<_}
+use Prim.Native.Nat.{ℕ, zero, suc, _+_, _-_, _*_, _/_, _%_, _<_}
 use native.Mathlib.Decide.{decLt}
 use native.Mathlib.Nat.{mod-lt}
 use native.Mathlib.Omega.{arith}
-use borrow.Author.Tests.{lt-ltb, le-ltb, le-leb, lt-leb, ltb-true, eq-eqb}
-use lib.Dec.{ltb, leb, eqb}
+use borrow.Author.Tests.{lt-ltb, le-ltb, le-leb, lt-leb, ltb-true}
 use lib.ListN.{length, length-append}
-use Rattle.spell.specs.Spell.{hexVal, decode, isHex, isHexOf}
+use Rattle.spell.specs.Spell.{hexVal, isHex}
 use Rattle.spell.specs.Spell as spell
 use Rattle.digest.specs.Digest.{hashed, padded, digestBytes, digestByte, digest}
 use Rattle.digest.specs.Block.{H0}
 use Rattle.text.specs.Event.{all}
-use Rattle.text.proofs.Pieces.{both, and-true}
+use Rattle.text.proofs.Pieces.{both}
 use Rattle.event.specs.Answer.{hexDigit, hexOf}
-use Rattle.event.proofs.Answers.{hex-length}
 use Rattle.event.proofs.Decoded.{digit-few}
 use Rattle.table.specs.Layout.{isByte}
 use Rattle.table.specs.Offer.{unhex}

@@ -1,14 +1,14 @@
 -- What a table holds passes rows 2 to 10 when it is offered again as parts, and is judged the very event and signature held. Its text is read
 -- back to an event within the limits, and the parts spell that event: so rows 2 and 5 hold of no part, and rows 4 and 6 to 9 of nothing that
 -- it says; its id is its text's hash, so row 10 does not hold.
-use mathlib.Core.Bool.{Bool, true, false, cond, not, _&&_, _||_}
-use mathlib.Core.Path.{_≡_, refl, sym, ap, _∙_}
+use mathlib.Core.Bool.{true, false}
+use mathlib.Core.Path.{_≡_, sym, ap, _∙_}
 use mathlib.Core.Option.{some}
-use mathlib.Core.List.{List, [], _∷_}
-use Prim.Native.Nat.{ℕ, _+_, _≤_, _<_}
+use mathlib.Core.List.{List}
+use Prim.Native.Nat.{ℕ, _≤_}
 use native.Mathlib.Omega.{arith}
-use borrow.Author.Tests.{eqb-true, le-ltb, eq-eqb}
-use lib.Dec.{eqb, ltb}
+use borrow.Author.Tests.{le-ltb, eq-eqb}
+use lib.Dec.{eqb}
 use lib.IntN.{ℤ, pos, negℤ}
 use lib.ListN.{length}
 use Rattle.numeral.specs.Whole.{isWithin, widest}
@@ -16,25 +16,23 @@ use Rattle.digest.specs.Digest.{digest}
 use Rattle.spell.specs.Spell.{sameBytes, isHex}
 use Rattle.spell.specs.Spell as spell
 use Rattle.spell.proofs.Laws.{equal-same}
-use Rattle.json.specs.Tree.{treeAt, depth}
-use Rattle.text.specs.Event.{Event, serialise, isFit, all, isHexDigit, isPubkey, isTime, mostText}
-use Rattle.text.specs.Read.{read, readText, IsTextOf}
+use Rattle.text.specs.Event.{all, isHexDigit, isPubkey, isTime, mostText}
+use Rattle.text.specs.Read.{IsTextOf}
 use Rattle.text.proofs.Pieces.{both}
 use Rattle.text.proofs.Limits.{Limits, limits-of}
 use Rattle.text.proofs.Rows.{pubkey-length}
 use Rattle.text.proofs.RoundTrip.{read-same}
 use Rattle.message.specs.declared.EventParts.{EventParts}
-use Rattle.message.specs.Lent.{wrongNumber, onValue, wrongTags, isTags, value2, value4, value5, body2, body4, body5, body6, body7, body8, event2, event4, event5, event7, eventRow}
-use Rattle.event.specs.Lent.{said, tagsAt, eventOf, textOf}
+use Rattle.message.specs.Lent.{wrongNumber, body2, body4, body5, body6, body7, body8, event2, event4, event5, event7, eventRow}
+use Rattle.event.specs.Lent.{said, eventOf, textOf}
 use Rattle.event.specs.Answer.{isLarge, hexOf, hasId, offeredRow}
 use Rattle.event.proofs.Answers.{hex-length}
 use Rattle.event.proofs.Fit.{hex-same}
-use Rattle.law.specs.Lists.{_∈_}
 use Rattle.law.specs.Machine.{Passes}
 use Rattle.table.specs.Layout.{isByte}
-use Rattle.table.specs.Events.{SignedEvent, Signature, tiles, ofHeld, view}
-use Rattle.table.specs.Offer.{Offering, asMessage, asParts, judge, heldOf}
-use Rattle.table.specs.Relay.{Tells, Good, relay}
+use Rattle.table.specs.Events.{SignedEvent, Signature, tiles, ofHeld}
+use Rattle.table.specs.Offer.{asMessage, asParts, judge, heldOf}
+use Rattle.table.specs.Relay.{Tells, relay}
 use Rattle.table.proofs.Hex.{unhex-hex, hex-is, digest-length, digest-bytes}
 use Rattle.table.proofs.Again.{hex-string, again2, again4, again5, again7, tags-pass}
 
@@ -47,7 +45,7 @@ time-again : (z : ℤ) → isTime z ≡ true → wrongNumber (negℤ (pos widest
 unfolding wrongNumber isTime
 time-again z e = rw e
 
-pubkey-hex : (k : List ℕ) → isPubkey k ≡ true → spell.all isHex k ≡ true
+pub pubkey-hex : (k : List ℕ) → isPubkey k ≡ true → spell.all isHex k ≡ true
 unfolding isPubkey
 pubkey-hex k e = sym (hex-same k) ∙ both (eqb (length k) 64) (all isHexDigit k) e .1
 
@@ -116,7 +114,7 @@ module _ (b : List ℕ) (p : EventParts) (s : SignedEvent) (hashed : s .0 .id �
   unfolding heldOf
   held-again = rw (t .id .says, t .sig .says, unhex-hex (s .0 .id) id-bytes, unhex-hex (s .1) sig-bytes, told-event, is-text .same)
 
-  judged-again : judge (asParts b p) ≡ some s
+  pub judged-again : judge (asParts b p) ≡ some s
   unfolding judge
   judged-again = rw (eq-eqb (offeredRow b p) 0 offered-again, held-again)
 

@@ -2,13 +2,13 @@
 -- time, with the state that UTF-8 is in before it: a refused control would stand among the decoded bytes and is not plain, and a refused
 -- surrogate's octets would stand where a character begins, and are no UTF-8.
 use mathlib.Core.Bool.{Bool, true, false, cond, not, _&&_, _||_}
-use mathlib.Core.Path.{_≡_, refl, sym, ap, _∙_}
+use mathlib.Core.Path.{_≡_, refl}
 use mathlib.Core.List.{List, [], _∷_, _++_}
 use Prim.Native.Nat.{ℕ, zero, suc, _+_, _-_, _/_, _%_, _≤_, _<_}
 use native.Mathlib.Decide.{decLt}
 use native.Mathlib.Omega.{arith}
-use borrow.Author.Tests.{lt-ltb, le-ltb, le-leb, lt-leb, leb-true, ltb-true}
-use lib.Dec.{ltb, leb, eqb, lit≤}
+use borrow.Author.Tests.{lt-ltb, le-ltb, le-leb, lt-leb}
+use lib.Dec.{eqb, lit≤}
 use lib.ListN.{length, getD}
 use Rattle.utf8.specs.Utf8.{leadOf, next, utf8From, isUtf8}
 use Rattle.utf8.specs.declared.Want.{Want}
@@ -17,11 +17,11 @@ use Rattle.utf8.specs.Abnf.{Octets, utf8-1, utf8-2, utf8-3-e0, utf8-3-e1, utf8-
 use Rattle.utf8.proofs.Abnf.{as-in-abnf}
 use Rattle.json.specs.Grammar.{isSpelling}
 use Rattle.spell.specs.declared.Char as spell
-use Rattle.spell.specs.Spell.{four, fourAt, shortOf, isPair, pairOf, chars, charsFrom, utf8Of, bytesOf, joined, decode, isSurrogate, isControl, isRefused, any, refuses}
+use Rattle.spell.specs.Spell.{four, fourAt, shortOf, isPair, pairOf, chars, charsFrom, utf8Of, bytesOf, decode, isSurrogate, isControl, isRefused, any, refuses}
 use Rattle.text.specs.Event.{all, isPlainByte, isString}
 use Rattle.text.proofs.Strings.{High, lead-high, tail-high, bad-high}
 use Rattle.text.proofs.Pieces.{both}
-use Rattle.event.proofs.Decoded.{Short, Spelling, end, plain, short, code, is-spelling, chars-plain, chars-short, chars-one, chars-pair, decode-more, four-few, Paired, paired, never-bad, low-lead, six-lead}
+use Rattle.event.proofs.Decoded.{Short, Spelling, end, plain, short, code, is-spelling, chars-plain, chars-short, chars-one, chars-pair, decode-more, paired, never-bad, low-lead, six-lead}
 
 -- ---- tests
 all-right : (p : ℕ → Bool) (s t : List ℕ) → all p (s ++ t) ≡ true → all p t ≡ true

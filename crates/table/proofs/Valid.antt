@@ -1,18 +1,17 @@
 -- What holds of an offer that none of rows 1 to 10 refuses: its event fits a slot, its id is its text's hash, and its text is read back.
 -- Each row's number is a chain of tests, and where it comes to 0 every test of it failed.
-use mathlib.Core.Bool.{Bool, true, false, cond, not, _&&_}
-use mathlib.Core.Path.{_≡_, refl, sym, ap, _∙_}
-use mathlib.Core.List.{List, [], _∷_}
-use Prim.Native.Nat.{ℕ, _+_, _≤_, _<_}
+use mathlib.Core.Bool.{Bool, true, false, cond}
+use mathlib.Core.Path.{_≡_, refl, ap, _∙_}
+use mathlib.Core.List.{List}
+use Prim.Native.Nat.{ℕ, _≤_}
 use native.Mathlib.Omega.{arith}
 use borrow.Author.Tests.{eqb-true, eqb-false, ltb-false, not-false}
-use lib.Dec.{eqb, ltb, lit≤}
+use lib.Dec.{eqb, lit≤}
 use lib.ListN.{length}
 use Rattle.rows.specs.Rows.{row1, row2, row3, textRow}
 use Rattle.rows.specs.Strings.{part}
 use Rattle.json.specs.Tree.{Json, Got, none, got, root}
 use Rattle.digest.specs.Digest.{digest}
-use Rattle.spell.specs.Spell.{decode, sameBytes, isHexOf}
 use Rattle.spell.proofs.Laws.{same-equal, hex-length}
 use Rattle.shape.specs.Rows.{treeRow, rootRow, messageRow}
 use Rattle.text.specs.Event.{serialise, mostText}
@@ -25,7 +24,7 @@ use Rattle.event.specs.Lent.{said, eventOf, textOf}
 use Rattle.event.specs.Answer.{orElse, isLarge, hexOf, hasId, offeredRow}
 use Rattle.event.proofs.Decoded.{or-neither}
 use Rattle.event.proofs.Fit.{lent-fit, and-fails}
-use Rattle.table.specs.Layout.{Held, Fits}
+use Rattle.table.specs.Layout.{Fits}
 use Rattle.table.specs.Offer.{Offering, asMessage, asParts, isEvent, partsOf, messageOfferRow, rowOf, isValid, heldOf, offeredOf}
 use Rattle.table.proofs.Hex.{unhex-hex, unhex-length, unhex-bytes, digest-length, digest-bytes}
 
@@ -75,7 +74,7 @@ unfolding string5 string7
 hex-part k b p e f = hex-length k (part b (p .start) (p .len)) (not-false _ (and-fails (isSpelled b p) _ (not-false (isSpelled b p) e) f))
 
 module _ (b : List ℕ) (p : EventParts) (e : offeredRow b p ≡ 0) where
-  rows : (eventRow b p ≡ 0) × (isLarge b (p .body) ≡ false) × (hasId b p ≡ true)
+  pub rows : (eventRow b p ≡ 0) × (isLarge b (p .body) ≡ false) × (hasId b p ≡ true)
   unfolding offeredRow
   rows = let (x, y) = or-else (eventRow b p) _ e in go x (isLarge b (p .body)) (hasId b p) refl refl y
     where
@@ -84,7 +83,7 @@ module _ (b : List ℕ) (p : EventParts) (e : offeredRow b p ≡ 0) where
       go x false true q r z = (x, q, r)
       go x false false q r z = absurd (omega arith)
 
-  clean : None (event2 b p) (event4 b p) (event5 b p) (body6 (p .body)) (event7 b p) (body8 b (p .body))
+  pub clean : None (event2 b p) (event4 b p) (event5 b p) (body6 (p .body)) (event7 b p) (body8 b (p .body))
   unfolding eventRow
   clean = none-of _ _ _ _ _ _ (rows .0)
 
@@ -110,7 +109,7 @@ module _ (b : List ℕ) (p : EventParts) (e : offeredRow b p ≡ 0) where
   small = ltb-false mostText (length (serialise (eventOf b (p .body)))) (rows .1)
 
   -- the id is the hash of the text
-  id-hashed : heldOf b p .id ≡ digest (serialise (eventOf b (p .body)))
+  pub id-hashed : heldOf b p .id ≡ digest (serialise (eventOf b (p .body)))
   unfolding heldOf hasId textOf
   id-hashed =
       let d = digest (serialise (eventOf b (p .body))) in
