@@ -30,7 +30,7 @@ pub and-both : (a b : Bool) → (a && b) ≡ true → (a ≡ true) × (b ≡ tru
 and-both true b e = (refl, e)
 and-both false b e = absurd (let z : _≡_ {A = ℕ} 0 1 = cc in omega arith)
 
-or-either : {A : Type 0} (a b : Bool) → (a ≡ true → A) → (b ≡ true → A) → (a || b) ≡ true → A
+pub or-either : {A : Type 0} (a b : Bool) → (a ≡ true → A) → (b ≡ true → A) → (a || b) ≡ true → A
 or-either true b f g e = f refl
 or-either false b f g e = g e
 
@@ -54,11 +54,11 @@ hex-byte x e =
     (λ e. or-either (within 0x41 0x46 x) _ (λ p. omega (arith, within-bounds 0x41 0x46 x p .1)) (λ p. omega (arith, within-bounds 0x61 0x66 x p .1)) e) e
 
 -- what stands after a backslash, and what it stands for
-record Short (y : ℕ) : Type 0 where
-  other : y ≡ 0x75 → ⊥
-  low : y < 128
-  means : shortOf y < 128
-  fine : isPlainByte (shortOf y) ≡ true
+pub record Short (y : ℕ) : Type 0 where
+  pub other : y ≡ 0x75 → ⊥
+  pub low : y < 128
+  pub means : shortOf y < 128
+  pub fine : isPlainByte (shortOf y) ≡ true
 
 short-byte : (y : ℕ) → (eqb y 0x22 || (eqb y 0x5C || (eqb y 0x2F || (eqb y 0x62 || (eqb y 0x66 || (eqb y 0x6E || (eqb y 0x72 || eqb y 0x74))))))) ≡ true → Short y
 unfolding shortOf isPlainByte
@@ -75,7 +75,7 @@ short-byte y e =
     is k o l m f e = rw (eqb-true y k e) (record { other = o; low = l; means = m; fine = f })
 
 -- ---- a spelling as a list
-data Spelling : List ℕ → Type 0 where
+pub data Spelling : List ℕ → Type 0 where
   end : Spelling []
   plain : {x : ℕ} {l : List ℕ} → 0x20 ≤ x → (x ≡ 0x5c → ⊥) → Spelling l → Spelling (x ∷ l)
   short : {y : ℕ} {l : List ℕ} → Short y → Spelling l → Spelling (0x5c ∷ y ∷ l)
@@ -115,32 +115,32 @@ module _ (s : List ℕ) where
       )
       (code (hex-byte (getD s b 0) (q₂ .0)) (hex-byte (getD s c 0) (q₃ .0)) (hex-byte (getD s d 0) (q₄ .0)) (hex-byte (getD s e 0) (q₅ .0)) (spelling m n r z))
 
-is-spelling : (s : List ℕ) → isSpelling s ≡ true → Spelling s
+pub is-spelling : (s : List ℕ) → isSpelling s ≡ true → Spelling s
 is-spelling s e = spelling s 0 (charsAt s 0) (chars-sound s 0) (eqb-true (charsAt s 0) (length s) e)
 
 -- ---- the first character of each
-chars-plain : (x : ℕ) (l : List ℕ) → (x ≡ 0x5c → ⊥) → chars (x ∷ l) ≡ record { code = x; raw = true; width = 1 } ∷ chars l
+pub chars-plain : (x : ℕ) (l : List ℕ) → (x ≡ 0x5c → ⊥) → chars (x ∷ l) ≡ record { code = x; raw = true; width = 1 } ∷ chars l
 unfolding charsFrom charOf
 chars-plain x l n = rw (ne-eqb x 0x5c n)
 
-chars-short : (y : ℕ) (l : List ℕ) → (y ≡ 0x75 → ⊥) → chars (0x5c ∷ y ∷ l) ≡ record { code = shortOf y; raw = true; width = 2 } ∷ chars l
+pub chars-short : (y : ℕ) (l : List ℕ) → (y ≡ 0x75 → ⊥) → chars (0x5c ∷ y ∷ l) ≡ record { code = shortOf y; raw = true; width = 2 } ∷ chars l
 unfolding charsFrom charOf
 chars-short y l n = rw (ne-eqb y 0x75 n)
 
 module _ (a b c d : ℕ) where
-  chars-one : (l : List ℕ) → isPair (four a b c d) (getD l 0 0) (getD l 1 0) (fourAt l 2) ≡ false
+  pub chars-one : (l : List ℕ) → isPair (four a b c d) (getD l 0 0) (getD l 1 0) (fourAt l 2) ≡ false
       → chars (0x5c ∷ 0x75 ∷ a ∷ b ∷ c ∷ d ∷ l) ≡ record { code = four a b c d; raw = false; width = 6 } ∷ chars l
   unfolding charsFrom charOf unicodeOf fourAt
   chars-one l e = rw e
 
-  chars-pair : (e f g h : ℕ) (l : List ℕ) → isPair (four a b c d) 0x5c 0x75 (four e f g h) ≡ true
+  pub chars-pair : (e f g h : ℕ) (l : List ℕ) → isPair (four a b c d) 0x5c 0x75 (four e f g h) ≡ true
       → chars (0x5c ∷ 0x75 ∷ a ∷ b ∷ c ∷ d ∷ 0x5c ∷ 0x75 ∷ e ∷ f ∷ g ∷ h ∷ l) ≡ record { code = pairOf (four a b c d) (four e f g h); raw = false; width = 12 } ∷ chars l
   unfolding charsFrom charOf unicodeOf fourAt
   chars-pair e f g h l q = rw q
 
 -- what a first character says of the rest
 module _ (l m : List ℕ) {c : spell.Char} (e : chars l ≡ c ∷ chars m) where
-  decode-more : decode l ≡ bytesOf c ++ decode m
+  pub decode-more : decode l ≡ bytesOf c ++ decode m
   unfolding decode joined
   decode-more = rw e
 
@@ -153,7 +153,7 @@ module _ (l m : List ℕ) {c : spell.Char} (e : chars l ≡ c ∷ chars m) where
       (u, v, y)
 
 -- ---- the code of an escape
-digit-few : (x : ℕ) → hexVal x ≤ 15
+pub digit-few : (x : ℕ) → hexVal x ≤ 15
 unfolding hexVal
 digit-few x = go (ltb x 0x30) (leb x 0x39) refl (ltb x 0x41) (leb x 0x46) refl (ltb x 0x61) (leb x 0x66) refl
   where
@@ -172,13 +172,13 @@ unfolding four
 four-few a b c d = omega (arith, digit-few a, digit-few b, digit-few c, digit-few d)
 
 -- a pair of surrogates stands where its two escapes do
-record Paired (u x y v : ℕ) : Type 0 where
-  slash : x ≡ 0x5c
-  letter : y ≡ 0x75
-  high : (0xd800 ≤ u) × (u ≤ 0xdbff)
-  low : (0xdc00 ≤ v) × (v ≤ 0xdfff)
+pub record Paired (u x y v : ℕ) : Type 0 where
+  pub slash : x ≡ 0x5c
+  pub letter : y ≡ 0x75
+  pub high : (0xd800 ≤ u) × (u ≤ 0xdbff)
+  pub low : (0xdc00 ≤ v) × (v ≤ 0xdfff)
 
-paired : (u x y v : ℕ) → isPair u x y v ≡ true → Paired u x y v
+pub paired : (u x y v : ℕ) → isPair u x y v ≡ true → Paired u x y v
 unfolding isPair
 paired u x y v e =
     let (p, q) = and-both (within 0xd800 0xdbff u) _ e in
@@ -244,7 +244,7 @@ module _ (n : ℕ) where
     ]
 
 -- ---- plain bytes
-plain-high : (x : ℕ) → 0x20 ≤ x → isPlainByte x ≡ true
+pub plain-high : (x : ℕ) → 0x20 ≤ x → isPlainByte x ≡ true
 unfolding isPlainByte
 plain-high x h = rw (le-leb 0x20 x h)
 
@@ -284,7 +284,7 @@ next-high Lead x h = search (cond-high, lead-high, tail-high, bad-high, lit≤, 
 next-high (Tail lo hi m) x h = search (cond-high, lead-high, tail-high, bad-high, lit≤, tt) depth 14
 next-high Bad x h = bad-high
 
-never-bad : {A : Type 0} (t : List ℕ) → utf8From Bad t ≡ true → A
+pub never-bad : {A : Type 0} (t : List ℕ) → utf8From Bad t ≡ true → A
 unfolding utf8From
 never-bad [] e = absurd (let z : _≡_ {A = ℕ} 0 1 = cc in omega arith)
 never-bad (x ∷ t) e = never-bad t e
@@ -296,7 +296,7 @@ low-lead Lead x t h l e = (refl, rw (le-leb x 127 (omega arith)) at e)
 low-lead (Tail lo hi m) x t (tail-high k) l e = never-bad t (rw (lt-ltb x lo (omega arith)) at e)
 low-lead Bad x t h l e = never-bad t e
 
-lead-low : (x : ℕ) (t : List ℕ) → x < 128 → utf8From Lead t ≡ true → utf8From Lead (x ∷ t) ≡ true
+pub lead-low : (x : ℕ) (t : List ℕ) → x < 128 → utf8From Lead t ≡ true → utf8From Lead (x ∷ t) ≡ true
 unfolding utf8From leadOf
 lead-low x t l e = rw (le-leb x 127 (omega arith)) e
 
@@ -328,7 +328,7 @@ step-short y l s w v r u ih =
 
 module _ {a b c d : ℕ} (ha : a < 128) (hb : b < 128) (hc : c < 128) (hd : d < 128) where
   -- an escape stands only where a character may begin
-  six-lead : (w : Want) (l : List ℕ) → High w → utf8From w (0x5c ∷ 0x75 ∷ a ∷ b ∷ c ∷ d ∷ l) ≡ true → (w ≡ Lead) × (utf8From Lead l ≡ true)
+  pub six-lead : (w : Want) (l : List ℕ) → High w → utf8From w (0x5c ∷ 0x75 ∷ a ∷ b ∷ c ∷ d ∷ l) ≡ true → (w ≡ Lead) × (utf8From Lead l ≡ true)
   six-lead w l v u =
       let (z, u₁) = low-lead w 0x5c (0x75 ∷ a ∷ b ∷ c ∷ d ∷ l) v (omega arith) u in
       let u₂ = low-lead Lead 0x75 (a ∷ b ∷ c ∷ d ∷ l) lead-high (omega arith) u₁ .1 in

@@ -56,7 +56,7 @@ not-false : (a : Bool) → not a ≡ false → a ≡ true
 not-false true e = refl
 not-false false e = absurd (let z : _≡_ {A = ℕ} 0 1 = cc in omega arith)
 
-and-fails : (a b : Bool) → a ≡ true → (a && b) ≡ false → b ≡ false
+pub and-fails : (a b : Bool) → a ≡ true → (a && b) ≡ false → b ≡ false
 and-fails a b p e = rw p at e
 
 -- ---- UTF-8 between two quotes
@@ -79,7 +79,7 @@ module _ (s : List ℕ) where
       let z : e - 1 ≡ charsAt s (v + 1) = omega (arith, p .1) in
       (byte-is s 34 v (p .0), rw z (byte-is s 34 (charsAt s (v + 1)) (p .2)), p .3, p .4)
 
-  inner : (lo hi v e : ℕ) → isUtf8 (part s lo (hi - lo)) ≡ true → lo ≤ v → e ≤ hi → stringAt s v ≡ End e → isUtf8 (part s (v + 1) (e - v - 2)) ≡ true
+  pub inner : (lo hi v e : ℕ) → isUtf8 (part s lo (hi - lo)) ≡ true → lo ≤ v → e ≤ hi → stringAt s v ≡ End e → isUtf8 (part s (v + 1) (e - v - 2)) ≡ true
   unfolding isUtf8
   inner lo hi v e u a b q =
       let (p, r, l, h) = quotes v e q in
@@ -96,7 +96,7 @@ module _ (s : List ℕ) where
       cut (take (e - v - 2) (drop (v + 1) s)) 34 _ Lead lead-high (lit< tt) u₃ .0
 
   -- ---- what is read ends no earlier than it begins
-  ws-after : (at : ℕ) → at ≤ wsAt s at
+  pub ws-after : (at : ℕ) → at ≤ wsAt s at
   unfolding past
   ws-after at = omega arith
 
@@ -110,7 +110,7 @@ module _ (s : List ℕ) where
       spaced : (m : ℕ) → at + 1 ≡ m → End (wsAt s m) ≡ End n → at ≤ n
       spaced m h q = let z : wsAt s m ≡ n = cc in omega (arith, ws-after m)
 
-  more-after : (m j : ℕ) → nextAt s m false ≡ More j → m ≤ j
+  pub more-after : (m j : ℕ) → nextAt s m false ≡ More j → m ≤ j
   more-after m j e = go (tokenAt s 0x2C m) refl (tokenAt s 0x5D m) e
     where
       go : (o : Out) → tokenAt s 0x2C m ≡ o → (p : Out) → case o More (case p Done Wrong) ≡ More j → m ≤ j
@@ -118,7 +118,7 @@ module _ (s : List ℕ) where
       go Bad q (End a) e = absurd (let z : _≡_ {A = ℕ} 0 1 = cc in omega arith)
       go Bad q Bad e = absurd (let z : _≡_ {A = ℕ} 0 1 = cc in omega arith)
 
-  done-after : (m n : ℕ) → nextAt s m false ≡ Done n → m ≤ n
+  pub done-after : (m n : ℕ) → nextAt s m false ≡ Done n → m ≤ n
   done-after m n e = go (tokenAt s 0x2C m) (tokenAt s 0x5D m) refl e
     where
       go : (o p : Out) → tokenAt s 0x5D m ≡ p → case o More (case p Done Wrong) ≡ Done n → m ≤ n
@@ -166,13 +166,13 @@ module _ (s : List ℕ) where
       one Bad q e = two (tokenAt s 0x7B at) e
 
   -- ---- strings and arrays as they stand in the text
-  record Quoted (v : ℕ) (t : Json) (m : ℕ) : Type 0 where
-    end : ℕ
-    string : stringAt s v ≡ End end
-    is : t ≡ str (v + 1) (end - v - 2)
-    after : m ≡ wsAt s end
+  pub record Quoted (v : ℕ) (t : Json) (m : ℕ) : Type 0 where
+    pub end : ℕ
+    pub string : stringAt s v ≡ End end
+    pub is : t ≡ str (v + 1) (end - v - 2)
+    pub after : m ≡ wsAt s end
 
-  quoted : (d v : ℕ) (t : Json) (m : ℕ) → treeAt s (suc d) v ≡ got t m → shape.isString t ≡ true → Quoted v t m
+  pub quoted : (d v : ℕ) (t : Json) (m : ℕ) → treeAt s (suc d) v ≡ got t m → shape.isString t ≡ true → Quoted v t m
   quoted d v t m w e = go (stringAt s v) refl
     where
       made : (k : ℕ) → stringAt s v ≡ End k → got (str (v + 1) (k - v - 2)) (wsAt s k) ≡ got t m → Quoted v t m
@@ -184,11 +184,11 @@ module _ (s : List ℕ) where
           let z = string-out s v (λ t. shape.isString t ≡ false) (λ a n. refl) (λ a n. refl) (λ ts. refl) (λ ts. refl) t m d q w in
           absurd (let y : _≡_ {A = ℕ} 0 1 = cc in omega arith)
 
-  data Array (d v : ℕ) : Json → ℕ → Type 0 where
+  pub data Array (d v : ℕ) : Json → ℕ → Type 0 where
     bare : {m : ℕ} → v ≤ m → Array d v (arr nil) m
     full : {i m : ℕ} {us : Items} → v ≤ i → Walk (treeAt s d) s (length s) i us m → Array d v (arr us) m
 
-  array : (f : Json → Bool) (d v : ℕ) (t : Json) (m : ℕ) → treeAt s (suc d) v ≡ got t m → isArrayOf f t ≡ true → Array d v t m
+  pub array : (f : Json → Bool) (d v : ℕ) (t : Json) (m : ℕ) → treeAt s (suc d) v ≡ got t m → isArrayOf f t ≡ true → Array d v t m
   array f d v t m w e = on (startAt s v) refl (sym (tree-open s d v (startAt s v) refl) ∙ w)
     where
       other : {A : Type 0} (u : Json) (k : ℕ) → got u k ≡ got t m → isArrayOf f u ≡ false → A
@@ -212,11 +212,11 @@ module _ (s : List ℕ) where
           let (us, k, g, h) = bind-got (itemsAt (treeAt s d) s false (length s) i) _ q in
           is (arr us) k h (full (many-after v i z) (walk-of (treeAt s d) s (length s) i us k g))
 
-  string-after : (d v : ℕ) (t : Json) (m : ℕ) → treeAt s (suc d) v ≡ got t m → shape.isString t ≡ true → v ≤ m
+  pub string-after : (d v : ℕ) (t : Json) (m : ℕ) → treeAt s (suc d) v ≡ got t m → shape.isString t ≡ true → v ≤ m
   string-after d v t m w e = let q = quoted d v t m w e in omega (arith, quotes v (q .end) (q .string) .2, ws-after (q .end), q .after)
 
   -- items each of which ends no earlier than it begins
-  walk-after : (f : Json → Bool) (d : ℕ) → ((v : ℕ) (t : Json) (m : ℕ) → treeAt s d v ≡ got t m → f t ≡ true → v ≤ m)
+  pub walk-after : (f : Json → Bool) (d : ℕ) → ((v : ℕ) (t : Json) (m : ℕ) → treeAt s d v ≡ got t m → f t ≡ true → v ≤ m)
       → {k i n : ℕ} {us : Items} → Walk (treeAt s d) s k i us n → allItems (λ p t. f t) us ≡ true → i ≤ n
   unfolding allItems
   walk-after f d one (last {i = i} {m = m} {n = n} {t = t} w q) e = omega (arith, one i t m w (and-both (f t) _ e .0), done-after m n q)
@@ -224,7 +224,7 @@ module _ (s : List ℕ) where
       let (a, b) = and-both (f t) _ e in
       omega (arith, one i t m w a, more-after m j q, walk-after f d one y b)
 
-  tag-after : (v : ℕ) (t : Json) (m : ℕ) → treeAt s 7 v ≡ got t m → isArrayOf shape.isString t ≡ true → v ≤ m
+  pub tag-after : (v : ℕ) (t : Json) (m : ℕ) → treeAt s 7 v ≡ got t m → isArrayOf shape.isString t ≡ true → v ≤ m
   tag-after v t m w e = go (array shape.isString 6 v t m w e) e
     where
       go : {t : Json} → Array 6 v t m → isArrayOf shape.isString t ≡ true → v ≤ m
@@ -239,12 +239,12 @@ bounded : (low high n : ℕ) → outside low high n ≡ false → (low ≤ n) ×
 bounded low high n e = let (p, q) = or-neither (ltb n low) (ltb high n) e in (ltb-false n low p, ltb-false high n q)
 
 module _ (b : List ℕ) where
-  strings-count : (us : Items) → length (stringsOf b us) ≡ count us
+  pub strings-count : (us : Items) → length (stringsOf b us) ≡ count us
   unfolding stringsOf countItems
   strings-count nil = refl
   strings-count (item p v t us) = ap suc (strings-count us)
 
-  tags-count : (ts : Items) → length (tagsOf b ts) ≡ count ts
+  pub tags-count : (ts : Items) → length (tagsOf b ts) ≡ count ts
   unfolding tagsOf countItems
   tags-count nil = refl
   tags-count (item p v t ts) = ap suc (tags-count ts)
@@ -328,7 +328,7 @@ value-fits b at r2 r4 r5 r8 = go (treeAt b depth at) refl r2 r4 r5 r8
         let s = not-false (lent.isTags t) r5 in
         on (array b (isArrayOf shape.isString) 7 at t n w s) (not-false (isUtf8 (part b at (n - at))) r2) r4 s r8
 
-hex-same : (l : List ℕ) → all isHex l ≡ spell.all isHex l
+pub hex-same : (l : List ℕ) → all isHex l ≡ spell.all isHex l
 unfolding all spell.all isHex
 hex-same [] = refl
 hex-same (x ∷ l) = rw (hex-same l)

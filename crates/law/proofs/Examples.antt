@@ -12,7 +12,8 @@ use Rattle.law.specs.Table.{Class, ephemeral, regular, keyed, Events}
 use Rattle.law.specs.Table.{Verdict, refused, wasEphemeral, duplicate, older, stored, noRoom}
 use Rattle.law.specs.Table.{Table, Offer, verdict, after, run, verdicts, lacks, Valid, Held, IdPremise, slotsNeeded}
 use Rattle.law.specs.Claims.{Settled, Relay, moment, end, Tells, Exchange, both, Fits}
-use Rattle.law.specs.Event.{Event, Key, newer, events}
+use Rattle.wire.specs.Bytes.{sameBytes}
+use Rattle.law.specs.Event.{Event, newer, events}
 use Rattle.law.specs.Signature.{signed}
 use Rattle.law.specs.Machine.{Machine, Faithful, Passes}
 
@@ -37,12 +38,12 @@ lower-id-beats = refl
 
 -- ---- Verdicts, in a table of two slots
 
--- a text here is a class, a time and a d; time 0 stands for -7200
-abbrev class : List ℕ → Class Key
+-- a text here is a class, a time and a key; time 0 stands for -7200
+abbrev class : List ℕ → Class (List ℕ)
 class [] = ephemeral
 class (zero ∷ r) = regular
 class (suc k ∷ []) = ephemeral
-class (suc k ∷ t ∷ d) = keyed (record { kind = 30000; pubkey = []; d = d })
+class (suc k ∷ t ∷ d) = keyed d
 
 abbrev time : List ℕ → ℤ
 time [] = pos 0
@@ -51,7 +52,7 @@ time (k ∷ zero ∷ d) = negsuc 7199
 time (k ∷ suc t ∷ d) = pos t
 
 abbrev Toy : Events
-Toy = events class time
+Toy = events (List ℕ) sameBytes class time
 
 abbrev event : ℕ → List ℕ → Event
 event i t = record { id = i ∷ []; text = t }
@@ -99,32 +100,33 @@ answers =
     ∷ []
 
 computed : verdicts Toy 2 [] offers ≡ answers
-unfolding verdicts verdict after
+unfolding verdicts verdict after sameBytes
 computed = refl
 
 kept : run Toy 2 [] offers ≡ event 1 (0 ∷ []) ∷ event 9 (1 ∷ 9 ∷ 4 ∷ []) ∷ []
-unfolding run after verdict
+unfolding run after verdict sameBytes
 kept = refl
 
 -- they need four slots: three are too few, and four are enough
 needed : slotsNeeded Toy offers ≡ 4
+unfolding sameBytes
 needed = refl
 
 three-lack : lacks Toy 3 [] offers ≡ true
-unfolding verdicts verdict after
+unfolding verdicts verdict after sameBytes
 three-lack = refl
 
 four-fit : lacks Toy 4 [] offers ≡ false
-unfolding verdicts verdict after
+unfolding verdicts verdict after sameBytes
 four-fit = refl
 
 -- without the id premise the order would matter: of two regular events with one id the first stays
 first-of-one-id : run Toy 2 [] (some (event 1 (0 ∷ 1 ∷ [])) ∷ some (event 1 (0 ∷ 2 ∷ [])) ∷ []) ≡ event 1 (0 ∷ 1 ∷ []) ∷ []
-unfolding run after verdict
+unfolding run after verdict sameBytes
 first-of-one-id = refl
 
 second-of-one-id : run Toy 2 [] (some (event 1 (0 ∷ 2 ∷ [])) ∷ some (event 1 (0 ∷ 1 ∷ [])) ∷ []) ≡ event 1 (0 ∷ 2 ∷ []) ∷ []
-unfolding run after verdict
+unfolding run after verdict sameBytes
 second-of-one-id = refl
 
 -- ---- Two relays
@@ -159,11 +161,11 @@ abbrev historyB : List (Offer Toy)
 historyB = note 2 ∷ tile 6 4 4 ∷ []
 
 example-A : end Toy (relayA Toy 4 4 historyA historyB) ≡ event 6 (1 ∷ 4 ∷ 4 ∷ []) ∷ event 1 (0 ∷ []) ∷ event 2 (0 ∷ []) ∷ []
-unfolding run after verdict
+unfolding run after verdict sameBytes
 example-A = refl
 
 example-B : end Toy (relayB Toy 4 4 historyA historyB) ≡ event 2 (0 ∷ []) ∷ event 6 (1 ∷ 4 ∷ 4 ∷ []) ∷ event 1 (0 ∷ []) ∷ []
-unfolding run after verdict
+unfolding run after verdict sameBytes
 example-B = refl
 
 -- Were neither moment the end of a history, an event could come from nowhere: each relay is told of one that no history has.
@@ -171,7 +173,7 @@ abbrev nowhere : Relay Toy
 nowhere = record { capacity = 2; history = []; early = note 1 ∷ []; late = [] }
 
 each-told : Tells Toy nowhere nowhere
-unfolding run after verdict
+unfolding run after verdict sameBytes
 each-told e = all-told Toy (event 1 (0 ∷ []) ∷ []) e
 
 abbrev AgreeAnytime : Type 0
@@ -179,7 +181,7 @@ AgreeAnytime = (A B : Relay Toy) → Tells Toy B A → Tells Toy A B → IdPremi
     Settled Toy (end Toy A) (both Toy A B)
 
 an-end-is-needed : AgreeAnytime → ⊥
-unfolding run verdicts after verdict
+unfolding run verdicts after verdict sameBytes
 an-end-is-needed agree =
     let s = agree nowhere nowhere each-told each-told (λ e f v. absurd (List·Memᴰ·not-nil v)) tt tt in
     List·Memᴰ·not-nil (s .held (event 1 (0 ∷ [])) .0 (List·Memᴰ·head refl) .0)

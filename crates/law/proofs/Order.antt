@@ -5,11 +5,12 @@ use mathlib.Core.Logic.{_↔_, _⊎_, inl, inr, ⊎-elim, _≢_}
 use mathlib.Core.List.{List, [], _∷_}
 use Prim.Native.Nat.{ℕ}
 use native.Mathlib.Omega.{arith}
-use lib.Dec.{T, T-not, not-T, eqb, eqb→eq, eqb-refl, ltb, ltb→lt, lt→ltb, nltb→le}
+use lib.Dec.{T, T-not, not-T, ltb, ltb→lt, lt→ltb, nltb→le}
 use lib.IntN.{ℤ, pos, negsuc}
 use lib.Signed.{_<ℤ_}
 use Rattle.law.specs.Table.{Class, Laws}
-use Rattle.law.specs.Event.{Event, Key, sameBytes, sameKey, lower, earlier, newer, events}
+use Rattle.wire.proofs.Bytes.{same-bytes}
+use Rattle.law.specs.Event.{Event, lower, earlier, newer, events}
 use Rattle.law.proofs.Lists.{either, or-cases, or-left, or-right, and-both, and-left, and-right}
 
 -- ---- times
@@ -126,42 +127,6 @@ strict-bytes = record { irreflexive = irr; transitive = trans; total = tri }
         go (inr (inl q)) (inr (inl p)) = inr (inl cc)
         go (inr (inl q)) (inr (inr t)) = inr (inr (lexical-then ltb strict-ℕ y x _ (sym q) t))
 
--- ---- equality
-
-pub same-bytes : (a b : List ℕ) → T (sameBytes a b) ↔ (a ≡ b)
-same-bytes a b = (to a b, λ q. rw q (self b))
-  where
-    to : (a b : List ℕ) → T (sameBytes a b) → a ≡ b
-    to [] [] t = refl
-    to [] (y ∷ ys) t = absurd t
-    to (x ∷ xs) [] t = absurd t
-    to (x ∷ xs) (y ∷ ys) t =
-        let p = eqb→eq x y (and-left (eqb x y) (sameBytes xs ys) t) in
-        let q = to xs ys (and-right (eqb x y) (sameBytes xs ys) t) in
-        cc
-
-    self : (a : List ℕ) → T (sameBytes a a)
-    self [] = tt
-    self (x ∷ xs) = and-both (eqb x x) (sameBytes xs xs) (eqb-refl x) (self xs)
-
-pub same-key : (a b : Key) → T (sameKey a b) ↔ (a ≡ b)
-same-key a b = (to, λ q. rw q (self b))
-  where
-    to : T (sameKey a b) → a ≡ b
-    to t = go (eqb (a .kind) (b .kind)) (sameBytes (a .pubkey) (b .pubkey)) (sameBytes (a .d) (b .d))
-        (eqb→eq (a .kind) (b .kind)) (same-bytes (a .pubkey) (b .pubkey) .0) (same-bytes (a .d) (b .d) .0) t
-      where
-        go : (x y z : Bool) → (T x → a .kind ≡ b .kind) → (T y → a .pubkey ≡ b .pubkey) → (T z → a .d ≡ b .d) → T (x && (y && z)) → a ≡ b
-        go x y z k p d t =
-            let u = and-right x (y && z) t in
-            λ i. record { kind = k (and-left x (y && z) t) i; pubkey = p (and-left y z u) i; d = d (and-right y z u) i }
-
-    self : (k : Key) → T (sameKey k k)
-    self k =
-        let p = same-bytes (k .pubkey) (k .pubkey) .1 refl in
-        let d = same-bytes (k .d) (k .d) .1 refl in
-        and-both (eqb (k .kind) (k .kind)) _ (eqb-refl (k .kind)) (and-both (sameBytes (k .pubkey) (k .pubkey)) _ p d)
-
 -- ---- newer
 
 module _ (time : List ℕ → ℤ) where
@@ -197,8 +162,10 @@ module _ (time : List ℕ → ℤ) where
       go (inr (inl q)) (inr (inl p)) = absurd (ne p)
       go (inr (inl q)) (inr (inr t)) = inr (newer-means b a .1 (inr (sym q, t)))
 
-pub laws : (class : List ℕ → Class Key) (time : List ℕ → ℤ) → Laws (events class time)
-laws class time = record {
+-- where the test on keys means equality
+pub laws : (Key : Type 0) (sameKey : Key → Key → Bool) → ((a b : Key) → T (sameKey a b) ↔ (a ≡ b))
+    → (class : List ℕ → Class Key) (time : List ℕ → ℤ) → Laws (events Key sameKey class time)
+laws Key sameKey same-key class time = record {
   id-eq = same-bytes;
   key-eq = same-key;
   irreflexive = newer-irreflexive time;

@@ -1,31 +1,17 @@
--- Events at bytes. The class and the time of a text are left open: the laws hold whatever they are.
+-- Events at bytes. The class, the key and the time of a text are left open: the laws hold whatever they are.
 use mathlib.Core.Bool.{Bool, true, false, not, _&&_, _||_}
 use mathlib.Core.List.{List, [], _∷_}
 use Prim.Native.Nat.{ℕ}
-use lib.Dec.{eqb, ltb}
+use lib.Dec.{ltb}
 use lib.IntN.{ℤ}
 use lib.Signed.{ltZ}
+use Rattle.wire.specs.Bytes.{sameBytes}
 use Rattle.law.specs.Table.{Class, Events}
 
 -- 01: "The set held is the pairs of id and text"
 pub record Event : Type 0 where
   pub id : List ℕ
   pub text : List ℕ
-
--- 01: "key (kind, pubkey)", where d is empty; "key (kind, pubkey, d)"
-pub record Key : Type 0 where
-  pub kind : ℕ
-  pub pubkey : List ℕ
-  pub d : List ℕ
-
-abbrev pub sameBytes : List ℕ → List ℕ → Bool
-sameBytes [] [] = true
-sameBytes [] (y ∷ ys) = false
-sameBytes (x ∷ xs) [] = false
-sameBytes (x ∷ xs) (y ∷ ys) = eqb x y && sameBytes xs ys
-
-abbrev pub sameKey : Key → Key → Bool
-sameKey a b = eqb (a .kind) (b .kind) && (sameBytes (a .pubkey) (b .pubkey) && sameBytes (a .d) (b .d))
 
 -- by the first byte that differs; of two where one begins the other, the shorter
 abbrev pub lower : List ℕ → List ℕ → Bool
@@ -42,8 +28,8 @@ earlier a b = ltZ a b
 abbrev pub newer : (List ℕ → ℤ) → Event → Event → Bool
 newer time e f = earlier (time (f .text)) (time (e .text)) || (not (earlier (time (e .text)) (time (f .text))) && lower (e .id) (f .id))
 
-abbrev pub events : (List ℕ → Class Key) → (List ℕ → ℤ) → Events
-events class time = record {
+abbrev pub events : (Key : Type 0) → (Key → Key → Bool) → (List ℕ → Class Key) → (List ℕ → ℤ) → Events
+events Key sameKey class time = record {
   Event = Event;
   Id = List ℕ;
   Key = Key;

@@ -1,0 +1,76 @@
+-- A reply given as lent parts over the buffer b: "Parts of an event, filter or reply are tested by rows 2 and 4 to 8 .., an event by 9 too";
+-- then 13, "lent output .. too short". The reason is any string; ids are "Hex", subscription ids are bounded by "Counts".
+use mathlib.Core.Bool.{Bool, false, cond, _||_, _&&_}
+use mathlib.Core.List.{List, _++_}
+use Prim.Native.Nat.{ℕ}
+use lib.Dec.{eqb, ltb}
+use lib.ListN.{length, drop}
+use Rattle.wire.specs.Limits.{hexLength, mostCharacters}
+use Rattle.spell.specs.Spell.{characterCount}
+use Rattle.shape.specs.Rows.{outside}
+use Rattle.message.specs.declared.Span.{Span}
+use Rattle.message.specs.declared.EventParts.{EventParts}
+use Rattle.message.specs.Lent.{bytesOf, isSpelled, string2, string4, string5, string7, lowest, event2, event4, event5, event7, body6, body8}
+use Rattle.event.specs.Lent.{said, eventOf}
+use Rattle.event.specs.Answer.{orElse, isLarge, answered}
+use Rattle.event.specs.declared.Written.{Written}
+use Rattle.reply.specs.Replies.{Reply, ok, event, eose, closed, notice, replyText}
+use Rattle.reply.specs.declared.ReplyParts.{ReplyParts}
+use Rattle.reply.specs.declared.ReplyParts.the-variants as parts
+
+-- row 8 of a subscription id: "1 to 64 characters (code points)"
+unfoldable pub subscription8 : List ℕ → Span → Bool
+subscription8 b p = isSpelled b p && outside 1 mostCharacters (characterCount (bytesOf b p))
+
+-- the reply that the parts spell
+abbrev pub replyOf : List ℕ → ReplyParts → Reply
+replyOf b (parts.Ok i accepted r) = ok (said b i) accepted (said b r)
+replyOf b (parts.Event s p) = event (said b s) (said b (p .id)) (eventOf b (p .body)) (said b (p .sig))
+replyOf b (parts.Eose s) = eose (said b s)
+replyOf b (parts.Closed s r) = closed (said b s) (said b r)
+replyOf b (parts.Notice r) = notice (said b r)
+
+-- ---- rows 2 and 4 to 9
+abbrev pub none : Bool
+none = false
+
+abbrev pub okRow : List ℕ → Span → Span → ℕ
+okRow b i r =
+    lowest (string2 b i || string2 b r) (string4 b i || string4 b r) (string5 b i || string5 b r) none (string7 hexLength b i) none
+
+abbrev pub eventReplyRow : List ℕ → Span → EventParts → ℕ
+eventReplyRow b s p =
+    lowest
+    (string2 b s || event2 b p)
+    (string4 b s || event4 b p)
+    (string5 b s || event5 b p)
+    (body6 (p .body))
+    (event7 b p)
+    (subscription8 b s || body8 b (p .body))
+
+abbrev pub eoseRow : List ℕ → Span → ℕ
+eoseRow b s = lowest (string2 b s) (string4 b s) (string5 b s) none none (subscription8 b s)
+
+abbrev pub closedRow : List ℕ → Span → Span → ℕ
+closedRow b s r =
+    lowest (string2 b s || string2 b r) (string4 b s || string4 b r) (string5 b s || string5 b r) none none (subscription8 b s)
+
+abbrev pub noticeRow : List ℕ → Span → ℕ
+noticeRow b r = lowest (string2 b r) (string4 b r) (string5 b r) none none none
+
+abbrev pub partsRow : List ℕ → ReplyParts → ℕ
+partsRow b (parts.Ok i accepted r) = okRow b i r
+partsRow b (parts.Event s p) = orElse (eventReplyRow b s p) (cond (isLarge b (p .body)) 9 0)
+partsRow b (parts.Eose s) = eoseRow b s
+partsRow b (parts.Closed s r) = closedRow b s r
+partsRow b (parts.Notice r) = noticeRow b r
+
+-- ---- written: the answer, and the output afterwards
+unfoldable pub replyRow : List ℕ → ReplyParts → List ℕ → ℕ
+replyRow b p out = orElse (partsRow b p) (cond (ltb (length out) (length (replyText (replyOf b p)))) 13 0)
+
+unfoldable pub replied : List ℕ → ReplyParts → List ℕ → Written
+replied b p out = answered (replyRow b p out) (length (replyText (replyOf b p)))
+
+unfoldable pub repliedOut : List ℕ → ReplyParts → List ℕ → List ℕ
+repliedOut b p out = cond (eqb (replyRow b p out) 0) (replyText (replyOf b p) ++ drop (length (replyText (replyOf b p))) out) out

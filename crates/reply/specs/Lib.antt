@@ -1,0 +1,6 @@
+-- Replies, which of them a message gets, and the program's output.
+pub mod Ascii
+pub mod Replies
+pub mod Lent
+pub mod Program
+pub mod Starred

@@ -1,0 +1,102 @@
+-- What a message is replied to, and the program: 01, "Filters and replies" and "What the floor relay does".
+use mathlib.Core.Bool.{Bool, true, false, cond}
+use mathlib.Core.List.{List, [], _∷_, _++_, map}
+use Prim.Native.Nat.{ℕ}
+use lib.Dec.{eqb, leb}
+use lib.ListN.{replicate}
+use Rattle.text.specs.Read.{Read, tooLarge, wrongShape, read, readText}
+use Rattle.message.specs.Read.{readOf, namedOf}
+use Rattle.message.specs.declared.Message.{Message}
+use Rattle.message.specs.declared.Message.the-variants as message
+use Rattle.message.specs.declared.Named.{Named}
+use Rattle.message.specs.declared.Named.the-variants as names
+use Rattle.event.specs.Lent.{said}
+use Rattle.event.specs.Answer.{hexOf}
+use Rattle.table.specs.Layout.{tableSize, slotAt, idIn, sigIn, textIn}
+use Rattle.table.specs.Sound.{sound}
+use Rattle.table.specs.Offer.{asMessage, answer, next}
+use Rattle.table.specs.Format.{formatted}
+use Rattle.table.specs.declared.Offered.{Offered}
+use Rattle.table.specs.declared.Offered.the-variants as offered
+use Rattle.query.specs.Answer.{answerList, filtersAt}
+use Rattle.reply.specs.Replies.{Reply, ok, event, eose, closed, notice, replyText, reasonOf, verdictReason}
+
+-- ---- "Rows 1-5 give NOTICE. Rows 6-12 give OK with false if the id field is 64 lower-case hex; CLOSED for a REQ whose subscription id is
+-- within bounds; otherwise NOTICE."
+abbrev pub refusalNaming : List ℕ → Named → List ℕ → Reply
+refusalNaming m (names.Id p) reason = ok (said m p) false reason
+refusalNaming m (names.Subscription p) reason = closed (said m p) reason
+refusalNaming m names.Nothing reason = notice reason
+
+unfoldable pub refusal : List ℕ → ℕ → Reply
+refusal m r = cond (leb r 5) (notice (reasonOf r)) (refusalNaming m (namedOf m) (reasonOf r))
+
+-- ---- an EVENT message: the verdict on the event, whose id is i
+abbrev pub offerReply : List ℕ → List ℕ → Offered → Reply
+offerReply m i offered.Ephemeral = ok i true (verdictReason offered.Ephemeral)
+offerReply m i offered.Duplicate = ok i true (verdictReason offered.Duplicate)
+offerReply m i offered.Older = ok i true (verdictReason offered.Older)
+offerReply m i offered.Stored = ok i true (verdictReason offered.Stored)
+offerReply m i (offered.Refused r) = refusal m r
+
+-- ---- "An accepted REQ gives its EVENTs, then EOSE."
+abbrev pub eventIn : List ℕ → List ℕ → Read → List Reply
+eventIn sub s tooLarge = []
+eventIn sub s wrongShape = []
+eventIn sub s (read e) = event sub (hexOf (idIn s)) e (hexOf (sigIn s)) ∷ []
+
+unfoldable pub eventsOf : List ℕ → List ℕ → List ℕ → List Reply
+eventsOf b sub [] = []
+eventsOf b sub (k ∷ ks) = eventIn sub (slotAt b k) (readText (textIn (slotAt b k))) ++ eventsOf b sub ks
+
+unfoldable pub requestReplies : List ℕ → List ℕ → List ℕ → ℕ → List Reply
+requestReplies b m sub v = cond (sound b) (eventsOf b sub (answerList b (filtersAt m v)) ++ (eose sub ∷ [])) (refusal m 11 ∷ [])
+
+-- ---- one message m to the table b: the replies, and the table afterwards
+abbrev pub repliesIn : List ℕ → List ℕ → Message → List Reply
+repliesIn b m (message.Event p) = offerReply m (said m (p .id)) (answer b (asMessage m)) ∷ []
+repliesIn b m (message.Req r) = requestReplies b m (said m (r .subscription)) (r .filters)
+-- "CLOSE gives nothing."
+repliesIn b m (message.Close p) = []
+repliesIn b m (message.Refused r) = refusal m r ∷ []
+
+unfoldable pub repliesTo : List ℕ → List ℕ → List Reply
+repliesTo b m = repliesIn b m (readOf m)
+
+abbrev pub tableIn : List ℕ → List ℕ → Message → List ℕ
+tableIn b m (message.Event p) = next b (asMessage m)
+tableIn b m (message.Req r) = b
+tableIn b m (message.Close p) = b
+tableIn b m (message.Refused r) = b
+
+unfoldable pub tableAfter : List ℕ → List ℕ → List ℕ
+tableAfter b m = tableIn b m (readOf m)
+
+-- ---- "One program reads messages from standard input, one a line, over a fresh table of 8 slots. 0A ends a line and is no part of the
+-- message; a last line without it counts if not empty; an overlong line gives one reply."
+abbrev pub push : ℕ → List (List ℕ) → List (List ℕ)
+push x [] = (x ∷ []) ∷ []
+push x (l ∷ ls) = (x ∷ l) ∷ ls
+
+unfoldable pub lines : List ℕ → List (List ℕ)
+lines [] = []
+lines (x ∷ s) = cond (eqb x 0x0a) ([] ∷ lines s) (push x (lines s))
+
+-- "The program ends each reply with 0A."
+unfoldable pub written : List Reply → List ℕ
+written [] = []
+written (r ∷ rs) = replyText r ++ (0x0a ∷ written rs)
+
+unfoldable pub outputFrom : List ℕ → List (List ℕ) → List ℕ
+outputFrom b [] = []
+outputFrom b (m ∷ ms) = written (repliesTo b m) ++ outputFrom (tableAfter b m) ms
+
+abbrev pub programSlots : ℕ
+programSlots = 8
+
+abbrev pub freshTable : List ℕ
+freshTable = formatted programSlots (replicate (tableSize programSlots) 0)
+
+-- what the program writes to standard output, of its standard input
+unfoldable pub output : List ℕ → List ℕ
+output input = outputFrom freshTable (lines input)

@@ -1,0 +1,81 @@
+-- 01, "Filters and replies": the five replies. "Each reply begins with fixed bytes, copied exactly .. No white space; strings escaped as
+-- above; event fields in the order listed under Shape." 001, "From relay to client", says what follows the fixed bytes.
+use mathlib.Core.Bool.{Bool, true, false}
+use mathlib.Core.List.{List, [], _∷_, _++_}
+use Prim.Native.Nat.{ℕ}
+use lib.ListN.{getD}
+use Rattle.numeral.specs.Decimal.{digits, decimal}
+use Rattle.text.specs.Event.{Event, quoted, tagsText}
+use Rattle.table.specs.declared.Offered.{Offered}
+use Rattle.table.specs.declared.Offered.the-variants.{Ephemeral, Duplicate, Older, Stored, Refused}
+use Rattle.reply.specs.Ascii.{ascii}
+
+-- strings are decoded; ids and signatures are in hex
+pub data Reply : Type 0 where
+  ok : (id : List ℕ) (accepted : Bool) (reason : List ℕ) → Reply
+  event : (subscription id : List ℕ) (e : Event) (sig : List ℕ) → Reply
+  eose : (subscription : List ℕ) → Reply
+  closed : (subscription reason : List ℕ) → Reply
+  notice : (reason : List ℕ) → Reply
+
+abbrev pub truth : Bool → List ℕ
+truth true = ascii "true"
+truth false = ascii "false"
+
+-- "id, pubkey, created_at, kind, tags, content, sig"
+unfoldable pub objectText : (id : List ℕ) → Event → (sig : List ℕ) → List ℕ
+objectText i e s =
+    ascii "{\"id\":"
+    ++ (quoted i
+    ++ (ascii ",\"pubkey\":"
+    ++ (quoted (e .pubkey)
+    ++ (ascii ",\"created_at\":"
+    ++ (decimal (e .time)
+    ++ (ascii ",\"kind\":"
+    ++ (digits (e .kind)
+    ++ (ascii ",\"tags\":"
+    ++ (tagsText (e .tags)
+    ++ (ascii ",\"content\":" ++ (quoted (e .content) ++ (ascii ",\"sig\":" ++ (quoted s ++ ascii "}")))))))))))))
+
+unfoldable pub replyText : Reply → List ℕ
+replyText (ok i accepted reason) = ascii "[\"OK\"," ++ (quoted i ++ (ascii "," ++ (truth accepted ++ (ascii "," ++ (quoted reason ++ ascii "]")))))
+replyText (event s i e sig) = ascii "[\"EVENT\"," ++ (quoted s ++ (ascii "," ++ (objectText i e sig ++ ascii "]")))
+replyText (eose s) = ascii "[\"EOSE\"," ++ (quoted s ++ ascii "]")
+replyText (closed s reason) = ascii "[\"CLOSED\"," ++ (quoted s ++ (ascii "," ++ (quoted reason ++ ascii "]")))
+replyText (notice reason) = ascii "[\"NOTICE\"," ++ (quoted reason ++ ascii "]")
+
+-- ---- "Reply text", from row 0 on; rows 13 and 14 have none
+abbrev pub reasons : List (List ℕ)
+reasons =
+    []
+    ∷ ascii "invalid: message too long"
+    ∷ ascii "invalid: not UTF-8"
+    ∷ ascii "invalid: not JSON"
+    ∷ ascii "invalid: string not allowed"
+    ∷ ascii "invalid: wrong shape"
+    ∷ ascii "invalid: number"
+    ∷ ascii "invalid: hex"
+    ∷ ascii "invalid: count or length"
+    ∷ ascii "invalid: event too large"
+    ∷ ascii "invalid: id does not match"
+    ∷ ascii "error: bad table"
+    ∷ ascii "error: no room"
+    ∷ []
+
+unfoldable pub reasonOf : ℕ → List ℕ
+reasonOf r = getD reasons r []
+
+-- ---- "Replies: ephemeral and stored `true,""`; duplicate .. ; older .."
+abbrev pub isAccepted : Offered → Bool
+isAccepted Ephemeral = true
+isAccepted Stored = true
+isAccepted Duplicate = true
+isAccepted Older = true
+isAccepted (Refused r) = false
+
+abbrev pub verdictReason : Offered → List ℕ
+verdictReason Ephemeral = []
+verdictReason Stored = []
+verdictReason Duplicate = ascii "duplicate: already have this event"
+verdictReason Older = ascii "duplicate: have a newer version"
+verdictReason (Refused r) = reasonOf r

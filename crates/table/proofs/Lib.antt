@@ -1,0 +1,26 @@
+-- Demand3 has the theorem. Below it: Formatted, a table just formatted is fresh; Faithful, an offer does at the bytes what the law says, and
+-- which bytes it leaves; Passes, held events pass rows 2 to 10 when they are offered again as parts.
+-- Fields, Slots: an event written to a slot is read back, and a sound slot is what its event writes. Lists, Distinct, Bytes, Stored: the
+-- table after a store. Unread, Shown: what stands behind the last slot, and what is shown. Hex, Valid: what holds of a valid offer.
+-- Refused, Again: a spelling that decodes to a string within the limits is not refused. Strings, Arrays, Tellable, Fair: the parts of what is
+-- held, and that parts judged to be it are just those.
+pub mod Fields
+pub mod Slots
+pub mod Formatted
+pub mod Lists
+pub mod Distinct
+pub mod Bytes
+pub mod Hex
+pub mod Valid
+pub mod Stored
+pub mod Faithful
+pub mod Unread
+pub mod Shown
+pub mod Refused
+pub mod Again
+pub mod Passes
+pub mod Strings
+pub mod Arrays
+pub mod Tellable
+pub mod Fair
+pub mod Demand3

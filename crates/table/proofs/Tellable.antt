@@ -1,0 +1,201 @@
+-- What a table holds can be told: parts of it exist. They lie in the text itself, with the hex of the id and of the signature behind it; each
+-- is what a buffer p, q, r has at the length of p.
+use mathlib.Core.Bool.{true}
+use mathlib.Core.Path.{_≡_, refl, sym, ap, _∙_}
+use mathlib.Core.Logic.{⊎-elim}
+use mathlib.Core.List.{List, [], _∷_, _++_, append-assoc, append-nil, map, List·Memᴰ·not-nil, List·Memᴰ·cases-cons}
+use Prim.Native.Nat.{ℕ, _+_}
+use native.Mathlib.Omega.{arith}
+use borrow.Author.Tests.{le-leb}
+use lib.Dec.{leb}
+use lib.IntN.{pos}
+use lib.ListN.{length, length-append}
+use lib.Seq.{take-at, drop-at}
+use Rattle.wire.specs.Bytes.{isHex}
+use Rattle.wire.specs.Limits.{mostText}
+use Rattle.wire.specs.Escape.{escape}
+use Rattle.utf8.specs.Utf8.{isUtf8}
+use Rattle.json.specs.Grammar.{isSpelling}
+use Rattle.numeral.specs.Decimal.{digits, decimal}
+use Rattle.rows.specs.Strings.{part}
+use Rattle.digest.specs.Digest.{digest}
+use Rattle.spell.specs.Spell.{decode}
+use Rattle.spell.specs.Spell as spell
+use Rattle.spell.proofs.Laws.{decode-escape, hex-itself, hex-escape}
+use Rattle.text.specs.Event.{Event, opening, closing, comma, bracket, quoted, tagsText, serialise, all, isPlainByte, isString}
+use Rattle.text.specs.Read.{Read, tooLarge, wrongShape, read, readText, IsTextOf}
+use Rattle.text.specs.Answer.{tagsPlace, contentPlace}
+use Rattle.text.proofs.Pieces.{spelt, left, right, byte-is, both}
+use Rattle.text.proofs.Strings.{utf8-escape}
+use Rattle.text.proofs.Limits.{Limits, limits-of}
+use Rattle.text.proofs.Rows.{pubkey-length}
+use Rattle.text.proofs.RoundTrip.{read-back, read-same}
+use Rattle.message.specs.declared.EventParts.{EventParts}
+use Rattle.message.specs.Lent.{isInside}
+use Rattle.event.specs.Answer.{hexOf}
+use Rattle.event.proofs.Answers.{hex-length}
+use Rattle.law.specs.Lists.{_∈_}
+use Rattle.table.specs.Layout.{isByte, lengthIn, textIn, heldSlots}
+use Rattle.table.specs.Events.{SignedEvent, inSlot, ofHeld, view}
+use Rattle.table.specs.Sound.{isRead, textReads, slotSound, slotsSound, sound, hasHeader, capacityFits, slotsFit, countFits, othersAsAbove}
+use Rattle.table.specs.Offer.{asParts}
+use Rattle.table.specs.Relay.{Spells, SpellsTags, Tells}
+use Rattle.table.specs.Claims.{Tellable, Offerable}
+use Rattle.table.proofs.Hex.{hex-is, digest-length, digest-bytes}
+use Rattle.table.proofs.Again.{hex-string}
+use Rattle.table.proofs.Strings.{escape-spelling}
+use Rattle.table.proofs.Arrays.{tags-spelled}
+use Rattle.table.proofs.Passes.{pubkey-hex, judged-again}
+
+-- ---- a held slot has the text of an event
+held-slot : (xs : List (List ℕ)) (s : SignedEvent) → all slotSound xs ≡ true → s ∈ map inSlot xs → (c : List ℕ) × (s ≡ inSlot c) × (slotSound c ≡ true)
+unfolding all
+held-slot [] s e m = absurd (List·Memᴰ·not-nil m)
+held-slot (x ∷ xs) s e m = let (p, q) = both (slotSound x) _ e in ⊎-elim (λ z. (x, z, p)) (λ k. held-slot xs s q k) (List·Memᴰ·cases-cons m)
+
+slots-sound : (b : List ℕ) → sound b ≡ true → slotsSound b ≡ true
+unfolding sound
+slots-sound b e =
+    let e₁ = both (hasHeader b) _ e .1 in
+    let e₂ = both (capacityFits b) _ e₁ .1 in
+    let e₃ = both (slotsFit b) _ e₂ .1 in
+    let e₄ = both (countFits b) _ e₃ .1 in
+    both (slotsSound b) _ (both (othersAsAbove b) _ e₄ .1) .0
+
+read-of : (r : Read) → isRead r ≡ true → (e : Event) × (r ≡ read e)
+read-of tooLarge h = absurd (let z : _≡_ {A = ℕ} 0 1 = cc in omega arith)
+read-of wrongShape h = absurd (let z : _≡_ {A = ℕ} 0 1 = cc in omega arith)
+read-of (read e) h = (e, refl)
+
+pub held-read : (b : List ℕ) (s : SignedEvent) → sound b ≡ true → s ∈ view b → (e : Event) × (readText (s .0 .text) ≡ read e)
+unfolding view slotsSound slotSound textReads
+held-read b s g m =
+    let (c, z, h) = held-slot (heldSlots b) s (slots-sound b g) m in
+    let (e, r) = read-of (readText (textIn c)) (both (leb (lengthIn c) mostText) _ (both (textReads c) _ h .0) .1) in
+    (e, ap (λ (x : SignedEvent). readText (x .0 .text)) z ∙ r)
+
+-- ---- a part
+module _ (p q r : List ℕ) (at k : ℕ) (l : length p ≡ at) (m : length q ≡ k) where
+  part-is : part (p ++ (q ++ r)) at k ≡ q
+  part-is = rw (drop-at p (q ++ r) at l) (take-at q r k m)
+
+  spells : (v : List ℕ) → isUtf8 q ≡ true → isSpelling q ≡ true → decode q ≡ v → Spells (p ++ (q ++ r)) (record { start = at; len = k }) v
+  unfolding isInside
+  spells v u s d = record {
+    inside = le-leb (at + k) (length (p ++ (q ++ r))) (simp length-append (omega arith));
+    utf8 = rw part-is u;
+    spelling = rw part-is s;
+    says = rw part-is d;
+  }
+
+-- hex spells itself; and what is escaped spells what it was
+module _ (p q r : List ℕ) (at k : ℕ) (l : length p ≡ at) where
+  spells-hex : length q ≡ k → spell.all isHex q ≡ true → Spells (p ++ (q ++ r)) (record { start = at; len = k }) q
+  unfolding isString
+  spells-hex m h =
+      let (a, u) = both (all isPlainByte q) _ (hex-string q h) in
+      spells p q r at k l m q u (rw (hex-escape q h) at (escape-spelling q a)) (hex-itself q h)
+
+  spells-string : length (escape q) ≡ k → isString q ≡ true → Spells (p ++ (escape q ++ r)) (record { start = at; len = k }) q
+  unfolding isString
+  spells-string m h =
+      let (a, u) = both (all isPlainByte q) _ h in
+      spells p (escape q) r at k l m q (utf8-escape q ∙ u) (escape-spelling q a) (decode-escape q)
+
+-- ---- the parts of an event in its text, with hex of its id and signature behind
+abbrev hexes : SignedEvent → List ℕ
+hexes s = hexOf (s .0 .id) ++ hexOf (s .1)
+
+abbrev pub toldIn : SignedEvent → List ℕ
+toldIn s = s .0 .text ++ (hexOf (s .0 .id) ++ hexOf (s .1))
+
+abbrev pub toldParts : SignedEvent → Event → EventParts
+toldParts s e = record {
+  id = record { start = length (s .0 .text); len = 64 };
+  body = record {
+    pubkey = record { start = 4; len = 64 };
+    «created_at» = e .time;
+    kind = pos (e .kind);
+    tags = tagsPlace e;
+    content = record { start = contentPlace e; len = length (escape (e .content)) };
+  };
+  sig = record { start = length (s .0 .text) + 64; len = 128 };
+}
+
+-- [0,"PUBKEY",TIME,KIND,
+abbrev back : Event → List ℕ
+back e = closing ++ (decimal (e .time) ++ (comma ++ (digits (e .kind) ++ comma)))
+
+abbrev front : Event → List ℕ
+front e = opening ++ (e .pubkey ++ back e)
+
+-- "CONTENT"] and the hex
+abbrev after : SignedEvent → Event → List ℕ
+after s e = quoted (e .content) ++ (bracket ++ hexes s)
+
+module _ (s : SignedEvent) (e : Event) (a : IsTextOf (s .0 .text) e) (id-length : length (hexOf (s .0 .id)) ≡ 64) (id-hex : spell.all isHex (hexOf (s .0 .id)) ≡ true)
+    (sig-length : length (hexOf (s .1)) ≡ 128) (sig-hex : spell.all isHex (hexOf (s .1)) ≡ true) where
+  limits : Limits e
+  limits = limits-of e (a .fit)
+
+  whole : {l : List ℕ} → l ≡ serialise e ++ hexes s → l ≡ toldIn s
+  whole z = z ∙ ap (λ (t : List ℕ). t ++ hexes s) (a .same)
+
+  pubkey-size : length (e .pubkey) ≡ 64
+  pubkey-size = pubkey-length (e .pubkey) (limits .pubkey)
+
+  front-size : length (front e) ≡ tagsPlace e
+  front-size = let h = pubkey-size in simp length-append (omega arith)
+
+  told-id : Spells (toldIn s) (toldParts s e .id) (hexOf (s .0 .id))
+  told-id = spells-hex (s .0 .text) (hexOf (s .0 .id)) (hexOf (s .1)) (length (s .0 .text)) 64 refl id-length id-hex
+
+  told-sig : Spells (toldIn s) (toldParts s e .sig) (hexOf (s .1))
+  told-sig =
+      let z : (s .0 .text ++ hexOf (s .0 .id)) ++ (hexOf (s .1) ++ []) ≡ toldIn s = simp (append-assoc, append-nil) in
+      rw z at (spells-hex (s .0 .text ++ hexOf (s .0 .id)) (hexOf (s .1)) [] (length (s .0 .text) + 64) 128 (simp length-append (omega arith)) sig-length sig-hex)
+
+  told-pubkey : Spells (toldIn s) (toldParts s e .body .pubkey) (e .pubkey)
+  unfolding serialise
+  told-pubkey =
+      let z : opening ++ (e .pubkey ++ (back e ++ (tagsText (e .tags) ++ (comma ++ after s e)))) ≡ toldIn s = whole (simp append-assoc) in
+      rw z at (spells-hex opening (e .pubkey) (back e ++ (tagsText (e .tags) ++ (comma ++ after s e))) 4 64 refl pubkey-size (pubkey-hex (e .pubkey) (limits .pubkey)))
+
+  told-content : Spells (toldIn s) (toldParts s e .body .content) (e .content)
+  unfolding serialise quoted
+  told-content =
+      let p : List ℕ = front e ++ (tagsText (e .tags) ++ (44 ∷ 34 ∷ [])) in
+      let z : p ++ (escape (e .content) ++ (34 ∷ (bracket ++ hexes s))) ≡ toldIn s = whole (simp append-assoc) in
+      let l : length p ≡ contentPlace e = simp length-append (omega (arith, pubkey-size)) in
+      rw z at (spells-string p (e .content) (34 ∷ (bracket ++ hexes s)) (contentPlace e) (length (escape (e .content))) l refl (limits .content))
+
+  told-tags : SpellsTags (toldIn s) (tagsPlace e) (e .tags)
+  unfolding serialise
+  told-tags =
+      let t = tagsText (e .tags) in
+      let z : toldIn s ≡ front e ++ ((t ++ (44 ∷ [])) ++ after s e) = sym (whole (simp append-assoc)) in
+      let b = spelt (toldIn s) (t ++ (44 ∷ [])) (after s e) (tagsPlace e) (tagsPlace e + length (t ++ (44 ∷ []))) (rw z (drop-at (front e) ((t ++ (44 ∷ [])) ++ after s e) (tagsPlace e) front-size)) refl in
+      tags-spelled (toldIn s) (e .tags) (tagsPlace e) (tagsPlace e + length t) (limits .tags) (left t (44 ∷ []) b) (byte-is (right t (44 ∷ []) b))
+
+  told : readText (s .0 .text) ≡ read e → Tells (toldIn s) (toldParts s e) s
+  told r = record { event = e; text = r; id = told-id; pubkey = told-pubkey; time = refl; kind = refl; tags = told-tags; content = told-content; sig = told-sig }
+
+-- parts of an event whose id is its text's hash, with a signature of 64 bytes
+tells-text : (s : SignedEvent) (e : Event) → readText (s .0 .text) ≡ read e → s .0 .id ≡ digest (s .0 .text) → length (s .1) ≡ 64 → all isByte (s .1) ≡ true
+    → Tells (toldIn s) (toldParts s e) s
+tells-text s e r h l k =
+    let i = s .0 .id in
+    let n : length (hexOf i) ≡ 64 = omega (arith, hex-length i, ap length h ∙ digest-length (s .0 .text)) in
+    let m : length (hexOf (s .1)) ≡ 128 = omega (arith, hex-length (s .1), l) in
+    let x : all isByte i ≡ true = rw h (digest-bytes (s .0 .text)) in
+    told s e (read-same (s .0 .text) e r) n (hex-is i x) m (hex-is (s .1) k) r
+
+pub tellable : Tellable
+tellable b s g m =
+    let (e, r) = held-read b s (g .is-sound) m in
+    (asParts (toldIn s) (toldParts s e), tells-text s e r (g .hashed s m) (g .sig-length s m) (g .sig-bytes s m))
+
+pub offerable : Offerable
+offerable e sig f l n k =
+    let s : SignedEvent = ofHeld (record { id = digest (serialise e); sig = sig; event = e }) in
+    (asParts (toldIn s) (toldParts s e), judged-again (toldIn s) (toldParts s e) s refl n k (tells-text s e (read-back e f l) refl n k))

@@ -1,0 +1,9 @@
+-- The table: its bytes, its events, soundness, offers, formatting and showing, and demand 3 at its bytes.
+pub mod Layout
+pub mod Events
+pub mod Sound
+pub mod Offer
+pub mod Format
+pub mod Relay
+pub mod Claims
+pub mod Examples

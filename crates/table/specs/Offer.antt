@@ -1,0 +1,140 @@
+-- 01, "The table": what an offer is answered, and the table's bytes afterwards. "Valid is judged from what is offered, whatever the table
+-- holds."
+use mathlib.Core.Bool.{Bool, true, false, cond, not, _&&_}
+use mathlib.Core.Option.{Option, none, some}
+use mathlib.Core.List.{List, [], _∷_}
+use Prim.Native.Nat.{ℕ, _+_, _*_}
+use lib.Dec.{eqb, ltb}
+use lib.IntN.{pos}
+use Rattle.wire.specs.Put.{put}
+use Rattle.wire.specs.Field.{leBytes}
+use Rattle.json.specs.Tree.{root}
+use Rattle.rows.specs.Rows.{onRoot, textRow}
+use Rattle.spell.specs.Spell.{hexVal}
+use Rattle.shape.specs.Shape.{Word, event, req, close, other, opened}
+use Rattle.shape.specs.Rows.{messageRow}
+use Rattle.message.specs.Parts.{nowhere}
+use Rattle.message.specs.Read.{readOf}
+use Rattle.message.specs.declared.EventParts.{EventParts}
+use Rattle.message.specs.declared.Message.{Message}
+use Rattle.message.specs.declared.Message.the-variants as message
+use Rattle.event.specs.Lent.{said, eventOf}
+use Rattle.event.specs.Answer.{orElse, offeredRow}
+use Rattle.law.specs.Lists.{find}
+use Rattle.law.specs.Table.{Verdict, refused, wasEphemeral, duplicate, older, stored, noRoom, Offer, hasKey, verdict}
+use Rattle.table.specs.Layout.{Held, capacityOf, countOf, countPlace, slotPlace, slotBytes}
+use Rattle.table.specs.Events.{SignedEvent, signedTiles, ofHeld, view}
+use Rattle.table.specs.Sound.{sound}
+use Rattle.table.specs.declared.Offered.{Offered}
+use Rattle.table.specs.declared.Offered.the-variants.{Ephemeral, Duplicate, Older, Stored, Refused}
+
+-- "Offers of any bytes as a message and of any parts", which lie in a buffer
+pub data Offering : Type 0 where
+  asMessage : List ℕ → Offering
+  asParts : List ℕ → EventParts → Offering
+
+-- ---- rows 1 to 10
+abbrev pub isEventWord : Word → Bool
+isEventWord event = true
+isEventWord req = false
+isEventWord close = false
+isEventWord other = false
+
+-- the message's first word is EVENT
+unfoldable pub isEvent : List ℕ → Bool
+isEvent m = onRoot (λ t. isEventWord (opened m t .first)) (root m)
+
+-- the parts of an EVENT message; of no other is anything offered
+abbrev pub noParts : EventParts
+noParts = record {
+  id = nowhere;
+  body = record { pubkey = nowhere; «created_at» = pos 0; kind = pos 0; tags = 0; content = nowhere };
+  sig = nowhere;
+}
+
+abbrev pub partsIn : Message → EventParts
+partsIn (message.Event p) = p
+partsIn (message.Req r) = noParts
+partsIn (message.Close p) = noParts
+partsIn (message.Refused r) = noParts
+
+unfoldable pub partsOf : List ℕ → EventParts
+partsOf m = partsIn (readOf m)
+
+-- "offering one tests 1 to 12 .. and gives 5 also if it isn't an EVENT": rows 1 to 4, then that, then 5 to 8, 9 and 10
+unfoldable pub messageOfferRow : List ℕ → ℕ
+messageOfferRow m = orElse (textRow m) (cond (isEvent m) (orElse (messageRow m) (offeredRow m (partsOf m))) 5)
+
+abbrev pub rowOf : Offering → ℕ
+rowOf (asMessage m) = messageOfferRow m
+rowOf (asParts b p) = offeredRow b p
+
+-- "A valid event is one offered, as a message or as parts, that none of rows 1 to 10 refuses."
+abbrev pub isValid : Offering → Bool
+isValid o = eqb (rowOf o) 0
+
+-- the bytes that pairs of hex digits stand for
+unfoldable pub unhex : List ℕ → List ℕ
+unhex [] = []
+unhex (x ∷ []) = []
+unhex (x ∷ y ∷ l) = (hexVal x * 16 + hexVal y) ∷ unhex l
+
+-- the event of parts, with its id and signature as bytes
+unfoldable pub heldOf : List ℕ → EventParts → Held
+heldOf b p = record { id = unhex (said b (p .id)); sig = unhex (said b (p .sig)); event = eventOf b (p .body) }
+
+abbrev pub offeredOf : Offering → Held
+offeredOf (asMessage m) = heldOf m (partsOf m)
+offeredOf (asParts b p) = heldOf b p
+
+unfoldable pub judge : Offering → Offer signedTiles
+judge o = cond (isValid o) (some (ofHeld (offeredOf o))) none
+
+-- ---- the answer
+-- 01's number of a verdict that has one, and the row r that refused the offer
+abbrev pub answerOf : ℕ → Verdict → Offered
+answerOf r refused = Refused r
+answerOf r wasEphemeral = Ephemeral
+answerOf r duplicate = Duplicate
+answerOf r older = Older
+answerOf r stored = Stored
+answerOf r noRoom = Refused 12
+
+-- "Verdicts of an offer after row 11": law/Table, `verdict`
+unfoldable pub verdictOn : List ℕ → Offering → Verdict
+verdictOn b o = verdict signedTiles (capacityOf b) (view b) (judge o)
+
+-- rows 1 to 10, then 11, then the verdict
+unfoldable pub answer : List ℕ → Offering → Offered
+answer b o = cond (isValid o && not (sound b)) (Refused 11) (answerOf (rowOf o) (verdictOn b o))
+
+-- the number of 01
+abbrev pub numberOf : Offered → ℕ
+numberOf Ephemeral = 0
+numberOf Duplicate = 0
+numberOf Older = 0
+numberOf Stored = 0
+numberOf (Refused r) = r
+
+abbrev pub isStored : Offered → Bool
+isStored Ephemeral = false
+isStored Duplicate = false
+isStored Older = false
+isStored Stored = true
+isStored (Refused r) = false
+
+-- ---- the table afterwards
+-- "over the slot with its key, else in slot C"
+unfoldable pub slotFor : List ℕ → Held → ℕ
+slotFor b h = find (hasKey signedTiles (ofHeld h)) (view b)
+
+abbrev pub countAfter : List ℕ → ℕ → ℕ
+countAfter b k = cond (ltb k (countOf b)) (countOf b) (countOf b + 1)
+
+-- "A store writes only the bytes of the one slot it fills, and the count."
+unfoldable pub storedIn : List ℕ → Held → List ℕ
+storedIn b h = put (put b (slotPlace (slotFor b h)) (slotBytes h)) countPlace (leBytes 4 (countAfter b (slotFor b h)))
+
+-- "every lent buffer stays as found" on a refusal, and with every other verdict
+unfoldable pub next : List ℕ → Offering → List ℕ
+next b o = cond (isStored (answer b o)) (storedIn b (offeredOf o)) b

@@ -1,0 +1,104 @@
+-- 01, "The table": "Sound: the buffer has at least 16 bytes, N is 1 to 64 and its slots fit the buffer, C is at most N, the other header
+-- numbers as above, held texts are serialisations of events that agree with their slot fields, no ephemeral kind, no id or key held
+-- twice, zeros where said. Ids are not hashed again." A definition for each clause, in this order.
+use mathlib.Core.Bool.{Bool, true, false, not, _&&_}
+use mathlib.Core.List.{List, [], _∷_}
+use Prim.Native.Nat.{ℕ}
+use lib.Dec.{eqb, leb}
+use lib.ListN.{length}
+use Rattle.wire.specs.Limits.{mostText, mostSlots}
+use Rattle.wire.specs.Field.{unsigned}
+use Rattle.text.specs.Event.{Event, all}
+use Rattle.text.specs.Read.{Read, tooLarge, wrongShape, read, readText}
+use Rattle.text.specs.Kinds.{isEphemeral}
+use Rattle.law.specs.Lists.{any}
+use Rattle.law.specs.Table.{hasId, hasKey}
+use Rattle.table.specs.Layout.{headerSize, slotSize, capacityOf, countOf, slotSizeOf, firstSlotOf, tableSize, heldSlots, laterSlots, timeIn, kindIn, lengthIn, dIn, textIn, restIn, dPlace}
+use Rattle.table.specs.Events.{SignedEvent, signedTiles, view}
+
+-- "the buffer has at least 16 bytes"
+unfoldable pub hasHeader : List ℕ → Bool
+hasHeader b = leb headerSize (length b)
+
+-- "N is 1 to 64"
+abbrev pub isCapacity : ℕ → Bool
+isCapacity N = leb 1 N && leb N mostSlots
+
+unfoldable pub capacityFits : List ℕ → Bool
+capacityFits b = isCapacity (capacityOf b)
+
+-- "and its slots fit the buffer"
+unfoldable pub slotsFit : List ℕ → Bool
+slotsFit b = leb (tableSize (capacityOf b)) (length b)
+
+-- "C is at most N"
+unfoldable pub countFits : List ℕ → Bool
+countFits b = leb (countOf b) (capacityOf b)
+
+-- "the other header numbers as above"
+unfoldable pub othersAsAbove : List ℕ → Bool
+othersAsAbove b = eqb (slotSizeOf b) slotSize && eqb (firstSlotOf b) headerSize
+
+-- ---- one slot s
+-- "held texts are serialisations of events ..": and end within the slot
+abbrev pub isRead : Read → Bool
+isRead tooLarge = false
+isRead wrongShape = false
+isRead (read e) = true
+
+unfoldable pub textReads : List ℕ → Bool
+textReads s = leb (lengthIn s) mostText && isRead (readText (textIn s))
+
+-- ".. that agree with their slot fields"
+unfoldable pub agreesWith : List ℕ → Event → Bool
+agreesWith s e =
+    eqb (timeIn s) (unsigned (e .time))
+    && (eqb (kindIn s) (e .kind) && (eqb (dIn s .at) (dPlace e .at) && eqb (dIn s .len) (dPlace e .len)))
+
+abbrev pub agreesIn : List ℕ → Read → Bool
+agreesIn s tooLarge = false
+agreesIn s wrongShape = false
+agreesIn s (read e) = agreesWith s e
+
+unfoldable pub fieldsAgree : List ℕ → Bool
+fieldsAgree s = agreesIn s (readText (textIn s))
+
+-- "no ephemeral kind"
+unfoldable pub isLasting : List ℕ → Bool
+isLasting s = not (isEphemeral (kindIn s))
+
+-- "zeros where said": "text 4,096, zero after its end"
+abbrev pub isZero : List ℕ → Bool
+isZero l = all (eqb 0) l
+
+unfoldable pub zeroAfterText : List ℕ → Bool
+zeroAfterText s = isZero (restIn s)
+
+unfoldable pub slotSound : List ℕ → Bool
+slotSound s = textReads s && (fieldsAgree s && (isLasting s && zeroAfterText s))
+
+unfoldable pub slotsSound : List ℕ → Bool
+slotsSound b = all slotSound (heldSlots b)
+
+-- ---- all slots
+-- no two entries, at two places, that the test joins
+unfoldable pub noneTwice : {A : Type 0} → (A → A → Bool) → List A → Bool
+noneTwice same [] = true
+noneTwice same (x ∷ xs) = not (any (same x) xs) && noneTwice same xs
+
+-- "no id .. held twice"
+unfoldable pub noIdTwice : List ℕ → Bool
+noIdTwice b = noneTwice (hasId signedTiles) (view b)
+
+-- "no .. key held twice"
+unfoldable pub noKeyTwice : List ℕ → Bool
+noKeyTwice b = noneTwice (hasKey signedTiles) (view b)
+
+-- "zeros where said": "later slots are zero". "Bytes after slot N-1 are never read"
+unfoldable pub laterZero : List ℕ → Bool
+laterZero b = isZero (laterSlots b)
+
+unfoldable pub sound : List ℕ → Bool
+sound b =
+    hasHeader b
+    && (capacityFits b && (slotsFit b && (countFits b && (othersAsAbove b && (slotsSound b && (noIdTwice b && (noKeyTwice b && laterZero b)))))))
