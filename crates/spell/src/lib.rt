@@ -23,76 +23,21 @@ fn byte(s: &[u8], i: usize) -> u8
     if i < s.len() { s[i] } else { 0 }
 }
 
-// The numbers of the bytes from 0 to f, as hex digits; 0 of one that is none.
-const DIGITS: [u8; 55] = [
-    0,
-    1,
-    2,
-    3,
-    4,
-    5,
-    6,
-    7,
-    8,
-    9,
-    0,
-    0,
-    0,
-    0,
-    0,
-    0,
-    0,
-    10,
-    11,
-    12,
-    13,
-    14,
-    15,
-    0,
-    0,
-    0,
-    0,
-    0,
-    0,
-    0,
-    0,
-    0,
-    0,
-    0,
-    0,
-    0,
-    0,
-    0,
-    0,
-    0,
-    0,
-    0,
-    0,
-    0,
-    0,
-    0,
-    0,
-    0,
-    0,
-    10,
-    11,
-    12,
-    13,
-    14,
-    15,
-];
-
-// The number of a hex digit, and 0 of any other byte.
+// The number of a hex digit, and 0 of any other byte: the digits are told first, then a-f, which most texts spell.
 fn hex_val(x: u8) -> u32
     ensures { λ r. ⌜ r ≡ hexVal x ⌝ }
     ensures { λ r. ⌜ r ≤ 15 ⌝ }
 {
-    if x < b'0' {
+    if x <= 0x39 {
+        if x < 0x30 { 0 } else { (x - 0x30) as u32 }
+    } else if 0x61 <= x {
+        if x <= 0x66 { (x - 0x61 + 10) as u32 } else { 0 }
+    } else if x < 0x41 {
         0
-    } else if b'f' < x {
-        0
+    } else if x <= 0x46 {
+        (x - 0x41 + 10) as u32
     } else {
-        DIGITS[(x - b'0') as usize] as u32
+        0
     }
 }
 
