@@ -9,10 +9,9 @@ use borrow.Author.Tests.{eq-eqb}
 use lib.Dec.{leb, eqb, lit<}
 use lib.ListN.{length, getD, drop, length-append}
 use lib.Seq.{take-append-seam}
-use Rattle.utf8.specs.Utf8.{next, utf8From, isUtf8}
+use Rattle.utf8.specs.Utf8.{next, ends, utf8From, isUtf8}
 use Rattle.utf8.specs.declared.Want.{Want}
-use Rattle.utf8.specs.declared.Want.the-variants.{Lead}
-use Rattle.utf8.proofs.Laws.{ends-lead}
+use Rattle.utf8.specs.declared.Want.the-variants.{Lead, Tail, Bad}
 use Rattle.json.specs.Grammar.{classOf, oneAt, tokenAt, startAt, nextAt}
 use Rattle.json.specs.Tree.{Json, arr, Items, nil, item, Got, got, itemsAt, treeAt, depth}
 use Rattle.json.specs.declared.Class.the-variants.{Space}
@@ -164,6 +163,11 @@ module _ (s : List ℕ) where
       record { tree = arr (i .items); there = array-many s 7 at n (i .items) (byte-is a) (rw e (b .dark)) (rw e (b .opens)) (i .there); means = i .means; fine = i .fine }
 
 -- ---- their bytes are UTF-8
+ends-lead : (w : Want) → ends w ≡ true → w ≡ Lead
+ends-lead Lead e = refl
+ends-lead (Tail lo hi n) e = absurd (let z : _≡_ {A = ℕ} 0 1 = cc in omega arith)
+ends-lead Bad e = absurd (let z : _≡_ {A = ℕ} 0 1 = cc in omega arith)
+
 utf8-append : (p q : List ℕ) (w : Want) → utf8From w p ≡ true → utf8From Lead q ≡ true → utf8From w (p ++ q) ≡ true
 unfolding utf8From
 utf8-append [] q w e f = rw (ends-lead w e) f
