@@ -186,9 +186,9 @@ FromMeans = (n s : ℕ) → (s ∈ from 0 n) ↔ (s < n)
 -- "later time, then lower id"
 abbrev pub NewerMeans : Type 0
 NewerMeans = (b : List ℕ) (j k : ℕ) → T (newerSlot b j k) ↔ (
-  T (earlier (timeOfText (textIn (slotAt b k))) (timeOfText (textIn (slotAt b j))))
-  ⊎ ((timeOfText (textIn (slotAt b k)) ≡ timeOfText (textIn (slotAt b j))) × T (lower (idIn (slotAt b j)) (idIn (slotAt b k))))
-)
+    T (earlier (timeOfText (textIn (slotAt b k))) (timeOfText (textIn (slotAt b j))))
+    ⊎ ((timeOfText (textIn (slotAt b k)) ≡ timeOfText (textIn (slotAt b j))) × T (lower (idIn (slotAt b j)) (idIn (slotAt b k))))
+    )
 
 abbrev pub SlotsOrdered : Type 0
 SlotsOrdered = (b : List ℕ) → Orders (newerSlot b)
