@@ -42,7 +42,7 @@ pub in-among : {l : List ℕ} {s : ℕ} → s ∈ l → among l s ≡ true
 in-among (List·Memᴰ·head {x = x} {xs = l} e) = rw e (among-here x l)
 in-among {s = s} (List·Memᴰ·tail {x = x} {xs = l} m) = among-later x l s (in-among m)
 
-once-distinct : (l : List ℕ) → Once l → Distinct l
+pub once-distinct : (l : List ℕ) → Once l → Distinct l
 once-distinct [] o = tt
 once-distinct (x ∷ l) o = (λ y m e. clash (rw e (in-among m)) (o .0), once-distinct l (o .1))
 

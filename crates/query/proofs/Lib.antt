@@ -1,3 +1,4 @@
 pub mod Sorting
 pub mod Matching
 pub mod Answers
+pub mod Tables
