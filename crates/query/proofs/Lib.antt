@@ -2,3 +2,4 @@ pub mod Sorting
 pub mod Matching
 pub mod Answers
 pub mod Tables
+pub mod Lent
