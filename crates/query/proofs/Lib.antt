@@ -3,3 +3,4 @@ pub mod Matching
 pub mod Answers
 pub mod Tables
 pub mod Lent
+pub mod ReadFilters
