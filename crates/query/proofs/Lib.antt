@@ -4,3 +4,4 @@ pub mod Answers
 pub mod Tables
 pub mod Lent
 pub mod ReadFilters
+pub mod Worked
