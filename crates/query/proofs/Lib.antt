@@ -5,3 +5,4 @@ pub mod Tables
 pub mod Lent
 pub mod ReadFilters
 pub mod Worked
+pub mod Texts
