@@ -1,23 +1,22 @@
 -- What a REQ's answer means: the claims of specs/Laws, "the answer".
 use mathlib.Core.Path.{_≡_, refl, sym, ap, _∙_}
-use mathlib.Core.Bool.{Bool, true, false, cond, _||_}
+use mathlib.Core.Bool.{Bool, true, false, cond}
 use mathlib.Core.Logic.{_↔_, _⊎_, inl, inr, ⊎-elim, _≢_}
-use mathlib.Core.List.{List, [], _∷_, _++_, List·Memᴰ·head, List·Memᴰ·tail, List·Memᴰ·not-nil, List·Memᴰ·cases-cons, List·Memᴰ·append-cases, Memᴰ·append-left, Memᴰ·append-right}
+use mathlib.Core.List.{List, [], _∷_, List·Memᴰ·head, List·Memᴰ·tail, List·Memᴰ·not-nil, List·Memᴰ·cases-cons, List·Memᴰ·append-cases, Memᴰ·append-left, Memᴰ·append-right}
 use Prim.Native.Nat.{ℕ, zero, suc, min, _+_, _≤_, _<_}
 use native.Mathlib.Omega.{arith}
 use borrow.Author.Tests.{eqb-true, eqb-false}
 use lib.Dec.{T, eqb, eqb→eq, eqb-refl}
-use lib.IntN.{ℤ, pos}
 use lib.ListN.{length, take, length-take}
 use Rattle.message.specs.declared.Bound.{Bound}
 use Rattle.message.specs.declared.Bound.the-variants.{Absent, Number}
 use Rattle.event.specs.Lent.{natural}
-use Rattle.law.specs.Lists.{_∈_, any, Pairwise}
+use Rattle.law.specs.Lists.{_∈_, Pairwise}
 use Rattle.law.proofs.Lists.{any-yes, any-has, count-law}
 use Rattle.query.specs.Filter.{Filter}
 use Rattle.query.specs.Answer.{keep, among, from, newestFirst, cut, picked, pickedBySome, union}
-use Rattle.query.specs.Laws.{Orders, Distinct, NoneNewer, Descending, Match, Picked, NewestMatches, PickedMeans, UnionMeans, UnionOnce, UnionNewest, UnionDescends, allPicked, UnionSize, UnionShort, MoreFilters, FilterOrder, KeepMeans, FromMeans}
-use Rattle.query.proofs.Sorting.{bool, clash, among-here, among-later, among-cases, keep-same, keep-length, from-among, Once, Sorted, sort-among, sort-sorted, sort-length, once-sort, once-from}
+use Rattle.query.specs.Laws.{Orders, Distinct, NoneNewer, Descending, Match, Picked, PickedMeans, UnionMeans, UnionOnce, UnionNewest, UnionDescends, allPicked, UnionSize, UnionShort, MoreFilters, FilterOrder, KeepMeans, FromMeans}
+use Rattle.query.proofs.Sorting.{bool, clash, among-here, among-later, among-cases, keep-same, keep-length, from-among, Once, Sorted, sort-among, sort-sorted, sort-length, once-sort}
 
 -- ---- tests and entries
 pub true-T : {b : Bool} → b ≡ true → T b

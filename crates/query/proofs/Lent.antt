@@ -1,12 +1,12 @@
 -- The row of lent filters: the claims of specs/Laws, "lent filters".
-use mathlib.Core.Path.{_≡_, refl, sym, ap, _∙_}
-use mathlib.Core.Bool.{Bool, true, false, cond, not, _||_, false≢true}
-use mathlib.Core.Logic.{_↔_, _⊎_, inl, inr, ⊎-elim, _≢_}
+use mathlib.Core.Path.{_≡_, refl, _∙_}
+use mathlib.Core.Bool.{Bool, true, false, cond}
+use mathlib.Core.Logic.{_⊎_, inl, inr, ⊎-elim, _≢_}
 use mathlib.Core.List.{List, [], _∷_, map, List·Memᴰ·head, List·Memᴰ·tail, List·Memᴰ·not-nil, List·Memᴰ·cases-cons, Memᴰ·map, Memᴰ·of-map}
-use Prim.Native.Nat.{ℕ, zero, suc, min, _≤_, _<_}
+use Prim.Native.Nat.{ℕ, min, _≤_, _<_}
 use native.Mathlib.Omega.{arith}
 use native.Mathlib.Decide.{decLt}
-use borrow.Author.Tests.{eqb-true, eqb-false, eq-eqb, ne-eqb, ltb-true, ltb-false, lt-ltb}
+use borrow.Author.Tests.{eqb-true, eqb-false, ne-eqb, ltb-true, ltb-false}
 use lib.Dec.{eqb, ltb}
 use lib.ListN.{length}
 use Rattle.wire.specs.Limits.{mostFilters}
@@ -16,7 +16,7 @@ use Rattle.message.specs.Lent.{filterRow}
 use Rattle.law.specs.Lists.{_∈_}
 use Rattle.query.specs.Answer.{filterPlaces, isClosed, lower, lowestOf, filtersRow}
 use Rattle.query.specs.Laws.{RowHolds, of-filter, not-closed, miscounted, Lowest, LowestMeans, FiltersRowIs, AllPass, FiltersPass}
-use Rattle.query.proofs.Sorting.{bool, clash, or-cases, or-right, no-left, no-right}
+use Rattle.query.proofs.Sorting.{bool, clash, or-cases, no-left, no-right}
 
 -- ---- the lower of two
 lower-one : (r s : ℕ) → (lower r s ≡ r) ⊎ (lower r s ≡ s)
@@ -46,7 +46,7 @@ lower-right r s ne = rw (ne-eqb s 0 ne) (go (bool (eqb r 0)))
     go (inr e) = rw e (λ q. eqb-false r 0 e (omega (arith, ne)), omega arith)
 
 -- ---- the lowest of what either says, of one row, and of what another says alike
-join : {P Q : ℕ → Type 0} (r s : ℕ) → Lowest P r → Lowest Q s → Lowest (λ k. P k ⊎ Q k) (lower r s)
+pub join : {P Q : ℕ → Type 0} (r s : ℕ) → Lowest P r → Lowest Q s → Lowest (λ k. P k ⊎ Q k) (lower r s)
 join {P} {Q} r s p q = record {
   holds = λ ne. ⊎-elim (λ e. inl (rw e (p .holds (λ z. ne (e ∙ z))))) (λ e. inr (rw e (q .holds (λ z. ne (e ∙ z))))) (lower-one r s);
   least = λ k h ne. ⊎-elim (left k ne) (right k ne) h;
@@ -58,10 +58,10 @@ join {P} {Q} r s p q = record {
     right : (k : ℕ) → k ≢ 0 → Q k → (lower r s ≢ 0) × (lower r s ≤ k)
     right k ne h = let (a, b) = q .least k h ne in let (c, d) = lower-right r s a in (c, omega arith)
 
-alike : {P Q : ℕ → Type 0} {r : ℕ} → ((k : ℕ) → P k → Q k) → ((k : ℕ) → Q k → P k) → Lowest P r → Lowest Q r
+pub alike : {P Q : ℕ → Type 0} {r : ℕ} → ((k : ℕ) → P k → Q k) → ((k : ℕ) → Q k → P k) → Lowest P r → Lowest Q r
 alike {r = r} to from p = record { holds = λ ne. to r (p .holds ne); least = λ k h ne. p .least k (from k h) ne }
 
-alone : (r : ℕ) → Lowest (λ k. k ≡ r) r
+pub alone : (r : ℕ) → Lowest (λ k. k ≡ r) r
 alone r = record { holds = λ ne. refl; least = λ k e ne. (λ q. ne (e ∙ q), omega arith) }
 
 pub lowest-means : LowestMeans

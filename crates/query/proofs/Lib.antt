@@ -6,3 +6,4 @@ pub mod Lent
 pub mod ReadFilters
 pub mod Worked
 pub mod Texts
+pub mod Listings

@@ -1,26 +1,26 @@
 -- What matching means: the claims of specs/Laws, "matching".
-use mathlib.Core.Path.{_≡_, refl, sym, ap, _∙_}
-use mathlib.Core.Bool.{Bool, true, false, not, _&&_}
-use mathlib.Core.Logic.{_↔_, _⊎_, inl, inr, ⊎-elim, _≢_}
+use mathlib.Core.Path.{_≡_, refl, sym, ap}
+use mathlib.Core.Bool.{Bool, not, _&&_}
+use mathlib.Core.Logic.{_↔_, _⊎_, ⊎-elim}
 use mathlib.Core.Option.{Option, none, some}
 use mathlib.Core.List.{List, [], _∷_, _++_, List·Memᴰ·head, List·Memᴰ·tail, List·Memᴰ·not-nil, List·Memᴰ·cases-cons, List·Memᴰ·eq-of-singleton, Memᴰ·cast}
-use Prim.Native.Nat.{ℕ, suc}
+use Prim.Native.Nat.{ℕ}
 use native.Mathlib.Omega.{arith}
 use lib.Dec.{T, T-not, not-T}
 use lib.IntN.{ℤ, pos}
 use lib.Signed.{_≤ℤ_, ltZ-yes, ltZ-no, clashℤ, ≤ℤ-refl}
 use lib.ListN.{length, length-append}
 use Rattle.wire.specs.Bytes.{sameBytes}
-use Rattle.text.specs.Event.{Tag, Event, all}
+use Rattle.text.specs.Event.{Tag, all}
 use Rattle.message.specs.declared.Bound.{Bound}
 use Rattle.message.specs.declared.Bound.the-variants.{Absent, Number}
 use Rattle.law.specs.Lists.{_∈_, any}
 use Rattle.law.specs.Event.{earlier}
 use Rattle.law.proofs.Lists.{and-both, and-left, and-right, any-yes, any-has}
 use Rattle.law.proofs.Order.{strict-times, same-bytes}
-use Rattle.query.specs.Filter.{Condition, Filter, Strings}
+use Rattle.query.specs.Filter.{Condition, Strings}
 use Rattle.query.specs.Match.{isMember, sameNumber, isListed, kindListed, sinceHolds, untilHolds, tagFits, conditionHolds, matches, matchesSome}
-use Rattle.query.specs.Laws.{ExactMember, NoPrefix, SameNumber, ExactKind, SinceInclusive, UntilInclusive, AtTheBound, Tagged, ConditionMeans, AllHold, MatchMeans, AnySuffices, limited, LimitAside, everything, EmptyMatches}
+use Rattle.query.specs.Laws.{ExactMember, NoPrefix, SameNumber, ExactKind, SinceInclusive, UntilInclusive, AtTheBound, Tagged, ConditionMeans, MatchMeans, AnySuffices, LimitAside, EmptyMatches}
 
 -- a test that means equality, asked of each entry
 exact : {A : Type 0} (same : A → A → Bool) → ((a b : A) → T (same a b) ↔ (a ≡ b)) → (l : List A) (v : A) → T (any (same v) l) ↔ (v ∈ l)

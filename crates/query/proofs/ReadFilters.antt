@@ -6,20 +6,19 @@ use mathlib.Core.List.{List}
 use Prim.Native.Nat.{ℕ, zero, suc, _≤_, _<_}
 use native.Mathlib.Omega.{arith}
 use lib.ListN.{length}
-use Rattle.json.specs.Grammar.{case, wsAt, headAt, nextAt}
-use Rattle.json.specs.Tree.{Json, word, num, str, arr, obj, Items, nil, item, Got, none, got, endOf, treeAt, root}
+use Rattle.json.specs.Grammar.{wsAt}
+use Rattle.json.specs.Tree.{Json, str, Items, nil, item, got, treeAt, root}
 use Rattle.rows.specs.Strings.{part}
 use Rattle.rows.specs.Rows.{row1, row2, row3}
 use Rattle.spell.specs.Spell.{decode}
-use Rattle.shape.specs.Shape.{Word, event, req, close, other, wordOf, countItems, opened, hasShape}
-use Rattle.shape.specs.Rows.{row4, row5, row6, row7, row8, treeRow, rootRow, messageRow, wrongRequest, wrongSubscription, outside}
+use Rattle.shape.specs.Shape.{Word, event, req, close, other, wordOf, countItems}
+use Rattle.shape.specs.Rows.{row4, row5, row6, row7, row8, treeRow, rootRow, messageRow, wrongRequest, wrongSubscription}
 use Rattle.message.specs.declared.ReqParts.{ReqParts}
-use Rattle.message.specs.declared.Message.{Message}
 use Rattle.message.specs.declared.Message.the-variants as message
 use Rattle.message.specs.Lists.{within}
 use Rattle.message.specs.Read.{partsOf, inRoot, readOf, rowOf}
 use Rattle.message.proofs.Walks.{Walk, last, more}
-use Rattle.message.proofs.Elements.{Group, hollow, filled, group-of, walk-first}
+use Rattle.message.proofs.Elements.{Group, filled, group-of, walk-first}
 use Rattle.message.proofs.Reading.{Shaped, shaped, late-shaped, Begun, begun, begun-of, row-read}
 use Rattle.message.proofs.Passes as passes
 use Rattle.query.specs.Answer.{isClosed}

@@ -1,15 +1,15 @@
 -- A REQ's answer over a table: the claims of specs/Laws, "the answer over the table b".
-use mathlib.Core.Path.{_≡_, refl, sym, ap, ap₂, _∙_}
-use mathlib.Core.Bool.{Bool, true, false, not, _&&_, _||_}
-use mathlib.Core.Logic.{_↔_, _⊎_, inl, inr, ⊎-elim, _≢_}
+use mathlib.Core.Path.{_≡_, refl, sym, ap, _∙_}
+use mathlib.Core.Bool.{Bool, true, not, _&&_}
+use mathlib.Core.Logic.{_⊎_, inl, inr, ⊎-elim, _≢_}
 use mathlib.Core.List.{List, [], _∷_, map, List·Memᴰ·head, List·Memᴰ·tail, List·Memᴰ·not-nil, List·Memᴰ·eq-of-singleton, Memᴰ·map}
-use Prim.Native.Nat.{ℕ, zero, suc, _+_, _*_, _≤_, _<_}
+use Prim.Native.Nat.{ℕ, zero, suc, _*_, _<_}
 use native.Mathlib.Omega.{arith}
 use native.Mathlib.Decide.{decLt}
 use borrow.Author.Tests.{not-true}
 use lib.Dec.{T, leb}
 use lib.IntN.{ℤ, pos}
-use lib.ListN.{length, getD, take, drop, length-map}
+use lib.ListN.{length, getD, take, drop}
 use lib.Seq.{drop-drop}
 use Rattle.wire.specs.Limits.{mostText}
 use Rattle.text.specs.Event.{Event, all}
@@ -24,12 +24,12 @@ use Rattle.law.proofs.Lists.{any-has}
 use Rattle.law.proofs.Order.{strict-times, strict-bytes, same-bytes, newer-means, laws}
 use Rattle.law.proofs.Cells.{length-cells, cell-at}
 use Rattle.table.specs.Layout.{slotSize, headerSize, countOf, slotAt, heldSlots, idIn, textIn, lengthIn}
-use Rattle.table.specs.Events.{SignedEvent, signedTiles, timeOfText, inSlot, view}
-use Rattle.table.specs.Sound.{sound, hasHeader, capacityFits, slotsFit, countFits, othersAsAbove, slotsSound, slotSound, noIdTwice, noKeyTwice, laterZero, noneTwice, isRead, textReads, fieldsAgree, isLasting, zeroAfterText}
+use Rattle.table.specs.Events.{signedTiles, timeOfText, inSlot, view}
+use Rattle.table.specs.Sound.{sound, hasHeader, capacityFits, slotsFit, countFits, othersAsAbove, slotsSound, slotSound, noIdTwice, noKeyTwice, laterZero, noneTwice, isRead, textReads}
 use Rattle.query.specs.Filter.{Filter}
 use Rattle.query.specs.Match.{matches}
-use Rattle.query.specs.Answer.{from, keep, newestFirst, union, pickedBySome, picked, newerSlot, matchesIn, matchesSlot, answerList}
-use Rattle.query.specs.Laws.{Orders, Distinct, NewerMeans, SlotsOrdered, SlotMatches, AnswerIs, AnswerMeans, limited, LimitZero}
+use Rattle.query.specs.Answer.{from, union, newerSlot, matchesIn, matchesSlot, answerList}
+use Rattle.query.specs.Laws.{Distinct, NewerMeans, SlotsOrdered, SlotMatches, AnswerIs, AnswerMeans, limited, LimitZero}
 use Rattle.query.proofs.Sorting.{bool, clash, from-length, once-from}
 use Rattle.query.proofs.Answers.{true-T, T-true, once-distinct, from-means, picked-means, union-means, union-once, union-newest, union-descends, union-size, union-short}
 
@@ -173,6 +173,13 @@ module _ (b : List ℕ) (fs : List Filter) where
       λ m. let (h, p) = union-means (newerSlot b) (matchesSlot b) held fs s .0 m in (from-means (countOf b) s .0 h, p),
       λ (h, p). union-means (newerSlot b) (matchesSlot b) held fs s .1 (from-means (countOf b) s .1 h, p),
     );
+    matching = λ s m.
+        let (h, p) = union-means (newerSlot b) (matchesSlot b) held fs s .0 m in
+        let (f, i, k) = p in
+        (f, i, picked-means (newerSlot b) (matchesSlot b) held f .matching s k .1);
+    unlimited = λ free s f h i t.
+        let k = from-means (countOf b) s .1 h in
+        union-means (newerSlot b) (matchesSlot b) held fs s .1 (k, (f, i, picked-means (newerSlot b) (matchesSlot b) held f .absent (free f i) s .1 (k, t)));
     once = union-once (newerSlot b) (matchesSlot b) held fs distinct-held;
     newest-first = union-newest (newerSlot b) (matchesSlot b) held fs (slots-ordered b);
     descends = λ ok. union-descends (newerSlot b) (matchesSlot b) held fs (slots-ordered b) distinct-held

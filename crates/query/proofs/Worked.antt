@@ -12,8 +12,8 @@ use Rattle.text.specs.Event.{Event, all}
 use Rattle.message.specs.declared.Bound.the-variants.{Absent, Number}
 use Rattle.law.specs.Event as law
 use Rattle.query.specs.Filter.{Filter}
-use Rattle.query.specs.Match.{isMember, sinceHolds, untilHolds, matches}
-use Rattle.query.specs.Answer.{keep, among, insert, newestFirst, picked, union}
+use Rattle.query.specs.Match.{isMember, sinceHolds, untilHolds, matches, matchesSome}
+use Rattle.query.specs.Answer.{keep, among, insert, newestFirst, picked, union, lowestOf}
 use Rattle.query.specs.Laws.{limited, everything}
 
 -- ---- the answer
@@ -103,3 +103,13 @@ second-counts = (refl, refl, refl, refl)
 pub whole-id : (isMember ((48 ∷ 49 ∷ []) ∷ []) (48 ∷ 49 ∷ []) ≡ true) × (isMember ((48 ∷ []) ∷ []) (48 ∷ 49 ∷ []) ≡ false) × (isMember ((48 ∷ 49 ∷ 50 ∷ []) ∷ []) (48 ∷ 49 ∷ []) ≡ false)
 unfolding sameBytes
 whole-id = (refl, refl, refl)
+
+-- "any filter suffices": the second here
+pub any-filter : matchesSome (since (pos 0) everything ∷ until (pos 0) everything ∷ []) (48 ∷ 49 ∷ []) event ≡ true
+unfolding matches matchesSome all
+any-filter = refl
+
+-- "the lowest number is given", and 0 is none
+pub lowest-row : (lowestOf (0 ∷ 8 ∷ 5 ∷ 6 ∷ []) ≡ 5) × (lowestOf (0 ∷ 0 ∷ []) ≡ 0)
+unfolding lowestOf
+lowest-row = (refl, refl)

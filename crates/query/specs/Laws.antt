@@ -1,26 +1,27 @@
--- What the definitions of this crate mean, as claims; proofs/Matching, proofs/Answers and proofs/Lent prove them. Quotes are from 01,
--- "Filters and replies", where nothing else is said.
+-- What the definitions of this crate mean, as claims; proofs/Matching, Answers, Tables, Lent, ReadFilters and Listings prove them.
+-- Quotes are from 01, "Filters and replies", where nothing else is said.
 use mathlib.Core.Path.{_≡_}
 use mathlib.Core.Bool.{Bool, true, false}
 use mathlib.Core.Logic.{_↔_, _⊎_, _≢_}
-use mathlib.Core.Option.{Option, none, some}
+use mathlib.Core.Option.{none, some}
 use mathlib.Core.List.{List, [], _∷_, _++_}
 use Prim.Native.Nat.{ℕ, min, _≤_, _<_}
 use lib.Dec.{T, eqb}
 use lib.IntN.{ℤ, pos}
 use lib.Signed.{_≤ℤ_}
-use lib.ListN.{length}
+use lib.ListN.{length, take, drop}
 use Rattle.text.specs.Event.{Tag, Event}
 use Rattle.text.specs.Read.{read, readText}
 use Rattle.message.specs.declared.Bound.{Bound}
 use Rattle.message.specs.declared.Bound.the-variants.{Absent, Number}
+use Rattle.message.specs.declared.EventParts.{EventParts}
 use Rattle.message.specs.declared.ReqParts.{ReqParts}
 use Rattle.message.specs.declared.Message.the-variants.{Req}
 use Rattle.message.specs.Parts.{filterAt}
-use Rattle.message.specs.Lent.{filterRow}
+use Rattle.message.specs.Lent.{eventRow, filterRow}
 use Rattle.message.specs.Read.{readOf}
-use Rattle.event.specs.Lent.{natural}
-use Rattle.event.specs.Answer.{hexOf}
+use Rattle.event.specs.Lent.{natural, said, eventOf}
+use Rattle.event.specs.Answer.{hexOf, isLarge}
 use Rattle.law.specs.Lists.{_∈_, different, Pairwise, Once}
 use Rattle.law.specs.Event.{earlier, lower}
 use Rattle.table.specs.Layout.{countOf, slotAt, idIn, textIn}
@@ -28,7 +29,7 @@ use Rattle.table.specs.Events.{timeOfText}
 use Rattle.table.specs.Sound.{sound}
 use Rattle.query.specs.Filter.{Condition, Filter}
 use Rattle.query.specs.Match.{isMember, sameNumber, kindListed, sinceHolds, untilHolds, conditionHolds, matches, matchesSome}
-use Rattle.query.specs.Answer.{keep, from, picked, union, newerSlot, matchesSlot, answerList, filterPlaces, isClosed, lowestOf, filtersRow}
+use Rattle.query.specs.Answer.{keep, from, picked, union, newerSlot, matchesSlot, answerList, filterPlaces, filtersAt, isClosed, lowestOf, filtersRow, matchedRow, matched, matchNumber, matchValue, listingRow, listed, listedRow, numberOf, valueOf}
 
 -- ---- matching
 -- "exact membership"
@@ -201,6 +202,9 @@ SlotMatches = (b : List ℕ) → sound b ≡ true → (k : ℕ) → k < countOf 
 pub record AnswerIs (b : List ℕ) (fs : List Filter) : Type 0 where
   -- "Slots 0 to C-1 are held"
   pub exactly : (s : ℕ) → (s ∈ answerList b fs) ↔ ((s < countOf b) × Picked (newerSlot b) (matchesSlot b) (from 0 (countOf b)) fs s)
+  pub matching : (s : ℕ) → s ∈ answerList b fs → (f : Filter) × (f ∈ fs) × T (matchesSlot b f s)
+  -- with no limit, all that match
+  pub unlimited : ((f : Filter) → f ∈ fs → f .limit ≡ Absent) → (s : ℕ) (f : Filter) → s < countOf b → f ∈ fs → T (matchesSlot b f s) → s ∈ answerList b fs
   pub once : Distinct (answerList b fs)
   pub newest-first : NoneNewer (newerSlot b) (answerList b fs)
   pub descends : sound b ≡ true → Descending (newerSlot b) (answerList b fs)
@@ -246,3 +250,43 @@ FiltersPass = (m : List ℕ) (v : ℕ) → (filtersRow m v ≡ 0) ↔ AllPass m 
 -- what was read from an accepted REQ passes
 abbrev pub ReadPasses : Type 0
 ReadPasses = (m : List ℕ) (r : ReqParts) → readOf m ≡ Req r → filtersRow m (r .filters) ≡ 0
+
+-- ---- what is answered
+-- "Parts of an event, filter .. are tested by rows 2 and 4 to 8 .., an event by 9 too"
+pub data MatchedHolds (b : List ℕ) (p : EventParts) (m : List ℕ) (v : ℕ) : ℕ → Type 0 where
+  of-event : MatchedHolds b p m v (eventRow b p)
+  of-filters : {r : ℕ} → RowHolds m v r → MatchedHolds b p m v r
+  too-large : isLarge b (p .body) ≡ true → MatchedHolds b p m v 9
+
+abbrev pub MatchedRowIs : Type 0
+MatchedRowIs = (b : List ℕ) (p : EventParts) (m : List ℕ) (v : ℕ) → Lowest (MatchedHolds b p m v) (matchedRow b p m v)
+
+-- "matches an event against filters": the answer is yes where no row holds and some filter matches, and it is no value of a refusal
+pub record MatchedIs (b : List ℕ) (p : EventParts) (m : List ℕ) (v : ℕ) : Type 0 where
+  pub number : matchNumber (matched b p m v) ≡ matchedRow b p m v
+  pub value : T (matchValue (matched b p m v)) ↔ ((matchedRow b p m v ≡ 0) × T (matchesSome (filtersAt m v) (said b (p .id)) (eventOf b (p .body))))
+
+abbrev pub MatchedMeans : Type 0
+MatchedMeans = (b : List ℕ) (p : EventParts) (m : List ℕ) (v : ℕ) → MatchedIs b p m v
+
+-- row 11, "table not sound"; row 13, "lent output .. too short"
+pub data ListingHolds (b m : List ℕ) (v : ℕ) (row : List ℕ) : ℕ → Type 0 where
+  of-lent : {r : ℕ} → RowHolds m v r → ListingHolds b m v row r
+  not-sound : sound b ≡ false → ListingHolds b m v row 11
+  too-short : length row < length (answerList b (filtersAt m v)) → ListingHolds b m v row 13
+
+abbrev pub ListingRowIs : Type 0
+ListingRowIs = (b m : List ℕ) (v : ℕ) (row : List ℕ) → Lowest (ListingHolds b m v row) (listingRow b m v row)
+
+-- "It is written to a lent row of 16-bit numbers, and its length is the count answered." "Output is written from its start, and its rest
+-- stays. A refusal carries its number and no other value .., and every lent buffer stays as found."
+pub record ListingIs (b m : List ℕ) (v : ℕ) (row : List ℕ) : Type 0 where
+  pub number : numberOf (listed b m v row) ≡ listingRow b m v row
+  pub count : listingRow b m v row ≡ 0 → valueOf (listed b m v row) ≡ length (answerList b (filtersAt m v))
+  pub written : listingRow b m v row ≡ 0 → take (length (answerList b (filtersAt m v))) (listedRow b m v row) ≡ answerList b (filtersAt m v)
+  pub rest : listingRow b m v row ≡ 0 → drop (length (answerList b (filtersAt m v))) (listedRow b m v row) ≡ drop (length (answerList b (filtersAt m v))) row
+  pub as-long : length (listedRow b m v row) ≡ length row
+  pub refused : listingRow b m v row ≢ 0 → (listedRow b m v row ≡ row) × (valueOf (listed b m v row) ≡ 0)
+
+abbrev pub ListingMeans : Type 0
+ListingMeans = (b m : List ℕ) (v : ℕ) (row : List ℕ) → ListingIs b m v row
