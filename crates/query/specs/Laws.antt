@@ -108,15 +108,18 @@ EmptyMatches = (i : List ℕ) (e : Event) → T (matches everything i e)
 -- ---- the answer, over any test `newer`, by which two slots may also be alike
 pub record Orders (newer : ℕ → ℕ → Bool) : Type 0 where
   pub asym : (a b : ℕ) → newer a b ≡ true → newer b a ≡ false
+  -- what is newer than b is newer than all that are not
   pub past : (a b c : ℕ) → newer a b ≡ true → newer c b ≡ false → newer a c ≡ true
 
--- each entry once; no later entry is newer; each is newer than all after it
+-- each entry once
 abbrev pub Distinct : List ℕ → Type 0
 Distinct l = Once (λ (s : ℕ). s) l
 
+-- no later entry is newer
 abbrev pub NoneNewer : (ℕ → ℕ → Bool) → List ℕ → Type 0
 NoneNewer newer l = Pairwise (λ x y. T (newer y x) → ⊥) l
 
+-- each is newer than all after it
 abbrev pub Descending : (ℕ → ℕ → Bool) → List ℕ → Type 0
 Descending newer l = Pairwise (λ x y. T (newer x y)) l
 
@@ -191,6 +194,7 @@ NewerMeans = (b : List ℕ) (j k : ℕ) → T (newerSlot b j k) ↔ (
     ⊎ ((timeOfText (textIn (slotAt b k)) ≡ timeOfText (textIn (slotAt b j))) × T (lower (idIn (slotAt b j)) (idIn (slotAt b k))))
     )
 
+-- in every table, sound or not
 abbrev pub SlotsOrdered : Type 0
 SlotsOrdered = (b : List ℕ) → Orders (newerSlot b)
 
@@ -247,7 +251,7 @@ pub record AllPass (m : List ℕ) (v : ℕ) : Type 0 where
 abbrev pub FiltersPass : Type 0
 FiltersPass = (m : List ℕ) (v : ℕ) → (filtersRow m v ≡ 0) ↔ AllPass m v
 
--- what was read from an accepted REQ passes
+-- what was read from an accepted REQ passes, so the program's own call is never refused by rows 2 and 4 to 8
 abbrev pub ReadPasses : Type 0
 ReadPasses = (m : List ℕ) (r : ReqParts) → readOf m ≡ Req r → filtersRow m (r .filters) ≡ 0
 
