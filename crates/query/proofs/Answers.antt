@@ -1,5 +1,5 @@
 -- What a REQ's answer means: the claims of specs/Laws, "the answer".
-use mathlib.Core.Path.{_≡_, refl, sym, ap, _∙_}
+use mathlib.Core.Path.{_≡_, refl, sym, ap, ap₂, _∙_}
 use mathlib.Core.Bool.{Bool, true, false, cond}
 use mathlib.Core.Logic.{_↔_, _⊎_, inl, inr, ⊎-elim, _≢_}
 use mathlib.Core.List.{List, [], _∷_, List·Memᴰ·head, List·Memᴰ·tail, List·Memᴰ·not-nil, List·Memᴰ·cases-cons, List·Memᴰ·append-cases, Memᴰ·append-left, Memᴰ·append-right}
@@ -111,6 +111,32 @@ module _ {A : Type 0} where
         ⊎-elim (λ e. absurd (h (List·Memᴰ·head e)))
         (λ j. ⊎-elim (λ e. rw e (o .0 y j)) (λ i. taken-before n l (o .1) i j (λ t. h (List·Memᴰ·tail t))) (List·Memᴰ·cases-cons m))
         (List·Memᴰ·cases-cons k)
+
+-- ---- a list in order has its entries in no other order
+module _ (newer : ℕ → ℕ → Bool) (w : Orders newer) where
+  not-both : (x y : ℕ) → T (newer x y) → T (newer y x) → ⊥
+  not-both x y t u = clash (T-true (newer y x) u) (w .asym x y (T-true (newer x y) t))
+
+  pub same-order : (l k : List ℕ) → ((s : ℕ) → (s ∈ l) ↔ (s ∈ k)) → Descending newer l → Descending newer k → l ≡ k
+  same-order [] [] h o p = refl
+  same-order [] (y ∷ k) h o p = absurd (List·Memᴰ·not-nil (h y .1 (List·Memᴰ·head refl)))
+  same-order (x ∷ l) [] h o p = absurd (List·Memᴰ·not-nil (h x .0 (List·Memᴰ·head refl)))
+  same-order (x ∷ l) (y ∷ k) h o p =
+      ap₂ _∷_ heads (same-order l k (λ s. (below (λ z. h z .0) heads o, below (λ z. h z .1) (sym heads) p)) (o .1) (p .1))
+    where
+      heads : x ≡ y
+      heads =
+          ⊎-elim (λ e. e)
+          (λ m. ⊎-elim sym (λ n. absurd (not-both x y (o .0 y n) (p .0 x m))) (List·Memᴰ·cases-cons (h y .1 (List·Memᴰ·head refl))))
+          (List·Memᴰ·cases-cons (h x .0 (List·Memᴰ·head refl)))
+
+      -- an entry after the first is not the first
+      below : {a c : ℕ} {i j : List ℕ} {s : ℕ} → ((z : ℕ) → z ∈ a ∷ i → z ∈ c ∷ j) → a ≡ c → Descending newer (a ∷ i) → s ∈ i → s ∈ j
+      below {a = a} {s = s} to e q m =
+          ⊎-elim (λ f. absurd (self s (f ∙ sym e) (q .0 s m))) (λ n. n) (List·Memᴰ·cases-cons (to s (List·Memᴰ·tail m)))
+        where
+          self : (s : ℕ) → s ≡ a → T (newer a s) → ⊥
+          self s g t = let u : T (newer a a) = rw g at t in not-both a a u u
 
 -- ---- one filter's matches
 cut-in : {s : ℕ} (b : Bound) (l : List ℕ) → s ∈ cut b l → s ∈ l

@@ -29,9 +29,9 @@ use Rattle.table.specs.Sound.{sound, hasHeader, capacityFits, slotsFit, countFi
 use Rattle.query.specs.Filter.{Filter}
 use Rattle.query.specs.Match.{matches}
 use Rattle.query.specs.Answer.{from, union, newerSlot, matchesIn, matchesSlot, answerList}
-use Rattle.query.specs.Laws.{Distinct, NewerMeans, SlotsOrdered, SlotMatches, AnswerIs, AnswerMeans, limited, LimitZero}
+use Rattle.query.specs.Laws.{Distinct, Descending, NewerMeans, SlotsOrdered, SlotMatches, AnswerIs, AnswerMeans, limited, LimitZero}
 use Rattle.query.proofs.Sorting.{bool, clash, from-length, once-from}
-use Rattle.query.proofs.Answers.{true-T, T-true, once-distinct, from-means, picked-means, union-means, union-once, union-newest, union-descends, union-size, union-short}
+use Rattle.query.proofs.Answers.{same-order, true-T, T-true, once-distinct, from-means, picked-means, union-means, union-once, union-newest, union-descends, union-size, union-short}
 
 -- ---- the order of two slots
 pub newer-slot-means : NewerMeans
@@ -166,6 +166,12 @@ module _ (b : List ℕ) (fs : List Filter) where
   distinct-held : Distinct (from 0 (countOf b))
   distinct-held = once-distinct (from 0 (countOf b)) (once-from 0 (countOf b))
 
+  down : sound b ≡ true → Descending (newerSlot b) (answerList b fs)
+  unfolding answerList
+  down ok =
+      union-descends (newerSlot b) (matchesSlot b) (from 0 (countOf b)) fs (slots-ordered b) distinct-held
+      (λ s t h k ne. slot-total b s t (ids-differ b ok s t (from-means (countOf b) s .0 h) (from-means (countOf b) t .0 k) ne))
+
   pub answer-is : AnswerIs b fs
   unfolding answerList
   answer-is = record {
@@ -182,8 +188,8 @@ module _ (b : List ℕ) (fs : List Filter) where
         union-means (newerSlot b) (matchesSlot b) held fs s .1 (k, (f, i, picked-means (newerSlot b) (matchesSlot b) held f .absent (free f i) s .1 (k, t)));
     once = union-once (newerSlot b) (matchesSlot b) held fs distinct-held;
     newest-first = union-newest (newerSlot b) (matchesSlot b) held fs (slots-ordered b);
-    descends = λ ok. union-descends (newerSlot b) (matchesSlot b) held fs (slots-ordered b) distinct-held
-        (λ s t h k ne. slot-total b s t (ids-differ b ok s t (from-means (countOf b) s .0 h) (from-means (countOf b) t .0 k) ne));
+    descends = down;
+    only = λ ok l h o. same-order (newerSlot b) (slots-ordered b) l _ h o (down ok);
     size = union-size (newerSlot b) (matchesSlot b) held fs distinct-held;
     short = omega (arith, union-short (newerSlot b) (matchesSlot b) held fs, from-length 0 (countOf b));
   }

@@ -212,6 +212,8 @@ pub record AnswerIs (b : List ℕ) (fs : List Filter) : Type 0 where
   pub once : Distinct (answerList b fs)
   pub newest-first : NoneNewer (newerSlot b) (answerList b fs)
   pub descends : sound b ≡ true → Descending (newerSlot b) (answerList b fs)
+  -- no other list has these slots in that order
+  pub only : sound b ≡ true → (l : List ℕ) → ((s : ℕ) → (s ∈ l) ↔ (s ∈ answerList b fs)) → Descending (newerSlot b) l → l ≡ answerList b fs
   -- "its length is the count answered": 01, "How far": "the union's size"
   pub size : length (answerList b fs) ≡ different eqb (allPicked (newerSlot b) (matchesSlot b) (from 0 (countOf b)) fs)
   pub short : length (answerList b fs) ≤ countOf b
