@@ -1,0 +1,10 @@
+-- Matching, Answers, Tables, Lent, ReadFilters and Listings prove the claims of specs/Laws; Worked and Texts have cases by computation.
+pub mod Sorting
+pub mod Matching
+pub mod Answers
+pub mod Tables
+pub mod Lent
+pub mod ReadFilters
+pub mod Listings
+pub mod Worked
+pub mod Texts

@@ -1,0 +1,64 @@
+-- Filters as they stand in a text, by computation.
+use mathlib.Core.Path.{_≡_, refl}
+use mathlib.Core.Option.{none, some}
+use mathlib.Core.List.{List, [], _∷_}
+use Prim.Native.Nat.{ℕ}
+use Prim.Native.Char.{code}
+use Prim.Native.String.{String, [] as []ˢ, _∷_ as _∷ˢ_}
+use lib.IntN.{pos, negsuc}
+use Rattle.utf8.specs.Utf8.{isUtf8, utf8From, leadOf}
+use Rattle.json.specs.Grammar.{classOf, run, past, oneAt, tokenAt, wordAt, literalAt, digitsAt, intAt, fracAt, expAt, numberAt, hexAt, escapedAt, charAt, charsUpTo, charsAt, stringAt, scalarAt}
+use Rattle.json.specs.Tree.{itemsAt, treeAt}
+use Rattle.numeral.specs.Whole.{isDigit, allDigits, valueFrom, isNatural, naturalOf, negativeOf, wholeOf, isWithin, answerOf}
+use Rattle.spell.specs.Spell as spell
+use Rattle.spell.specs.Spell.{charOf, charsFrom, bytesOf, joined, decode, isRefused, refuses, sameBytes}
+use Rattle.rows.specs.Strings.{spelledAt, refusedIn}
+use Rattle.shape.specs.Shape.{anyItem, allItems, countItems, nameAt, noneTwice, filterMember, isFilter, isCondition}
+use Rattle.shape.specs.Rows.{wrongSmall, wrongTime, wrongList, filterNumber, filterHex, filterCount, filterCounts}
+use Rattle.message.specs.declared.Bound.the-variants.{Absent, Number}
+use Rattle.message.specs.Lists.{nextOf, upTo, elementsFrom}
+use Rattle.message.specs.Parts as parts
+use Rattle.message.specs.Parts.{membersAt, filterAt}
+use Rattle.message.specs.Lent.{wrongNumber, value2, value4, value5, filter2, filter4, filter5, filter6, filter7, filter8, filterRow}
+use Rattle.event.specs.Lent.{stringsOf}
+use Rattle.query.specs.Filter.{filterOf}
+use Rattle.query.specs.Answer.{filtersAt, isClosed, lowestOf, filtersRow}
+use Rattle.query.specs.Laws.{everything}
+
+-- a text of ASCII characters
+abbrev text : String → List ℕ
+text []ˢ = []
+text (c ∷ˢ s) = code c ∷ text s
+
+abbrev two : List ℕ
+two = text "{\"kinds\":[1,40],\"#e\":[\"x\"],\"since\":-5,\"limit\":0},{}]"
+
+pub two-filters : filtersAt two 0 ≡ record {
+  ids = none;
+  authors = none;
+  kinds = some (pos 1 ∷ pos 40 ∷ []);
+  since = Number (negsuc 4);
+  until = Absent;
+  limit = Number (pos 0);
+  conditions = record { letter = 101; members = (120 ∷ []) ∷ [] } ∷ [];
+} ∷ everything ∷ []
+unfolding classOf run past oneAt tokenAt wordAt literalAt digitsAt intAt fracAt expAt numberAt hexAt escapedAt charAt charsUpTo charsAt stringAt scalarAt itemsAt treeAt isDigit allDigits valueFrom isNatural naturalOf negativeOf wholeOf answerOf charOf charsFrom bytesOf joined decode spell.any sameBytes spelledAt nameAt nextOf upTo elementsFrom parts.filterOf membersAt filterAt stringsOf filterOf filtersAt parts.memberOf isWithin isCondition
+two-filters = refl
+
+-- the other names; strings decoded
+pub one-filter : filtersAt (text "{\"until\":7,\"authors\":[\"b\"],\"ids\":[\"a\",\"\\u0062\"]}]") 0 ≡ record {
+  ids = some ((97 ∷ []) ∷ (98 ∷ []) ∷ []);
+  authors = some ((98 ∷ []) ∷ []);
+  kinds = none;
+  since = Absent;
+  until = Number (pos 7);
+  limit = Absent;
+  conditions = [];
+} ∷ []
+unfolding classOf run past oneAt tokenAt wordAt literalAt digitsAt intAt fracAt expAt numberAt hexAt escapedAt charAt charsUpTo charsAt stringAt scalarAt itemsAt treeAt isDigit allDigits valueFrom isNatural naturalOf negativeOf wholeOf answerOf charOf charsFrom bytesOf joined decode spell.any sameBytes spelledAt nameAt nextOf upTo elementsFrom parts.filterOf membersAt filterAt stringsOf filterOf filtersAt parts.memberOf isWithin isCondition spell.unicodeOf spell.isPair spell.fourAt spell.four spell.hexVal spell.utf8Of
+one-filter = refl
+
+-- 0 of them; 5 of {} with no bracket after it, and of no filter; 8 of {} five times
+pub rows : (filtersRow two 0 ≡ 0) × (filtersRow (text "{}") 0 ≡ 5) × (filtersRow (text "[]") 1 ≡ 5) × (filtersRow (text "{},{},{},{},{}]") 0 ≡ 8)
+unfolding classOf run past oneAt tokenAt wordAt literalAt digitsAt intAt fracAt expAt numberAt hexAt escapedAt charAt charsUpTo charsAt stringAt scalarAt itemsAt treeAt isUtf8 utf8From leadOf isDigit allDigits valueFrom isNatural naturalOf negativeOf wholeOf answerOf isWithin charOf charsFrom bytesOf joined decode spell.any isRefused refuses sameBytes spelledAt refusedIn anyItem allItems countItems nameAt noneTwice isFilter isCondition filterCounts nextOf upTo elementsFrom parts.memberOf parts.filterOf membersAt filterAt wrongNumber value2 value4 value5 filter2 filter4 filter5 filter6 filter7 filter8 filterRow isClosed lowestOf filtersRow filterMember wrongSmall filterNumber wrongTime filterHex wrongList filterCount
+rows = (refl, refl, refl, refl)
