@@ -1,2 +1,4 @@
 pub mod Starred
 pub mod Example
+pub mod Plain
+pub mod Lines
