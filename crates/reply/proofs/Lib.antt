@@ -2,3 +2,4 @@ pub mod Starred
 pub mod Example
 pub mod Plain
 pub mod Lines
+pub mod Which
