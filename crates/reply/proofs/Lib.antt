@@ -3,3 +3,4 @@ pub mod Example
 pub mod Plain
 pub mod Lines
 pub mod Which
+pub mod Shown
