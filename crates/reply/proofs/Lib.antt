@@ -4,3 +4,4 @@ pub mod Plain
 pub mod Lines
 pub mod Which
 pub mod Shown
+pub mod Worked
