@@ -4,10 +4,14 @@ use mathlib.Core.Bool.{Bool, true, false, cond, _||_, false≢true}
 use mathlib.Core.List.{List, [], _∷_, _++_, map, append-assoc}
 use Prim.Native.Nat.{ℕ}
 use lib.Dec.{eqb}
+use lib.ListN.{replicate, length-replicate}
 use Rattle.law.specs.Lists.{any}
+use Rattle.table.specs.Layout.{tableSize}
+use Rattle.table.proofs.Formatted.{formatted-capacity, formatted-view, formatted-length}
 use Rattle.reply.specs.Replies.{Reply, replyText}
-use Rattle.reply.specs.Program.{push, repliesTo, tableAfter, lines, written, outputFrom, freshTable, output}
-use Rattle.reply.specs.Laws.{isNewline, Plain, LineEnds, LastLine, NoLine, tableFrom, repliesFrom, GoesOn, OutputGoesOn, OutputIs, OutputLines}
+use Rattle.reply.specs.Program.{push, repliesTo, tableAfter, lines, written, outputFrom, programSlots, freshTable, output}
+use Rattle.reply.specs.Laws.{isNewline, Plain, LineEnds, LastLine, NoLine, Fresh, tableFrom, repliesFrom, GoesOn, OutputGoesOn, OutputIs, OutputLines}
+use Rattle.reply.proofs.Example.{row-0, fresh-sound}
 use Rattle.reply.proofs.Plain.{reply-plain}
 
 -- ---- lines
@@ -65,6 +69,10 @@ lines-part (x ∷ s) rest = go (isNewline x) (lines-part s rest)
         → cond b ([] ∷ lines (s ++ (0x0a ∷ rest))) (push x (lines (s ++ (0x0a ∷ rest)))) ≡ cond b ([] ∷ lines (s ++ (0x0a ∷ []))) (push x (lines (s ++ (0x0a ∷ [])))) ++ lines rest
     go true e = ap ([] ∷_) e
     go false e = ap (push x) e ∙ push-append x (lines (s ++ (0x0a ∷ []))) (lines rest) (some-line s)
+
+-- ---- the table
+pub fresh : Fresh
+fresh = let z : List ℕ = replicate (tableSize programSlots) 0 in (fresh-sound, formatted-capacity 8 z row-0, formatted-view 8 z row-0, formatted-length 8 z row-0 ∙ length-replicate {A = ℕ} (tableSize 8) 0)
 
 -- ---- the output
 output-part : (b : List ℕ) (ms ns : List (List ℕ)) → outputFrom b (ms ++ ns) ≡ outputFrom b ms ++ outputFrom (tableFrom b ms) ns

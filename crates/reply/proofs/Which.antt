@@ -4,7 +4,7 @@ use mathlib.Core.Bool.{Bool, true, false, cond, not, _&&_, _||_, false≢true}
 use mathlib.Core.Logic.{_⊎_, inl, inr, _≢_}
 use mathlib.Core.Option.{some}
 use mathlib.Core.List.{List, [], _∷_, _++_}
-use Prim.Native.Nat.{ℕ, _≤_, _<_}
+use Prim.Native.Nat.{ℕ, zero, suc, _≤_, _<_}
 use native.Mathlib.Omega.{arith}
 use borrow.Author.Tests.{eqb-true, eqb-false, eq-eqb, ne-eqb, le-leb, lt-leb, lt-ltb, not-true, not-false}
 use lib.Dec.{eqb, leb, ltb}
@@ -42,7 +42,7 @@ use Rattle.table.specs.declared.Offered.{Offered}
 use Rattle.table.specs.declared.Offered.the-variants as offered
 use Rattle.reply.specs.Replies.{Reply, ok, closed, notice, reasonOf, isAccepted, verdictReason}
 use Rattle.reply.specs.Program.{refusalNaming, refusal, offerReply, requestReplies, repliesIn, repliesTo, tableIn, tableAfter}
-use Rattle.reply.specs.Laws.{openedIn, wordIn, restIn, idField, subscriptionField, EarlyRow, LateWord, LateEvent, LateRequest, LateClose, NamesId, NamesSubscription, LastRows, ReadEvent, ReadClose, BadTable, OnlyStored, Overlong}
+use Rattle.reply.specs.Laws.{openedIn, wordIn, restIn, idField, subscriptionField, Covered, EarlyRow, LateWord, LateEvent, LateRequest, LateClose, NamesId, NamesSubscription, LastRows, ReadEvent, ReadClose, BadTable, OnlyStored, Overlong}
 
 -- ---- refused when read
 read-refused : (m : List ℕ) → 1 ≤ messageRow m → readOf m ≡ message.Refused (messageRow m)
@@ -110,9 +110,9 @@ overlong b m h =
 row-of : (m : List ℕ) (x : Message) → readOf m ≡ x → messageRow m ≡ rowOf x
 row-of m x e = sym (row-read m) ∙ ap rowOf e
 
-zero : (b : Bool) (k x : ℕ) → 0 < k → cond b k x ≡ 0 → (b ≡ false) × (x ≡ 0)
-zero true k x h e = absurd (omega arith)
-zero false k x h e = (refl, e)
+off : (b : Bool) (k x : ℕ) → 0 < k → cond b k x ≡ 0 → (b ≡ false) × (x ≡ 0)
+off true k x h e = absurd (omega arith)
+off false k x h e = (refl, e)
 
 -- a message that no row refuses
 record Clean (m : List ℕ) (t : Json) (n : ℕ) : Type 0 where
@@ -124,19 +124,19 @@ record Clean (m : List ℕ) (t : Json) (n : ℕ) : Type 0 where
 clean-of : (m : List ℕ) → messageRow m ≡ 0 → (t : Json) × (n : ℕ) × Clean m t n
 unfolding messageRow treeRow textRow text.row4
 clean-of m e =
-    let (z₁, e₁) = zero (row1 m) 1 _ (omega arith) e in
-    let (z₂, e₂) = zero (row2 m) 2 _ (omega arith) e₁ in
-    let (z₃, e₃) = zero (row3 m) 3 _ (omega arith) e₂ in
+    let (z₁, e₁) = off (row1 m) 1 _ (omega arith) e in
+    let (z₂, e₂) = off (row2 m) 2 _ (omega arith) e₁ in
+    let (z₃, e₃) = off (row3 m) 3 _ (omega arith) e₂ in
     on (root m) refl z₁ z₂ z₃ e₃
   where
     on : (g : Got Json) → root m ≡ g → row1 m ≡ false → row2 m ≡ false → row3 m ≡ false → rootRow m g ≡ 0 → (t : Json) × (n : ℕ) × Clean m t n
     on none r z₁ z₂ z₃ q = absurd (omega arith)
     on (got t n) r z₁ z₂ z₃ q =
-        let (z₄, q₄) = zero (row4 m t) 4 _ (omega arith) q in
-        let (z₅, q₅) = zero (row5 m t) 5 _ (omega arith) q₄ in
-        let (z₆, q₆) = zero (row6 m t) 6 _ (omega arith) q₅ in
-        let (z₇, q₇) = zero (row7 m t) 7 _ (omega arith) q₆ in
-        let (z₈, q₈) = zero (row8 m t) 8 _ (omega arith) q₇ in
+        let (z₄, q₄) = off (row4 m t) 4 _ (omega arith) q in
+        let (z₅, q₅) = off (row5 m t) 5 _ (omega arith) q₄ in
+        let (z₆, q₆) = off (row6 m t) 6 _ (omega arith) q₅ in
+        let (z₇, q₇) = off (row7 m t) 7 _ (omega arith) q₆ in
+        let (z₈, q₈) = off (row8 m t) 8 _ (omega arith) q₇ in
         (t, n, record { tree = r; text = rw (z₁, z₂, z₃, r, z₄); shape = not-false _ z₅; a8 = z₈ })
 
 -- what is read of it, over its tree
@@ -147,6 +147,31 @@ read-tree m t n z r = rw (z, r)
 named-tree : (m : List ℕ) (t : Json) (n : ℕ) → messageRow m ≡ 0 → root m ≡ got t n → namedOf m ≡ namedIn m (opened m t .first) (opened m t .rest)
 unfolding namedOf
 named-tree m t n z r = rw (z, r)
+
+pub covered : Covered
+unfolding messageRow treeRow
+covered m = go (messageRow m) refl (below m)
+  where
+    most : (b : Bool) (k x : ℕ) → k ≤ 8 → x ≤ 8 → cond b k x ≤ 8
+    most true k x p q = p
+    most false k x p q = q
+
+    tree : (m : List ℕ) (g : Got Json) → rootRow m g ≤ 8
+    tree m none = omega arith
+    tree m (got t n) = most (row4 m t) 4 _ (omega arith) (most (row5 m t) 5 _ (omega arith) (most (row6 m t) 6 _ (omega arith) (most (row7 m t) 7 _ (omega arith) (most (row8 m t) 8 0 (omega arith) (omega arith)))))
+
+    below : (m : List ℕ) → messageRow m ≤ 8
+    below m = most (row1 m) 1 _ (omega arith) (most (row2 m) 2 _ (omega arith) (most (row3 m) 3 _ (omega arith) (tree m (root m))))
+
+    word : (w : Word) (ts : Items) (r : ℕ) → hasShape m w ts ≡ true → partsOf m w ts ≢ message.Refused r
+    word event ts r h e = let z : _≡_ {A = ℕ} 0 1 = cc in omega arith
+    word req ts r h e = let z : _≡_ {A = ℕ} 0 1 = cc in omega arith
+    word close ts r h e = let z : _≡_ {A = ℕ} 0 1 = cc in omega arith
+    word other ts r h e = false≢true h
+
+    go : (k : ℕ) → messageRow m ≡ k → messageRow m ≤ 8 → ((1 ≤ messageRow m) × (messageRow m ≤ 8)) ⊎ ((r : ℕ) → readOf m ≢ message.Refused r)
+    go zero z l = let (t, n, c) = clean-of m z in inr (λ r e. word (opened m t .first) (opened m t .rest) r (c .shape) (sym (read-tree m t n z (c .tree)) ∙ e))
+    go (suc k) z l = inl (omega arith, l)
 
 -- ---- EVENT
 -- an id that the rows let pass is 64 lower-case hex
@@ -161,11 +186,11 @@ or-left false b e = refl
 id-hex : (m : List ℕ) (p : EventParts) → eventRow m p ≡ 0 → isHexOf 64 (bytesOf m (p .id)) ≡ true
 unfolding eventRow event5 event7 string5 string7
 id-hex m p e =
-    let (z₂, e₂) = zero (event2 m p) 2 _ (omega arith) e in
-    let (z₄, e₄) = zero (event4 m p) 4 _ (omega arith) e₂ in
-    let (z₅, e₅) = zero (event5 m p) 5 _ (omega arith) e₄ in
-    let (z₆, e₆) = zero (body6 (p .body)) 6 _ (omega arith) e₅ in
-    let (z₇, e₇) = zero (event7 m p) 7 _ (omega arith) e₆ in
+    let (z₂, e₂) = off (event2 m p) 2 _ (omega arith) e in
+    let (z₄, e₄) = off (event4 m p) 4 _ (omega arith) e₂ in
+    let (z₅, e₅) = off (event5 m p) 5 _ (omega arith) e₄ in
+    let (z₆, e₆) = off (body6 (p .body)) 6 _ (omega arith) e₅ in
+    let (z₇, e₇) = off (event7 m p) 7 _ (omega arith) e₆ in
     spelled-hex (isSpelled m (p .id)) (isHexOf 64 (bytesOf m (p .id))) (or-left _ _ z₅) (or-left _ _ z₇)
 
 -- the word, by what was read

@@ -25,7 +25,8 @@ use Rattle.message.specs.declared.Named.the-variants as names
 use Rattle.event.specs.Lent.{said}
 use Rattle.event.specs.Answer.{hexOf}
 use Rattle.law.specs.Lists.{_∈_, any}
-use Rattle.table.specs.Layout.{countOf, slotAt, idIn, sigIn, textIn}
+use Rattle.table.specs.Layout.{tableSize, capacityOf, countOf, slotAt, idIn, sigIn, textIn}
+use Rattle.table.specs.Events.{view}
 use Rattle.table.specs.Sound.{sound}
 use Rattle.table.specs.Offer.{asMessage, answer, next}
 use Rattle.table.specs.declared.Offered.the-variants.{Stored, Refused}
@@ -52,6 +53,10 @@ idField m = spanIn (memberOf m idName (membersOf (firstOf (restIn m))))
 
 abbrev pub subscriptionField : List ℕ → Span
 subscriptionField m = spanOf (firstOf (restIn m))
+
+-- ---- a message is refused by one of rows 1 to 8, or it is read
+abbrev pub Covered : Type 0
+Covered = (m : List ℕ) → ((1 ≤ messageRow m) × (messageRow m ≤ 8)) ⊎ ((r : ℕ) → readOf m ≢ message.Refused r)
 
 -- ---- refused by rows 1 to 8: one reply, and the table stays
 -- "Rows 1-5 give NOTICE."
@@ -155,7 +160,12 @@ NoLine = lines [] ≡ []
 abbrev pub Overlong : Type 0
 Overlong = (b m : List ℕ) → mostMessage < length m → (repliesTo b m ≡ notice (ascii "invalid: message too long") ∷ []) × (tableAfter b m ≡ b)
 
--- ---- the program: "reads messages .. one a line, over a fresh table"; each finds the table that the last one left
+-- ---- the program
+-- "over a fresh table of 8 slots"
+abbrev pub Fresh : Type 0
+Fresh = (sound freshTable ≡ true) × (capacityOf freshTable ≡ 8) × (view freshTable ≡ []) × (length freshTable ≡ tableSize 8)
+
+-- each message finds the table that the last one left
 abbrev pub tableFrom : List ℕ → List (List ℕ) → List ℕ
 tableFrom b [] = b
 tableFrom b (m ∷ ms) = tableFrom (tableAfter b m) ms
