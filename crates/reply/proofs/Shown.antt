@@ -21,7 +21,6 @@ use Rattle.law.specs.Cells.{cells}
 use Rattle.law.proofs.Cells.{length-cells, cell-at}
 use Rattle.table.specs.Layout.{headerSize, slotSize, countOf, slotAt, textIn, lengthIn, heldSlots}
 use Rattle.table.specs.Sound.{hasHeader, capacityFits, slotsFit, countFits, othersAsAbove, isRead, textReads, slotSound, slotsSound, sound}
-use Rattle.query.specs.Filter.{Filter}
 use Rattle.query.specs.Answer.{keep, from, insert, newestFirst, union, answerList, filtersAt}
 use Rattle.reply.specs.Replies.{Reply}
 use Rattle.reply.specs.Program.{eventIn, eventsOf, requestReplies, repliesTo, tableAfter}
@@ -61,12 +60,9 @@ unfolding from
 from-in i zero k m = absurd (List·Memᴰ·not-nil m)
 from-in i (suc n) k m = ⊎-elim (λ e. omega arith) (λ j. let h = from-in (suc i) n k j in omega arith) (List·Memᴰ·cases-cons m)
 
-held-numbers : (b : List ℕ) (fs : List Filter) (k : ℕ) → k ∈ answerList b fs → k < countOf b
-unfolding answerList union
-held-numbers b fs k m = let h = from-in 0 (countOf b) k (keep-in _ _ k (newest-in _ _ k m)) in omega arith
-
 pub answers-held : AnswersHeld
-answers-held b m v k i = held-numbers b (filtersAt m v) k i
+unfolding answerList union
+answers-held b fs k m = let h = from-in 0 (countOf b) k (keep-in _ _ k (newest-in _ _ k m)) in omega arith
 
 -- ---- a held slot's text reads
 all-at : (p : List ℕ → Bool) (l : List (List ℕ)) (i : ℕ) → all p l ≡ true → i < length l → p (getD l i []) ≡ true
@@ -112,5 +108,5 @@ unfolding repliesTo tableAfter requestReplies
 read-request b m r e s =
     let ks = answerList b (filtersAt m (r .filters)) in
     let sub = said m (r .subscription) in
-    let w = shows b sub s ks (held-numbers b (filtersAt m (r .filters))) in
+    let w = shows b sub s ks (answers-held b (filtersAt m (r .filters))) in
     (eventsOf b sub ks, w, shows-length b sub ks (eventsOf b sub ks) w, rw (e, s), rw e)

@@ -1,4 +1,5 @@
--- What specs/Program and specs/Replies mean, in the sentences of 01: proved in proofs/Which, proofs/Lines and proofs/Plain.
+-- What specs/Program and specs/Replies mean, in the sentences of 01: proved in proofs/Which, Shown, Lines and Plain,
+-- each under its own name in small letters (EarlyRow: early-row).
 use mathlib.Core.Path.{_≡_}
 use mathlib.Core.Bool.{Bool, true, false, cond}
 use mathlib.Core.Logic.{_⊎_, _≢_}
@@ -30,6 +31,7 @@ use Rattle.table.specs.Events.{view}
 use Rattle.table.specs.Sound.{sound}
 use Rattle.table.specs.Offer.{asMessage, answer, next}
 use Rattle.table.specs.declared.Offered.the-variants.{Stored, Refused}
+use Rattle.query.specs.Filter.{Filter}
 use Rattle.query.specs.Answer.{answerList, filtersAt}
 use Rattle.reply.specs.Ascii.{ascii}
 use Rattle.reply.specs.Replies as replies
@@ -126,7 +128,7 @@ ReadRequest = (b m : List ℕ) (r : ReqParts) → readOf m ≡ message.Req r →
 
 -- a REQ's answer names held slots only
 abbrev pub AnswersHeld : Type 0
-AnswersHeld = (b m : List ℕ) (v k : ℕ) → k ∈ answerList b (filtersAt m v) → k < countOf b
+AnswersHeld = (b : List ℕ) (fs : List Filter) (k : ℕ) → k ∈ answerList b fs → k < countOf b
 
 -- row 11, "table not sound", of a REQ
 abbrev pub BadTable : Type 0

@@ -1,5 +1,7 @@
--- 01, "Shape": the names and first words that the reader compares, spelled out, by computation.
+-- 01, "Shape": the names and first words that the reader compares, and the bytes of "# with one letter a-z or A-Z" in `isCondition`, spelled
+-- out, by computation.
 use mathlib.Core.Path.{_≡_, refl}
+use mathlib.Core.List.{[], _∷_}
 use Rattle.shape.specs.Shape.{idName, pubkeyName, createdAtName, kindName, tagsName, contentName, sigName, idsName, authorsName, kindsName, sinceName, untilName, limitName, eventWord, reqWord, closeWord}
 use Rattle.reply.specs.Ascii.{ascii}
 
@@ -20,4 +22,5 @@ pub names :
     × (eventWord ≡ ascii "EVENT")
     × (reqWord ≡ ascii "REQ")
     × (closeWord ≡ ascii "CLOSE")
-names = (refl, refl, refl, refl, refl, refl, refl, refl, refl, refl, refl, refl, refl, refl, refl, refl)
+    × (35 ∷ 97 ∷ 122 ∷ 65 ∷ 90 ∷ [] ≡ ascii "#azAZ")
+names = (refl, refl, refl, refl, refl, refl, refl, refl, refl, refl, refl, refl, refl, refl, refl, refl, refl)
