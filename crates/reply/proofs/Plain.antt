@@ -1,5 +1,5 @@
 -- No reply has a byte 0A: a string's own become \n, and all else is written in other bytes.
-use mathlib.Core.Path.{_≡_, refl, sym, _∙_}
+use mathlib.Core.Path.{_≡_, refl}
 use mathlib.Core.Bool.{Bool, true, false, cond, _||_}
 use mathlib.Core.List.{List, [], _∷_, _++_}
 use Prim.Native.Nat.{ℕ, suc, _+_, _/_, _%_, _≤_, _<_}
@@ -12,7 +12,7 @@ use Rattle.numeral.specs.Decimal.{digits, decimal}
 use Rattle.numeral.proofs.Digits.{digits-one, digits-split, by-digits}
 use Rattle.text.specs.Event.{Tag, Event, quoted, membersText, tagText, tagsText}
 use Rattle.law.specs.Lists.{any}
-use Rattle.reply.specs.Replies.{Reply, ok, event, eose, closed, notice, truth, objectText, replyText}
+use Rattle.reply.specs.Replies.{ok, event, eose, closed, notice, truth, objectText, replyText}
 use Rattle.reply.specs.Laws.{isNewline, Plain, ReplyPlain}
 
 -- ---- pieces in a row

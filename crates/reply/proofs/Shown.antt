@@ -1,8 +1,8 @@
 -- An accepted REQ over a sound table: an EVENT for each slot number, then EOSE. Its numbers are of held slots, and each held text reads.
-use mathlib.Core.Path.{_≡_, refl, sym, ap, _∙_}
-use mathlib.Core.Bool.{Bool, true, false, cond, _&&_, false≢true}
-use mathlib.Core.Logic.{_⊎_, inl, inr, ⊎-elim}
-use mathlib.Core.List.{List, [], _∷_, _++_, List·Memᴰ·head, List·Memᴰ·tail, List·Memᴰ·not-nil, List·Memᴰ·cases-cons}
+use mathlib.Core.Path.{_≡_, refl, ap, _∙_}
+use mathlib.Core.Bool.{Bool, true, false, cond, false≢true}
+use mathlib.Core.Logic.{⊎-elim}
+use mathlib.Core.List.{List, [], _∷_, List·Memᴰ·head, List·Memᴰ·tail, List·Memᴰ·not-nil, List·Memᴰ·cases-cons}
 use Prim.Native.Nat.{ℕ, zero, suc, _+_, _*_, _<_}
 use native.Mathlib.Omega.{arith}
 use lib.Dec.{leb}
@@ -12,18 +12,14 @@ use Rattle.wire.specs.Limits.{mostText}
 use Rattle.text.specs.Event.{Event, all}
 use Rattle.text.specs.Read.{Read, tooLarge, wrongShape, read, readText}
 use Rattle.text.proofs.Pieces.{both}
-use Rattle.message.specs.declared.ReqParts.{ReqParts}
-use Rattle.message.specs.declared.Message.the-variants as message
-use Rattle.message.specs.Read.{readOf}
 use Rattle.event.specs.Lent.{said}
 use Rattle.law.specs.Lists.{_∈_}
-use Rattle.law.specs.Cells.{cells}
 use Rattle.law.proofs.Cells.{length-cells, cell-at}
 use Rattle.table.specs.Layout.{headerSize, slotSize, countOf, slotAt, textIn, lengthIn, heldSlots}
 use Rattle.table.specs.Sound.{hasHeader, capacityFits, slotsFit, countFits, othersAsAbove, isRead, textReads, slotSound, slotsSound, sound}
 use Rattle.query.specs.Answer.{keep, from, insert, newestFirst, union, answerList, filtersAt}
 use Rattle.reply.specs.Replies.{Reply}
-use Rattle.reply.specs.Program.{eventIn, eventsOf, requestReplies, repliesTo, tableAfter}
+use Rattle.reply.specs.Program.{eventsOf, requestReplies, repliesTo, tableAfter}
 use Rattle.reply.specs.Laws.{Shows, no-slot, slot, ReadRequest, AnswersHeld}
 
 -- ---- the numbers of an answer

@@ -3,46 +3,46 @@ use mathlib.Core.Path.{_≡_, refl, sym, ap, _∙_}
 use mathlib.Core.Bool.{Bool, true, false, cond, not, _&&_, _||_, false≢true}
 use mathlib.Core.Logic.{_⊎_, inl, inr, _≢_}
 use mathlib.Core.Option.{some}
-use mathlib.Core.List.{List, [], _∷_, _++_}
+use mathlib.Core.List.{List, [], _∷_, map}
 use Prim.Native.Nat.{ℕ, zero, suc, _≤_, _<_}
 use native.Mathlib.Omega.{arith}
-use borrow.Author.Tests.{eqb-true, eqb-false, eq-eqb, ne-eqb, le-leb, lt-leb, lt-ltb, not-true, not-false}
-use lib.Dec.{eqb, leb, ltb}
+use borrow.Author.Tests.{eqb-true, eqb-false, ne-eqb, le-leb, lt-leb, lt-ltb, not-false}
+use lib.Dec.{eqb}
 use lib.ListN.{length}
 use Rattle.json.specs.Tree.{Json, Items, nil, item, Got, none, got, root}
 use Rattle.spell.specs.Spell.{isHexOf}
-use Rattle.rows.specs.Strings.{part, refusedIn}
-use Rattle.rows.specs.Rows.{row1, row2, row3, onRoot, textRow}
+use Rattle.rows.specs.Strings.{part}
+use Rattle.rows.specs.Rows.{row1, row2, row3, textRow}
 use Rattle.rows.specs.Rows as text
 use Rattle.shape.specs.Shape.{Word, event, req, close, other, opened, hasShape}
 use Rattle.shape.specs.Rows.{row4, row5, row6, row7, row8, treeRow, rootRow, messageRow, wrongRequest, wrongSubscription}
-use Rattle.message.specs.declared.Span.{Span}
 use Rattle.message.specs.declared.EventParts.{EventParts}
 use Rattle.message.specs.declared.ReqParts.{ReqParts}
 use Rattle.message.specs.declared.Message.{Message}
 use Rattle.message.specs.declared.Message.the-variants as message
-use Rattle.message.specs.declared.Named.{Named}
 use Rattle.message.specs.declared.Named.the-variants as names
-use Rattle.message.specs.Parts.{spanOf, memberOf, eventOf, membersOf}
-use Rattle.message.specs.Read.{firstOf, partsOf, inRoot, readOf, rowOf, idNamed, namedIn, namedRoot, isEarly, namedOf}
-use Rattle.message.specs.Lent.{bytesOf, isSpelled, string5, string7, event5, event7, body6, body8, eventRow, event2, event4}
+use Rattle.message.specs.Parts.{spanOf, eventOf, membersOf}
+use Rattle.message.specs.Read.{firstOf, partsOf, readOf, rowOf, idNamed, namedIn, namedRoot, isEarly, namedOf}
+use Rattle.message.specs.Lent.{bytesOf, isSpelled, string5, string7, event5, event7, body6, eventRow, event2, event4}
 use Rattle.message.proofs.Reading.{Shaped, shaped, late-shaped, row-read}
 use Rattle.message.proofs.Passes.{event-passes}
 use Rattle.event.specs.Lent.{said}
-use Rattle.event.specs.Answer.{isLarge, hasId, offeredRow}
+use Rattle.event.specs.Answer.{orElse, isLarge, hasId, offeredRow}
 use Rattle.law.specs.Lists.{any}
 use Rattle.law.specs.Table as law
 use Rattle.law.specs.Table.{verdict, firstOf as firstVerdict, isEphemeral, hasKeyNewer, lacksSlot}
 use Rattle.table.specs.Layout.{capacityOf}
-use Rattle.table.specs.Events.{SignedEvent, signedTiles, ofHeld, view}
+use Rattle.law.specs.Machine.{runOn}
+use Rattle.table.specs.Events.{Signature, SignedEvent, tiles, signedTiles, ofHeld, view}
+use Rattle.table.specs.Relay.{relay}
 use Rattle.table.specs.Sound.{sound}
 use Rattle.table.specs.Offer as offers
 use Rattle.table.specs.Offer.{asMessage, isEvent, isEventWord, messageOfferRow, isValid, judge, answerOf, verdictOn, answer, isStored, next}
 use Rattle.table.specs.declared.Offered.{Offered}
 use Rattle.table.specs.declared.Offered.the-variants as offered
 use Rattle.reply.specs.Replies.{Reply, ok, closed, notice, reasonOf, isAccepted, verdictReason}
-use Rattle.reply.specs.Program.{refusalNaming, refusal, offerReply, requestReplies, repliesIn, repliesTo, tableIn, tableAfter}
-use Rattle.reply.specs.Laws.{openedIn, wordIn, restIn, idField, subscriptionField, Covered, EarlyRow, LateWord, LateEvent, LateRequest, LateClose, NamesId, NamesSubscription, LastRows, ReadEvent, ReadClose, BadTable, OnlyStored, Overlong}
+use Rattle.reply.specs.Program.{refusalNaming, refusal, offerReply, requestReplies, repliesTo, tableIn, tableAfter}
+use Rattle.reply.specs.Laws.{openedIn, wordIn, restIn, idField, subscriptionField, Covered, EarlyRow, LateWord, LateEvent, LateRequest, LateClose, NamesId, NamesSubscription, LastRows, ReadEvent, ReadClose, BadTable, OnlyStored, Overlong, AllOffered}
 
 -- ---- refused when read
 read-refused : (m : List ℕ) → 1 ≤ messageRow m → readOf m ≡ message.Refused (messageRow m)
@@ -319,3 +319,52 @@ only-stored b m = go (readOf m) refl
     go (message.Req r) e = inl refl
     go (message.Close p) e = inl refl
     go (message.Refused r) e = inl refl
+
+-- ---- every line is offered: an offer of what is no EVENT that was read is refused, and changes nothing
+valid-read : (m : List ℕ) → offers.rowOf (asMessage m) ≡ 0 → (p : EventParts) × (readOf m ≡ message.Event p)
+unfolding messageOfferRow isEvent
+valid-read m e =
+    let (x, e₁) = or-else (textRow m) _ e in
+    let (v, e₂) = is-event (isEvent m) _ e₁ in
+    let (z, e₃) = or-else (messageRow m) _ e₂ in
+    let (t, n, c) = clean-of m z in
+    let (p, q) = word (opened m t .first) (opened m t .rest) (rw (c .tree) at v) in
+    (p, read-tree m t n z (c .tree) ∙ q)
+  where
+    else-by : (r s : ℕ) (b : Bool) → eqb r 0 ≡ b → cond b s r ≡ 0 → (r ≡ 0) × (s ≡ 0)
+    else-by r s true z e = (eqb-true r 0 z, e)
+    else-by r s false z e = absurd (eqb-false r 0 z e)
+
+    or-else : (r s : ℕ) → orElse r s ≡ 0 → (r ≡ 0) × (s ≡ 0)
+    or-else r s e = else-by r s (eqb r 0) refl e
+
+    is-event : (b : Bool) (r : ℕ) → cond b r 5 ≡ 0 → (b ≡ true) × (r ≡ 0)
+    is-event true r e = (refl, e)
+    is-event false r e = absurd (omega arith)
+
+    word : (w : Word) (ts : Items) → isEventWord w ≡ true → (p : EventParts) × (partsOf m w ts ≡ message.Event p)
+    word event ts h = (_, refl)
+    word req ts h = absurd (false≢true h)
+    word close ts h = absurd (false≢true h)
+    word other ts h = absurd (false≢true h)
+
+no-offer : (b m : List ℕ) → ((p : EventParts) → readOf m ≢ message.Event p) → b ≡ next b (asMessage m)
+unfolding next answer verdictOn judge verdict
+no-offer b m n =
+    let v : isValid (asMessage m) ≡ false = ne-eqb (offers.rowOf (asMessage m)) 0 (λ e. let (p, q) = valid-read m e in n p q) in
+    rw v
+
+one-offered : (b m : List ℕ) → tableAfter b m ≡ next b (asMessage m)
+unfolding tableAfter
+one-offered b m = go (readOf m) refl
+  where
+    go : (x : Message) → readOf m ≡ x → tableIn b m x ≡ next b (asMessage m)
+    go (message.Event p) e = refl
+    go (message.Req r) e = no-offer b m (λ p q. let z : _≡_ {A = ℕ} 0 1 = cc in omega arith)
+    go (message.Close r) e = no-offer b m (λ p q. let z : _≡_ {A = ℕ} 0 1 = cc in omega arith)
+    go (message.Refused r) e = no-offer b m (λ p q. let z : _≡_ {A = ℕ} 0 1 = cc in omega arith)
+
+pub all-offered : AllOffered
+unfolding runOn
+all-offered b [] = refl
+all-offered b (m ∷ ms) = all-offered (tableAfter b m) ms ∙ ap (λ c. runOn tiles Signature relay c (map asMessage ms)) (one-offered b m)

@@ -27,8 +27,10 @@ use Rattle.event.specs.Lent.{said}
 use Rattle.event.specs.Answer.{hexOf}
 use Rattle.law.specs.Lists.{_∈_, any}
 use Rattle.table.specs.Layout.{tableSize, capacityOf, countOf, slotAt, idIn, sigIn, textIn}
-use Rattle.table.specs.Events.{view}
+use Rattle.law.specs.Machine.{runOn}
+use Rattle.table.specs.Events.{Signature, tiles, view}
 use Rattle.table.specs.Sound.{sound}
+use Rattle.table.specs.Relay.{relay}
 use Rattle.table.specs.Offer.{asMessage, answer, next}
 use Rattle.table.specs.declared.Offered.the-variants.{Stored, Refused}
 use Rattle.query.specs.Filter.{Filter}
@@ -175,6 +177,10 @@ tableFrom b (m ∷ ms) = tableFrom (tableAfter b m) ms
 abbrev pub repliesFrom : List ℕ → List (List ℕ) → List Reply
 repliesFrom b [] = []
 repliesFrom b (m ∷ ms) = repliesTo b m ++ repliesFrom (tableAfter b m) ms
+
+-- the table is the one that offering every line as a message leaves: demand 3 speaks of the program too
+abbrev pub AllOffered : Type 0
+AllOffered = (b : List ℕ) (ms : List (List ℕ)) → tableFrom b ms ≡ runOn tiles Signature relay b (map asMessage ms)
 
 -- what comes after a line's end is answered as if it came alone, to the table that was left
 abbrev pub GoesOn : Type 0
