@@ -7,10 +7,9 @@ use mathlib.Core.List.{List, [], _∷_, _++_, map}
 use Prim.Native.Nat.{ℕ, _≤_, _<_}
 use lib.Dec.{eqb}
 use lib.ListN.{length}
-use Rattle.wire.specs.Limits.{hexLength}
+use Rattle.wire.specs.Limits.{hexLength, mostMessage}
 use Rattle.json.specs.Tree.{Json, Items, nil, Got, none, got, root}
 use Rattle.spell.specs.Spell.{isHexOf}
-use Rattle.rows.specs.Rows.{mostMessage}
 use Rattle.shape.specs.Shape.{Word, event, req, close, other, Opened, opened, idName}
 use Rattle.shape.specs.Rows.{messageRow, wrongSubscription}
 use Rattle.text.specs.Event.{Event}
