@@ -47,11 +47,11 @@ unfolding classOf run past oneAt tokenAt wordAt literalAt digitsAt intAt fracAt 
 empty = refl
 
 -- ---- the fresh table
-row-0 : formatRow programSlots (replicate (tableSize programSlots) 0) ≡ 0
+pub row-0 : formatRow programSlots (replicate (tableSize programSlots) 0) ≡ 0
 unfolding formatRow
 row-0 = ap (λ n. cond (ltb n (tableSize programSlots)) 13 0) (length-replicate {A = ℕ} (tableSize programSlots) 0)
 
-fresh-sound : sound freshTable ≡ true
+pub fresh-sound : sound freshTable ≡ true
 fresh-sound = formatted-sound programSlots (replicate (tableSize programSlots) 0) row-0
 
 -- it holds nothing

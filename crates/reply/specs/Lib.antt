@@ -4,3 +4,5 @@ pub mod Replies
 pub mod Lent
 pub mod Program
 pub mod Starred
+pub mod Names
+pub mod Laws

@@ -1,0 +1,85 @@
+-- Worked replies, by computation: the bytes of each kind of reply, and what some refused messages are answered.
+use mathlib.Core.Path.{_≡_, refl, _∙_}
+use mathlib.Core.Bool.{true, false}
+use mathlib.Core.List.{List, [], _∷_, _++_}
+use Prim.Native.Nat.{ℕ, _≤_}
+use native.Mathlib.Omega.{arith}
+use lib.IntN.{negsuc}
+use lib.ListN.{replicate}
+use Rattle.wire.specs.Escape.{letterOf, escOne, escape}
+use Rattle.numeral.specs.Decimal.{digitsIn, digits, decimal}
+use Rattle.text.specs.Event.{Event, quoted, membersText, tagText, tagsText}
+use Rattle.numeral.specs.Whole.{wholeOf, answerOf, isWithin, isNatural, allDigits, isDigit, valueFrom, naturalOf, negativeOf}
+use Rattle.utf8.specs.Utf8.{isUtf8, utf8From, leadOf}
+use Rattle.json.specs.Grammar.{classOf, run, past, oneAt, tokenAt, wordAt, literalAt, digitsAt, intAt, fracAt, expAt, numberAt, hexAt, escapedAt, charAt, charsUpTo, charsAt, stringAt, scalarAt}
+use Rattle.json.specs.Tree.{itemsAt, treeAt}
+use Rattle.spell.specs.Spell as spell
+use Rattle.spell.specs.Spell.{charOf, charsFrom, bytesOf, joined, decode, isRefused, refuses, sameBytes, points, characterCount, isHexOf}
+use Rattle.rows.specs.Strings.{spelledAt, refusedIn}
+use Rattle.shape.specs.Shape as word
+use Rattle.shape.specs.Shape.{anyItem, allItems, countItems, nameAt, noneTwice, isFilter, wordOf, isEvent, eventMember, once}
+use Rattle.shape.specs.Rows.{row6, row7, row8, filterCounts, wrongSubscription, treeRow, messageRow, eventNumber, wrongTime, wrongSmall}
+use Rattle.message.specs.Parts.{memberOf}
+use Rattle.message.specs.declared.Span.{Span}
+use Rattle.message.specs.Lent.{bytesOf as bytes}
+use Rattle.message.specs.Read.{readOf, namedOf}
+use Rattle.event.specs.Lent.{said}
+use Rattle.reply.specs.Ascii.{ascii}
+use Rattle.reply.specs.Replies.{ok, event, eose, closed, notice, objectText, replyText, reasonOf}
+use Rattle.reply.specs.Program.{refusal, repliesTo}
+use Rattle.reply.specs.Laws.{wordIn, idField}
+use Rattle.reply.proofs.Which.{late-event}
+
+-- ids, keys and signatures are shortened here
+abbrev small : Event
+small = record { pubkey = ascii "aa"; time = negsuc 7199; kind = 1; tags = (ascii "d" ∷ ascii "t\n1" ∷ []) ∷ []; content = ascii "a\"b" }
+
+pub texts :
+    (replyText (ok (ascii "0f") true []) ≡ ascii "[\"OK\",\"0f\",true,\"\"]")
+    × (replyText (ok (ascii "0f") false (reasonOf 12)) ≡ ascii "[\"OK\",\"0f\",false,\"error: no room\"]")
+    × (replyText (event (ascii "s") (ascii "0f") small (ascii "9e"))
+    ≡ ascii "[\"EVENT\",\"s\",{\"id\":\"0f\",\"pubkey\":\"aa\",\"created_at\":-7200,\"kind\":1,\"tags\":[[\"d\",\"t\\n1\"]],\"content\":\"a\\\"b\",\"sig\":\"9e\"}]")
+    × (replyText (eose (ascii "a/\"")) ≡ ascii "[\"EOSE\",\"a/\\\"\"]")
+    × (replyText (closed (ascii "s") (reasonOf 8)) ≡ ascii "[\"CLOSED\",\"s\",\"invalid: count or length\"]")
+    × (replyText (notice (reasonOf 2)) ≡ ascii "[\"NOTICE\",\"invalid: not UTF-8\"]")
+    -- "0A, 22, 5C, 0D, 09, 08, 0C become .."
+    × (replyText (notice (0x0a ∷ 0x22 ∷ 0x5c ∷ 0x0d ∷ 0x09 ∷ 0x08 ∷ 0x0c ∷ [])) ≡ ascii "[\"NOTICE\",\"\\n\\\"\\\\\\r\\t\\b\\f\"]")
+unfolding replyText objectText reasonOf quoted membersText tagText tagsText letterOf escOne escape digitsIn digits decimal
+texts = (refl, refl, refl, refl, refl, refl, refl)
+
+-- ---- refused messages, whatever the table holds; ids and subscription ids come back spelled anew
+pub without-filter :
+    ((b : List ℕ) → repliesTo b (ascii "[\"REQ\",\"a\\/\\u0062\"]") ≡ closed (ascii "a/b") (reasonOf 8) ∷ [])
+    × ((b : List ℕ) → repliesTo b (ascii "[\"REQ\",\"\"]") ≡ notice (reasonOf 8) ∷ [])
+    × ((b : List ℕ) → repliesTo b (ascii "[\"CLOSE\",\"\"]") ≡ notice (reasonOf 8) ∷ [])
+unfolding classOf run past oneAt tokenAt wordAt literalAt digitsAt intAt fracAt expAt numberAt hexAt escapedAt charAt charsUpTo charsAt stringAt scalarAt itemsAt treeAt isUtf8 utf8From leadOf charOf charsFrom bytesOf joined decode isRefused spell.any refuses sameBytes points characterCount spelledAt refusedIn anyItem countItems nameAt noneTwice isFilter wordOf allItems row6 row7 row8 filterCounts wrongSubscription treeRow messageRow readOf namedOf repliesTo refusal spell.shortOf spell.unicodeOf spell.isPair spell.fourAt spell.four spell.hexVal spell.utf8Of
+without-filter = ((λ b. refl), (λ b. refl), (λ b. refl))
+
+abbrev wrongKind : List ℕ → List ℕ
+wrongKind id = ascii "[\"EVENT\",{\"id\":\"" ++ (id ++ ascii "\",\"kind\":1e3,\"pubkey\":\"\",\"created_at\":0,\"tags\":[],\"content\":\"\",\"sig\":\"\"}]")
+
+abbrev message : List ℕ
+message = wrongKind (ascii "\\u0061" ++ replicate 63 97)
+
+row : messageRow message ≡ 6
+unfolding classOf run past oneAt tokenAt wordAt literalAt digitsAt intAt fracAt expAt numberAt hexAt escapedAt charAt charsUpTo charsAt stringAt scalarAt itemsAt treeAt isUtf8 utf8From leadOf charOf charsFrom bytesOf joined decode isRefused spell.any refuses sameBytes points characterCount spelledAt refusedIn anyItem countItems nameAt noneTwice isFilter wordOf allItems row6 row7 row8 filterCounts wrongSubscription treeRow messageRow spell.shortOf spell.unicodeOf spell.isPair spell.fourAt spell.four spell.hexVal spell.utf8Of isEvent eventMember once eventNumber wrongTime wrongSmall wholeOf answerOf isWithin isNatural allDigits isDigit valueFrom naturalOf negativeOf
+row = refl
+
+abbrev place : Span
+place = record { start = 16; len = 69 }
+
+found : (wordIn message ≡ word.event) × (idField message ≡ place)
+unfolding classOf run past oneAt tokenAt wordAt literalAt digitsAt intAt fracAt expAt numberAt hexAt escapedAt charAt charsUpTo charsAt stringAt scalarAt itemsAt treeAt charOf charsFrom bytesOf joined decode sameBytes spelledAt nameAt wordOf memberOf
+found = (refl, refl)
+
+spelled : (isHexOf 64 (bytes message place) ≡ true) × (said message place ≡ replicate 64 97)
+unfolding charOf charsFrom bytesOf joined decode spell.shortOf spell.unicodeOf spell.isPair spell.fourAt spell.four spell.hexVal spell.utf8Of isHexOf spell.all spell.isHex
+spelled = (refl, refl)
+
+-- from the law, so that the checker reads the message a few times only
+named : (b m i : List ℕ) (p : Span) (r : ℕ) → messageRow m ≡ r → 6 ≤ r → wordIn m ≡ word.event → idField m ≡ p → isHexOf 64 (bytes m p) ≡ true → said m p ≡ i
+    → repliesTo b m ≡ ok i false (reasonOf r) ∷ []
+named b m i p r e h w f x s = late-event b m (omega arith) w .0 ∙ rw (f, x, s, e)
+
+pub wrong-kind : (b : List ℕ) → repliesTo b message ≡ ok (replicate 64 97) false (reasonOf 6) ∷ []
+wrong-kind b = named b message (replicate 64 97) place 6 row (omega arith) (found .0) (found .1) (spelled .0) (spelled .1)
