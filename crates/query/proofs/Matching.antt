@@ -17,7 +17,8 @@ use Rattle.message.specs.declared.Bound.the-variants.{Absent, Number}
 use Rattle.law.specs.Lists.{_∈_, any}
 use Rattle.law.specs.Event.{earlier}
 use Rattle.law.proofs.Lists.{and-both, and-left, and-right, any-yes, any-has}
-use Rattle.law.proofs.Order.{strict-times, same-bytes}
+use Rattle.wire.proofs.Bytes.{same-bytes}
+use Rattle.law.proofs.Order.{strict-times}
 use Rattle.query.specs.Filter.{Condition, Strings}
 use Rattle.query.specs.Match.{isMember, sameNumber, isListed, kindListed, sinceHolds, untilHolds, tagFits, conditionHolds, matches, matchesSome}
 use Rattle.query.specs.Laws.{ExactMember, NoPrefix, SameNumber, ExactKind, SinceInclusive, UntilInclusive, AtTheBound, Tagged, ConditionMeans, MatchMeans, AnySuffices, LimitAside, EmptyMatches}

@@ -21,7 +21,8 @@ use Rattle.law.specs.Lists.{_∈_, any}
 use Rattle.law.specs.Table.{Laws, regular, hasId}
 use Rattle.law.specs.Event.{earlier, lower, events}
 use Rattle.law.proofs.Lists.{any-has}
-use Rattle.law.proofs.Order.{strict-times, strict-bytes, same-bytes, newer-means, laws}
+use Rattle.wire.proofs.Bytes.{same-bytes}
+use Rattle.law.proofs.Order.{strict-times, strict-bytes, newer-means, laws}
 use Rattle.law.proofs.Cells.{length-cells, cell-at}
 use Rattle.table.specs.Layout.{slotSize, headerSize, countOf, slotAt, heldSlots, idIn, textIn, lengthIn}
 use Rattle.table.specs.Events.{signedTiles, timeOfText, inSlot, view}

@@ -6,12 +6,13 @@ use Prim.Native.Nat.{ℕ}
 use Prim.Native.Char.{code}
 use Prim.Native.String.{String, [] as []ˢ, _∷_ as _∷ˢ_}
 use lib.IntN.{pos, negsuc}
+use Rattle.wire.specs.Bytes.{sameBytes}
 use Rattle.utf8.specs.Utf8.{isUtf8, utf8From, leadOf}
 use Rattle.json.specs.Grammar.{classOf, run, past, oneAt, tokenAt, wordAt, literalAt, digitsAt, intAt, fracAt, expAt, numberAt, hexAt, escapedAt, charAt, charsUpTo, charsAt, stringAt, scalarAt}
 use Rattle.json.specs.Tree.{itemsAt, treeAt}
 use Rattle.numeral.specs.Whole.{isDigit, allDigits, valueFrom, isNatural, naturalOf, negativeOf, wholeOf, isWithin, answerOf}
 use Rattle.spell.specs.Spell as spell
-use Rattle.spell.specs.Spell.{charOf, charsFrom, bytesOf, joined, decode, isRefused, refuses, sameBytes}
+use Rattle.spell.specs.Spell.{charOf, charsFrom, bytesOf, joined, decode, isRefused, refuses}
 use Rattle.rows.specs.Strings.{spelledAt, refusedIn}
 use Rattle.shape.specs.Shape.{anyItem, allItems, countItems, nameAt, noneTwice, filterMember, isFilter, isCondition}
 use Rattle.shape.specs.Rows.{wrongSmall, wrongTime, wrongList, filterNumber, filterHex, filterCount, filterCounts}

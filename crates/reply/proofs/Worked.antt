@@ -6,6 +6,7 @@ use Prim.Native.Nat.{ℕ, _≤_}
 use native.Mathlib.Omega.{arith}
 use lib.IntN.{negsuc}
 use lib.ListN.{replicate}
+use Rattle.wire.specs.Bytes.{sameBytes, isHex}
 use Rattle.wire.specs.Escape.{letterOf, escOne, escape}
 use Rattle.numeral.specs.Decimal.{digitsIn, digits, decimal}
 use Rattle.text.specs.Event.{Event, quoted, membersText, tagText, tagsText}
@@ -14,7 +15,7 @@ use Rattle.utf8.specs.Utf8.{isUtf8, utf8From, leadOf}
 use Rattle.json.specs.Grammar.{classOf, run, past, oneAt, tokenAt, wordAt, literalAt, digitsAt, intAt, fracAt, expAt, numberAt, hexAt, escapedAt, charAt, charsUpTo, charsAt, stringAt, scalarAt}
 use Rattle.json.specs.Tree.{itemsAt, treeAt}
 use Rattle.spell.specs.Spell as spell
-use Rattle.spell.specs.Spell.{charOf, charsFrom, bytesOf, joined, decode, isRefused, refuses, sameBytes, points, characterCount, isHexOf}
+use Rattle.spell.specs.Spell.{charOf, charsFrom, bytesOf, joined, decode, isRefused, refuses, points, characterCount, isHexOf}
 use Rattle.rows.specs.Strings.{spelledAt, refusedIn}
 use Rattle.shape.specs.Shape as word
 use Rattle.shape.specs.Shape.{anyItem, allItems, countItems, nameAt, noneTwice, isFilter, wordOf, isEvent, eventMember, once}
@@ -73,7 +74,7 @@ unfolding classOf run past oneAt tokenAt wordAt literalAt digitsAt intAt fracAt 
 found = (refl, refl)
 
 spelled : (isHexOf 64 (bytes message place) ≡ true) × (said message place ≡ replicate 64 97)
-unfolding charOf charsFrom bytesOf joined decode spell.shortOf spell.unicodeOf spell.isPair spell.fourAt spell.four spell.hexVal spell.utf8Of isHexOf spell.all spell.isHex
+unfolding charOf charsFrom bytesOf joined decode spell.shortOf spell.unicodeOf spell.isPair spell.fourAt spell.four spell.hexVal spell.utf8Of isHexOf spell.all isHex
 spelled = (refl, refl)
 
 -- from the law, so that the checker reads the message a few times only
