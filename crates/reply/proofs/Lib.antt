@@ -1,3 +1,5 @@
+-- Starred: the starred cases of 01. Example: the program's output on 01's four lines. Which, Shown: which replies a message gets. Lines, Plain:
+-- the program's lines. Kept: its table stays sound, and demand 3 holds of it. Worked: replies by computation.
 pub mod Starred
 pub mod Example
 pub mod Plain
@@ -5,3 +7,4 @@ pub mod Lines
 pub mod Which
 pub mod Shown
 pub mod Worked
+pub mod Kept

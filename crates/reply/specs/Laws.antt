@@ -1,4 +1,4 @@
--- What specs/Program and specs/Replies mean, in the sentences of 01: proved in proofs/Which, Shown, Lines and Plain,
+-- What specs/Program and specs/Replies mean, in the sentences of 01: proved in proofs/Which, Shown, Lines, Plain and Kept,
 -- each under its own name in small letters (EarlyRow: early-row).
 use mathlib.Core.Path.{_≡_}
 use mathlib.Core.Bool.{Bool, true, false, cond}
@@ -26,7 +26,10 @@ use Rattle.event.specs.Lent.{said}
 use Rattle.event.specs.Answer.{hexOf}
 use Rattle.law.specs.Lists.{_∈_, any}
 use Rattle.table.specs.Layout.{tableSize, capacityOf, countOf, slotAt, idIn, sigIn, textIn}
-use Rattle.law.specs.Machine.{runOn}
+use Rattle.law.specs.Table.{Offer, IdPremise}
+use Rattle.law.specs.Claims.{Settled}
+use Rattle.law.specs.Signature as signature
+use Rattle.law.specs.Machine.{judged, runOn, NoneLacksOn}
 use Rattle.table.specs.Events.{Signature, tiles, view}
 use Rattle.table.specs.Sound.{sound}
 use Rattle.table.specs.Relay.{relay}
@@ -202,3 +205,16 @@ OutputIs = (input : List ℕ) → output input ≡ written (repliesFrom freshTab
 
 abbrev pub OutputLines : Type 0
 OutputLines = (input : List ℕ) → lines (output input) ≡ map replyText (repliesFrom freshTable (lines input))
+
+-- ---- demand 3, of the program
+-- the program's table is sound after every line, so no reply says "error: bad table"
+abbrev pub StaysSound : Type 0
+StaysSound = (ms : List (List ℕ)) → sound (tableFrom freshTable ms) ≡ true
+
+-- what it holds is what demand 3 gives for the lines as offers, if no line lacks room and the id premise holds
+abbrev pub offersOf : List (List ℕ) → List (Offer tiles)
+offersOf ms = judged tiles Signature relay (map asMessage ms)
+
+abbrev pub ProgramSettles : Type 0
+ProgramSettles = (ms : List (List ℕ)) → IdPremise tiles (offersOf ms) → NoneLacksOn tiles Signature relay freshTable (map asMessage ms) →
+    Settled tiles (map (signature.event tiles Signature) (view (tableFrom freshTable ms))) (offersOf ms)
