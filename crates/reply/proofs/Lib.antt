@@ -8,3 +8,4 @@ pub mod Which
 pub mod Shown
 pub mod Worked
 pub mod Kept
+pub mod Accepted
