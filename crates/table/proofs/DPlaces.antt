@@ -14,7 +14,7 @@ use Rattle.text.specs.declared.Class.{Class}
 use Rattle.text.specs.declared.Class.the-variants.{Regular, Replaceable, Ephemeral, Addressable}
 use Rattle.text.proofs.Places.{d-stands, d-length, d-none}
 use Rattle.text.proofs.RoundTrip.{read-same}
-use Rattle.table.specs.Layout.{dIn, textIn, noSpan, dIfAddressable, dPlace}
+use Rattle.table.specs.Layout.{textIn, noSpan, dIfAddressable, dPlace}
 use Rattle.table.specs.Claims.{DPlace}
 use Rattle.table.proofs.Slots.{sound-d}
 

@@ -1,33 +1,31 @@
 -- The rows of an offer stand in their order: RowsInOrder of specs/Claims.
-use mathlib.Core.Path.{_≡_, refl, sym, ap, _∙_}
+use mathlib.Core.Path.{_≡_, refl, ap, _∙_}
 use mathlib.Core.Bool.{Bool, true, false, cond}
 use mathlib.Core.Logic.{_≢_}
 use mathlib.Core.List.{List}
-use Prim.Native.Nat.{ℕ, _≤_, _<_}
+use Prim.Native.Nat.{ℕ}
 use native.Mathlib.Omega.{arith}
 use borrow.Author.Tests.{eqb-true, eqb-false, eq-eqb, ne-eqb, lt-ltb, le-ltb}
-use lib.Dec.{eqb, ltb}
+use lib.Dec.{eqb}
 use lib.ListN.{length}
 use Rattle.wire.specs.Limits.{mostText}
 use Rattle.wire.specs.Bytes.{sameBytes}
-use Rattle.wire.proofs.Bytes.{same-equal, same-self, same-differ}
+use Rattle.wire.proofs.Bytes.{same-equal, same-self}
 use Rattle.json.specs.Tree.{Json, Got, none, got, root}
 use Rattle.rows.specs.Rows.{row1, row2, row3, onRoot, textRow}
 use Rattle.rows.specs.Rows as rows
 use Rattle.rows.specs.Strings.{refusedIn}
 use Rattle.digest.specs.Digest.{digest}
 use Rattle.shape.specs.Shape.{Word, event, req, close, other, opened}
-use Rattle.shape.specs.Rows.{row4, row5, row6, row7, row8, treeRow, rootRow, messageRow}
+use Rattle.shape.specs.Rows.{treeRow, rootRow, messageRow}
 use Rattle.message.specs.Lent.{eventRow}
 use Rattle.message.specs.Read.{partsOf, inRoot, readOf}
 use Rattle.message.specs.declared.EventParts.{EventParts}
-use Rattle.message.specs.declared.Message.{Message}
 use Rattle.message.specs.declared.Message.the-variants as message
 use Rattle.message.proofs.Passes.{event-passes}
 use Rattle.event.specs.Lent.{said, textOf}
 use Rattle.event.specs.Answer.{orElse, isLarge, hexOf, hasId, offeredRow}
-use Rattle.table.specs.Events.{ofHeld}
-use Rattle.table.specs.Offer.{Offering, asMessage, asParts, isEventWord, isEvent, messageOfferRow, rowOf, isValid, heldOf, judge, answerOf}
+use Rattle.table.specs.Offer.{Offering, asMessage, asParts, isEventWord, isEvent, messageOfferRow, rowOf, judge}
 use Rattle.table.specs.Offer as offer
 use Rattle.table.specs.Claims.{OfferRows, MessageRows, EventRows, RowsInOrder}
 use Rattle.table.proofs.Valid.{refused-row}

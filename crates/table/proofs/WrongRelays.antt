@@ -9,7 +9,6 @@ use native.Mathlib.Omega.{arith}
 use lib.IntN.{pos}
 use lib.ListN.{length, getD, replicate, length-replicate}
 use Rattle.wire.specs.Bytes.{isHex}
-use Rattle.wire.specs.Limits.{mostText}
 use Rattle.wire.specs.Escape.{letterOf, escOne, escape}
 use Rattle.numeral.specs.Decimal.{digitsIn, digits, decimal}
 use Rattle.numeral.specs.Whole.{isWithin}
@@ -24,7 +23,7 @@ use Rattle.law.specs.Event as law
 use Rattle.law.specs.Machine.{Machine, Fresh, HeldSetOn, RoomLawOn, judged, runOn}
 use Rattle.law.proofs.WrongRelays.{OfRegular}
 use Rattle.law.proofs.WrongRelays as wrong
-use Rattle.table.specs.Layout.{tableSize, capacityOf, countOf, isByte}
+use Rattle.table.specs.Layout.{tableSize, capacityOf, countOf}
 use Rattle.table.specs.Events.{Signature, tiles, classOfEvent, classOfText, view}
 use Rattle.table.specs.Offer.{Offering, isStored, judge, answer, next}
 use Rattle.table.specs.Format.{formatRow, formatted}
