@@ -1,4 +1,5 @@
--- What is claimed of a table beside demand 3 (specs/Relay). Quotes are from 01. Proofs: Formatted, Rows, Faithful, Unread, DPlaces, Shown, Tellable, Fair.
+-- What is claimed of a table beside demand 3 (specs/Relay). Quotes are from 01. Proofs: Formatted, Rows, Faithful,
+-- Unread, SoundBytes, DPlaces, Shown, Tellable, Fair.
 use mathlib.Core.Path.{_≡_}
 use mathlib.Core.Bool.{true, false}
 use mathlib.Core.Logic.{_↔_, _⊎_, _≢_}
@@ -6,7 +7,7 @@ use mathlib.Core.Option.{some}
 use mathlib.Core.List.{List, [], _++_}
 use Prim.Native.Nat.{ℕ, _+_, _<_, _≤_}
 use lib.ListN.{length, getD, drop}
-use Rattle.wire.specs.Limits.{mostText}
+use Rattle.wire.specs.Limits.{mostText, mostSlots}
 use Rattle.wire.specs.Escape.{escape}
 use Rattle.rows.specs.Rows.{textRow}
 use Rattle.rows.specs.Strings.{part}
@@ -15,7 +16,7 @@ use Rattle.shape.specs.Rows.{messageRow}
 use Rattle.text.specs.Event.{Event, serialise, isFit, all}
 use Rattle.text.specs.Read.{read, readText}
 use Rattle.text.specs.Kinds.{classOf, dOf}
-use Rattle.text.specs.declared.Class.the-variants.{Addressable}
+use Rattle.text.specs.declared.Class.the-variants.{Ephemeral, Addressable}
 use Rattle.message.specs.Read.{readOf}
 use Rattle.message.specs.declared.EventParts.{EventParts}
 use Rattle.message.specs.declared.Message.the-variants as message
@@ -24,7 +25,7 @@ use Rattle.event.specs.Answer.{hexOf, offeredRow}
 use Rattle.law.specs.Lists.{_∈_}
 use Rattle.law.specs.Table.{verdict}
 use Rattle.law.specs.Machine.{Fresh}
-use Rattle.table.specs.Layout.{slotSize, tableSize, slotPlace, countPlace, capacityOf, countOf, slotAt, isByte, dIn, textIn, noSpan}
+use Rattle.table.specs.Layout.{Held, Fits, slotSize, tableSize, slotPlace, countPlace, capacityOf, countOf, slotAt, isByte, dIn, textIn, noSpan, slotBytes}
 use Rattle.table.specs.Events.{SignedEvent, Signature, tiles, signedTiles, inSlot, ofHeld, view}
 use Rattle.table.specs.Sound.{slotSound, sound}
 use Rattle.table.specs.Offer.{Offering, asMessage, asParts, isEvent, messageOfferRow, rowOf, isValid, isStored, judge, answerOf, answer, offeredOf, slotFor, next}
@@ -41,6 +42,13 @@ FormattedFresh = (N : ℕ) (b : List ℕ) → formatRow N b ≡ 0 →
     × (countOf (formatted N b) ≡ 0)
     × (length (formatted N b) ≡ length b)
     × (drop (tableSize N) (formatted N b) ≡ drop (tableSize N) b)
+
+-- "formatting tests 14 before 13"; on a refusal "every lent buffer stays as found"
+pub record FormatRows (N : ℕ) (b : List ℕ) : Type 0 where
+  pub capacity : (N < 1) ⊎ (mostSlots < N) → formatRow N b ≡ 14
+  pub short : 1 ≤ N → N ≤ mostSlots → length b < tableSize N → formatRow N b ≡ 13
+  pub none : 1 ≤ N → N ≤ mostSlots → tableSize N ≤ length b → formatRow N b ≡ 0
+  pub stays : formatRow N b ≢ 0 → formatted N b ≡ b
 
 -- ---- the rows of an offer, in their order
 -- "Where several hold, the lowest number is given": rows 1 to 10 first, whatever the table; then 11, before every verdict; and "Verdicts of an
@@ -86,6 +94,14 @@ abbrev pub NeverRead : Type 0
 NeverRead = (b t : List ℕ) (o : Offering) → length b ≡ tableSize (capacityOf b) → (answer (b ++ t) o ≡ answer b o) × (next (b ++ t) o ≡ next b o ++ t)
 
 -- ---- slots
+-- a sound table, byte for byte: a held slot is what an event within the limits writes, "no ephemeral kind", "later slots are zero"
+pub record SoundBytes (b : List ℕ) : Type 0 where
+  pub held : (k : ℕ) → k < countOf b → (h : Held) × Fits h × (classOf (h .event .kind) ≢ Ephemeral) × (slotAt b k ≡ slotBytes h)
+  pub later : (i : ℕ) → slotPlace (countOf b) ≤ i → i < tableSize (capacityOf b) → getD b i 0 ≡ 0
+
+abbrev pub SoundIs : Type 0
+SoundIs = (b : List ℕ) → sound b ≡ true → all isByte b ≡ true → SoundBytes b
+
 -- "d offset 2 and d length 2, of d's escaped bytes in the text (both 0 unless addressable with a non-empty d)": in a sound slot s of the event e
 pub record DPlaced (s : List ℕ) (e : Event) : Type 0 where
   pub stands : classOf (e .kind) ≡ Addressable → part (textIn s) (dIn s .at) (dIn s .len) ≡ escape (dOf (e .tags))
@@ -98,6 +114,13 @@ DPlace = (s : List ℕ) (e : Event) → slotSound s ≡ true → readText (textI
 -- "Showing a slot hands back the very bytes of its text": the text of a held event
 abbrev pub ShownHeld : Type 0
 ShownHeld = (b : List ℕ) (k : ℕ) → shownRow b k ≡ 0 → (inSlot (slotAt b k) ∈ view b) × (shown b k ≡ inSlot (slotAt b k) .0 .text)
+
+-- 11 before 14; on a refusal "a part handed back is empty"
+pub record ShownRows (b : List ℕ) (k : ℕ) : Type 0 where
+  pub unsound : sound b ≡ false → shownRow b k ≡ 11
+  pub not-held : sound b ≡ true → countOf b ≤ k → shownRow b k ≡ 14
+  pub none : sound b ≡ true → k < countOf b → shownRow b k ≡ 0
+  pub empty : shownRow b k ≢ 0 → shown b k ≡ []
 
 -- entry k of what is held is slot k
 abbrev pub ViewAt : Type 0
