@@ -1,13 +1,14 @@
 -- A table just formatted is sound, empty and of its capacity: FormattedFresh of specs/Claims.
 use mathlib.Core.Path.{_≡_, refl, sym, ap, _∙_}
 use mathlib.Core.Bool.{Bool, true, false, cond}
+use mathlib.Core.Logic.{_⊎_, inl, inr}
 use mathlib.Core.List.{List, [], _++_, append-assoc, List·Memᴰ·not-nil}
-use Prim.Native.Nat.{ℕ, _+_, _-_, _*_, _≤_}
+use Prim.Native.Nat.{ℕ, _+_, _-_, _*_, _≤_, _<_}
 use native.Mathlib.Omega.{arith}
 use lib.Dec.{leb, ltb}
 use lib.ListN.{length, drop, replicate, length-append, length-replicate, length-drop}
 use lib.Seq.{drop-at, drop-drop}
-use borrow.Author.Tests.{leb-true, ltb-false, le-leb}
+use borrow.Author.Tests.{leb-true, ltb-false, le-leb, lt-leb, lt-ltb, le-ltb, ne-eqb}
 use Rattle.wire.specs.Limits.{mostSlots}
 use Rattle.wire.specs.Field.{leBytes}
 use Rattle.wire.proofs.Fields.{length-leBytes}
@@ -18,7 +19,7 @@ use Rattle.table.specs.Layout.{headerSize, slotSize, tableSize, capacity
 use Rattle.table.specs.Events.{SignedEvent, view}
 use Rattle.table.specs.Sound.{isCapacity, hasHeader, capacityFits, slotsFit, countFits, othersAsAbove, slotsSound, noneTwice, noIdTwice, noKeyTwice, laterZero, sound}
 use Rattle.table.specs.Format.{formatRow, formatted}
-use Rattle.table.specs.Claims.{FormattedFresh}
+use Rattle.table.specs.Claims.{FormattedFresh, FormatRows}
 use Rattle.table.proofs.Fields.{piece, field, after-field, zeros-zero}
 
 -- rows 14 and 13 let the capacity and the buffer pass
@@ -34,6 +35,19 @@ passed N b r = go (isCapacity N) refl (ltb (length b) (tableSize N)) refl r
     go true e false f r = record { capacity = e; room = ltb-false (length b) (tableSize N) f }
     go true e true f r = absurd (omega arith)
     go false e t f r = absurd (omega arith)
+
+pub format-rows : (N : ℕ) (b : List ℕ) → FormatRows N b
+unfolding formatRow formatted
+format-rows N b = record {
+  capacity = λ h. rw (out h);
+  short = λ l h s. rw (le-leb 1 N l, le-leb N mostSlots h, lt-ltb (length b) (tableSize N) s);
+  none = λ l h s. rw (le-leb 1 N l, le-leb N mostSlots h, le-ltb (length b) (tableSize N) s);
+  stays = λ n. rw (ne-eqb (formatRow N b) 0 n);
+}
+  where
+    out : (N < 1) ⊎ (mostSlots < N) → isCapacity N ≡ false
+    out (inl h) = rw (lt-leb 1 N h)
+    out (inr h) = rw (le-leb 1 N (omega arith), lt-leb N mostSlots h)
 
 -- the zeros of all slots, and what stands after them
 abbrev fromSlots : ℕ → List ℕ → List ℕ

@@ -3,7 +3,8 @@
 -- Fields, Slots: an event written to a slot is read back, and a sound slot is what its event writes. Lists, Distinct, Bytes, Stored: the
 -- table after a store. Unread, Shown: what stands behind the last slot, and what is shown. Hex, Valid: what holds of a valid offer.
 -- Refused, Again: a spelling that decodes to a string within the limits is not refused. Strings, Arrays, Tellable, Fair: the parts of what is
--- held, and that parts judged to be it are just those.
+-- held, and that parts judged to be it are just those. Rows: the rows of an offer in their order. DPlaces: where d stands. SoundBytes: a sound
+-- table byte for byte. WrongRelays: relays that demand 3 shuts out.
 pub mod Fields
 pub mod Slots
 pub mod Formatted
@@ -14,6 +15,8 @@ pub mod Hex
 pub mod Valid
 pub mod Stored
 pub mod Faithful
+pub mod Rows
+pub mod DPlaces
 pub mod Unread
 pub mod Shown
 pub mod Refused
@@ -22,5 +25,7 @@ pub mod Passes
 pub mod Strings
 pub mod Arrays
 pub mod Tellable
+pub mod SoundBytes
 pub mod Fair
 pub mod Demand3
+pub mod WrongRelays

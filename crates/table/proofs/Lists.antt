@@ -42,6 +42,13 @@ module _ {A : Type 0} (p : A → Bool) where
   all-behind [] ys e = e
   all-behind (x ∷ xs) ys e = all-behind xs ys (both (p x) (all p (xs ++ ys)) e .1)
 
+  pub all-before : (xs ys : List A) → all p (xs ++ ys) ≡ true → all p xs ≡ true
+  unfolding all
+  all-before [] ys e = refl
+  all-before (x ∷ xs) ys e =
+      let h = both (p x) (all p (xs ++ ys)) e in
+      and-true (p x) (all p xs) (h .0) (all-before xs ys (h .1))
+
   pub all-has : {x : A} (xs : List A) → all p xs ≡ true → x ∈ xs → p x ≡ true
   unfolding all
   all-has (y ∷ ys) e (List·Memᴰ·head q) = ap p q ∙ both (p y) (all p ys) e .0

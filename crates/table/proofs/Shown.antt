@@ -7,7 +7,7 @@ use native.Mathlib.Omega.{arith}
 use lib.Dec.{eqb, ltb}
 use lib.ListN.{length, getD, take, drop, length-drop, List·getD-map}
 use lib.Seq.{drop-drop, take-append-le, drop-append-le}
-use borrow.Author.Tests.{ltb-true, eqb-true}
+use borrow.Author.Tests.{ltb-true, lt-ltb, le-ltb, eqb-true, ne-eqb}
 use Rattle.law.specs.Lists.{_∈_}
 use Rattle.law.specs.Cells.{cells}
 use Rattle.law.proofs.Cells.{length-cells, cell-at}
@@ -15,17 +15,17 @@ use Rattle.table.specs.Layout.{headerSize, slotSize, tableSize, slotPlac
 use Rattle.table.specs.Events.{inSlot, view}
 use Rattle.table.specs.Sound.{sound}
 use Rattle.table.specs.Format.{shownRow, shown}
-use Rattle.table.specs.Claims.{ShownHeld, ViewAt, ShownNeverRead}
+use Rattle.table.specs.Claims.{ShownHeld, ShownRows, ViewAt, ShownNeverRead}
 use Rattle.table.proofs.Bytes.{clauses}
 use Rattle.table.proofs.Unread.{count-append, sound-append}
 
-entry-in : {A : Type 0} (l : List A) (k : ℕ) (d : A) → k < length l → getD l k d ∈ l
+pub entry-in : {A : Type 0} (l : List A) (k : ℕ) (d : A) → k < length l → getD l k d ∈ l
 entry-in [] k d h = absurd (omega arith)
 entry-in (x ∷ l) zero d h = List·Memᴰ·head refl
 entry-in (x ∷ l) (suc k) d h = List·Memᴰ·tail (entry-in l k d (omega arith))
 
 -- slot k as an entry of the held slots
-slot-entry : (b : List ℕ) (k : ℕ) → k < countOf b → getD (heldSlots b) k [] ≡ slotAt b k
+pub slot-entry : (b : List ℕ) (k : ℕ) → k < countOf b → getD (heldSlots b) k [] ≡ slotAt b k
 slot-entry b k h =
     cell-at slotSize (countOf b) k (drop headerSize b) h ∙ ap (take slotSize) (drop-drop (k * slotSize) headerSize b)
 
@@ -48,6 +48,15 @@ shown-if b k r = go (sound b) (ltb k (countOf b)) refl refl r
     go true true p q r = (p, ltb-true k (countOf b) q)
     go true false p q r = absurd (omega arith)
     go false t p q r = absurd (omega arith)
+
+pub shown-rows : (b : List ℕ) (k : ℕ) → ShownRows b k
+unfolding shownRow shown
+shown-rows b k = record {
+  unsound = λ s. rw s;
+  not-held = λ s h. rw (s, le-ltb k (countOf b) h);
+  none = λ s h. rw (s, lt-ltb k (countOf b) h);
+  empty = λ n. rw (ne-eqb (shownRow b k) 0 n);
+}
 
 pub shown-held : ShownHeld
 unfolding shown

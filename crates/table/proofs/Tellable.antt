@@ -62,7 +62,7 @@ slots-sound b e =
     let e₄ = both (countFits b) _ e₃ .1 in
     both (slotsSound b) _ (both (othersAsAbove b) _ e₄ .1) .0
 
-read-of : (r : Read) → isRead r ≡ true → (e : Event) × (r ≡ read e)
+pub read-of : (r : Read) → isRead r ≡ true → (e : Event) × (r ≡ read e)
 read-of tooLarge h = absurd (let z : _≡_ {A = ℕ} 0 1 = cc in omega arith)
 read-of wrongShape h = absurd (let z : _≡_ {A = ℕ} 0 1 = cc in omega arith)
 read-of (read e) h = (e, refl)

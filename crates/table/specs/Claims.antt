@@ -1,22 +1,37 @@
--- What is claimed of a table beside demand 3 (specs/Relay). Quotes are from 01. Proofs: Formatted, Faithful, Unread, Shown, Told, Tellable.
+-- What is claimed of a table beside demand 3 (specs/Relay). Quotes are from 01. Proofs: Formatted, Rows, Faithful,
+-- Unread, SoundBytes, DPlaces, Shown, Tellable, Fair.
 use mathlib.Core.Path.{_≡_}
-use mathlib.Core.Bool.{Bool, true, false}
-use mathlib.Core.Logic.{_↔_, _⊎_}
+use mathlib.Core.Bool.{true, false}
+use mathlib.Core.Logic.{_↔_, _⊎_, _≢_}
 use mathlib.Core.Option.{some}
 use mathlib.Core.List.{List, [], _++_}
 use Prim.Native.Nat.{ℕ, _+_, _<_, _≤_}
 use lib.ListN.{length, getD, drop}
-use Rattle.text.specs.Event.{Event, serialise, isFit, all}
+use Rattle.wire.specs.Limits.{mostText, mostSlots}
+use Rattle.wire.specs.Escape.{escape}
+use Rattle.rows.specs.Rows.{textRow}
+use Rattle.rows.specs.Strings.{part}
 use Rattle.digest.specs.Digest.{digest}
-use Rattle.wire.specs.Limits.{mostText}
+use Rattle.shape.specs.Rows.{messageRow}
+use Rattle.text.specs.Event.{Event, serialise, isFit, all}
+use Rattle.text.specs.Read.{read, readText}
+use Rattle.text.specs.Kinds.{classOf, dOf}
+use Rattle.text.specs.declared.Class.the-variants.{Ephemeral, Addressable}
+use Rattle.message.specs.Read.{readOf}
 use Rattle.message.specs.declared.EventParts.{EventParts}
+use Rattle.message.specs.declared.Message.the-variants as message
+use Rattle.event.specs.Lent.{said, textOf}
+use Rattle.event.specs.Answer.{hexOf, offeredRow}
 use Rattle.law.specs.Lists.{_∈_}
+use Rattle.law.specs.Table.{verdict}
 use Rattle.law.specs.Machine.{Fresh}
-use Rattle.table.specs.Layout.{Held, slotSize, tableSize, slotPlace, countPlace, capacityOf, countOf, slotAt, isByte}
-use Rattle.table.specs.Events.{SignedEvent, Signature, tiles, inSlot, ofHeld, view}
-use Rattle.table.specs.Offer.{Offering, asParts, isStored, judge, answer, offeredOf, slotFor, next}
+use Rattle.table.specs.Layout.{Held, Fits, slotSize, tableSize, slotPlace, countPlace, capacityOf, countOf, slotAt, isByte, dIn, textIn, noSpan, slotBytes}
+use Rattle.table.specs.Events.{SignedEvent, Signature, tiles, signedTiles, inSlot, ofHeld, view}
+use Rattle.table.specs.Sound.{slotSound, sound}
+use Rattle.table.specs.Offer.{Offering, asMessage, asParts, isEvent, messageOfferRow, rowOf, isValid, isStored, judge, answerOf, answer, offeredOf, slotFor, next}
 use Rattle.table.specs.Format.{formatRow, formatted, shownRow, shown}
 use Rattle.table.specs.Relay.{relay, Tells, AsParts, Good}
+use Rattle.table.specs.declared.Offered.the-variants.{Refused}
 
 -- ---- formatting
 -- "A fresh table is one just formatted, with any capacity and buffer that rows 13 and 14 let pass; its C is 0." Bytes after it stay
@@ -27,6 +42,38 @@ FormattedFresh = (N : ℕ) (b : List ℕ) → formatRow N b ≡ 0 →
     × (countOf (formatted N b) ≡ 0)
     × (length (formatted N b) ≡ length b)
     × (drop (tableSize N) (formatted N b) ≡ drop (tableSize N) b)
+
+-- "formatting tests 14 before 13"; on a refusal "every lent buffer stays as found"
+pub record FormatRows (N : ℕ) (b : List ℕ) : Type 0 where
+  pub capacity : (N < 1) ⊎ (mostSlots < N) → formatRow N b ≡ 14
+  pub short : 1 ≤ N → N ≤ mostSlots → length b < tableSize N → formatRow N b ≡ 13
+  pub none : 1 ≤ N → N ≤ mostSlots → tableSize N ≤ length b → formatRow N b ≡ 0
+  pub stays : formatRow N b ≢ 0 → formatted N b ≡ b
+
+-- ---- the rows of an offer, in their order
+-- "Where several hold, the lowest number is given": rows 1 to 10 first, whatever the table; then 11, before every verdict; and "Verdicts of an
+-- offer after row 11"
+pub record OfferRows (b : List ℕ) (o : Offering) : Type 0 where
+  pub early : isValid o ≡ false → (1 ≤ rowOf o) × (rowOf o ≤ 10) × (answer b o ≡ Refused (rowOf o))
+  pub unsound : isValid o ≡ true → sound b ≡ false → answer b o ≡ Refused 11
+  pub judged : isValid o ≡ true → sound b ≡ true → answer b o ≡ answerOf 0 (verdict signedTiles (capacityOf b) (view b) (some (ofHeld (offeredOf o))))
+
+-- "Reading a message tests rows 1 to 8; offering one tests 1 to 12, .. and gives 5 also if it isn't an EVENT": 5 before 6 to 8, after 1 to 4
+pub record MessageRows (m : List ℕ) : Type 0 where
+  pub text : textRow m ≢ 0 → messageOfferRow m ≡ textRow m
+  pub no-event : textRow m ≡ 0 → isEvent m ≡ false → messageOfferRow m ≡ 5
+  pub refused : textRow m ≡ 0 → isEvent m ≡ true → messageRow m ≢ 0 → messageOfferRow m ≡ messageRow m
+
+-- an EVENT that rows 1 to 8 let pass: "an event by 9 too, and by 10 when offered". As a message it is what its parts are
+pub record EventRows (m : List ℕ) (p : EventParts) : Type 0 where
+  pub large : mostText < length (textOf m (p .body)) → messageOfferRow m ≡ 9
+  pub other-id : length (textOf m (p .body)) ≤ mostText → said m (p .id) ≢ hexOf (digest (textOf m (p .body))) → messageOfferRow m ≡ 10
+  pub none : length (textOf m (p .body)) ≤ mostText → said m (p .id) ≡ hexOf (digest (textOf m (p .body))) → messageOfferRow m ≡ 0
+  pub as-parts : messageOfferRow m ≡ offeredRow m p
+  pub same-event : judge (asMessage m) ≡ judge (asParts m p)
+
+abbrev pub RowsInOrder : Type 0
+RowsInOrder = ((b : List ℕ) (o : Offering) → OfferRows b o) × ((m : List ℕ) → MessageRows m) × ((m : List ℕ) (p : EventParts) → readOf m ≡ message.Event p → EventRows m p)
 
 -- ---- offers
 -- "every lent buffer stays as found" on a refusal, and where nothing is stored
@@ -46,10 +93,34 @@ BytesAfter = (b : List ℕ) (o : Offering) → (length (next b o) ≡ length b) 
 abbrev pub NeverRead : Type 0
 NeverRead = (b t : List ℕ) (o : Offering) → length b ≡ tableSize (capacityOf b) → (answer (b ++ t) o ≡ answer b o) × (next (b ++ t) o ≡ next b o ++ t)
 
+-- ---- slots
+-- a sound table, byte for byte: a held slot is what an event within the limits writes, "no ephemeral kind", "later slots are zero"
+pub record SoundBytes (b : List ℕ) : Type 0 where
+  pub held : (k : ℕ) → k < countOf b → (h : Held) × Fits h × (classOf (h .event .kind) ≢ Ephemeral) × (slotAt b k ≡ slotBytes h)
+  pub later : (i : ℕ) → slotPlace (countOf b) ≤ i → i < tableSize (capacityOf b) → getD b i 0 ≡ 0
+
+abbrev pub SoundIs : Type 0
+SoundIs = (b : List ℕ) → sound b ≡ true → all isByte b ≡ true → SoundBytes b
+
+-- "d offset 2 and d length 2, of d's escaped bytes in the text (both 0 unless addressable with a non-empty d)": in a sound slot s of the event e
+pub record DPlaced (s : List ℕ) (e : Event) : Type 0 where
+  pub stands : classOf (e .kind) ≡ Addressable → part (textIn s) (dIn s .at) (dIn s .len) ≡ escape (dOf (e .tags))
+  pub nowhere : (classOf (e .kind) ≢ Addressable) ⊎ (dOf (e .tags) ≡ []) → dIn s ≡ noSpan
+
+abbrev pub DPlace : Type 0
+DPlace = (s : List ℕ) (e : Event) → slotSound s ≡ true → readText (textIn s) ≡ read e → DPlaced s e
+
 -- ---- showing
 -- "Showing a slot hands back the very bytes of its text": the text of a held event
 abbrev pub ShownHeld : Type 0
 ShownHeld = (b : List ℕ) (k : ℕ) → shownRow b k ≡ 0 → (inSlot (slotAt b k) ∈ view b) × (shown b k ≡ inSlot (slotAt b k) .0 .text)
+
+-- 11 before 14; on a refusal "a part handed back is empty"
+pub record ShownRows (b : List ℕ) (k : ℕ) : Type 0 where
+  pub unsound : sound b ≡ false → shownRow b k ≡ 11
+  pub not-held : sound b ≡ true → countOf b ≤ k → shownRow b k ≡ 14
+  pub none : sound b ≡ true → k < countOf b → shownRow b k ≡ 0
+  pub empty : shownRow b k ≢ 0 → shown b k ≡ []
 
 -- entry k of what is held is slot k
 abbrev pub ViewAt : Type 0

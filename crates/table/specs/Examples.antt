@@ -1,11 +1,12 @@
 -- A full table of two slots at work, by computation. 01: "Full table: a held id is duplicate, a newer event of a held key is stored, any
 -- other regular event gives 12."
 use mathlib.Core.Path.{_≡_, refl}
+use mathlib.Core.Bool.{true, false}
 use mathlib.Core.Option.{some}
 use mathlib.Core.List.{List, [], _∷_}
 use Prim.Native.Nat.{ℕ}
 use lib.IntN.{ℤ, pos, negsuc}
-use lib.ListN.{replicate}
+use lib.ListN.{length, replicate}
 use Rattle.wire.specs.Bytes.{sameBytes, isHex}
 use Rattle.wire.specs.Escape.{letterOf, escOne, escape}
 use Rattle.numeral.specs.Decimal.{digitsIn, digits, decimal}
@@ -15,6 +16,8 @@ use Rattle.text.specs.Event.{Event, quoted, membersText, tagText, tagsText, ser
 use Rattle.text.specs.Read.{standsAt, closedAt, pairAt, byteOf, isRaw, bodyFrom, stringAt, membersAt, tagAt, tagsAt, runOf, timeAt, kindAt, pubkeyAt, fieldsAt, opened, readText}
 use Rattle.text.specs.Kinds.{classOf, dOf, keyOf}
 use Rattle.law.specs.Table.{wasEphemeral, duplicate, older, stored, noRoom, verdict, after}
+use Rattle.table.specs.Sound.{isCapacity}
+use Rattle.table.specs.Format.{formatRow}
 use Rattle.table.specs.Events.{SignedEvent, signedTiles, classOfEvent, classOfText, timeOfText}
 
 -- the event of a kind and a time, with d in its tags
@@ -54,3 +57,19 @@ ties :
     × (verdict signedTiles 3 held (some (signed 8 1 (made 1 (pos 9) 66))) ≡ stored)
 unfolding verdict sameBytes letterOf escOne escape digitsIn digits decimal quoted membersText tagText tagsText serialise all isPubkey isTime isPlainByte classOfEvent classOfText timeOfText standsAt closedAt pairAt byteOf isRaw bodyFrom stringAt membersAt tagAt tagsAt runOf timeAt kindAt pubkeyAt fieldsAt opened readText classOf dOf keyOf isDigit allDigits valueFrom isNatural naturalOf negativeOf wholeOf isWithin answerOf leadOf utf8From isUtf8 isHex
 ties = (refl, refl, refl)
+
+-- ---- the bounds of formatting: "capacity outside 1..64"; "formatting tests 14 before 13"; one slot is 4,224 bytes with the header, 64 are 269,328
+capacities : (isCapacity 0 ≡ false) × (isCapacity 1 ≡ true) × (isCapacity 64 ≡ true) × (isCapacity 65 ≡ false)
+capacities = (refl, refl, refl, refl)
+
+refused-first : (formatRow 0 [] ≡ 14) × (formatRow 65 [] ≡ 14) × (formatRow 64 [] ≡ 13)
+unfolding formatRow
+refused-first = (refl, refl, refl)
+
+enough : (b : List ℕ) →
+    (length b ≡ 4223 → formatRow 1 b ≡ 13)
+    × (length b ≡ 4224 → formatRow 1 b ≡ 0)
+    × (length b ≡ 269327 → formatRow 64 b ≡ 13)
+    × (length b ≡ 269328 → formatRow 64 b ≡ 0)
+unfolding formatRow
+enough b = (λ l. rw l, λ l. rw l, λ l. rw l, λ l. rw l)

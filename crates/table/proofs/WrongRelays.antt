@@ -1,0 +1,173 @@
+-- Relays over the same table, offers and judge that do not meet the claims of demand 3, and that this one does: 01, "How far each promise must
+-- reach". Law's WrongRelays, with two events and a fresh table in bytes.
+use mathlib.Core.Path.{_≡_, refl, sym, ap, _∙_}
+use mathlib.Core.Bool.{true, false}
+use mathlib.Core.Logic.{_≢_}
+use mathlib.Core.List.{List, []}
+use Prim.Native.Nat.{ℕ, _≤_}
+use native.Mathlib.Omega.{arith}
+use lib.IntN.{pos}
+use lib.ListN.{length, getD, replicate, length-replicate}
+use Rattle.wire.specs.Bytes.{isHex}
+use Rattle.wire.specs.Escape.{letterOf, escOne, escape}
+use Rattle.numeral.specs.Decimal.{digitsIn, digits, decimal}
+use Rattle.numeral.specs.Whole.{isWithin}
+use Rattle.utf8.specs.Utf8.{leadOf, utf8From, isUtf8}
+use Rattle.digest.specs.Block.{K, H0, words, schedule, round, rounds, chained, compress}
+use Rattle.digest.specs.Digest.{bytesOf, padding, padded, hashAfter, digestBytes, digest}
+use Rattle.text.specs.Event.{Event, quoted, membersText, tagText, tagsText, serialise, all, isPubkey, isTime, isTag, isTags, isString, isPlainByte, isFit}
+use Rattle.text.specs.Kinds.{classOf}
+use Rattle.text.proofs.RoundTrip.{read-back}
+use Rattle.law.specs.Table.{regular, IdPremise, slotsNeeded}
+use Rattle.law.specs.Event as law
+use Rattle.law.specs.Machine.{Machine, Fresh, HeldSetOn, RoomLawOn, judged, runOn}
+use Rattle.law.proofs.WrongRelays.{OfRegular}
+use Rattle.law.proofs.WrongRelays as wrong
+use Rattle.table.specs.Layout.{tableSize, capacityOf, countOf}
+use Rattle.table.specs.Events.{Signature, tiles, classOfEvent, classOfText, view}
+use Rattle.table.specs.Offer.{Offering, isStored, judge, answer, next}
+use Rattle.table.specs.Format.{formatRow, formatted}
+use Rattle.table.specs.Relay.{AsParts, Good, verdictOf, relay}
+use Rattle.table.specs.declared.Offered.{Offered}
+use Rattle.table.proofs.Formatted.{formatted-fresh}
+use Rattle.table.proofs.Distinct.{tile-laws}
+use Rattle.table.proofs.Stored.{length-view}
+use Rattle.table.proofs.Faithful.{faithful, unchanged}
+use Rattle.table.proofs.Tellable.{offerable}
+use Rattle.table.proofs.Demand3.{demand-3}
+
+-- ---- two events of a regular kind, and an offer of each
+abbrev noted : ℕ → Event
+noted t = record { pubkey = replicate 64 97; time = pos t; kind = 1; tags = []; content = [] }
+
+abbrev asTile : Event → law.Event
+asTile e = record { id = digest (serialise e); text = serialise e }
+
+record Suits (e : Event) : Type 0 where
+  fit : isFit e ≡ true
+  size : length (serialise e) ≡ 80
+
+suits₀ : Suits (noted 0)
+unfolding isFit isPubkey isTime isTag isTags isString isPlainByte all isWithin utf8From leadOf isUtf8 isHex serialise quoted tagsText membersText tagText decimal digits digitsIn escape escOne letterOf
+suits₀ = record { fit = refl; size = refl }
+
+suits₁ : Suits (noted 1)
+unfolding isFit isPubkey isTime isTag isTags isString isPlainByte all isWithin utf8From leadOf isUtf8 isHex serialise quoted tagsText membersText tagText decimal digits digitsIn escape escOne letterOf
+suits₁ = record { fit = refl; size = refl }
+
+-- the first bytes of their ids, computed
+ids-begin : (getD (digest (serialise (noted 0))) 0 0 ≡ 0x3d) × (getD (digest (serialise (noted 1))) 0 0 ≡ 0x99)
+unfolding digest digestBytes hashAfter padded padding bytesOf compress chained rounds round schedule words H0 K serialise quoted tagsText membersText tagText decimal digits digitsIn escape escOne letterOf
+ids-begin = (refl, refl)
+
+ids-differ : digest (serialise (noted 0)) ≢ digest (serialise (noted 1))
+ids-differ q = omega (arith, ids-begin .0, ids-begin .1, ap (λ (l : List ℕ). getD l 0 0) q)
+
+is-regular : (t : ℕ) → Suits (noted t) → classOfText (serialise (noted t)) ≡ regular
+unfolding classOfText classOfEvent classOf
+is-regular t s = rw (read-back (noted t) (s .fit) (omega (arith, s .size)))
+
+abbrev unsigned : Signature
+unsigned = replicate 64 0
+
+offer-of : (t : ℕ) → Suits (noted t) → (o : Offering) × OfRegular tiles Signature relay o (asTile (noted t))
+unfolding all
+offer-of t s =
+    let (o, j) = offerable (noted t) unsigned (s .fit) (omega (arith, s .size)) refl refl in
+    (o, record { signature = unsigned; valid = j; kind = is-regular t s })
+
+-- ---- a fresh table of two slots
+two-fit : (b : List ℕ) → length b ≡ tableSize 2 → formatRow 2 b ≡ 0
+unfolding formatRow
+two-fit b l = rw l
+
+abbrev buffer : List ℕ
+buffer = replicate (tableSize 2) 0
+
+abbrev table : List ℕ
+table = formatted 2 buffer
+
+table-fresh : Fresh tiles Signature relay table
+table-fresh = formatted-fresh 2 buffer (two-fit buffer (length-replicate {A = ℕ} (tableSize 2) 0)) .0
+
+table-two : capacityOf table ≡ 2
+table-two = formatted-fresh 2 buffer (two-fit buffer (length-replicate {A = ℕ} (tableSize 2) 0)) .1
+
+-- ---- a relay with answers and a next table of its own
+module _ (answer′ : List ℕ → Offering → Offered) (next′ : List ℕ → Offering → List ℕ) where
+  abbrev pub another : Machine tiles Signature
+  another = record {
+    State = List ℕ;
+    Offering = Offering;
+    Answer = Offered;
+    answer = answer′;
+    next = next′;
+    verdictOf = verdictOf;
+    capacity = capacityOf;
+    slots = view;
+    judge = judge;
+    AsParts = AsParts;
+    Good = Good;
+  }
+
+  fresh : Fresh tiles Signature another table
+  fresh = record { good = table-fresh .good; empty = table-fresh .empty }
+
+  of-regular : {o : Offering} {e : law.Event} → OfRegular tiles Signature relay o e → OfRegular tiles Signature another o e
+  of-regular r = record { signature = r .signature; valid = r .valid; kind = r .kind }
+
+  module _ (held : HeldSetOn tiles Signature another) (room : RoomLawOn tiles Signature another) where
+    -- "a relay that refuses everything or stores nothing (shut out by the table of numbers and by the held set of demand 3)"
+    pub stores-nothing : ((b : List ℕ) (o : Offering) → view (next′ b o) ≡ view b) → ⊥
+    stores-nothing idle =
+        let (o, v) = offer-of 0 suits₀ in
+        wrong.stores-nothing tiles Signature another held room table fresh o (asTile (noted 0)) (of-regular v) (omega (arith, table-two)) idle
+
+    -- one that refuses everything, if it keeps "every lent buffer stays as found"
+    pub refuses-all : ((b : List ℕ) (o : Offering) → isStored (answer′ b o) ≡ false → next′ b o ≡ b) → ((b : List ℕ) (o : Offering) → isStored (answer′ b o) ≡ false) → ⊥
+    refuses-all stays none = stores-nothing (λ b o. ap view (stays b o (none b o)))
+
+    -- "one that stores the first offer and only acknowledges later ones (demand 3 holds after each offer)"
+    pub stores-first-only : ((b : List ℕ) (o : Offering) → view b ≢ [] → view (next′ b o) ≡ view b) → ⊥
+    stores-first-only idle =
+        let (o, v) = offer-of 0 suits₀ in
+        let (p, w) = offer-of 1 suits₁ in
+        wrong.stores-first-only tiles Signature another held room table fresh o p (asTile (noted 0)) (asTile (noted 1)) (of-regular v) (of-regular w) ids-differ
+        (omega (arith, table-two)) idle
+
+    -- "a made-up held count .. (the header ..)": one that no offer changes, and any other than the slots needed
+    pub constant-count : ((b : List ℕ) (o : Offering) → countOf (next′ b o) ≡ countOf b) → ⊥
+    constant-count idle =
+        let (o, v) = offer-of 0 suits₀ in
+        wrong.constant-count tiles Signature another held room table fresh o (asTile (noted 0)) (of-regular v) (omega (arith, table-two))
+        (λ b o. length-view (next′ b o) ∙ idle b o ∙ sym (length-view b))
+
+    pub made-up-count : (b : List ℕ) → Fresh tiles Signature another b → (os : List Offering) → IdPremise tiles (judged tiles Signature another os)
+        → slotsNeeded tiles (judged tiles Signature another os) ≤ capacityOf b
+        → (n : ℕ) → n ≢ slotsNeeded tiles (judged tiles Signature another os) → countOf (runOn tiles Signature another b os) ≢ n
+    made-up-count b f os ids le n ne q =
+        wrong.made-up-count tiles Signature another held room b f os ids le n ne (length-view (runOn tiles Signature another b os) ∙ q)
+
+-- ---- this relay meets the claims, and so is none of these
+pub stores-something : ((b : List ℕ) (o : Offering) → view (next b o) ≡ view b) → ⊥
+stores-something = stores-nothing answer next (demand-3 .held-set) (demand-3 .room-law)
+
+pub takes-something : ((b : List ℕ) (o : Offering) → isStored (answer b o) ≡ false) → ⊥
+takes-something = refuses-all answer next (demand-3 .held-set) (demand-3 .room-law) unchanged
+
+pub stores-later : ((b : List ℕ) (o : Offering) → view b ≢ [] → view (next b o) ≡ view b) → ⊥
+stores-later = stores-first-only answer next (demand-3 .held-set) (demand-3 .room-law)
+
+pub counts : ((b : List ℕ) (o : Offering) → countOf (next b o) ≡ countOf b) → ⊥
+counts = constant-count answer next (demand-3 .held-set) (demand-3 .room-law)
+
+-- "one verdict .. for all (the verdict rules ..)"
+pub answers-differ : ((b c : List ℕ) (o p : Offering) → answer b o ≡ answer c p) → ⊥
+answers-differ same =
+    let (o, v) = offer-of 0 suits₀ in
+    wrong.one-verdict tiles Signature relay faithful tile-laws table table-fresh o (asTile (noted 0)) v (omega (arith, table-two))
+    (λ b c o p. ap verdictOf (same b c o p))
+
+-- "one .. id for all (.. FIPS 180-4)"
+pub two-ids : ((e g : Event) → digest (serialise e) ≡ digest (serialise g)) → ⊥
+two-ids same = ids-differ (same (noted 0) (noted 1))
