@@ -2,6 +2,7 @@
 use mathlib.Core.Path.{_≡_, refl}
 use mathlib.Core.List.{List, [], _∷_}
 use Prim.Native.Nat.{ℕ}
+use lib.Dec.{lit≤}
 use lib.IntN.{pos}
 use Rattle.wire.specs.Bytes.{sameBytes, isHex}
 use Rattle.utf8.specs.Utf8.{isUtf8, utf8From, leadOf}
@@ -11,12 +12,20 @@ use Rattle.numeral.specs.Whole.{isDigit, allDigits, valueFrom, isNatural, natur
 use Rattle.spell.specs.Spell as spell
 use Rattle.spell.specs.Spell.{charOf, charsFrom, bytesOf, joined, decode, isRefused, refuses, isHexOf, points, characterCount}
 use Rattle.rows.specs.Strings.{spelledAt, refusedIn}
-use Rattle.shape.specs.Shape.{anyItem, allItems, countItems, nameAt, noneTwice, isEvent, isFilter, wordOf}
+use Rattle.shape.specs.Shape.{anyItem, allItems, countItems, nameAt, noneTwice, once, eventMember, isEvent, isFilter, wordOf}
 use Rattle.shape.specs.Rows.{row6, row7, row8, eventNumber, eventHex, eventCount, wrongTime, wrongSmall, wrongHex, wrongTag, filterCounts, wrongSubscription, treeRow, messageRow}
 use Rattle.message.specs.Parts.{memberOf, bodyOf, eventOf}
 use Rattle.message.specs.Read.{readOf}
 use Rattle.message.specs.declared.EventParts.{EventParts}
 use Rattle.message.specs.declared.Message.the-variants as message
+use Rattle.wire.specs.Escape.{letterOf, escOne, escape}
+use Rattle.numeral.specs.Decimal.{digitsIn, digits, decimal}
+use Rattle.text.specs.Event.{quoted, membersText, tagText, tagsText, serialise}
+use Rattle.event.specs.Lent.{tagsOf, tagsAt, textOf, said}
+use Rattle.event.specs.Lent as lent
+use Rattle.event.specs.Answer.{hexOf}
+use Rattle.table.specs.Offer.{asMessage, messageOfferRow, answer}
+use Rattle.table.proofs.Rows.{rows-in-order}
 use Rattle.digest.specs.Block.{K, H0, words, schedule, round, rounds, chained, compress}
 use Rattle.digest.specs.Digest.{padding, padded, hashAfter, digestBytes, digest}
 use Rattle.digest.specs.Digest as digests
@@ -46,5 +55,14 @@ unfolding digest digestBytes hashAfter padded padding digests.bytesOf compress c
 hash = refl
 
 reads : readOf sent ≡ message.Event parts
-unfolding classOf run past oneAt tokenAt wordAt literalAt digitsAt intAt fracAt expAt numberAt hexAt escapedAt charAt charsUpTo charsAt stringAt scalarAt itemsAt treeAt isUtf8 utf8From leadOf charOf charsFrom bytesOf joined decode isRefused spell.any refuses sameBytes isHex spell.all isHexOf points characterCount spelledAt refusedIn anyItem allItems countItems nameAt noneTwice isFilter isEvent wordOf row6 row7 row8 eventNumber eventHex eventCount wrongTime wrongSmall wrongHex wrongTag filterCounts wrongSubscription treeRow messageRow readOf eventOf bodyOf memberOf isDigit allDigits valueFrom isNatural naturalOf negativeOf wholeOf isWithin answerOf
+unfolding classOf run past oneAt tokenAt wordAt literalAt digitsAt intAt fracAt expAt numberAt hexAt escapedAt charAt charsUpTo charsAt stringAt scalarAt itemsAt treeAt isUtf8 utf8From leadOf charOf charsFrom bytesOf joined decode isRefused spell.any refuses sameBytes isHex spell.all isHexOf points characterCount spelledAt refusedIn anyItem allItems countItems nameAt noneTwice isFilter isEvent eventMember once wordOf row6 row7 row8 eventNumber eventHex eventCount wrongTime wrongSmall wrongHex wrongTag filterCounts wrongSubscription treeRow messageRow readOf eventOf bodyOf memberOf isDigit allDigits valueFrom isNatural naturalOf negativeOf wholeOf isWithin answerOf
 reads = refl
+
+writes : textOf sent (parts .body) ≡ text
+unfolding classOf run past oneAt tokenAt wordAt literalAt digitsAt intAt fracAt expAt numberAt hexAt escapedAt charAt charsUpTo charsAt stringAt scalarAt itemsAt treeAt charOf charsFrom bytesOf joined decode tagsOf tagsAt lent.eventOf textOf letterOf escOne escape digitsIn digits decimal quoted membersText tagText tagsText serialise
+writes = refl
+
+-- none of rows 1 to 10 refuses it
+valid : messageOfferRow sent ≡ 0
+unfolding charOf charsFrom bytesOf joined decode hexOf
+valid = rows-in-order .2 sent parts reads .none (rw writes (lit≤ tt)) (rw (writes, hash) refl)
