@@ -34,7 +34,7 @@ braces : readOf (ascii "{}") ≡ message.Refused 5
 unfolding classOf run past oneAt tokenAt wordAt literalAt digitsAt intAt fracAt expAt numberAt hexAt escapedAt charAt charsUpTo charsAt stringAt scalarAt itemsAt treeAt isUtf8 utf8From leadOf charOf charsFrom bytesOf joined decode isRefused spell.any refuses sameBytes points characterCount spelledAt refusedIn anyItem countItems nameAt noneTwice isFilter wordOf allItems row6 row7 row8 filterCounts wrongSubscription treeRow messageRow readOf
 braces = refl
 
-request : readOf (ascii "[\"REQ\",\"s\",{}]") ≡ message.Req (record { subscription = record { start = 8; len = 1 }; filters = 11 })
+pub request : readOf (ascii "[\"REQ\",\"s\",{}]") ≡ message.Req (record { subscription = record { start = 8; len = 1 }; filters = 11 })
 unfolding classOf run past oneAt tokenAt wordAt literalAt digitsAt intAt fracAt expAt numberAt hexAt escapedAt charAt charsUpTo charsAt stringAt scalarAt itemsAt treeAt isUtf8 utf8From leadOf charOf charsFrom bytesOf joined decode isRefused spell.any refuses sameBytes points characterCount spelledAt refusedIn anyItem countItems nameAt noneTwice isFilter wordOf allItems row6 row7 row8 filterCounts wrongSubscription treeRow messageRow readOf
 request = refl
 
