@@ -1,8 +1,8 @@
--- 01, "Shape": the names and first words that the reader compares, and the bytes of "# with one letter a-z or A-Z" in `isCondition`, spelled
--- out, by computation.
+-- 01, "Shape": the names and first words that the reader compares, spelled out, and the borders of "# with one letter a-z or A-Z", by
+-- computation.
 use mathlib.Core.Path.{_≡_, refl}
-use mathlib.Core.List.{[], _∷_}
-use Rattle.shape.specs.Shape.{idName, pubkeyName, createdAtName, kindName, tagsName, contentName, sigName, idsName, authorsName, kindsName, sinceName, untilName, limitName, eventWord, reqWord, closeWord}
+use mathlib.Core.Bool.{true, false}
+use Rattle.shape.specs.Shape.{idName, pubkeyName, createdAtName, kindName, tagsName, contentName, sigName, idsName, authorsName, kindsName, sinceName, untilName, limitName, eventWord, reqWord, closeWord, isCondition}
 use Rattle.reply.specs.Ascii.{ascii}
 
 pub names :
@@ -22,5 +22,19 @@ pub names :
     × (eventWord ≡ ascii "EVENT")
     × (reqWord ≡ ascii "REQ")
     × (closeWord ≡ ascii "CLOSE")
-    × (35 ∷ 97 ∷ 122 ∷ 65 ∷ 90 ∷ [] ≡ ascii "#azAZ")
-names = (refl, refl, refl, refl, refl, refl, refl, refl, refl, refl, refl, refl, refl, refl, refl, refl, refl)
+names = (refl, refl, refl, refl, refl, refl, refl, refl, refl, refl, refl, refl, refl, refl, refl, refl)
+
+pub conditions :
+    (isCondition (ascii "#a") ≡ true)
+    × (isCondition (ascii "#z") ≡ true)
+    × (isCondition (ascii "#A") ≡ true)
+    × (isCondition (ascii "#Z") ≡ true)
+    × (isCondition (ascii "#`") ≡ false)
+    × (isCondition (ascii "#{") ≡ false)
+    × (isCondition (ascii "#@") ≡ false)
+    × (isCondition (ascii "#[") ≡ false)
+    × (isCondition (ascii "#ab") ≡ false)
+    × (isCondition (ascii "#") ≡ false)
+    × (isCondition (ascii "a") ≡ false)
+unfolding isCondition
+conditions = (refl, refl, refl, refl, refl, refl, refl, refl, refl, refl, refl)
