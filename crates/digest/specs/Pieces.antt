@@ -1,5 +1,7 @@
 -- A message fed piece by piece has the state, and the digest, of the whole. Assumes nothing.
-use mathlib.Core.Path.{_≡_, _∙_}
+use mathlib.Core.Path.{_≡_, refl, _∙_}
+use mathlib.Core.Bool.{Bool, true, false}
+use lib.Dec.{leb}
 use mathlib.Core.List.{List, [], _∷_, _++_, append-assoc, append-nil}
 use Prim.Native.Nat.{ℕ, _+_, _≤_, _<_}
 use native.Mathlib.Decide.{decLe}
@@ -10,9 +12,11 @@ use Rattle.digest.specs.declared.Answer.{Answer}
 use Rattle.digest.specs.declared.Answer.the-variants.{Done, TooLong}
 use Rattle.digest.specs.declared.Sha256.{Sha256}
 use Rattle.digest.specs.declared.Updated.{Updated}
+use Rattle.digest.specs.declared.Finished.{Finished}
+use Rattle.digest.specs.declared.Digest.{Digest}
 use Rattle.digest.specs.Block.{H0}
 use Rattle.digest.specs.Digest.{padding, padded, hashed, rest, digestBytes, digest}
-use Rattle.digest.specs.State.{most, waiting, stateAfter, stateOf, updated, finished, digested}
+use Rattle.digest.specs.State.{numberOf, most, pick, waiting, stateAfter, stateOf, updated, finished, digested}
 use Rattle.digest.specs.Parts.{waits, hashed-more, state-more}
 
 -- what the calls answer within the limit, for any state
@@ -56,6 +60,37 @@ update-stands l d h =
 pub finish-stands : (l : List ℕ) → length l ≤ most → finished (stateOf l) ≡ record { answer = Done; state = stateOf l; bytes = digest l }
 unfolding stateAfter digest padded
 finish-stands l h = finish-done (stateOf l) h ∙ rw (still l, hashed-more H0 l (padding (length l)))
+
+-- the number of 01: 8 over the most bytes, else 0
+pub update-number : (s : Sha256) (d : List ℕ) → numberOf (updated s d .answer) ≡ pick (leb (s .total + length d) most) 0 8
+unfolding updated
+update-number s d = go (leb (s .total + length d) most)
+  where
+    go : (t : Bool) →
+        numberOf (pick {A = Updated} t (record { answer = Done; state = stateAfter (s .words) (waiting s ++ d) (s .total + length d) }) (record { answer = TooLong; state = s }) .answer)
+        ≡ pick t 0 8
+    go true = refl
+    go false = refl
+
+pub finish-number : (s : Sha256) → numberOf (finished s .answer) ≡ pick (leb (s .total) most) 0 8
+unfolding finished
+finish-number s = go (leb (s .total) most)
+  where
+    go : (t : Bool) →
+        numberOf
+        (pick {A = Finished} t (record { answer = Done; state = s; bytes = digestBytes (hashed (s .words) (waiting s ++ padding (s .total))) 32 })
+        (record { answer = TooLong; state = s; bytes = replicate 32 0 }) .answer)
+        ≡ pick t 0 8
+    go true = refl
+    go false = refl
+
+pub digest-number : (l : List ℕ) → numberOf (digested l .answer) ≡ pick (leb (length l) most) 0 8
+unfolding digested
+digest-number l = go (leb (length l) most)
+  where
+    go : (t : Bool) → numberOf (pick {A = Digest} t (record { answer = Done; bytes = digest l }) (record { answer = TooLong; bytes = replicate 32 0 }) .answer) ≡ pick t 0 8
+    go true = refl
+    go false = refl
 
 -- the pieces joined, and fed one after the other up to the first that is refused
 unfoldable pub joined : List (List ℕ) → List ℕ

@@ -1,4 +1,4 @@
--- Worked cases: 01's starred ones on the order, and hex.
+-- Worked cases of the order and of hex.
 use mathlib.Core.Bool.{true, false}
 use mathlib.Core.Path.{_≡_, refl}
 use mathlib.Core.List.{[], _∷_}

@@ -1,4 +1,5 @@
--- An event given as parts: its text, its id, and which of two events is newer.
+-- An event given as parts: its text, its id, and which of two events is newer. Walk is what private functions hand on, but for `lengthOf`, a
+-- length that stops at the largest number, which the public calls that count cite.
 pub mod Lent
 pub mod Walk
 pub mod Order

@@ -1,4 +1,4 @@
--- A client message read.
+-- A client message read. Steps is what private functions hand on; Passes is a claim.
 pub mod Parts
 pub mod Lists
 pub mod Read

@@ -1,4 +1,4 @@
--- The text that is hashed, its reader, kinds and keys.
+-- The text that is hashed, its reader, kinds and keys. Parts is what private functions hand on.
 pub mod Event
 pub mod Read
 pub mod Kinds
