@@ -441,7 +441,8 @@ fn hashed(b: &[u8], p: message::Body) -> Identified
     Identified { row: 0, id }
 }
 
-// The text of the event that the parts spell, from the start of `out`. Nothing is written before every row is tested.
+// The text of the event that the parts spell, from the start of `out`. It is put together in a buffer of its own, so that nothing is
+// written to `out` before every row is tested.
 pub fn serialise(b: &[u8], p: message::Body, out: &mut [u8]) -> Written
     ensures { λ r. ⌜ r ≡ serialised (now (b .entry)) p (now (out .entry)) ⌝ }
     ensures { λ _. ⌜ now (out .exit) ≡ serialisedOut (now (b .entry)) p (now (out .entry)) ⌝ }
@@ -450,14 +451,15 @@ pub fn serialise(b: &[u8], p: message::Body, out: &mut [u8]) -> Written
     if row != 0 {
         return Written::Refused(row);
     }
-    let n = text_len(b, p);
+    let mut t = [0u8; 4097];
+    let n = put_text(&mut t, 0, b, p);
     if MOST_TEXT < n {
         return Written::Refused(9);
     }
     if out.len() < n {
         return Written::Refused(13);
     }
-    Written::Wrote(put_text(out, 0, b, p))
+    Written::Wrote(wire::put(out, 0, &t[..n]))
 }
 
 // The id of the event that the parts spell.
