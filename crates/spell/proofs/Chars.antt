@@ -221,6 +221,13 @@ module _ (p : List ℕ) (i : ℕ) (n : getD p i 0 ≡ 0x5c → ⊥) where
       let z : k ≡ 0 = omega (arith, below-at p i k _ raw-is h w (raw-bytes _ refl)) in
       rw z (rw z at (step-raw p i k _ raw-is h w refl))
 
+-- a backslash and a byte that is no u
+pub step-short : (p : List ℕ) (i : ℕ) → getD p i 0 ≡ 0x5c → (getD p (i + 1) 0 ≡ 0x75 → ⊥) → (k : ℕ) → i < length p → Within p i k → Stepped p i k (record { byte = shortOf (getD p (i + 1) 0); at = i + 2; taken = k })
+step-short p i s n k h w =
+    let e = char-short (drop i p) (sym (here p i) ∙ s) (there p i 1 refl) _ n refl in
+    let z : k ≡ 0 = omega (arith, below-at p i k _ e h w (raw-bytes _ refl)) in
+    rw z (rw z at (step-raw p i k _ e h w refl))
+
 -- the character's bounds, where it is raw and where not
 module _ {c : Char} (s : Sized c) where
   pub raw-small : c .raw ≡ true → c .code ≤ 0xff
