@@ -344,6 +344,14 @@ pub fn refused(p: &[u8]) -> bool
             i += 1;
             continue;
         }
+        let y = byte(p, i + 1);
+        if y != b'u' {
+            if is_control(y as u32) {
+                return true;
+            }
+            i += 2;
+            continue;
+        }
         let c = escape_at(p, i);
         if is_refused(c) {
             return true;
