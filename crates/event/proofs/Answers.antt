@@ -23,7 +23,6 @@ use Rattle.message.specs.Lent.{bodyRow, eventRow}
 use Rattle.event.specs.declared.Written.the-variants.{Wrote, Refused}
 use Rattle.event.specs.declared.Identified.{Identified}
 use Rattle.event.specs.Lent.{said, textOf}
-use Rattle.event.specs.Walk.{lengthOf}
 use Rattle.event.specs.Answer.{hexDigit, hexOf, hashedOf, isLarge, textRow, serialisedRow, serialised, serialisedOut, identified, hasId, offeredRow}
 
 -- ---- the text in a buffer that has room for one byte more than a text may have
@@ -88,12 +87,13 @@ module _ (b : List ℕ) (p : Body) (out : List ℕ) {r : ℕ} (e : r ≡ bodyRow
   unfolding serialised serialisedOut serialisedRow textRow
   body-refused n = let h = ne-eqb (bodyRow b p) 0 (λ q. n (e ∙ q)) in (simp (h, e), simp h)
 
-  module _ (z : r ≡ 0) {n : ℕ} (l : n ≡ lengthOf (textOf b p)) where
+  module _ (z : r ≡ 0) {d t : List ℕ} {n : ℕ} (room : length t ≡ 4097) (l : Puts d 0 (textOf b p) n t) where
     pub large-refused : 4096 < n → (Refused 9 ≡ serialised b p out) × (out ≡ serialisedOut b p out)
     unfolding serialised serialisedOut serialisedRow textRow isLarge
     large-refused h =
         let q = eq-eqb (bodyRow b p) 0 (sym e ∙ z) in
-        let k = lt-ltb 4096 (length (textOf b p)) (omega arith) in
+        let s = same room l in
+        let k = lt-ltb 4096 (length (textOf b p)) (omega (arith, l .next)) in
         (rw (q, k), rw (q, k))
 
     module _ (h : n ≤ 4096) where
@@ -101,18 +101,24 @@ module _ (b : List ℕ) (p : Body) (out : List ℕ) {r : ℕ} (e : r ≡ bodyRow
       unfolding serialised serialisedOut serialisedRow textRow isLarge
       short-refused m =
           let q = eq-eqb (bodyRow b p) 0 (sym e ∙ z) in
-          let k = le-ltb 4096 (length (textOf b p)) (omega arith) in
-          let j = lt-ltb (length out) (length (textOf b p)) (omega arith) in
+          let s = same room l in
+          let f = small room l h in
+          let k = le-ltb 4096 (length (textOf b p)) f in
+          let j = lt-ltb (length out) (length (textOf b p)) (omega (arith, l .next)) in
           (rw (q, k, j), rw (q, k, j))
 
-      pub text-written : n ≤ length out → {m : ℕ} {o : List ℕ} → Puts out 0 (textOf b p) m o → (Wrote m ≡ serialised b p out) × (o ≡ serialisedOut b p out)
+      pub text-written : n ≤ length out → {m : ℕ} {o : List ℕ} → Puts out 0 (take n t) m o → (Wrote m ≡ serialised b p out) × (o ≡ serialisedOut b p out)
       unfolding serialised serialisedOut serialisedRow textRow isLarge
-      text-written m x =
+      text-written r {m} {o} x =
           let q = eq-eqb (bodyRow b p) 0 (sym e ∙ z) in
-          let k = le-ltb 4096 (length (textOf b p)) (omega arith) in
-          let j = le-ltb (length out) (length (textOf b p)) (omega arith) in
-          let (y, w) = puts-whole (omega arith) x in
-          (rw (q, k, j, y), rw (q, k, j, w))
+          let s = same room l in
+          let f = small room l h in
+          let g : length (textOf b p) ≤ length out = omega (arith, l .next) in
+          let k = le-ltb 4096 (length (textOf b p)) f in
+          let v = le-ltb (length out) (length (textOf b p)) g in
+          let x′ : Puts out 0 (textOf b p) m o = rw (is room l h) at x in
+          let (y, w) = puts-whole g x′ in
+          (rw (q, k, v, y), rw (q, k, v, w))
 
 module _ (b : List ℕ) (p : Body) {r : ℕ} (e : r ≡ bodyRow b p) where
   pub id-refused : (r ≡ 0 → ⊥) → record { row = r; id = replicate 32 0 } ≡ identified b p

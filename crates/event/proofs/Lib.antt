@@ -8,4 +8,5 @@ mod Lengths
 mod Order
 pub mod Answers
 pub mod Decoded
+mod Complete
 pub mod Fit

@@ -65,6 +65,10 @@ firstOf (Many first false) = End first
 unfoldable pub firstTag : List ℕ → ℕ → Out
 firstTag b at = case (endOf (treeAt b depth at)) (λ n. firstOf (startAt b at)) Bad
 
+-- what begins at a place is all of it: the array stands there to its end
+pub record Complete (b : List ℕ) (at : ℕ) : Type 0 where
+  pub is : firstOf (startAt b at) ≡ firstTag b at
+
 -- the text up to the tags, and from them on
 unfoldable pub frontText : List ℕ → Body → List ℕ
 frontText b p = opening ++ (said b (p .pubkey) ++ (closing ++ (decimal (p .«created_at») ++ (comma ++ (digits (natural (p .kind)) ++ comma)))))

@@ -4,14 +4,14 @@ ghost use mathlib.Core.Bool.{false};
 ghost use Prim.Native.Nat.{_+_, _<_, min};
 ghost use lib.ListN.{length};
 ghost use Rattle.wire.specs.Put.{Puts};
-ghost use Rattle.json.specs.Grammar.{case};
+ghost use Rattle.json.specs.Grammar.{case, startAt};
 ghost use Rattle.json.specs.Tree.{endOf, treeAt, itemsAt};
 ghost use Rattle.rows.specs.Strings.{part};
 ghost use Rattle.wire.specs.Bytes.{sameBytes};
 ghost use Rattle.spell.specs.Spell.{decode};
 ghost use Rattle.text.specs.Event.{quoted, tagsText};
 ghost use Rattle.event.specs.Lent.{said, natural, tagsAt, textOf};
-ghost use Rattle.event.specs.Walk.{tagDepth, stringDepth, puts, Counts, mostLength, lengthOf, Does, firstTag, frontText, backText, stringText, stringsText, oneTagText, allTagsText};
+ghost use Rattle.event.specs.Walk.{tagDepth, stringDepth, puts, Counts, mostLength, lengthOf, Does, firstOf, firstTag, Complete, frontText, backText, stringText, stringsText, oneTagText, allTagsText};
 ghost use Rattle.event.specs.Answer.{hexDigit, hexOf, hashedOf, serialised, serialisedOut, identified, offeredRow};
 ghost use Rattle.event.specs.Order.{isLower, isNewer};
 
@@ -186,30 +186,38 @@ fn put_all(out: &mut [u8], at: usize, b: &[u8], first: usize) -> Reached
     Reached { at: o, next: i }
 }
 
-// The first item of an array that holds some, or that no such array stands there.
+// The first item of an array that holds some, by what begins there.
+fn begun(b: &[u8], tags: usize) -> json::Out
+    ensures { λ r. ⌜ r ≡ firstOf (startAt (now (b .entry)) tags) ⌝ }
+{
+    match json::begin(b, tags) {
+        json::Start::Many(first, named) => {
+            if named {
+                return json::Out::Bad;
+            }
+            json::Out::End(first)
+        }
+        json::Start::Empty(_, _) => json::Out::Bad,
+        json::Start::Leaf => json::Out::Bad,
+    }
+}
+
+// The same, or that no such array stands there to its end.
 fn first_tag(b: &[u8], tags: usize) -> json::Out
     ensures { λ r. ⌜ r ≡ firstTag (now (b .entry)) tags ⌝ }
 {
     match json::value(b, tags, TAGS_DEPTH) {
-        json::Out::End(_) => match json::begin(b, tags) {
-            json::Start::Many(first, named) => {
-                if named {
-                    return json::Out::Bad;
-                }
-                json::Out::End(first)
-            }
-            json::Start::Empty(_, _) => json::Out::Bad,
-            json::Start::Leaf => json::Out::Bad,
-        },
+        json::Out::End(_) => begun(b, tags),
         json::Out::Bad => json::Out::Bad,
     }
 }
 
-// The tags of the array at `tags`; [] where there is none.
-pub fn put_tags(out: &mut [u8], at: usize, b: &[u8], tags: usize) -> usize
+// The tags of the array at `tags`, the first of which is known; [] where there is none.
+fn put_tags_from(out: &mut [u8], at: usize, b: &[u8], tags: usize, known: json::Out) -> usize
+    requires { ⌜ known ≡ firstTag (now b) tags ⌝ }
     ensures { λ r. ⌜ Puts (now (out .entry)) at (tagsText (tagsAt (now (b .entry)) tags)) r (now (out .exit)) ⌝ }
 {
-    match first_tag(b, tags) {
+    match known {
         json::Out::End(first) => {
             let o = wire::put(out, at, b"[");
             let w = put_all(out, o, b, first);
@@ -217,6 +225,14 @@ pub fn put_tags(out: &mut [u8], at: usize, b: &[u8], tags: usize) -> usize
         }
         json::Out::Bad => wire::put(out, at, b"[]"),
     }
+}
+
+// The tags of the array at `tags`; [] where there is none.
+pub fn put_tags(out: &mut [u8], at: usize, b: &[u8], tags: usize) -> usize
+    ensures { λ r. ⌜ Puts (now (out .entry)) at (tagsText (tagsAt (now (b .entry)) tags)) r (now (out .exit)) ⌝ }
+{
+    let known = first_tag(b, tags);
+    put_tags_from(out, at, b, tags, known)
 }
 
 // A kind that is not negative, and 0 for one that is.
@@ -244,22 +260,31 @@ fn put_front(out: &mut [u8], at: usize, b: &[u8], p: message::Body) -> usize
 }
 
 // TAGS,"CONTENT"]
-fn put_back(out: &mut [u8], at: usize, b: &[u8], p: message::Body) -> usize
+fn put_back(out: &mut [u8], at: usize, b: &[u8], p: message::Body, known: json::Out) -> usize
+    requires { ⌜ known ≡ firstTag (now b) (p .tags) ⌝ }
     ensures { λ r. ⌜ Puts (now (out .entry)) at (backText (now (b .entry)) p) r (now (out .exit)) ⌝ }
 {
     let content = p.content;
-    let a = put_tags(out, at, b, p.tags);
+    let a = put_tags_from(out, at, b, p.tags, known);
     let c = wire::put(out, a, b",");
     let d = put_quoted(out, c, piece(b, content.start, content.len));
     wire::put(out, d, b"]")
+}
+
+fn put_whole(out: &mut [u8], at: usize, b: &[u8], p: message::Body, known: json::Out) -> usize
+    requires { ⌜ known ≡ firstTag (now b) (p .tags) ⌝ }
+    ensures { λ r. ⌜ Puts (now (out .entry)) at (textOf (now (b .entry)) p) r (now (out .exit)) ⌝ }
+{
+    let a = put_front(out, at, b, p);
+    put_back(out, a, b, p, known)
 }
 
 // 01, "The text that is hashed", of the event that the parts spell, into `out` from `at` on; the index after it.
 pub fn put_text(out: &mut [u8], at: usize, b: &[u8], p: message::Body) -> usize
     ensures { λ r. ⌜ Puts (now (out .entry)) at (textOf (now (b .entry)) p) r (now (out .exit)) ⌝ }
 {
-    let a = put_front(out, at, b, p);
-    put_back(out, a, b, p)
+    let known = first_tag(b, p.tags);
+    put_whole(out, at, b, p, known)
 }
 
 // k more, and no more than a number holds.
@@ -424,12 +449,14 @@ pub fn put_hex(out: &mut [u8], at: usize, s: &[u8]) -> usize
     o
 }
 
-// SHA-256 of the text, or row 9. A byte more than a text may have shows that it is too long.
+// SHA-256 of the text, or row 9, where the tags' array stands to its end. A byte more than a text may have shows that it is too long.
 fn hashed(b: &[u8], p: message::Body) -> Identified
+    requires { ⌜ Complete (now b) (p .tags) ⌝ }
     ensures { λ r. ⌜ r ≡ hashedOf (textOf (now (b .entry)) p) ⌝ }
 {
     let mut t = [0u8; 4097];
-    let n = put_text(&mut t, 0, b, p);
+    let known = begun(b, p.tags);
+    let n = put_whole(&mut t, 0, b, p, known);
     if MOST_TEXT < n {
         return Identified {
             row: 9,
@@ -441,7 +468,8 @@ fn hashed(b: &[u8], p: message::Body) -> Identified
     Identified { row: 0, id }
 }
 
-// The text of the event that the parts spell, from the start of `out`. Nothing is written before every row is tested.
+// The text of the event that the parts spell, from the start of `out`. It is put together in a buffer of its own, so that nothing is
+// written to `out` before every row is tested.
 pub fn serialise(b: &[u8], p: message::Body, out: &mut [u8]) -> Written
     ensures { λ r. ⌜ r ≡ serialised (now (b .entry)) p (now (out .entry)) ⌝ }
     ensures { λ _. ⌜ now (out .exit) ≡ serialisedOut (now (b .entry)) p (now (out .entry)) ⌝ }
@@ -450,14 +478,16 @@ pub fn serialise(b: &[u8], p: message::Body, out: &mut [u8]) -> Written
     if row != 0 {
         return Written::Refused(row);
     }
-    let n = text_len(b, p);
+    let mut t = [0u8; 4097];
+    let known = begun(b, p.tags);
+    let n = put_whole(&mut t, 0, b, p, known);
     if MOST_TEXT < n {
         return Written::Refused(9);
     }
     if out.len() < n {
         return Written::Refused(13);
     }
-    Written::Wrote(put_text(out, 0, b, p))
+    Written::Wrote(wire::put(out, 0, &t[..n]))
 }
 
 // The id of the event that the parts spell.

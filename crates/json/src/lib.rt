@@ -286,14 +286,21 @@ fn chars(s: &[u8], at: usize) -> usize
 {
     let mut i = at;
     while i < s.len() {
-        if plain(s[i]) {
-            i += 1;
+        let b = s[i];
+        if b == b'\\' {
+            let Out::End(n) = escaped(s, i) else {
+                return i;
+            };
+            i = n;
             continue;
         }
-        let Out::End(n) = escaped(s, i) else {
+        if b < 0x20 {
             return i;
-        };
-        i = n;
+        }
+        if b == b'"' {
+            return i;
+        }
+        i += 1;
     }
     i
 }

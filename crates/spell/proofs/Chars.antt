@@ -221,6 +221,13 @@ module _ (p : List ℕ) (i : ℕ) (n : getD p i 0 ≡ 0x5c → ⊥) where
       let z : k ≡ 0 = omega (arith, below-at p i k _ raw-is h w (raw-bytes _ refl)) in
       rw z (rw z at (step-raw p i k _ raw-is h w refl))
 
+-- a backslash and a byte that is no u
+pub step-short : (p : List ℕ) (i : ℕ) → getD p i 0 ≡ 0x5c → (getD p (i + 1) 0 ≡ 0x75 → ⊥) → (k : ℕ) → i < length p → Within p i k → Stepped p i k (record { byte = shortOf (getD p (i + 1) 0); at = i + 2; taken = k })
+step-short p i s n k h w =
+    let e = char-short (drop i p) (sym (here p i) ∙ s) (there p i 1 refl) _ n refl in
+    let z : k ≡ 0 = omega (arith, below-at p i k _ e h w (raw-bytes _ refl)) in
+    rw z (rw z at (step-raw p i k _ e h w refl))
+
 -- the character's bounds, where it is raw and where not
 module _ {c : Char} (s : Sized c) where
   pub raw-small : c .raw ≡ true → c .code ≤ 0xff
@@ -252,6 +259,21 @@ module _ (p : List ℕ) (i : ℕ) {b : Bool} (inv : b ≡ any isRefused (chars (
 pub choose : {A : Type 0} (P : A → Type 0) (b : Bool) {x y : A} → (b ≡ true → P x) → (b ≡ false → P y) → P (cond b x y)
 choose P true p q = p refl
 choose P false p q = q refl
+
+-- a short escape is refused where its letter is a character that no string may have
+pub short-is : (p : List ℕ) (i : ℕ) → getD p i 0 ≡ 0x5c → {y : ℕ} → y ≡ getD p (i + 1) 0 → (y ≡ 0x75 → ⊥) → record { code = shortOf y; raw = true; width = 2 } ≡ charOf (drop i p)
+short-is p i s e n = char-short (drop i p) (sym (here p i) ∙ s) (there p i 1 e) _ n refl
+
+pub short-refused : (y : ℕ) → y < 0x100 → isRefused (record { code = shortOf y; raw = true; width = 2 }) ≡ isControl y
+unfolding isRefused shortOf
+short-refused y h =
+    let P : ℕ → Type 0 = λ n. isRefused (record { code = n; raw = true; width = 2 }) ≡ isControl y in
+    choose P (eqb y 0x62) (λ e. rw (eqb-true y 0x62 e)) (λ _.
+    choose P (eqb y 0x66) (λ e. rw (eqb-true y 0x66 e)) (λ _.
+    choose P (eqb y 0x6e) (λ e. rw (eqb-true y 0x6e e)) (λ _.
+    choose P (eqb y 0x72) (λ e. rw (eqb-true y 0x72 e)) (λ _.
+    choose P (eqb y 0x74) (λ e. rw (eqb-true y 0x74 e)) (λ _.
+    rw (lt-leb 0xd800 y (omega arith)))))))
 
 digit-few : (x : ℕ) → hexVal x ≤ 15
 unfolding hexVal

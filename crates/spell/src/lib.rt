@@ -6,7 +6,7 @@ ghost use Rattle.wire.specs.Put.{Puts};
 ghost use Rattle.wire.specs.Bytes.{sameBytes, isHex};
 ghost use Rattle.spell.specs.Spell.{hexVal, four, fourAt, shortOf, isPair, pairOf, unicodeOf, utf8Of, isSurrogate, isControl, isRefused, refuses, decode, isTail, characterCount, isHexOf};
 ghost use Rattle.wire.specs.Escape.{escape};
-ghost use Rattle.spell.specs.Steps.{Sized, Begins, Within, Stepped};
+ghost use Rattle.spell.specs.Steps.{Sized, Begins, Within, Stepped, Stays, Same};
 
 // One character of a spelling, and how many bytes spell it: a byte of the decoded string (raw), which stands as it is or after a
 // backslash, or the code point of an escape with u.
@@ -289,6 +289,14 @@ pub fn refused(p: &[u8]) -> bool
             i += 1;
             continue;
         }
+        let y = byte(p, i + 1);
+        if y != b'u' {
+            if is_control(y as u32) {
+                return true;
+            }
+            i += 2;
+            continue;
+        }
         let c = escape_at(p, i);
         if is_refused(c) {
             return true;
@@ -510,6 +518,48 @@ pub fn escaped_len(p: &[u8]) -> usize
     n
 }
 
+// Whether a backslash and y stand in the text that is hashed as they stand in the spelling.
+fn stays(y: u8) -> bool
+    ensures { λ r. ⌜ Stays y r ⌝ }
+{
+    match y {
+        b'n' => true,
+        b'"' => true,
+        b'\\' => true,
+        b'r' => true,
+        b't' => true,
+        b'b' => true,
+        b'f' => true,
+        _ => false,
+    }
+}
+
+// The first place from i on that holds no character which stands in the text that is hashed as in the spelling, or the end.
+fn past_same(p: &[u8], i: usize) -> usize
+    requires { ⌜ i ≤ length (now p) ⌝ }
+    ensures { λ r. ⌜ Same (now (p .entry)) i r ⌝ }
+{
+    let mut n = i;
+    while n < p.len() {
+        let b = p[n];
+        if b == b'\\' {
+            if !stays(byte(p, n + 1)) {
+                return n;
+            }
+            n += 2;
+            continue;
+        }
+        if b < 0x20 {
+            return n;
+        }
+        if b == b'"' {
+            return n;
+        }
+        n += 1;
+    }
+    n
+}
+
 // What a spelling decodes to, escaped as in the text that is hashed, into `out` from `at` on; the index after it.
 pub fn put_escaped(out: &mut [u8], at: usize, p: &[u8]) -> usize
     ensures { λ r. ⌜ Puts (now (out .entry)) at (escape (decode (now (p .entry)))) r (now (out .exit)) ⌝ }
@@ -521,10 +571,10 @@ pub fn put_escaped(out: &mut [u8], at: usize, p: &[u8]) -> usize
     let mut i = 0;
     let mut k = 0;
     while i < p.len() {
-        let b = p[i];
-        if b != b'\\' {
-            o = wire::put_escaped_byte(out, o, b);
-            i += 1;
+        let n = past_same(p, i);
+        if i < n {
+            o = wire::put(out, o, &p[i..n]);
+            i = n;
             continue;
         }
         let x = advance(p, i, k);

@@ -4,9 +4,10 @@ use mathlib.Core.Bool.{Bool, true, false, cond, _&&_, _||_}
 use mathlib.Core.List.{List, [], _∷_, _++_, append-assoc}
 use Prim.Native.Nat.{ℕ, zero, suc, _+_, _-_, _<_, _≤_}
 use native.Mathlib.Numerals.{add-one, sub-one}
+use native.Mathlib.Decide.{decLe}
 use native.Mathlib.Omega.{arith}
 use lib.Dec.{eqb, ltb, leb}
-use lib.ListN.{length, getD, take, drop, length-append, drop-of-length-le}
+use lib.ListN.{length, getD, take, drop, length-append, drop-of-length-le, List·getD-eq-default}
 use lib.Seq.{drop-cons, take-at}
 use borrow.Author.Tests.{lt-ltb, le-ltb, le-leb, lt-leb, eq-eqb, ne-eqb, eqb-true, ltb-true}
 use Rattle.utf8.specs.Utf8.{isUtf8}
@@ -14,7 +15,7 @@ use Rattle.wire.specs.Escape.{letterOf, escape}
 use Rattle.wire.specs.Limits.{mostStrings}
 use Rattle.wire.specs.Bytes.{isHex}
 use Rattle.text.specs.Event.{isPlainByte, all}
-use Rattle.text.specs.Read.{Got, none, got, standsAt, isRaw, moveOf, saidOf, push, bodyFrom, checked, stringAt, cons, follow, membersAt, tagAt, runOf}
+use Rattle.text.specs.Read.{Got, none, got, standsAt, isRaw, byteOf, moveOf, saidOf, push, bodyFrom, checked, stringAt, cons, follow, membersAt, tagAt, runOf}
 use Rattle.text.specs.Kinds.{isEphemeral, isAddressable, classOf}
 use Rattle.text.specs.Parts.{endOf, noZero}
 use Rattle.text.specs.declared.Class.the-variants.{Regular, Replaceable, Ephemeral, Addressable}
@@ -119,6 +120,43 @@ module _ (e : Bool) (s : List ℕ) (i : ℕ) where
     pub body-refuse : moveOf e (getD s i 0) ≡ Refuse → endOf (bodyFrom e i (drop i s)) ≡ Bad
     unfolding bodyFrom
     body-refuse q = rw (drop-cons s i 0, bodyFrom, q)
+
+-- by the bytes themselves: a backslash and its letter, the closing quote, a control, and a byte that stands as it is
+module _ (s : List ℕ) (i : ℕ) (h : i < length s) where
+  module _ (e : getD s i 0 ≡ 92) {u c : ℕ} (l : c ≡ getD s (i + 1) 0) (k : u ≡ byteOf c) where
+    slashed : endOf (bodyFrom false i (drop i s)) ≡ endOf (bodyFrom true (i + 1) (drop (i + 1) s))
+    slashed = body-go false s i h true (rw e)
+
+    pub body-pair : (u ≡ 0 → ⊥) → endOf (bodyFrom false i (drop i s)) ≡ endOf (bodyFrom false (i + 2) (drop (i + 2) s))
+    unfolding byteOf
+    body-pair z = go (decLe (length s) (i + 1))
+      where
+        go : Dec (length s ≤ i + 1) → endOf (bodyFrom false i (drop i s)) ≡ endOf (bodyFrom false (i + 2) (drop (i + 2) s))
+        go (yes m) = absurd (z (k ∙ rw (l, List·getD-eq-default s 0 m)))
+        go (no m) =
+            let two : i + 1 + 1 ≡ i + 2 = omega arith in
+            let d : eqb (byteOf (getD s (i + 1) 0)) 0 ≡ false = ne-eqb _ 0 (λ q. z (k ∙ ap byteOf l ∙ q)) in
+            slashed ∙ body-go true s (i + 1) (omega arith) false (rw d) ∙ ap (λ (j : ℕ). endOf (bodyFrom false j (drop j s))) two
+
+    pub body-unknown : u ≡ 0 → endOf (bodyFrom false i (drop i s)) ≡ Bad
+    body-unknown z = go (decLe (length s) (i + 1))
+      where
+        go : Dec (length s ≤ i + 1) → endOf (bodyFrom false i (drop i s)) ≡ Bad
+        go (yes m) = slashed ∙ body-over true s (i + 1) m
+        go (no m) =
+            let d : eqb (byteOf (getD s (i + 1) 0)) 0 ≡ true = eq-eqb _ 0 (sym (ap byteOf l) ∙ sym k ∙ z) in
+            slashed ∙ body-refuse true s (i + 1) (omega arith) (rw d)
+
+  module _ (e : getD s i 0 ≡ 92 → ⊥) where
+    pub body-quote : getD s i 0 ≡ 34 → endOf (bodyFrom false i (drop i s)) ≡ End (i + 1)
+    body-quote q = body-stop false s i h (rw (eq-eqb _ 34 q))
+
+    module _ (q : getD s i 0 ≡ 34 → ⊥) where
+      pub body-low : getD s i 0 < 0x20 → endOf (bodyFrom false i (drop i s)) ≡ Bad
+      body-low m = body-refuse false s i h (rw (ne-eqb _ 34 q, ne-eqb _ 92 e, raw-low _ m))
+
+      pub body-high : 0x20 ≤ getD s i 0 → endOf (bodyFrom false i (drop i s)) ≡ endOf (bodyFrom false (i + 1) (drop (i + 1) s))
+      body-high m = body-go false s i h false (rw (ne-eqb _ 34 q, ne-eqb _ 92 e, raw-high _ m q e))
 
 -- ---- a string
 module _ (s : List ℕ) (at n : ℕ) where

@@ -7,7 +7,7 @@ ghost use lib.ListN.{length, getD, drop};
 ghost use Rattle.wire.specs.Escape.{escape};
 ghost use Rattle.wire.specs.Bytes.{isHex};
 ghost use Rattle.text.specs.Event.{Tag, comma, isPubkey};
-ghost use Rattle.text.specs.Read.{got, standsAt, closedAt, byteOf, moveOf, bodyFrom, stringAt, tagAt, tagsAt, runOf, timeAt, kindAt, readText};
+ghost use Rattle.text.specs.Read.{got, standsAt, closedAt, byteOf, bodyFrom, stringAt, tagAt, tagsAt, runOf, timeAt, kindAt, readText};
 ghost use Rattle.text.specs.Kinds.{classOf, isNamedD, second};
 ghost use Rattle.text.specs.Answer.{spanOf, answerOf};
 ghost use Rattle.text.specs.Parts.{endOf, timeIn, kindIn, opens, noZero, foundOf, lookOf, taggedOf, restAt, restOf};
@@ -47,7 +47,8 @@ enum Out {
     Bad,
 }
 
-// What a byte of a string does: the string goes on, after a backslash or not; it ends; or the byte may not stand there.
+// What a byte of a string does: the string goes on, after a backslash or not; it ends; or the byte may not stand there. The definition
+// goes by these; `body_end` takes a backslash and its letter at once.
 enum Move {
     Go(bool),
     Stop,
@@ -156,44 +157,25 @@ fn unescaped(c: u8) -> u8
     }
 }
 
-fn advance(escaped: bool, x: u8) -> Move
-    ensures { λ r. ⌜ r ≡ moveOf escaped x ⌝ }
-{
-    if escaped {
-        if unescaped(x) == 0 {
-            return Move::Refuse;
-        }
-        return Move::Go(false);
-    }
-    if x == b'"' {
-        return Move::Stop;
-    }
-    if x == b'\\' {
-        return Move::Go(true);
-    }
-    if x < 0x20 {
-        return Move::Refuse;
-    }
-    Move::Go(false)
-}
-
 // The place after the closing quote of a string whose opening quote stands before `at`.
 fn body_end(s: &[u8], at: usize) -> Out
     ensures { λ r. ⌜ r ≡ endOf (bodyFrom false at (drop at (now (s .entry)))) ⌝ }
 {
-    let mut escaped = false;
     let mut i = at;
     while i < s.len() {
-        match advance(escaped, s[i]) {
-            Move::Go(e) => {
-                escaped = e;
-            }
-            Move::Stop => {
-                return Out::End(i + 1);
-            }
-            Move::Refuse => {
+        let x = s[i];
+        if x == b'\\' {
+            if unescaped(byte(s, i + 1)) == 0 {
                 return Out::Bad;
             }
+            i += 2;
+            continue;
+        }
+        if x == b'"' {
+            return Out::End(i + 1);
+        }
+        if x < 0x20 {
+            return Out::Bad;
         }
         i += 1;
     }

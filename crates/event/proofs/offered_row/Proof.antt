@@ -3,6 +3,7 @@ use mathlib.Core.Bool.{true, false}
 use mathlib.Core.Path.{sym, _∙_}
 use borrow.Author.Needs.{needs}
 use Rattle.event.proofs.Answers.{parts-refused, large-offered, id-offered}
+use Rattle.event.proofs.Complete.{event-complete}
 use Rattle.event.proofs.offered_row.Statement.{statement}
 use Rattle.event.proofs.offered_row.Tie as tie
 
@@ -37,4 +38,4 @@ returns-4 c =
 pub offered-row-spec : {M : Type 1} → statement M
 offered-row-spec =
     tie.close
-    (tie.spec (search needs) returns (search needs) returns-2 (search needs) returns-3 returns-4)
+    (tie.spec (search needs) returns (λ c κs. event-complete _ _ (c .before .before .before .event-row .ensures) (c .before .before .if1 .left)) returns-2 (search needs) returns-3 returns-4)

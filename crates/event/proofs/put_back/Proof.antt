@@ -11,10 +11,10 @@ returns c =
     let c8 = c7 .before in
     let c12 = c8 .before .before .before .before in
     let c17 = c12 .before .before .before .before .before in
-    back-put _ _ (c8 .piece .ensures) (c17 .put-tags .ensures) (c12 .put .ensures) (c7 .put-quoted .ensures) (c2 .put2 .ensures)
+    back-put _ _ (c8 .piece .ensures) (c17 .put-tags-from .ensures) (c12 .put .ensures) (c7 .put-quoted .ensures) (c2 .put2 .ensures)
 
 pub put-back-spec : {M : Type 1} → statement M
 put-back-spec =
     tie.close
-    (tie.spec (search needs) (search needs) (search needs) (search needs) (search needs) (search needs) (search needs)
-    (search needs) returns)
+    (tie.spec (λ c κs. search needs) (λ c. search needs) (λ c κs. search needs) (λ c κs. search needs)
+    (λ c κs. search needs) (λ c. search needs) (λ c κs. search needs) (λ c. search needs) returns)

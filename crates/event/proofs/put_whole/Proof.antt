@@ -1,8 +1,8 @@
 -- Both halves.
 use borrow.Author.Needs.{needs}
 use Rattle.event.proofs.Text.{text-put}
-use Rattle.event.proofs.put_text.Statement.{statement}
-use Rattle.event.proofs.put_text.Tie as tie
+use Rattle.event.proofs.put_whole.Statement.{statement}
+use Rattle.event.proofs.put_whole.Tie as tie
 
 returns : tie.Need-returns
 returns c =
@@ -10,7 +10,7 @@ returns c =
     let c6 = c2 .before .before .before .before in
     text-put _ _ (c6 .put-front .ensures) (c2 .put-back .ensures)
 
-pub put-text-spec : {M : Type 1} → statement M
-put-text-spec =
+pub put-whole-spec : {M : Type 1} → statement M
+put-whole-spec =
     tie.close
-    (tie.spec (search needs) (search needs) (search needs) returns)
+    (tie.spec (λ c κs. search needs) (λ c κs. search needs) (λ c. search needs) returns)
