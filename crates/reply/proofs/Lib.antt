@@ -1,5 +1,6 @@
 -- Starred: the starred cases of 01. Example: the program's output on 01's four lines. Which, Shown: which replies a message gets. Lines, Plain:
--- the program's lines. Kept: its table stays sound, and demand 3 holds of it. Worked: replies by computation.
+-- the program's lines. Kept: its table stays sound, and demand 3 holds of it. Lent: a reply given as lent parts. Worked: replies by
+-- computation.
 pub mod Starred
 pub mod Example
 pub mod Plain
@@ -8,3 +9,4 @@ pub mod Which
 pub mod Shown
 pub mod Worked
 pub mod Kept
+pub mod Lent
