@@ -1,9 +1,9 @@
 -- 01, "The table": "Bytes after slot N-1 are never read", of a REQ's answer: the last claim of specs/Laws.
 use mathlib.Core.Path.{_≡_, refl, sym, ap, ap₂, _∙_}
 use mathlib.Core.Bool.{Bool, true, false, cond, _||_}
-use mathlib.Core.Logic.{⊎-elim, _≢_}
+use mathlib.Core.Logic.{⊎-elim}
 use mathlib.Core.List.{List, [], _∷_, _++_}
-use Prim.Native.Nat.{ℕ, _+_, _*_, _≤_, _<_}
+use Prim.Native.Nat.{ℕ, _+_, _≤_, _<_}
 use native.Mathlib.Omega.{arith}
 use borrow.Author.Tests.{ne-eqb}
 use lib.Dec.{eqb, ltb}
@@ -11,8 +11,6 @@ use lib.ListN.{length, take, drop, length-drop}
 use lib.Seq.{take-append-le, drop-append-le}
 use Rattle.text.specs.Read.{readText}
 use Rattle.event.specs.Answer.{orElse, hexOf}
-use Rattle.law.specs.Lists.{any}
-use Rattle.law.specs.Table.{Events}
 use Rattle.table.specs.Layout.{slotSize, tableSize, slotPlace, capacityOf, countOf, slotAt, idIn, textIn}
 use Rattle.table.specs.Events.{signedTiles, inSlot}
 use Rattle.table.specs.Sound.{sound}

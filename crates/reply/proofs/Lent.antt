@@ -1,22 +1,19 @@
 -- A reply given as lent parts: its row, its answer and the output; and the number of other answers. The last claims of specs/Laws.
 use mathlib.Core.Path.{_≡_, refl, sym, ap, _∙_}
 use mathlib.Core.Bool.{Bool, true, false, cond, not, _&&_, _||_, false≢true}
-use mathlib.Core.Logic.{_↔_, _⊎_, inl, inr, ⊎-elim, _≢_}
+use mathlib.Core.Logic.{_⊎_, inl, inr, ⊎-elim, _≢_}
 use mathlib.Core.List.{List, _++_}
-use Prim.Native.Nat.{ℕ, _+_, _-_, _≤_, _<_}
+use Prim.Native.Nat.{ℕ, _≤_, _<_}
 use native.Mathlib.Omega.{arith}
-use native.Mathlib.Decide.{decLt}
 use borrow.Author.Tests.{eqb-true, eqb-false, eq-eqb, ne-eqb, ltb-true, ltb-false, lt-ltb}
 use lib.Dec.{eqb, ltb}
 use lib.ListN.{length, take, drop, length-append, length-drop}
 use lib.Seq.{take-at, drop-at}
 use Rattle.wire.specs.Limits.{hexLength}
 use Rattle.message.specs.declared.Span.{Span}
-use Rattle.message.specs.declared.Body.{Body}
 use Rattle.message.specs.declared.EventParts.{EventParts}
 use Rattle.message.specs.Lent.{lowest, string2, string4, string5, string7, event2, event4, event5, event7, body6, body8}
-use Rattle.event.specs.Lent.{textOf}
-use Rattle.event.specs.Answer.{orElse, isLarge, answered, serialised, serialisedRow, numberOf, valueOf}
+use Rattle.event.specs.Answer.{orElse, isLarge, serialised, serialisedRow, numberOf, valueOf}
 use Rattle.event.specs.declared.Written.the-variants as sent
 use Rattle.table.specs.Layout.{capacityOf}
 use Rattle.table.specs.Events.{ofHeld, view}
@@ -32,7 +29,7 @@ use Rattle.query.proofs.Lent.{alike}
 use Rattle.reply.specs.declared.ReplyParts.{ReplyParts}
 use Rattle.reply.specs.declared.ReplyParts.the-variants as parts
 use Rattle.reply.specs.Lent.{subscription8, partsRow, replyRow, replied, repliedOut}
-use Rattle.reply.specs.Laws.{lentText, StringOf, ok-id, ok-reason, event-subscription, eose-subscription, closed-subscription, closed-reason, notice-reason, SubscriptionOf, of-event, of-eose, of-closed, EventHolds, event-utf8, event-string, event-shape, event-number, event-hex, event-count, event-large, PartsHold, not-utf8, not-allowed, not-spelled, not-hex, miscounted, in-event, PartsRowIs, PartsPass, ReplyHolds, of-parts, too-short, ReplyRowIs, PartsFirst, ShortOutput, ReplyFits, RepliedIs, RepliedMeans, SerialisedNumber, OfferedNumber}
+use Rattle.reply.specs.Laws.{lentText, ok-id, ok-reason, event-subscription, eose-subscription, closed-subscription, closed-reason, notice-reason, of-event, of-eose, of-closed, EventHolds, event-utf8, event-string, event-shape, event-number, event-hex, event-count, event-large, PartsHold, not-utf8, not-allowed, not-spelled, not-hex, miscounted, in-event, PartsRowIs, PartsPass, ReplyHolds, of-parts, too-short, ReplyRowIs, PartsFirst, ShortOutput, ReplyFits, RepliedIs, RepliedMeans, SerialisedNumber, OfferedNumber}
 use Rattle.reply.proofs.Which.{verdict-rows}
 
 -- ---- the lowest of rows that are tested one after the other
