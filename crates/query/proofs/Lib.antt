@@ -1,4 +1,4 @@
--- Matching, Answers, Tables, Lent, ReadFilters and Listings prove the claims of specs/Laws; Worked and Texts have cases by computation.
+-- Matching, Answers, Tables, Lent, ReadFilters, Listings and Unread prove the claims of specs/Laws; Worked and Texts have cases by computation.
 pub mod Sorting
 pub mod Matching
 pub mod Answers
@@ -6,5 +6,6 @@ pub mod Tables
 pub mod Lent
 pub mod ReadFilters
 pub mod Listings
+pub mod Unread
 pub mod Worked
 pub mod Texts

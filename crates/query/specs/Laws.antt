@@ -1,4 +1,5 @@
--- What the definitions of this crate mean, as claims; proofs/Matching, Answers, Tables, Lent, ReadFilters and Listings prove them.
+-- What the definitions of this crate mean, as claims; proofs/Matching, Answers, Tables, Lent, ReadFilters, Listings and Unread
+-- prove them.
 -- Quotes are from 01, "Filters and replies", where nothing else is said.
 use mathlib.Core.Path.{_≡_}
 use mathlib.Core.Bool.{Bool, true, false}
@@ -24,7 +25,7 @@ use Rattle.event.specs.Lent.{natural, said, eventOf}
 use Rattle.event.specs.Answer.{hexOf, isLarge}
 use Rattle.law.specs.Lists.{_∈_, different, Pairwise, Once}
 use Rattle.law.specs.Event.{earlier, lower}
-use Rattle.table.specs.Layout.{countOf, slotAt, idIn, textIn}
+use Rattle.table.specs.Layout.{tableSize, capacityOf, countOf, slotAt, idIn, textIn}
 use Rattle.table.specs.Events.{timeOfText}
 use Rattle.table.specs.Sound.{sound}
 use Rattle.query.specs.Filter.{Condition, Filter}
@@ -296,3 +297,9 @@ pub record ListingIs (b m : List ℕ) (v : ℕ) (row : List ℕ) : Type 0 where
 
 abbrev pub ListingMeans : Type 0
 ListingMeans = (b m : List ℕ) (v : ℕ) (row : List ℕ) → ListingIs b m v row
+
+-- 01, "The table": "Bytes after slot N-1 are never read": whatever they are, a REQ's answer is the same
+abbrev pub ListingNeverRead : Type 0
+ListingNeverRead = (b t : List ℕ) → length b ≡ tableSize (capacityOf b) →
+    (sound b ≡ true → (fs : List Filter) → answerList (b ++ t) fs ≡ answerList b fs)
+    × ((m : List ℕ) (v : ℕ) (row : List ℕ) → (listed (b ++ t) m v row ≡ listed b m v row) × (listedRow (b ++ t) m v row ≡ listedRow b m v row))

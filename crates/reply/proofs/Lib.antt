@@ -1,5 +1,6 @@
--- Starred: the starred cases of 01. Example: the program's output on 01's four lines. Which, Shown: which replies a message gets. Lines, Plain:
--- the program's lines. Kept: its table stays sound, and demand 3 holds of it. Worked: replies by computation.
+-- Starred: the starred cases of 01. Example: the program's output on 01's four lines. Accepted: an EVENT is stored and given back to a REQ.
+-- Which, Shown: which replies a message gets. Lines, Plain: the program's lines. Kept: its table stays sound, and demand 3 holds of it.
+-- Lent: a reply given as parts. Worked: replies by computation.
 pub mod Starred
 pub mod Example
 pub mod Plain
@@ -9,3 +10,4 @@ pub mod Shown
 pub mod Worked
 pub mod Kept
 pub mod Accepted
+pub mod Lent

@@ -246,7 +246,7 @@ first-rows r x false false true l e = absurd (false≢true (sym (ap isAccepted e
 first-rows r x false false false true e = let z = ap offers.numberOf e in (omega arith, omega arith)
 first-rows r x false false false false e = absurd (false≢true (sym (ap isAccepted e)))
 
-verdict-rows : (r x N : ℕ) (t : List SignedEvent) (e : SignedEvent) → answerOf x (verdict signedTiles N t (some e)) ≡ offered.Refused r → (9 ≤ r) × (r ≤ 12)
+pub verdict-rows : (r x N : ℕ) (t : List SignedEvent) (e : SignedEvent) → answerOf x (verdict signedTiles N t (some e)) ≡ offered.Refused r → (9 ≤ r) × (r ≤ 12)
 unfolding verdict
 verdict-rows r x N t e q =
     first-rows r x (isEphemeral (signedTiles .classOf e)) (any (law.hasId signedTiles e) t) (any (hasKeyNewer signedTiles e) t) (lacksSlot signedTiles N t e) q

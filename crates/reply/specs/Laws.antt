@@ -1,12 +1,12 @@
--- What specs/Program and specs/Replies mean, in the sentences of 01: proved in proofs/Which, Shown, Lines, Plain and Kept,
+-- What specs/Program, Replies and Lent mean, in the sentences of 01: proved in proofs/Which, Shown, Lines, Plain, Kept and Lent,
 -- each under its own name in small letters (EarlyRow: early-row).
 use mathlib.Core.Path.{_≡_}
 use mathlib.Core.Bool.{Bool, true, false, cond}
-use mathlib.Core.Logic.{_⊎_, _≢_}
+use mathlib.Core.Logic.{_↔_, _⊎_, _≢_}
 use mathlib.Core.List.{List, [], _∷_, _++_, map}
 use Prim.Native.Nat.{ℕ, _≤_, _<_}
 use lib.Dec.{eqb}
-use lib.ListN.{length}
+use lib.ListN.{length, take, drop}
 use Rattle.wire.specs.Limits.{hexLength, mostMessage}
 use Rattle.json.specs.Tree.{Json, Items, nil, Got, none, got, root}
 use Rattle.spell.specs.Spell.{isHexOf}
@@ -16,14 +16,16 @@ use Rattle.text.specs.Event.{Event}
 use Rattle.text.specs.Read.{read, readText}
 use Rattle.message.specs.Parts.{memberOf, membersOf, spanIn, spanOf}
 use Rattle.message.specs.Read.{firstOf, readOf, namedOf}
-use Rattle.message.specs.Lent.{bytesOf}
+use Rattle.message.specs.Lent.{bytesOf, string2, string4, string5, string7, event2, event4, event5, event7, body6, body8}
 use Rattle.message.specs.declared.Span.{Span}
+use Rattle.message.specs.declared.Body.{Body}
 use Rattle.message.specs.declared.EventParts.{EventParts}
 use Rattle.message.specs.declared.ReqParts.{ReqParts}
 use Rattle.message.specs.declared.Message.the-variants as message
 use Rattle.message.specs.declared.Named.the-variants as names
-use Rattle.event.specs.Lent.{said}
-use Rattle.event.specs.Answer.{hexOf}
+use Rattle.event.specs.Lent.{said, textOf}
+use Rattle.event.specs.Answer.{hexOf, isLarge, serialised, serialisedRow, numberOf, valueOf}
+use Rattle.event.specs.declared.Written.the-variants as sent
 use Rattle.law.specs.Lists.{_∈_, any}
 use Rattle.table.specs.Layout.{tableSize, capacityOf, countOf, slotAt, idIn, sigIn, textIn}
 use Rattle.law.specs.Table.{Offer, IdPremise}
@@ -33,13 +35,18 @@ use Rattle.law.specs.Machine.{judged, runOn, NoneLacksOn}
 use Rattle.table.specs.Events.{Signature, tiles, view}
 use Rattle.table.specs.Sound.{sound}
 use Rattle.table.specs.Relay.{relay}
-use Rattle.table.specs.Offer.{asMessage, answer, next}
+use Rattle.table.specs.Offer as offers
+use Rattle.table.specs.Offer.{Offering, asMessage, answer, next}
 use Rattle.table.specs.declared.Offered.the-variants.{Stored, Refused}
 use Rattle.query.specs.Filter.{Filter}
 use Rattle.query.specs.Answer.{answerList, filtersAt}
+use Rattle.query.specs.Laws.{Lowest}
 use Rattle.reply.specs.Ascii.{ascii}
 use Rattle.reply.specs.Replies as replies
 use Rattle.reply.specs.Replies.{Reply, ok, eose, closed, notice, replyText, reasonOf, isAccepted, verdictReason}
+use Rattle.reply.specs.declared.ReplyParts.{ReplyParts}
+use Rattle.reply.specs.declared.ReplyParts.the-variants as parts
+use Rattle.reply.specs.Lent.{subscription8, replyOf, partsRow, replyRow, replied, repliedOut}
 use Rattle.reply.specs.Program.{repliesTo, tableAfter, lines, written, outputFrom, freshTable, output}
 
 -- ---- a message's first word and the elements after it; `other` where there is no such word
@@ -218,3 +225,93 @@ offersOf ms = judged tiles Signature relay (map asMessage ms)
 abbrev pub ProgramSettles : Type 0
 ProgramSettles = (ms : List (List ℕ)) → IdPremise tiles (offersOf ms) → NoneLacksOn tiles Signature relay freshTable (map asMessage ms) →
     Settled tiles (map (signature.event tiles Signature) (view (tableFrom freshTable ms))) (offersOf ms)
+
+-- ---- a reply given as lent parts (specs/Lent): proved in proofs/Lent
+abbrev pub lentText : List ℕ → ReplyParts → List ℕ
+lentText b q = replyText (replyOf b q)
+
+-- the strings of a reply, its event's aside, and which of them is a subscription id
+pub data StringOf : ReplyParts → Span → Type 0 where
+  ok-id : {i r : Span} {a : Bool} → StringOf (parts.Ok i a r) i
+  ok-reason : {i r : Span} {a : Bool} → StringOf (parts.Ok i a r) r
+  event-subscription : {s : Span} {p : EventParts} → StringOf (parts.Event s p) s
+  eose-subscription : {s : Span} → StringOf (parts.Eose s) s
+  closed-subscription : {s r : Span} → StringOf (parts.Closed s r) s
+  closed-reason : {s r : Span} → StringOf (parts.Closed s r) r
+  notice-reason : {r : Span} → StringOf (parts.Notice r) r
+
+pub data SubscriptionOf : ReplyParts → Span → Type 0 where
+  of-event : {s : Span} {p : EventParts} → SubscriptionOf (parts.Event s p) s
+  of-eose : {s : Span} → SubscriptionOf (parts.Eose s) s
+  of-closed : {s r : Span} → SubscriptionOf (parts.Closed s r) s
+
+-- the row k holds of the event p: "Parts of an event .. are tested by rows 2 and 4 to 8 .., an event by 9 too"
+pub data EventHolds (b : List ℕ) (p : EventParts) : ℕ → Type 0 where
+  event-utf8 : event2 b p ≡ true → EventHolds b p 2
+  event-string : event4 b p ≡ true → EventHolds b p 4
+  event-shape : event5 b p ≡ true → EventHolds b p 5
+  event-number : body6 (p .body) ≡ true → EventHolds b p 6
+  event-hex : event7 b p ≡ true → EventHolds b p 7
+  event-count : body8 b (p .body) ≡ true → EventHolds b p 8
+  event-large : isLarge b (p .body) ≡ true → EventHolds b p 9
+
+-- the row k holds of the reply q: an id is 64 of lower-case hex, a subscription id has "1 to 64 characters", a reason is any string
+pub data PartsHold (b : List ℕ) : ReplyParts → ℕ → Type 0 where
+  not-utf8 : {q : ReplyParts} {s : Span} → StringOf q s → string2 b s ≡ true → PartsHold b q 2
+  not-allowed : {q : ReplyParts} {s : Span} → StringOf q s → string4 b s ≡ true → PartsHold b q 4
+  not-spelled : {q : ReplyParts} {s : Span} → StringOf q s → string5 b s ≡ true → PartsHold b q 5
+  not-hex : {i r : Span} {a : Bool} → string7 hexLength b i ≡ true → PartsHold b (parts.Ok i a r) 7
+  miscounted : {q : ReplyParts} {s : Span} → SubscriptionOf q s → subscription8 b s ≡ true → PartsHold b q 8
+  in-event : {s : Span} {p : EventParts} {k : ℕ} → EventHolds b p k → PartsHold b (parts.Event s p) k
+
+-- 01, "Numbers the relay answers with": "Where several hold, the lowest number is given"
+abbrev pub PartsRowIs : Type 0
+PartsRowIs = (b : List ℕ) (q : ReplyParts) → Lowest (PartsHold b q) (partsRow b q)
+
+abbrev pub PartsPass : Type 0
+PartsPass = (b : List ℕ) (q : ReplyParts) → (partsRow b q ≡ 0) ↔ ((k : ℕ) → PartsHold b q k → ⊥)
+
+-- row 13, "lent output .. too short"
+pub data ReplyHolds (b : List ℕ) (q : ReplyParts) (out : List ℕ) : ℕ → Type 0 where
+  of-parts : {k : ℕ} → PartsHold b q k → ReplyHolds b q out k
+  too-short : length out < length (lentText b q) → ReplyHolds b q out 13
+
+abbrev pub ReplyRowIs : Type 0
+ReplyRowIs = (b : List ℕ) (q : ReplyParts) (out : List ℕ) → Lowest (ReplyHolds b q out) (replyRow b q out)
+
+-- a row of the parts is given before 13
+abbrev pub PartsFirst : Type 0
+PartsFirst = (b : List ℕ) (q : ReplyParts) (out : List ℕ) → partsRow b q ≢ 0 → replyRow b q out ≡ partsRow b q
+
+abbrev pub ShortOutput : Type 0
+ShortOutput = (b : List ℕ) (q : ReplyParts) (out : List ℕ) → (replyRow b q out ≡ 13) ↔ ((partsRow b q ≡ 0) × (length out < length (lentText b q)))
+
+abbrev pub ReplyFits : Type 0
+ReplyFits = (b : List ℕ) (q : ReplyParts) (out : List ℕ) → (replyRow b q out ≡ 0) ↔ ((partsRow b q ≡ 0) × (length (lentText b q) ≤ length out))
+
+-- "Output is written from its start, and its rest stays. A refusal carries its number and no other value .., and every lent buffer stays as
+-- found."
+pub record RepliedIs (b : List ℕ) (q : ReplyParts) (out : List ℕ) : Type 0 where
+  pub number : numberOf (replied b q out) ≡ replyRow b q out
+  pub wrote : replyRow b q out ≡ 0 → replied b q out ≡ sent.Wrote (length (lentText b q))
+  pub value : replyRow b q out ≡ 0 → valueOf (replied b q out) ≡ length (lentText b q)
+  pub begins : replyRow b q out ≡ 0 → take (length (lentText b q)) (repliedOut b q out) ≡ lentText b q
+  pub rest : replyRow b q out ≡ 0 → drop (length (lentText b q)) (repliedOut b q out) ≡ drop (length (lentText b q)) out
+  pub as-long : length (repliedOut b q out) ≡ length out
+  pub refused : replyRow b q out ≢ 0 → (replied b q out ≡ sent.Refused (replyRow b q out)) × (valueOf (replied b q out) ≡ 0) × (repliedOut b q out ≡ out)
+
+abbrev pub RepliedMeans : Type 0
+RepliedMeans = (b : List ℕ) (q : ReplyParts) (out : List ℕ) → RepliedIs b q out
+
+-- ---- the number and value of other answers: "A refusal carries its number and no other value"
+abbrev pub SerialisedNumber : Type 0
+SerialisedNumber = (b : List ℕ) (p : Body) (out : List ℕ) →
+    (numberOf (serialised b p out) ≡ serialisedRow b p out)
+    × (serialisedRow b p out ≡ 0 → valueOf (serialised b p out) ≡ length (textOf b p))
+    × (serialisedRow b p out ≢ 0 → valueOf (serialised b p out) ≡ 0)
+
+-- of an offer, the row of a refusal, and 0 for a verdict
+abbrev pub OfferedNumber : Type 0
+OfferedNumber = (b : List ℕ) (o : Offering) →
+    ((r : ℕ) → 1 ≤ r → (offers.numberOf (answer b o) ≡ r) ↔ (answer b o ≡ Refused r))
+    × ((offers.numberOf (answer b o) ≡ 0) ↔ ((r : ℕ) → answer b o ≢ Refused r))
