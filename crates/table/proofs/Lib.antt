@@ -3,10 +3,11 @@
 -- Fields, Slots: an event written to a slot is read back, and a sound slot is what its event writes. Lists, Distinct, Bytes, Stored: the
 -- table after a store. Unread, Shown: what stands behind the last slot, and what is shown. Hex, Valid: what holds of a valid offer.
 -- Refused, Again: a spelling that decodes to a string within the limits is not refused. Strings, Arrays, Tellable, Fair: the parts of what is
--- held, and that parts judged to be it are just those. Rows: the rows of an offer in their order. DPlaces: where d stands. SoundBytes: a sound
--- table byte for byte. WrongRelays: relays that demand 3 shuts out.
+-- held, and that parts judged to be it are just those. Rows: the rows of an offer in their order. Texts: what the law takes from a text.
+-- DPlaces: where d stands. SoundBytes: a sound table byte for byte. WrongRelays: relays that demand 3 shuts out.
 pub mod Fields
 pub mod Slots
+pub mod Texts
 pub mod Formatted
 pub mod Lists
 pub mod Distinct

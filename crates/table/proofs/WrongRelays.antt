@@ -17,18 +17,18 @@ use Rattle.digest.specs.Block.{K, H0, words, schedule, round, rounds, chained, 
 use Rattle.digest.specs.Digest.{bytesOf, padding, padded, hashAfter, digestBytes, digest}
 use Rattle.text.specs.Event.{Event, quoted, membersText, tagText, tagsText, serialise, all, isPubkey, isTime, isTag, isTags, isString, isPlainByte, isFit}
 use Rattle.text.specs.Kinds.{classOf}
-use Rattle.text.proofs.RoundTrip.{read-back}
 use Rattle.law.specs.Table.{regular, IdPremise, slotsNeeded}
 use Rattle.law.specs.Event as law
 use Rattle.law.specs.Machine.{Machine, Fresh, HeldSetOn, RoomLawOn, judged, runOn}
 use Rattle.law.proofs.WrongRelays.{OfRegular}
 use Rattle.law.proofs.WrongRelays as wrong
 use Rattle.table.specs.Layout.{tableSize, capacityOf, countOf}
-use Rattle.table.specs.Events.{Signature, tiles, classOfEvent, classOfText, view}
+use Rattle.table.specs.Events.{Signature, tiles, classOfText, view}
 use Rattle.table.specs.Offer.{Offering, isStored, judge, answer, next}
 use Rattle.table.specs.Format.{formatRow, formatted}
 use Rattle.table.specs.Relay.{AsParts, Good, verdictOf, relay}
 use Rattle.table.specs.declared.Offered.{Offered}
+use Rattle.table.proofs.Texts.{text-says}
 use Rattle.table.proofs.Formatted.{formatted-fresh}
 use Rattle.table.proofs.Distinct.{tile-laws}
 use Rattle.table.proofs.Stored.{length-view}
@@ -64,8 +64,8 @@ ids-differ : digest (serialise (noted 0)) ≢ digest (serialise (noted 1))
 ids-differ q = omega (arith, ids-begin .0, ids-begin .1, ap (λ (l : List ℕ). getD l 0 0) q)
 
 is-regular : (t : ℕ) → Suits (noted t) → classOfText (serialise (noted t)) ≡ regular
-unfolding classOfText classOfEvent classOf
-is-regular t s = rw (read-back (noted t) (s .fit) (omega (arith, s .size)))
+unfolding classOf
+is-regular t s = text-says (noted t) (s .fit) (omega (arith, s .size)) .is-regular refl
 
 abbrev unsigned : Signature
 unsigned = replicate 64 0

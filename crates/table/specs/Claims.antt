@@ -1,5 +1,5 @@
 -- What is claimed of a table beside demand 3 (specs/Relay). Quotes are from 01. Proofs: Formatted, Rows, Faithful,
--- Unread, SoundBytes, DPlaces, Shown, Tellable, Fair.
+-- Unread, Texts, SoundBytes, DPlaces, Shown, Tellable, Fair.
 use mathlib.Core.Path.{_≡_}
 use mathlib.Core.Bool.{true, false}
 use mathlib.Core.Logic.{_↔_, _⊎_, _≢_}
@@ -15,18 +15,18 @@ use Rattle.digest.specs.Digest.{digest}
 use Rattle.shape.specs.Rows.{messageRow}
 use Rattle.text.specs.Event.{Event, serialise, isFit, all}
 use Rattle.text.specs.Read.{read, readText}
-use Rattle.text.specs.Kinds.{classOf, dOf}
-use Rattle.text.specs.declared.Class.the-variants.{Ephemeral, Addressable}
+use Rattle.text.specs.Kinds.{replaceable, addressable, classOf, dOf}
+use Rattle.text.specs.declared.Class.the-variants.{Regular, Replaceable, Ephemeral, Addressable}
 use Rattle.message.specs.Read.{readOf}
 use Rattle.message.specs.declared.EventParts.{EventParts}
 use Rattle.message.specs.declared.Message.the-variants as message
 use Rattle.event.specs.Lent.{said, textOf}
 use Rattle.event.specs.Answer.{hexOf, offeredRow}
 use Rattle.law.specs.Lists.{_∈_}
-use Rattle.law.specs.Table.{verdict}
+use Rattle.law.specs.Table.{ephemeral, regular, keyed, verdict}
 use Rattle.law.specs.Machine.{Fresh}
 use Rattle.table.specs.Layout.{Held, Fits, slotSize, tableSize, slotPlace, countPlace, capacityOf, countOf, slotAt, isByte, dIn, textIn, noSpan, slotBytes}
-use Rattle.table.specs.Events.{SignedEvent, Signature, tiles, signedTiles, inSlot, ofHeld, view}
+use Rattle.table.specs.Events.{SignedEvent, Signature, classOfText, timeOfText, tiles, signedTiles, inSlot, ofHeld, view}
 use Rattle.table.specs.Sound.{slotSound, sound}
 use Rattle.table.specs.Offer.{Offering, asMessage, asParts, isEvent, messageOfferRow, rowOf, isValid, isStored, judge, answerOf, answer, offeredOf, slotFor, next}
 use Rattle.table.specs.Format.{formatRow, formatted, shownRow, shown}
@@ -92,6 +92,18 @@ BytesAfter = (b : List ℕ) (o : Offering) → (length (next b o) ≡ length b) 
 -- "Bytes after slot N-1 are never read": whatever they are, the answer is the same, and so are the table's bytes
 abbrev pub NeverRead : Type 0
 NeverRead = (b t : List ℕ) (o : Offering) → length b ≡ tableSize (capacityOf b) → (answer (b ++ t) o ≡ answer b o) × (next (b ++ t) o ≡ next b o ++ t)
+
+-- ---- texts
+-- what the law takes from a text is what "Kinds and keys" says of its event
+pub record OfText (e : Event) : Type 0 where
+  pub is-regular : classOf (e .kind) ≡ Regular → classOfText (serialise e) ≡ regular
+  pub is-ephemeral : classOf (e .kind) ≡ Ephemeral → classOfText (serialise e) ≡ ephemeral
+  pub is-replaceable : classOf (e .kind) ≡ Replaceable → classOfText (serialise e) ≡ keyed (replaceable (e .kind) (e .pubkey))
+  pub is-addressable : classOf (e .kind) ≡ Addressable → classOfText (serialise e) ≡ keyed (addressable (e .kind) (e .pubkey) (dOf (e .tags)))
+  pub time : timeOfText (serialise e) ≡ e .time
+
+abbrev pub TextSays : Type 0
+TextSays = (e : Event) → isFit e ≡ true → length (serialise e) ≤ mostText → OfText e
 
 -- ---- slots
 -- a sound table, byte for byte: a held slot is what an event within the limits writes, "no ephemeral kind", "later slots are zero"
