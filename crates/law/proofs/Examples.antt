@@ -14,7 +14,7 @@ use Rattle.law.specs.Table.{Table, Offer, verdict, after, run, verdicts,
 use Rattle.law.specs.Claims.{Settled, Relay, moment, end, Tells, Exchange, both, Fits}
 use Rattle.wire.specs.Bytes.{sameBytes}
 use Rattle.law.specs.Event.{Event, newer, events}
-use Rattle.law.specs.Signature.{signed}
+use Rattle.law.specs.Signature.{withSignature}
 use Rattle.law.specs.Machine.{Machine, Faithful, Passes}
 
 -- ---- Order
@@ -191,15 +191,15 @@ an-end-is-needed agree =
 module _ (E : Events) (Sig : Type 0) where
   pub record Listed : Type 0 where
     pub capacity : ℕ
-    pub held : Table (signed E Sig)
+    pub held : Table (withSignature E Sig)
 
   abbrev model : Machine E Sig
   model = record {
     State = Listed;
-    Offering = Offer (signed E Sig);
+    Offering = Offer (withSignature E Sig);
     Answer = Verdict;
-    answer = λ b o. verdict (signed E Sig) (b .capacity) (b .held) o;
-    next = λ b o. record { capacity = b .capacity; held = after (signed E Sig) (b .capacity) (b .held) o };
+    answer = λ b o. verdict (withSignature E Sig) (b .capacity) (b .held) o;
+    next = λ b o. record { capacity = b .capacity; held = after (withSignature E Sig) (b .capacity) (b .held) o };
     verdictOf = λ v. v;
     capacity = λ b. b .capacity;
     slots = λ b. b .held;

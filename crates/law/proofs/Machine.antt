@@ -9,7 +9,7 @@ use lib.ListN.{length, length-map}
 use Rattle.law.specs.Lists.{_∈_}
 use Rattle.law.specs.Table.{Events, Laws, isNoRoom, Offer, run, verdicts, lacks, Valid, Held}
 use Rattle.law.specs.Claims.{Relay, told, whole, moment, end, Tells, Exchange, Fits}
-use Rattle.law.specs.Signature.{Slot, signed, event, unsigned}
+use Rattle.law.specs.Signature.{Slot, withSignature, event, withoutSignature}
 use Rattle.law.specs.Machine.{Machine, Faithful, Passes, Fresh, view, judged, runOn, answersOn, lacksOn}
 use Rattle.law.specs.Machine.{HeldSetOn, BeginningsOn, OrderFreeOn, RoomLawOn, EnoughLawOn, SignatureStaysOn}
 use Rattle.law.specs.Machine.{RelayOn, toldOn, momentOn, endOn, FitsOn, TellsOn, ExchangeOn}
@@ -22,7 +22,7 @@ module _ (E : Events) (Sig : Type 0) (M : Machine E Sig) (F : Faithful E Sig M) 
   open Machine M using (State, Offering, answer, next, verdictOf, capacity, slots, judge, AsParts, Good)
 
   abbrev S : Events
-  S = signed E Sig
+  S = withSignature E Sig
 
   abbrev ran : State → List Offering → State
   ran b os = runOn E Sig M b os
@@ -65,7 +65,7 @@ module _ (E : Events) (Sig : Type 0) (M : Machine E Sig) (F : Faithful E Sig M) 
     lacks-is = (rw (f .empty) at (lacks-run os b (f .good))) ∙ lacks-event E Sig (capacity b) (map judge os) []
 
   valid-append : (os ps : List Offering) → valid (os ++ ps) ≡ valid os ++ valid ps
-  valid-append os ps = ap (map (unsigned E Sig)) (map-append judge os ps) ∙ map-append (unsigned E Sig) (map judge os) (map judge ps)
+  valid-append os ps = ap (map (withoutSignature E Sig)) (map-append judge os ps) ∙ map-append (withoutSignature E Sig) (map judge os) (map judge ps)
 
   -- ---- one list
 
@@ -140,10 +140,10 @@ module _ (E : Events) (Sig : Type 0) (M : Machine E Sig) (F : Faithful E Sig M) 
 
         valid-held : Valid E e (valid os) → Held E e (view E Sig M b)
         valid-held v =
-            let (j, k, p) = Memᴰ·of-map (unsigned E Sig) (map judge os) v in
+            let (j, k, p) = Memᴰ·of-map (withoutSignature E Sig) (map judge os) v in
             let (o, n, q) = Memᴰ·of-map judge os k in
             let (s, m, t) = x .no-other o n in
-            let r : some e ≡ some (s .0) = sym p ∙ ap (unsigned E Sig) (sym q ∙ passes o s m t) in
+            let r : some e ≡ some (s .0) = sym p ∙ ap (withoutSignature E Sig) (sym q ∙ passes o s m t) in
             let i : e ≡ s .0 = cc in
             Memᴰ·cast i (Memᴰ·map (event E Sig) m)
 
@@ -151,7 +151,7 @@ module _ (E : Events) (Sig : Type 0) (M : Machine E Sig) (F : Faithful E Sig M) 
         held-valid h =
             let (s, m, p) = Memᴰ·of-map (event E Sig) (slots b) h in
             let (o, n, t) = x .each s m in
-            Memᴰ·cast (ap some (sym p) ∙ ap (unsigned E Sig) (sym (passes o s m t))) (Memᴰ·map (unsigned E Sig) (Memᴰ·map judge n))
+            Memᴰ·cast (ap some (sym p) ∙ ap (withoutSignature E Sig) (sym (passes o s m t))) (Memᴰ·map (withoutSignature E Sig) (Memᴰ·map judge n))
 
     exchange-is : (A B : RelayOn E Sig M) → ExchangeOn E Sig M A B → Exchange E (relay A) (relay B)
     exchange-is A B x = record {

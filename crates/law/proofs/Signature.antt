@@ -9,7 +9,7 @@ use lib.ListN.{length-map}
 use Rattle.law.specs.Lists.{any, store}
 use Rattle.law.specs.Table.{Events, Laws, isNoRoom, isStored, Table, Offer, hasId, hasKey, hasKeyNewer}
 use Rattle.law.specs.Table.{verdict, after, run, verdicts, lacks}
-use Rattle.law.specs.Signature.{signed, event, unsigned, SignatureStays}
+use Rattle.law.specs.Signature.{withSignature, event, withoutSignature, SignatureStays}
 use Rattle.law.proofs.Sound.{later-beats}
 
 module _ {A B : Type 0} (f : A → B) where
@@ -29,16 +29,16 @@ module _ {A B : Type 0} (f : A → B) where
 
 module _ (E : Events) (Sig : Type 0) where
   abbrev S : Events
-  S = signed E Sig
+  S = withSignature E Sig
 
   -- the events of a table of slots, and of a list of offers
   abbrev bare : Table S → Table E
   bare t = map (event E Sig) t
 
   abbrev bares : List (Offer S) → List (Offer E)
-  bares os = map (unsigned E Sig) os
+  bares os = map (withoutSignature E Sig) os
 
-  verdict-event : (N : ℕ) (t : Table S) (o : Offer S) → verdict S N t o ≡ verdict E N (bare t) (unsigned E Sig o)
+  verdict-event : (N : ℕ) (t : Table S) (o : Offer S) → verdict S N t o ≡ verdict E N (bare t) (withoutSignature E Sig o)
   unfolding verdict
   verdict-event N t none = refl
   verdict-event N t (some s) = rw (
@@ -48,7 +48,7 @@ module _ (E : Events) (Sig : Type 0) where
     length-map t (event E Sig),
   )
 
-  after-event : (N : ℕ) (t : Table S) (o : Offer S) → bare (after S N t o) ≡ after E N (bare t) (unsigned E Sig o)
+  after-event : (N : ℕ) (t : Table S) (o : Offer S) → bare (after S N t o) ≡ after E N (bare t) (withoutSignature E Sig o)
   unfolding after
   after-event N t none = refl
   after-event N t (some s) =

@@ -11,7 +11,7 @@ use lib.ListN.{length, length-map}
 use Rattle.law.specs.Table.{regular, Events, Laws, stored, duplicate, firstOf}
 use Rattle.law.specs.Table.{Offer, verdict, after, Valid, IdPremise, Held, slotsNeeded}
 use Rattle.law.specs.Claims.{Settled}
-use Rattle.law.specs.Signature.{Slot, signed, event, unsigned}
+use Rattle.law.specs.Signature.{Slot, withSignature, event, withoutSignature}
 use Rattle.law.specs.Machine.{Machine, Faithful, Fresh, view, judged, runOn, lacksOn, HeldSetOn, RoomLawOn}
 use Rattle.law.proofs.Signature.{signed-laws}
 
@@ -85,10 +85,10 @@ module _ (E : Events) (Sig : Type 0) (M : Machine E Sig) where
     pub kind : classOf e ≡ regular
 
   judged-one : (o : Offering) (e : Event) → OfRegular o e → judged E Sig M (o ∷ []) ≡ some e ∷ []
-  judged-one o e v = ap (λ j. unsigned E Sig j ∷ []) (v .valid)
+  judged-one o e v = ap (λ j. withoutSignature E Sig j ∷ []) (v .valid)
 
   judged-two : (o p : Offering) (e f : Event) → OfRegular o e → OfRegular p f → judged E Sig M (o ∷ p ∷ []) ≡ some e ∷ some f ∷ []
-  judged-two o p e f v w = ap₂ (λ j k. unsigned E Sig j ∷ unsigned E Sig k ∷ []) (v .valid) (w .valid)
+  judged-two o p e f v w = ap₂ (λ j k. withoutSignature E Sig j ∷ withoutSignature E Sig k ∷ []) (v .valid) (w .valid)
 
   module _ (held : HeldSetOn E Sig M) (room : RoomLawOn E Sig M) where
     -- a list that needs no more slots than there are leaves the held set
@@ -146,7 +146,7 @@ module _ (E : Events) (Sig : Type 0) (M : Machine E Sig) where
   pub one-verdict : Faithful E Sig M → Laws E → (b : State) → Fresh E Sig M b → (o : Offering) (e : Event) → OfRegular o e → 1 ≤ capacity b
       → ((b c : State) (o p : Offering) → verdictOf (answer b o) ≡ verdictOf (answer c p)) → ⊥
   one-verdict F L b f o e v le same =
-      let S : Events = signed E Sig in
+      let S : Events = withSignature E Sig in
       let x : Slot E Sig = (e, v .signature) in
       let first : verdictOf (answer b o) ≡ stored =
       F .says b o (f .good) ∙ ap₂ (verdict S (capacity b)) (f .empty) (v .valid) ∙ fresh-stored S (capacity b) x le (v .kind) in

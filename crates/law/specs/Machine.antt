@@ -11,7 +11,7 @@ use lib.ListN.{length}
 use Rattle.law.specs.Lists.{_∈_, any}
 use Rattle.law.specs.Table.{Events, Verdict, isNoRoom, Table, Offer, verdict, after, IdPremise, SameValid, SameHeld, slotsNeeded}
 use Rattle.law.specs.Claims.{Settled, Enough}
-use Rattle.law.specs.Signature.{Slot, signed, event, unsigned}
+use Rattle.law.specs.Signature.{Slot, withSignature, event, withoutSignature}
 
 pub record Machine (E : Events) (Sig : Type 0) : Type 1 where
   -- a table, an offer "as a message or as parts", and an answer
@@ -26,7 +26,7 @@ pub record Machine (E : Events) (Sig : Type 0) : Type 1 where
   pub capacity : State → ℕ
   pub slots : State → List (Slot E Sig)
   -- the event and the signature that are offered, if none of rows 1 to 10 refuses the offer
-  pub judge : Offering → Offer (signed E Sig)
+  pub judge : Offering → Offer (withSignature E Sig)
   -- the offer is, as parts, "with the id, text and signature held there"
   pub AsParts : Offering → Slot E Sig → Type 0
   -- what is known of the tables that lists of offers lead to
@@ -39,8 +39,8 @@ module _ (E : Events) (Sig : Type 0) (M : Machine E Sig) where
   pub record Faithful : Type 0 where
     pub good : (b : State) (o : Offering) → Good b → Good (next b o)
     pub keeps : (b : State) (o : Offering) → Good b → capacity (next b o) ≡ capacity b
-    pub says : (b : State) (o : Offering) → Good b → verdictOf (answer b o) ≡ verdict (signed E Sig) (capacity b) (slots b) (judge o)
-    pub does : (b : State) (o : Offering) → Good b → slots (next b o) ≡ after (signed E Sig) (capacity b) (slots b) (judge o)
+    pub says : (b : State) (o : Offering) → Good b → verdictOf (answer b o) ≡ verdict (withSignature E Sig) (capacity b) (slots b) (judge o)
+    pub does : (b : State) (o : Offering) → Good b → slots (next b o) ≡ after (withSignature E Sig) (capacity b) (slots b) (judge o)
 
   -- a held slot that is offered as parts passes rows 1 to 10 again
   abbrev pub Passes : Type 0
@@ -57,7 +57,7 @@ module _ (E : Events) (Sig : Type 0) (M : Machine E Sig) where
 
   -- the valid events of a list
   abbrev pub judged : List Offering → List (Offer E)
-  judged os = map (unsigned E Sig) (map judge os)
+  judged os = map (withoutSignature E Sig) (map judge os)
 
   -- each offer is made to the table the last one left, and "Nobody else writes the table meanwhile."
   unfoldable pub runOn : State → List Offering → State

@@ -11,8 +11,8 @@ module _ (E : Events) (Sig : Type 0) where
   abbrev pub Slot : Type 0
   Slot = E .Event × Sig
 
-  abbrev pub signed : Events
-  signed = record {
+  abbrev pub withSignature : Events
+  withSignature = record {
     Event = Slot;
     Id = E .Id;
     Key = E .Key;
@@ -27,11 +27,11 @@ module _ (E : Events) (Sig : Type 0) where
   abbrev pub event : Slot → E .Event
   event s = s .0
 
-  abbrev pub unsigned : Offer signed → Offer E
-  unsigned none = none
-  unsigned (some s) = some (s .0)
+  abbrev pub withoutSignature : Offer withSignature → Offer E
+  withoutSignature none = none
+  withoutSignature (some s) = some (s .0)
 
   -- 01: "the signature first stored stays"
   abbrev pub SignatureStays : Type 0
-  SignatureStays = (N : ℕ) (os ps : List (Offer signed)) (e : E .Event) (s r : Sig) →
-      (e, s) ∈ run signed N [] os → (e, r) ∈ run signed N [] (os ++ ps) → r ≡ s
+  SignatureStays = (N : ℕ) (os ps : List (Offer withSignature)) (e : E .Event) (s r : Sig) →
+      (e, s) ∈ run withSignature N [] os → (e, r) ∈ run withSignature N [] (os ++ ps) → r ≡ s

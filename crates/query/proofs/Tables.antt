@@ -25,7 +25,7 @@ use Rattle.wire.proofs.Bytes.{same-bytes}
 use Rattle.law.proofs.Order.{strict-times, strict-bytes, newer-means, laws}
 use Rattle.law.proofs.Cells.{length-cells, cell-at}
 use Rattle.table.specs.Layout.{slotSize, headerSize, countOf, slotAt, heldSlots, idIn, textIn, lengthIn}
-use Rattle.table.specs.Events.{signedTiles, timeOfText, inSlot, view}
+use Rattle.table.specs.Events.{signedEvents, timeOfText, inSlot, view}
 use Rattle.table.specs.Sound.{sound, hasHeader, capacityFits, slotsFit, countFits, othersAsAbove, slotsSound, slotSound, noIdTwice, noKeyTwice, laterZero, noneTwice, isRead, textReads}
 use Rattle.query.specs.Filter.{Filter}
 use Rattle.query.specs.Match.{matches}
@@ -134,13 +134,13 @@ module _ (b : List ℕ) (ok : sound b ≡ true) where
       apart (yes l) = inl l
       apart (no n) = inr (omega (arith, ne))
 
-      none : noneTwice (hasId signedTiles) (map inSlot (heldSlots b)) ≡ true
+      none : noneTwice (hasId signedEvents) (map inSlot (heldSlots b)) ≡ true
       none = both (noIdTwice b) _ (both (slotsSound b) _ after-header .1) .0
 
       one : (i j : ℕ) → i < j → j < countOf b → idAt b j ≡ idAt b i → ⊥
       one i j l h q =
           let n = held-length b in
-          none-twice (hasId signedTiles) inSlot (heldSlots b) [] none i j l (omega (arith, n))
+          none-twice (hasId signedEvents) inSlot (heldSlots b) [] none i j l (omega (arith, n))
           (rw (held-at b i (omega arith), held-at b j h) (same-bytes (idAt b j) (idAt b i) .1 q))
 
   -- "held texts are serialisations of events"

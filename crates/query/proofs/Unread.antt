@@ -12,7 +12,7 @@ use lib.Seq.{take-append-le, drop-append-le}
 use Rattle.text.specs.Read.{readText}
 use Rattle.event.specs.Answer.{orElse, hexOf}
 use Rattle.table.specs.Layout.{slotSize, tableSize, slotPlace, capacityOf, countOf, slotAt, idIn, textIn}
-use Rattle.table.specs.Events.{signedTiles, inSlot}
+use Rattle.table.specs.Events.{signedEvents, inSlot}
 use Rattle.table.specs.Sound.{sound}
 use Rattle.table.proofs.Bytes.{clauses}
 use Rattle.table.proofs.Unread.{count-append, sound-append}
@@ -69,7 +69,7 @@ module _ (b t : List ℕ) (full : length b ≡ tableSize (capacityOf b)) where
 
     order-append : (j k : ℕ) → j < countOf b → k < countOf b → newerSlot (b ++ t) j k ≡ newerSlot b j k
     unfolding newerSlot
-    order-append j k h i = ap₂ (λ x y. signedTiles .newer (inSlot x) (inSlot y)) (slot-append j h) (slot-append k i)
+    order-append j k h i = ap₂ (λ x y. signedEvents .newer (inSlot x) (inSlot y)) (slot-append j h) (slot-append k i)
 
     match-append : (f : Filter) (k : ℕ) → k < countOf b → matchesSlot (b ++ t) f k ≡ matchesSlot b f k
     unfolding matchesSlot

@@ -33,7 +33,7 @@ use Rattle.text.specs.Read as reading
 use Rattle.text.specs.Read.{read, readText, opened, standsAt, fieldsAt, pairAt, closedAt, pubkeyAt, timeAt, runOf, kindAt, bodyFrom}
 use Rattle.text.specs.Kinds as kinds
 use Rattle.law.specs.Table.{regular, stored, verdict, after}
-use Rattle.table.specs.Events.{SignedEvent, Signature, tiles, signedTiles, inSlot, ofHeld, classOfEvent, classOfText, view}
+use Rattle.table.specs.Events.{SignedEvent, Signature, tableEvents, signedEvents, inSlot, ofHeld, classOfEvent, classOfText, view}
 use Rattle.table.specs.Offer.{asMessage, unhex, heldOf, partsOf, offeredOf, judge, messageOfferRow, answer, next}
 use Rattle.table.specs.Offer as offer
 use Rattle.law.specs.Machine.{Fresh}
@@ -123,15 +123,15 @@ regular-note : classOfText text ≡ regular
 unfolding classOfText classOfEvent kinds.classOf
 regular-note = rw text-read
 
-first-verdict : verdict signedTiles 8 [] (some note) ≡ stored
+first-verdict : verdict signedEvents 8 [] (some note) ≡ stored
 unfolding verdict
 first-verdict = rw regular-note
 
-first-view : after signedTiles 8 [] (some note) ≡ note ∷ []
+first-view : after signedEvents 8 [] (some note) ≡ note ∷ []
 unfolding after
 first-view = rw first-verdict
 
-fresh : Fresh tiles Signature relay freshTable
+fresh : Fresh tableEvents Signature relay freshTable
 fresh = formatted-fresh programSlots (replicate (tableSize programSlots) 0) row-0 .0
 
 capacity : capacityOf freshTable ≡ 8
@@ -143,8 +143,8 @@ table = next freshTable (asMessage sent)
 table-view : view table ≡ note ∷ []
 table-view =
     faithful .does freshTable (asMessage sent) (fresh .good)
-    ∙ ap (λ (t : List SignedEvent). after signedTiles (capacityOf freshTable) t (judge (asMessage sent))) (fresh .empty)
-    ∙ ap₂ (λ N j. after signedTiles N [] j) capacity judged
+    ∙ ap (λ (t : List SignedEvent). after signedEvents (capacityOf freshTable) t (judge (asMessage sent))) (fresh .empty)
+    ∙ ap₂ (λ N j. after signedEvents N [] j) capacity judged
     ∙ first-view
 
 table-sound : sound table ≡ true
@@ -157,9 +157,9 @@ says-stored : answer freshTable (asMessage sent) ≡ Stored
 unfolding partsOf
 says-stored =
     rows-in-order .0 freshTable (asMessage sent) .judged (rw valid) (fresh .good .is-sound)
-    ∙ ap (λ (t : List SignedEvent). offer.answerOf 0 (verdict signedTiles (capacityOf freshTable) t (some (ofHeld (offeredOf (asMessage sent)))))) (fresh .empty)
-    ∙ ap (λ N. offer.answerOf 0 (verdict signedTiles N [] (some (ofHeld (offeredOf (asMessage sent)))))) capacity
-    ∙ ap (λ x. offer.answerOf 0 (verdict signedTiles 8 [] (some x))) (rw reads held-is)
+    ∙ ap (λ (t : List SignedEvent). offer.answerOf 0 (verdict signedEvents (capacityOf freshTable) t (some (ofHeld (offeredOf (asMessage sent)))))) (fresh .empty)
+    ∙ ap (λ N. offer.answerOf 0 (verdict signedEvents N [] (some (ofHeld (offeredOf (asMessage sent)))))) capacity
+    ∙ ap (λ x. offer.answerOf 0 (verdict signedEvents 8 [] (some x))) (rw reads held-is)
     ∙ ap (offer.answerOf 0) first-verdict
 
 -- slot 0 holds it

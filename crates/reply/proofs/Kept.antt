@@ -8,7 +8,7 @@ use Rattle.law.specs.Table.{Offer, IdPremise}
 use Rattle.law.specs.Claims.{Settled}
 use Rattle.law.specs.Machine.{Fresh, view, runOn}
 use Rattle.table.specs.Layout.{tableSize}
-use Rattle.table.specs.Events.{Signature, tiles}
+use Rattle.table.specs.Events.{Signature, tableEvents}
 use Rattle.table.specs.Sound.{sound}
 use Rattle.table.specs.Offer.{Offering, asMessage, next}
 use Rattle.table.specs.Relay.{Good, relay}
@@ -20,10 +20,10 @@ use Rattle.reply.specs.Laws.{offersOf, tableFrom, StaysSound, ProgramSet
 use Rattle.reply.proofs.Example.{row-0}
 use Rattle.reply.proofs.Which.{all-offered}
 
-fresh : Fresh tiles Signature relay freshTable
+fresh : Fresh tableEvents Signature relay freshTable
 fresh = formatted-fresh programSlots (replicate (tableSize programSlots) 0) row-0 .0
 
-good-run : (b : List ℕ) (os : List Offering) → Good b → Good (runOn tiles Signature relay b os)
+good-run : (b : List ℕ) (os : List Offering) → Good b → Good (runOn tableEvents Signature relay b os)
 unfolding runOn
 good-run b [] g = g
 good-run b (o ∷ os) g = good-run (next b o) os (faithful .good b o g)

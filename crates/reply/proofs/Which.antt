@@ -33,7 +33,7 @@ use Rattle.law.specs.Table as law
 use Rattle.law.specs.Table.{verdict, firstOf as firstVerdict, isEphemeral, hasKeyNewer, lacksSlot}
 use Rattle.table.specs.Layout.{capacityOf}
 use Rattle.law.specs.Machine.{runOn}
-use Rattle.table.specs.Events.{Signature, SignedEvent, tiles, signedTiles, ofHeld, view}
+use Rattle.table.specs.Events.{Signature, SignedEvent, tableEvents, signedEvents, ofHeld, view}
 use Rattle.table.specs.Relay.{relay}
 use Rattle.table.specs.Sound.{sound}
 use Rattle.table.specs.Offer as offers
@@ -246,10 +246,10 @@ first-rows r x false false true l e = absurd (false≢true (sym (ap isAccepted e
 first-rows r x false false false true e = let z = ap offers.numberOf e in (omega arith, omega arith)
 first-rows r x false false false false e = absurd (false≢true (sym (ap isAccepted e)))
 
-pub verdict-rows : (r x N : ℕ) (t : List SignedEvent) (e : SignedEvent) → answerOf x (verdict signedTiles N t (some e)) ≡ offered.Refused r → (9 ≤ r) × (r ≤ 12)
+pub verdict-rows : (r x N : ℕ) (t : List SignedEvent) (e : SignedEvent) → answerOf x (verdict signedEvents N t (some e)) ≡ offered.Refused r → (9 ≤ r) × (r ≤ 12)
 unfolding verdict
 verdict-rows r x N t e q =
-    first-rows r x (isEphemeral (signedTiles .classOf e)) (any (law.hasId signedTiles e) t) (any (hasKeyNewer signedTiles e) t) (lacksSlot signedTiles N t e) q
+    first-rows r x (isEphemeral (signedEvents .classOf e)) (any (law.hasId signedEvents e) t) (any (hasKeyNewer signedEvents e) t) (lacksSlot signedEvents N t e) q
 
 pub last-rows : LastRows
 unfolding answer verdictOn judge verdict
@@ -367,4 +367,4 @@ one-offered b m = go (readOf m) refl
 pub all-offered : AllOffered
 unfolding runOn
 all-offered b [] = refl
-all-offered b (m ∷ ms) = all-offered (tableAfter b m) ms ∙ ap (λ c. runOn tiles Signature relay c (map asMessage ms)) (one-offered b m)
+all-offered b (m ∷ ms) = all-offered (tableAfter b m) ms ∙ ap (λ c. runOn tableEvents Signature relay c (map asMessage ms)) (one-offered b m)

@@ -32,7 +32,7 @@ use Rattle.law.specs.Table.{Offer, IdPremise}
 use Rattle.law.specs.Claims.{Settled}
 use Rattle.law.specs.Signature as signature
 use Rattle.law.specs.Machine.{judged, runOn, NoneLacksOn}
-use Rattle.table.specs.Events.{Signature, tiles, view}
+use Rattle.table.specs.Events.{Signature, tableEvents, view}
 use Rattle.table.specs.Sound.{sound}
 use Rattle.table.specs.Relay.{relay}
 use Rattle.table.specs.Offer as offers
@@ -189,7 +189,7 @@ repliesFrom b (m ∷ ms) = repliesTo b m ++ repliesFrom (tableAfter b m) ms
 
 -- the table is the one that offering every line as a message leaves: demand 3 speaks of the program too
 abbrev pub AllOffered : Type 0
-AllOffered = (b : List ℕ) (ms : List (List ℕ)) → tableFrom b ms ≡ runOn tiles Signature relay b (map asMessage ms)
+AllOffered = (b : List ℕ) (ms : List (List ℕ)) → tableFrom b ms ≡ runOn tableEvents Signature relay b (map asMessage ms)
 
 -- what comes after a line's end is answered as if it came alone, to the table that was left
 abbrev pub GoesOn : Type 0
@@ -219,12 +219,12 @@ abbrev pub StaysSound : Type 0
 StaysSound = (ms : List (List ℕ)) → sound (tableFrom freshTable ms) ≡ true
 
 -- what it holds is what demand 3 gives for the lines as offers, if no line lacks room and the id premise holds
-abbrev pub offersOf : List (List ℕ) → List (Offer tiles)
-offersOf ms = judged tiles Signature relay (map asMessage ms)
+abbrev pub offersOf : List (List ℕ) → List (Offer tableEvents)
+offersOf ms = judged tableEvents Signature relay (map asMessage ms)
 
 abbrev pub ProgramSettles : Type 0
-ProgramSettles = (ms : List (List ℕ)) → IdPremise tiles (offersOf ms) → NoneLacksOn tiles Signature relay freshTable (map asMessage ms) →
-    Settled tiles (map (signature.event tiles Signature) (view (tableFrom freshTable ms))) (offersOf ms)
+ProgramSettles = (ms : List (List ℕ)) → IdPremise tableEvents (offersOf ms) → NoneLacksOn tableEvents Signature relay freshTable (map asMessage ms) →
+    Settled tableEvents (map (signature.event tableEvents Signature) (view (tableFrom freshTable ms))) (offersOf ms)
 
 -- ---- a reply given as lent parts (specs/Lent): proved in proofs/Lent
 abbrev pub lentText : List ℕ → ReplyParts → List ℕ

@@ -18,7 +18,7 @@ use Rattle.law.proofs.Order.{laws}
 use Rattle.law.proofs.Signature.{signed-laws}
 use Rattle.table.specs.Layout.{kindIn, textIn, heldSlots, dIn, dPlace}
 use Rattle.wire.specs.Field.{fieldAt, unsigned}
-use Rattle.table.specs.Events.{Signature, tiles, signedTiles, inSlot, classFor, classOfEvent, classIn, classOfText, timeOfText, view}
+use Rattle.table.specs.Events.{Signature, tableEvents, signedEvents, inSlot, classFor, classOfEvent, classIn, classOfText, timeOfText, view}
 use Rattle.table.specs.Sound.{agreesWith, agreesIn, fieldsAgree, isLasting, textReads, zeroAfterText, slotSound, slotsSound, noIdTwice, noKeyTwice}
 use Rattle.table.proofs.Lists.{is-true, all-has, pairwise-as, twice-apart, apart-twice}
 
@@ -26,11 +26,11 @@ use Rattle.table.proofs.Lists.{is-true, all-has, pairwise-as, twice-apa
 key-means : (a b : Key) → T (sameKey a b) ↔ (a ≡ b)
 key-means a b = (λ t. same-key a b .0 (is-true (sameKey a b) t), λ e. rw (same-key a b .1 e) tt)
 
-pub tile-laws : Laws tiles
-tile-laws = laws Key sameKey key-means classOfText timeOfText
+pub event-laws : Laws tableEvents
+event-laws = laws Key sameKey key-means classOfText timeOfText
 
-pub signed-tile-laws : Laws signedTiles
-signed-tile-laws = signed-laws tiles Signature tile-laws
+pub signed-event-laws : Laws signedEvents
+signed-event-laws = signed-laws tableEvents Signature event-laws
 
 -- ---- a kind that the law calls ephemeral is one of 20000 to 29999
 not-both : (k : ℕ) → isEphemeral k ≡ true → isReplaceable k ≡ false
@@ -69,20 +69,20 @@ slot-lasts s e =
 
 -- ---- ids and keys
 module _ (b : List ℕ) where
-  pub distinct : slotsSound b ≡ true → noIdTwice b ≡ true → noKeyTwice b ≡ true → Distinct signedTiles (view b)
+  pub distinct : slotsSound b ≡ true → noIdTwice b ≡ true → noKeyTwice b ≡ true → Distinct signedEvents (view b)
   unfolding view slotsSound noIdTwice noKeyTwice
   distinct s i k = record {
     lasting = λ e m. let (c, n, q) = Memᴰ·of-map inSlot (heldSlots b) m in rw (← q, slot-lasts c (all-has slotSound (heldSlots b) s n)) tt;
-    ids = pairwise-as (λ x y. T (hasId signedTiles x y) → ⊥) (λ x y. x .0 .id ≢ y .0 .id)
-        (λ x y ne q. ne (tile-laws .id-eq (y .0 .id) (x .0 .id) .1 (sym q))) (view b) (twice-apart (hasId signedTiles) (view b) i);
-    keys = twice-apart (hasKey signedTiles) (view b) k;
+    ids = pairwise-as (λ x y. T (hasId signedEvents x y) → ⊥) (λ x y. x .0 .id ≢ y .0 .id)
+        (λ x y ne q. ne (event-laws .id-eq (y .0 .id) (x .0 .id) .1 (sym q))) (view b) (twice-apart (hasId signedEvents) (view b) i);
+    keys = twice-apart (hasKey signedEvents) (view b) k;
   }
 
-  pub distinct-ids : Distinct signedTiles (view b) → noIdTwice b ≡ true
+  pub distinct-ids : Distinct signedEvents (view b) → noIdTwice b ≡ true
   unfolding noIdTwice
-  distinct-ids d = apart-twice (hasId signedTiles) (view b) (pairwise-as (λ x y. x .0 .id ≢ y .0 .id) (λ x y. T (hasId signedTiles x y) → ⊥)
-      (λ x y ne t. ne (sym (tile-laws .id-eq (y .0 .id) (x .0 .id) .0 t))) (view b) (d .ids))
+  distinct-ids d = apart-twice (hasId signedEvents) (view b) (pairwise-as (λ x y. x .0 .id ≢ y .0 .id) (λ x y. T (hasId signedEvents x y) → ⊥)
+      (λ x y ne t. ne (sym (event-laws .id-eq (y .0 .id) (x .0 .id) .0 t))) (view b) (d .ids))
 
-  pub distinct-keys : Distinct signedTiles (view b) → noKeyTwice b ≡ true
+  pub distinct-keys : Distinct signedEvents (view b) → noKeyTwice b ≡ true
   unfolding noKeyTwice
-  distinct-keys d = apart-twice (hasKey signedTiles) (view b) (d .keys)
+  distinct-keys d = apart-twice (hasKey signedEvents) (view b) (d .keys)

@@ -17,7 +17,7 @@ use Rattle.law.specs.Machine.{Faithful}
 use Rattle.law.proofs.Lists.{either, store-from}
 use Rattle.law.proofs.Sound.{after-stored, after-other, distinct-after}
 use Rattle.table.specs.Layout.{Fits, tableSize, capacityOf, slotBytes}
-use Rattle.table.specs.Events.{SignedEvent, Signature, tiles, signedTiles, ofHeld, classOfEvent, classOfText, view}
+use Rattle.table.specs.Events.{SignedEvent, Signature, tableEvents, signedEvents, ofHeld, classOfEvent, classOfText, view}
 use Rattle.table.specs.Sound.{sound}
 use Rattle.table.specs.Offer.{Offering, rowOf, isValid, offeredOf, judge, answerOf, verdictOn, answer, isStored, slotFor, countAfter, storedIn, next}
 use Rattle.table.specs.Relay.{Good, verdictOf, relay}
@@ -25,7 +25,7 @@ use Rattle.table.specs.Claims.{Unchanged, OtherBytes, BytesAfter}
 use Rattle.table.specs.declared.Offered.{Offered}
 use Rattle.table.specs.declared.Offered.the-variants.{Ephemeral, Duplicate, Older, Stored, Refused}
 use Rattle.table.proofs.Lists.{is-true}
-use Rattle.table.proofs.Distinct.{class-lasts, signed-tile-laws, distinct}
+use Rattle.table.proofs.Distinct.{class-lasts, signed-event-laws, distinct}
 use Rattle.table.proofs.Bytes.{Clauses, clauses, written-after, written-byte}
 use Rattle.table.proofs.Slots.{slot-length, slot-sound}
 use Rattle.table.proofs.Stored.{length-view, shares, HasSlot, stored-length, stored-capacity, After, after-store, stored-sound}
@@ -79,7 +79,7 @@ module _ (b : List ℕ) (o : Offering) where
   unfolding answer
   answer-unsound e s = rw (e, s)
 
-  pub answer-valid : isValid o ≡ true → sound b ≡ true → answer b o ≡ answerOf (rowOf o) (verdict signedTiles (capacityOf b) (view b) (some offered))
+  pub answer-valid : isValid o ≡ true → sound b ≡ true → answer b o ≡ answerOf (rowOf o) (verdict signedEvents (capacityOf b) (view b) (some offered))
   unfolding answer verdictOn judge
   answer-valid e s = rw (e, s)
 
@@ -95,7 +95,7 @@ module _ (b : List ℕ) (o : Offering) where
   pub record Stores : Type 0 where
     pub valid : isValid o ≡ true
     pub is-sound : sound b ≡ true
-    pub stores : verdict signedTiles (capacityOf b) (view b) (some offered) ≡ stored
+    pub stores : verdict signedEvents (capacityOf b) (view b) (some offered) ≡ stored
 
   pub stores-if : isStored (answer b o) ≡ true → Stores
   stores-if e = go (isValid o) (sound b) refl refl
@@ -106,14 +106,14 @@ module _ (b : List ℕ) (o : Offering) where
       go true true p q = record {
         valid = p;
         is-sound = q;
-        stores = answer-stored (rowOf o) (verdict signedTiles (capacityOf b) (view b) (some offered)) (sym (ap isStored (answer-valid p q)) ∙ e);
+        stores = answer-stored (rowOf o) (verdict signedEvents (capacityOf b) (view b) (some offered)) (sym (ap isStored (answer-valid p q)) ∙ e);
       }
 
   module _ (s : Stores) where
-    told : (law.isEphemeral (signedTiles .classOf offered) ≡ false) × (lacksSlot signedTiles (capacityOf b) (view b) offered ≡ false)
+    told : (law.isEphemeral (signedEvents .classOf offered) ≡ false) × (lacksSlot signedEvents (capacityOf b) (view b) offered ≡ false)
     unfolding verdict
-    told = first-stored (law.isEphemeral (signedTiles .classOf offered)) (any (hasId signedTiles offered) (view b))
-        (any (hasKeyNewer signedTiles offered) (view b)) (lacksSlot signedTiles (capacityOf b) (view b) offered) (s .stores)
+    told = first-stored (law.isEphemeral (signedEvents .classOf offered)) (any (hasId signedEvents offered) (view b))
+        (any (hasKeyNewer signedEvents offered) (view b)) (lacksSlot signedEvents (capacityOf b) (view b) offered) (s .stores)
 
     has-slot : HasSlot b (offeredOf o)
     has-slot = go (either (any (shares b (offeredOf o)) (view b)))
@@ -144,8 +144,8 @@ module _ (b : List ℕ) (o : Offering) where
     stays-sound =
         let c = sound-parts in
         stored-sound b (offeredOf o) c fits leaves (slot-sound (offeredOf o) fits lasts)
-        (rw (after-stored signedTiles (capacityOf b) (view b) offered (s .stores)) at
-        (distinct-after signedTiles signed-tile-laws (capacityOf b) (view b) (some offered) (distinct b (c .slots) (c .ids) (c .keys))))
+        (rw (after-stored signedEvents (capacityOf b) (view b) offered (s .stores)) at
+        (distinct-after signedEvents signed-event-laws (capacityOf b) (view b) (some offered) (distinct b (c .slots) (c .ids) (c .keys))))
 
     view-from : (x : SignedEvent) → x ∈ view (storedIn b (offeredOf o)) → (x ≡ offered) ⊎ (x ∈ view b)
     view-from x m = store-from (shares b (offeredOf o)) offered (view b) (rw (leaves .holds) at m)
@@ -176,36 +176,36 @@ module _ (b : List ℕ) (o : Offering) (g : Good b) where
       go true = stored-capacity b (offeredOf o)
       go false = refl
 
-  says : verdictOf (answer b o) ≡ verdict signedTiles (capacityOf b) (view b) (judge o)
+  says : verdictOf (answer b o) ≡ verdict signedEvents (capacityOf b) (view b) (judge o)
   unfolding verdict
   says = go (isValid o) refl
     where
-      go : (t : Bool) → isValid o ≡ t → verdictOf (answer b o) ≡ verdict signedTiles (capacityOf b) (view b) (judge o)
+      go : (t : Bool) → isValid o ≡ t → verdictOf (answer b o) ≡ verdict signedEvents (capacityOf b) (view b) (judge o)
       go true e =
           let x = offered b o in
           ap verdictOf (answer-valid b o e (g .is-sound))
-          ∙ first-said (rowOf o) (law.isEphemeral (signedTiles .classOf x)) (any (hasId signedTiles x) (view b))
-          (any (hasKeyNewer signedTiles x) (view b)) (lacksSlot signedTiles (capacityOf b) (view b) x)
-          ∙ ap (verdict signedTiles (capacityOf b) (view b)) (sym (judge-valid b o e))
+          ∙ first-said (rowOf o) (law.isEphemeral (signedEvents .classOf x)) (any (hasId signedEvents x) (view b))
+          (any (hasKeyNewer signedEvents x) (view b)) (lacksSlot signedEvents (capacityOf b) (view b) x)
+          ∙ ap (verdict signedEvents (capacityOf b) (view b)) (sym (judge-valid b o e))
       go false e =
           ap verdictOf (answer-invalid b o e)
           ∙ ap (λ t. cond t noRoom refused) (ne-eqb (rowOf o) 12 (λ q. omega (arith, refused-row o e)))
-          ∙ ap (verdict signedTiles (capacityOf b) (view b)) (sym (judge-invalid b o e))
+          ∙ ap (verdict signedEvents (capacityOf b) (view b)) (sym (judge-invalid b o e))
 
-  does : view (next b o) ≡ after signedTiles (capacityOf b) (view b) (judge o)
+  does : view (next b o) ≡ after signedEvents (capacityOf b) (view b) (judge o)
   unfolding next
   does = go (isStored (answer b o)) refl
     where
-      go : (t : Bool) → isStored (answer b o) ≡ t → view (cond t (storedIn b (offeredOf o)) b) ≡ after signedTiles (capacityOf b) (view b) (judge o)
+      go : (t : Bool) → isStored (answer b o) ≡ t → view (cond t (storedIn b (offeredOf o)) b) ≡ after signedEvents (capacityOf b) (view b) (judge o)
       go true e =
           let s = stores-if b o e in
           leaves b o s .holds
-          ∙ sym (after-stored signedTiles (capacityOf b) (view b) (offered b o) (s .stores))
-          ∙ ap (after signedTiles (capacityOf b) (view b)) (sym (judge-valid b o (s .valid)))
+          ∙ sym (after-stored signedEvents (capacityOf b) (view b) (offered b o) (s .stores))
+          ∙ ap (after signedEvents (capacityOf b) (view b)) (sym (judge-valid b o (s .valid)))
       go false e =
-          sym (after-other signedTiles (capacityOf b) (view b) (judge o) (ap law.isStored (sym says) ∙ stored-as (answer b o) ∙ e))
+          sym (after-other signedEvents (capacityOf b) (view b) (judge o) (ap law.isStored (sym says) ∙ stored-as (answer b o) ∙ e))
 
-pub faithful : Faithful tiles Signature relay
+pub faithful : Faithful tableEvents Signature relay
 faithful = record { good = good; keeps = keeps; says = says; does = does }
 
 pub unchanged : Unchanged

@@ -18,7 +18,7 @@ use Rattle.law.specs.Table.{hasKey, Distinct}
 use Rattle.law.proofs.Lists.{find-lt, find-none}
 use Rattle.law.proofs.Cells.{length-cells, cells-over, cells-behind, stored-over, stored-behind}
 use Rattle.table.specs.Layout.{Held, Fits, headerSize, slotSize, slotPlace, capacityOf, countOf, slotSizeOf, firstSlotOf, heldSlots, laterSlots, slotBytes}
-use Rattle.table.specs.Events.{SignedEvent, signedTiles, inSlot, ofHeld, view}
+use Rattle.table.specs.Events.{SignedEvent, signedEvents, inSlot, ofHeld, view}
 use Rattle.table.specs.Sound.{slotSound, slotsSound, isZero, laterZero, sound}
 use Rattle.table.specs.Offer.{slotFor, countAfter, storedIn}
 use Rattle.table.proofs.Lists.{all-set, all-append, all-one, all-behind}
@@ -32,7 +32,7 @@ length-view b = length-map (heldSlots b) inSlot ∙ length-cells slotSize (count
 
 module _ (b : List ℕ) (h : Held) where
   abbrev pub shares : SignedEvent → Bool
-  shares = hasKey signedTiles (ofHeld h)
+  shares = hasKey signedEvents (ofHeld h)
 
   -- a held slot has its key, or one is left
   abbrev pub HasSlot : Type 0
@@ -153,9 +153,9 @@ module _ (b : List ℕ) (h : Held) where
     after-store (inl t) = after-over t
     after-store (inr (t, l)) = after-behind t l
 
-    pub stored-sound : After → slotSound (slotBytes h) ≡ true → Distinct signedTiles (store shares (ofHeld h) (view b)) → sound (storedIn b h) ≡ true
+    pub stored-sound : After → slotSound (slotBytes h) ≡ true → Distinct signedEvents (store shares (ofHeld h) (view b)) → sound (storedIn b h) ≡ true
     stored-sound a e d =
-        let u : Distinct signedTiles (view (storedIn b h)) = rw (a .holds) d in
+        let u : Distinct signedEvents (view (storedIn b h)) = rw (a .holds) d in
         is-sound (storedIn b h) (record {
           header = rw stored-length (c .header);
           low = rw stored-capacity (c .low);

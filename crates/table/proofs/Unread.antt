@@ -16,7 +16,7 @@ use Rattle.law.specs.Lists.{find}
 use Rattle.law.specs.Cells.{cells}
 use Rattle.law.specs.Table.{hasId, hasKey, verdict}
 use Rattle.table.specs.Layout.{headerSize, slotSize, tableSize, slotPlace, countPlace, capacityOf, countOf, slotSizeOf, firstSlotOf, heldSlots, laterSlots, slotBytes}
-use Rattle.table.specs.Events.{signedTiles, inSlot, ofHeld, view}
+use Rattle.table.specs.Events.{signedEvents, inSlot, ofHeld, view}
 use Rattle.table.specs.Sound.{slotSound, slotsSound, noneTwice, noIdTwice, noKeyTwice, isZero, laterZero, sound}
 use Rattle.table.specs.Offer.{Offering, rowOf, isValid, offeredOf, answerOf, answer, isStored, slotFor, countAfter, storedIn, next}
 use Rattle.table.proofs.Slots.{slot-length}
@@ -99,8 +99,8 @@ module _ (b t : List ℕ) (full : length b ≡ tableSize (capacityOf b)) where
             size = sym size-append ∙ c .size;
             first = sym first-append ∙ c .first;
             slots = ap (all slotSound) (sym (slots-append few)) ∙ c .slots;
-            ids = ap (noneTwice (hasId signedTiles)) (sym (view-append few)) ∙ c .ids;
-            keys = ap (noneTwice (hasKey signedTiles)) (sym (view-append few)) ∙ c .keys;
+            ids = ap (noneTwice (hasId signedEvents)) (sym (view-append few)) ∙ c .ids;
+            keys = ap (noneTwice (hasKey signedEvents)) (sym (view-append few)) ∙ c .keys;
             later = ap isZero (sym (later-append few)) ∙ c .later;
           }
 
@@ -114,8 +114,8 @@ module _ (b t : List ℕ) (full : length b ≡ tableSize (capacityOf b)) where
         size = size-append ∙ c .size;
         first = first-append ∙ c .first;
         slots = ap (all slotSound) (slots-append (c .count)) ∙ c .slots;
-        ids = ap (noneTwice (hasId signedTiles)) (view-append (c .count)) ∙ c .ids;
-        keys = ap (noneTwice (hasKey signedTiles)) (view-append (c .count)) ∙ c .keys;
+        ids = ap (noneTwice (hasId signedEvents)) (view-append (c .count)) ∙ c .ids;
+        keys = ap (noneTwice (hasKey signedEvents)) (view-append (c .count)) ∙ c .keys;
         later = ap isZero (later-append (c .count)) ∙ c .later;
       }
 
@@ -128,7 +128,7 @@ module _ (b t : List ℕ) (full : length b ≡ tableSize (capacityOf b)) where
         go true false p q = answer-unsound (b ++ t) o p (sound-append ∙ q) ∙ sym (answer-unsound b o p q)
         go true true p q =
             answer-valid (b ++ t) o p (sound-append ∙ q)
-            ∙ ap₂ (λ N v. answerOf (rowOf o) (verdict signedTiles N v (some (ofHeld (offeredOf o))))) capacity-append (view-append (clauses b q .count))
+            ∙ ap₂ (λ N v. answerOf (rowOf o) (verdict signedEvents N v (some (ofHeld (offeredOf o))))) capacity-append (view-append (clauses b q .count))
             ∙ sym (answer-valid b o p q)
 
     stored-append : isStored (answer b o) ≡ true → storedIn (b ++ t) (offeredOf o) ≡ storedIn b (offeredOf o) ++ t
@@ -142,7 +142,7 @@ module _ (b t : List ℕ) (full : length b ≡ tableSize (capacityOf b)) where
         let l = slot-length h (fits b o s) in
         let w = slotBytes h in
         let n = leBytes 4 (countAfter b k) in
-        let place : slotFor (b ++ t) h ≡ k = ap (find (hasKey signedTiles (ofHeld h))) (view-append (c .count)) in
+        let place : slotFor (b ++ t) h ≡ k = ap (find (hasKey signedEvents (ofHeld h))) (view-append (c .count)) in
         let count : countAfter (b ++ t) (slotFor (b ++ t) h) ≡ countAfter b k = rw (place, count-append) in
         ap₂ (λ i m. put (put (b ++ t) (slotPlace i) w) countPlace (leBytes 4 m)) place count
         ∙ ap (λ d. put d countPlace n) (put-append b t (slotPlace k) w (omega arith))

@@ -23,14 +23,14 @@ use Rattle.law.specs.Machine.{Machine, Fresh, HeldSetOn, RoomLawOn, judged, run
 use Rattle.law.proofs.WrongRelays.{OfRegular}
 use Rattle.law.proofs.WrongRelays as wrong
 use Rattle.table.specs.Layout.{tableSize, capacityOf, countOf}
-use Rattle.table.specs.Events.{Signature, tiles, classOfText, view}
+use Rattle.table.specs.Events.{Signature, tableEvents, classOfText, view}
 use Rattle.table.specs.Offer.{Offering, isStored, judge, answer, next}
 use Rattle.table.specs.Format.{formatRow, formatted}
 use Rattle.table.specs.Relay.{AsParts, Good, verdictOf, relay}
 use Rattle.table.specs.declared.Offered.{Offered}
 use Rattle.table.proofs.Texts.{text-says}
 use Rattle.table.proofs.Formatted.{formatted-fresh}
-use Rattle.table.proofs.Distinct.{tile-laws}
+use Rattle.table.proofs.Distinct.{event-laws}
 use Rattle.table.proofs.Stored.{length-view}
 use Rattle.table.proofs.Faithful.{faithful, unchanged}
 use Rattle.table.proofs.Tellable.{offerable}
@@ -40,8 +40,8 @@ use Rattle.table.proofs.Demand3.{demand-3}
 abbrev noted : ℕ → Event
 noted t = record { pubkey = replicate 64 97; time = pos t; kind = 1; tags = []; content = [] }
 
-abbrev asTile : Event → law.Event
-asTile e = record { id = digest (serialise e); text = serialise e }
+abbrev named : Event → law.Event
+named e = record { id = digest (serialise e); text = serialise e }
 
 record Suits (e : Event) : Type 0 where
   fit : isFit e ≡ true
@@ -67,14 +67,14 @@ is-regular : (t : ℕ) → Suits (noted t) → classOfText (serialise (noted t))
 unfolding classOf
 is-regular t s = text-says (noted t) (s .fit) (omega (arith, s .size)) .is-regular refl
 
-abbrev unsigned : Signature
-unsigned = replicate 64 0
+abbrev blank : Signature
+blank = replicate 64 0
 
-offer-of : (t : ℕ) → Suits (noted t) → (o : Offering) × OfRegular tiles Signature relay o (asTile (noted t))
+offer-of : (t : ℕ) → Suits (noted t) → (o : Offering) × OfRegular tableEvents Signature relay o (named (noted t))
 unfolding all
 offer-of t s =
-    let (o, j) = offerable (noted t) unsigned (s .fit) (omega (arith, s .size)) refl refl in
-    (o, record { signature = unsigned; valid = j; kind = is-regular t s })
+    let (o, j) = offerable (noted t) blank (s .fit) (omega (arith, s .size)) refl refl in
+    (o, record { signature = blank; valid = j; kind = is-regular t s })
 
 -- ---- a fresh table of two slots
 two-fit : (b : List ℕ) → length b ≡ tableSize 2 → formatRow 2 b ≡ 0
@@ -87,7 +87,7 @@ buffer = replicate (tableSize 2) 0
 abbrev table : List ℕ
 table = formatted 2 buffer
 
-table-fresh : Fresh tiles Signature relay table
+table-fresh : Fresh tableEvents Signature relay table
 table-fresh = formatted-fresh 2 buffer (two-fit buffer (length-replicate {A = ℕ} (tableSize 2) 0)) .0
 
 table-two : capacityOf table ≡ 2
@@ -95,7 +95,7 @@ table-two = formatted-fresh 2 buffer (two-fit buffer (length-replicate {A = ℕ}
 
 -- ---- a relay with answers and a next table of its own
 module _ (answer′ : List ℕ → Offering → Offered) (next′ : List ℕ → Offering → List ℕ) where
-  abbrev pub another : Machine tiles Signature
+  abbrev pub another : Machine tableEvents Signature
   another = record {
     State = List ℕ;
     Offering = Offering;
@@ -110,18 +110,18 @@ module _ (answer′ : List ℕ → Offering → Offered) (next′ : List ℕ →
     Good = Good;
   }
 
-  fresh : Fresh tiles Signature another table
+  fresh : Fresh tableEvents Signature another table
   fresh = record { good = table-fresh .good; empty = table-fresh .empty }
 
-  of-regular : {o : Offering} {e : law.Event} → OfRegular tiles Signature relay o e → OfRegular tiles Signature another o e
+  of-regular : {o : Offering} {e : law.Event} → OfRegular tableEvents Signature relay o e → OfRegular tableEvents Signature another o e
   of-regular r = record { signature = r .signature; valid = r .valid; kind = r .kind }
 
-  module _ (held : HeldSetOn tiles Signature another) (room : RoomLawOn tiles Signature another) where
+  module _ (held : HeldSetOn tableEvents Signature another) (room : RoomLawOn tableEvents Signature another) where
     -- "a relay that refuses everything or stores nothing (shut out by the table of numbers and by the held set of demand 3)"
     pub stores-nothing : ((b : List ℕ) (o : Offering) → view (next′ b o) ≡ view b) → ⊥
     stores-nothing idle =
         let (o, v) = offer-of 0 suits₀ in
-        wrong.stores-nothing tiles Signature another held room table fresh o (asTile (noted 0)) (of-regular v) (omega (arith, table-two)) idle
+        wrong.stores-nothing tableEvents Signature another held room table fresh o (named (noted 0)) (of-regular v) (omega (arith, table-two)) idle
 
     -- one that refuses everything, if it keeps "every lent buffer stays as found"
     pub refuses-all : ((b : List ℕ) (o : Offering) → isStored (answer′ b o) ≡ false → next′ b o ≡ b) → ((b : List ℕ) (o : Offering) → isStored (answer′ b o) ≡ false) → ⊥
@@ -132,21 +132,21 @@ module _ (answer′ : List ℕ → Offering → Offered) (next′ : List ℕ →
     stores-first-only idle =
         let (o, v) = offer-of 0 suits₀ in
         let (p, w) = offer-of 1 suits₁ in
-        wrong.stores-first-only tiles Signature another held room table fresh o p (asTile (noted 0)) (asTile (noted 1)) (of-regular v) (of-regular w) ids-differ
+        wrong.stores-first-only tableEvents Signature another held room table fresh o p (named (noted 0)) (named (noted 1)) (of-regular v) (of-regular w) ids-differ
         (omega (arith, table-two)) idle
 
     -- "a made-up held count .. (the header ..)": one that no offer changes, and any other than the slots needed
     pub constant-count : ((b : List ℕ) (o : Offering) → countOf (next′ b o) ≡ countOf b) → ⊥
     constant-count idle =
         let (o, v) = offer-of 0 suits₀ in
-        wrong.constant-count tiles Signature another held room table fresh o (asTile (noted 0)) (of-regular v) (omega (arith, table-two))
+        wrong.constant-count tableEvents Signature another held room table fresh o (named (noted 0)) (of-regular v) (omega (arith, table-two))
         (λ b o. length-view (next′ b o) ∙ idle b o ∙ sym (length-view b))
 
-    pub made-up-count : (b : List ℕ) → Fresh tiles Signature another b → (os : List Offering) → IdPremise tiles (judged tiles Signature another os)
-        → slotsNeeded tiles (judged tiles Signature another os) ≤ capacityOf b
-        → (n : ℕ) → n ≢ slotsNeeded tiles (judged tiles Signature another os) → countOf (runOn tiles Signature another b os) ≢ n
+    pub made-up-count : (b : List ℕ) → Fresh tableEvents Signature another b → (os : List Offering) → IdPremise tableEvents (judged tableEvents Signature another os)
+        → slotsNeeded tableEvents (judged tableEvents Signature another os) ≤ capacityOf b
+        → (n : ℕ) → n ≢ slotsNeeded tableEvents (judged tableEvents Signature another os) → countOf (runOn tableEvents Signature another b os) ≢ n
     made-up-count b f os ids le n ne q =
-        wrong.made-up-count tiles Signature another held room b f os ids le n ne (length-view (runOn tiles Signature another b os) ∙ q)
+        wrong.made-up-count tableEvents Signature another held room b f os ids le n ne (length-view (runOn tableEvents Signature another b os) ∙ q)
 
 -- ---- this relay meets the claims, and so is none of these
 pub stores-something : ((b : List ℕ) (o : Offering) → view (next b o) ≡ view b) → ⊥
@@ -165,7 +165,7 @@ counts = constant-count answer next (demand-3 .held-set) (demand-3 .room-law)
 pub answers-differ : ((b c : List ℕ) (o p : Offering) → answer b o ≡ answer c p) → ⊥
 answers-differ same =
     let (o, v) = offer-of 0 suits₀ in
-    wrong.one-verdict tiles Signature relay faithful tile-laws table table-fresh o (asTile (noted 0)) v (omega (arith, table-two))
+    wrong.one-verdict tableEvents Signature relay faithful event-laws table table-fresh o (named (noted 0)) v (omega (arith, table-two))
     (λ b c o p. ap verdictOf (same b c o p))
 
 -- "one .. id for all (.. FIPS 180-4)"

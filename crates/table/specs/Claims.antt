@@ -26,7 +26,7 @@ use Rattle.law.specs.Lists.{_∈_}
 use Rattle.law.specs.Table.{ephemeral, regular, keyed, verdict}
 use Rattle.law.specs.Machine.{Fresh}
 use Rattle.table.specs.Layout.{Held, Fits, slotSize, tableSize, slotPlace, countPlace, capacityOf, countOf, slotAt, isByte, dIn, textIn, noSpan, slotBytes}
-use Rattle.table.specs.Events.{SignedEvent, Signature, classOfText, timeOfText, tiles, signedTiles, inSlot, ofHeld, view}
+use Rattle.table.specs.Events.{SignedEvent, Signature, classOfText, timeOfText, tableEvents, signedEvents, inSlot, ofHeld, view}
 use Rattle.table.specs.Sound.{slotSound, sound}
 use Rattle.table.specs.Offer.{Offering, asMessage, asParts, isEvent, messageOfferRow, rowOf, isValid, isStored, judge, answerOf, answer, offeredOf, slotFor, next}
 use Rattle.table.specs.Format.{formatRow, formatted, shownRow, shown}
@@ -37,7 +37,7 @@ use Rattle.table.specs.declared.Offered.the-variants.{Refused}
 -- "A fresh table is one just formatted, with any capacity and buffer that rows 13 and 14 let pass; its C is 0." Bytes after it stay
 abbrev pub FormattedFresh : Type 0
 FormattedFresh = (N : ℕ) (b : List ℕ) → formatRow N b ≡ 0 →
-    Fresh tiles Signature relay (formatted N b)
+    Fresh tableEvents Signature relay (formatted N b)
     × (capacityOf (formatted N b) ≡ N)
     × (countOf (formatted N b) ≡ 0)
     × (length (formatted N b) ≡ length b)
@@ -56,7 +56,7 @@ pub record FormatRows (N : ℕ) (b : List ℕ) : Type 0 where
 pub record OfferRows (b : List ℕ) (o : Offering) : Type 0 where
   pub early : isValid o ≡ false → (1 ≤ rowOf o) × (rowOf o ≤ 10) × (answer b o ≡ Refused (rowOf o))
   pub unsound : isValid o ≡ true → sound b ≡ false → answer b o ≡ Refused 11
-  pub judged : isValid o ≡ true → sound b ≡ true → answer b o ≡ answerOf 0 (verdict signedTiles (capacityOf b) (view b) (some (ofHeld (offeredOf o))))
+  pub judged : isValid o ≡ true → sound b ≡ true → answer b o ≡ answerOf 0 (verdict signedEvents (capacityOf b) (view b) (some (ofHeld (offeredOf o))))
 
 -- "Reading a message tests rows 1 to 8; offering one tests 1 to 12, .. and gives 5 also if it isn't an EVENT": 5 before 6 to 8, after 1 to 4
 pub record MessageRows (m : List ℕ) : Type 0 where

@@ -11,7 +11,7 @@ use Rattle.text.specs.declared.Class.the-variants.{Regular, Replaceable, Epheme
 use Rattle.law.specs.Table.{Class, ephemeral, regular, keyed, Events}
 use Rattle.law.specs.Event.{events}
 use Rattle.law.specs.Event as law
-use Rattle.law.specs.Signature.{Slot, signed}
+use Rattle.law.specs.Signature.{Slot, withSignature}
 use Rattle.table.specs.Layout.{Held, idIn, sigIn, textIn, heldSlots}
 
 -- 01, "Kinds and keys": replaceable and addressable events have a key
@@ -41,18 +41,18 @@ classOfText t = classIn (readText t)
 unfoldable pub timeOfText : List ℕ → ℤ
 timeOfText t = timeIn (readText t)
 
-abbrev pub tiles : Events
-tiles = events Key sameKey classOfText timeOfText
+abbrev pub tableEvents : Events
+tableEvents = events Key sameKey classOfText timeOfText
 
 -- a signature is its bytes
 abbrev pub Signature : Type 0
 Signature = List ℕ
 
 abbrev pub SignedEvent : Type 0
-SignedEvent = Slot tiles Signature
+SignedEvent = Slot tableEvents Signature
 
-abbrev pub signedTiles : Events
-signedTiles = signed tiles Signature
+abbrev pub signedEvents : Events
+signedEvents = withSignature tableEvents Signature
 
 -- what the bytes of a slot hold; what an event with its id and signature is, held
 abbrev pub inSlot : List ℕ → SignedEvent

@@ -18,43 +18,43 @@ use Rattle.text.specs.Kinds.{classOf, dOf, keyOf}
 use Rattle.law.specs.Table.{wasEphemeral, duplicate, older, stored, noRoom, verdict, after}
 use Rattle.table.specs.Sound.{isCapacity}
 use Rattle.table.specs.Format.{formatRow}
-use Rattle.table.specs.Events.{SignedEvent, signedTiles, classOfEvent, classOfText, timeOfText}
+use Rattle.table.specs.Events.{SignedEvent, signedEvents, classOfEvent, classOfText, timeOfText}
 
 -- the event of a kind and a time, with d in its tags
 abbrev made : ℕ → ℤ → ℕ → Event
 made kind time d = record { pubkey = replicate 64 97; time = time; kind = kind; tags = ((100 ∷ []) ∷ (d ∷ []) ∷ []) ∷ []; content = [] }
 
 -- with an id of one byte, and a signature
-abbrev signed : ℕ → ℕ → Event → SignedEvent
-signed i s e = (record { id = i ∷ []; text = serialise e }, s ∷ [])
+abbrev entry : ℕ → ℕ → Event → SignedEvent
+entry i s e = (record { id = i ∷ []; text = serialise e }, s ∷ [])
 
 -- a regular event, and a tile dated -7200
 abbrev held : List SignedEvent
-held = signed 5 1 (made 1 (pos 9) 65) ∷ signed 7 1 (made 30000 (negsuc 7199) 66) ∷ []
+held = entry 5 1 (made 1 (pos 9) 65) ∷ entry 7 1 (made 30000 (negsuc 7199) 66) ∷ []
 
 -- the same event with another signature; a newer tile of the held key; an older one; another regular event; another key; an ephemeral one
 verdicts :
-    (verdict signedTiles 2 held (some (signed 5 2 (made 1 (pos 9) 65))) ≡ duplicate)
-    × (verdict signedTiles 2 held (some (signed 8 1 (made 30000 (negsuc 0) 66))) ≡ stored)
-    × (verdict signedTiles 2 held (some (signed 8 1 (made 30000 (negsuc 7200) 66))) ≡ older)
-    × (verdict signedTiles 2 held (some (signed 8 1 (made 1 (pos 9) 66))) ≡ noRoom)
-    × (verdict signedTiles 2 held (some (signed 8 1 (made 30000 (pos 9) 67))) ≡ noRoom)
-    × (verdict signedTiles 2 held (some (signed 8 1 (made 20000 (pos 9) 66))) ≡ wasEphemeral)
+    (verdict signedEvents 2 held (some (entry 5 2 (made 1 (pos 9) 65))) ≡ duplicate)
+    × (verdict signedEvents 2 held (some (entry 8 1 (made 30000 (negsuc 0) 66))) ≡ stored)
+    × (verdict signedEvents 2 held (some (entry 8 1 (made 30000 (negsuc 7200) 66))) ≡ older)
+    × (verdict signedEvents 2 held (some (entry 8 1 (made 1 (pos 9) 66))) ≡ noRoom)
+    × (verdict signedEvents 2 held (some (entry 8 1 (made 30000 (pos 9) 67))) ≡ noRoom)
+    × (verdict signedEvents 2 held (some (entry 8 1 (made 20000 (pos 9) 66))) ≡ wasEphemeral)
 unfolding verdict sameBytes letterOf escOne escape digitsIn digits decimal quoted membersText tagText tagsText serialise all isPubkey isTime isPlainByte classOfEvent classOfText timeOfText standsAt closedAt pairAt byteOf isRaw bodyFrom stringAt membersAt tagAt tagsAt runOf timeAt kindAt pubkeyAt fieldsAt opened readText classOf dOf keyOf isDigit allDigits valueFrom isNatural naturalOf negativeOf wholeOf isWithin answerOf leadOf utf8From isUtf8 isHex
 verdicts = (refl, refl, refl, refl, refl, refl)
 
 -- the newer tile takes the slot with its key
 replaced :
-    after signedTiles 2 held (some (signed 8 1 (made 30000 (negsuc 0) 66)))
-    ≡ signed 5 1 (made 1 (pos 9) 65) ∷ signed 8 1 (made 30000 (negsuc 0) 66) ∷ []
+    after signedEvents 2 held (some (entry 8 1 (made 30000 (negsuc 0) 66)))
+    ≡ entry 5 1 (made 1 (pos 9) 65) ∷ entry 8 1 (made 30000 (negsuc 0) 66) ∷ []
 unfolding after verdict sameBytes letterOf escOne escape digitsIn digits decimal quoted membersText tagText tagsText serialise all isPubkey isTime isPlainByte classOfEvent classOfText timeOfText standsAt closedAt pairAt byteOf isRaw bodyFrom stringAt membersAt tagAt tagsAt runOf timeAt kindAt pubkeyAt fieldsAt opened readText classOf dOf keyOf isDigit allDigits valueFrom isNatural naturalOf negativeOf wholeOf isWithin answerOf leadOf utf8From isUtf8 isHex
 replaced = refl
 
 -- of two tiles of one time the lower id is newer, in three slots with room for one more event
 ties :
-    (verdict signedTiles 3 held (some (signed 6 1 (made 30000 (negsuc 7199) 66))) ≡ stored)
-    × (verdict signedTiles 3 held (some (signed 8 1 (made 30000 (negsuc 7199) 66))) ≡ older)
-    × (verdict signedTiles 3 held (some (signed 8 1 (made 1 (pos 9) 66))) ≡ stored)
+    (verdict signedEvents 3 held (some (entry 6 1 (made 30000 (negsuc 7199) 66))) ≡ stored)
+    × (verdict signedEvents 3 held (some (entry 8 1 (made 30000 (negsuc 7199) 66))) ≡ older)
+    × (verdict signedEvents 3 held (some (entry 8 1 (made 1 (pos 9) 66))) ≡ stored)
 unfolding verdict sameBytes letterOf escOne escape digitsIn digits decimal quoted membersText tagText tagsText serialise all isPubkey isTime isPlainByte classOfEvent classOfText timeOfText standsAt closedAt pairAt byteOf isRaw bodyFrom stringAt membersAt tagAt tagsAt runOf timeAt kindAt pubkeyAt fieldsAt opened readText classOf dOf keyOf isDigit allDigits valueFrom isNatural naturalOf negativeOf wholeOf isWithin answerOf leadOf utf8From isUtf8 isHex
 ties = (refl, refl, refl)
 

@@ -23,7 +23,7 @@ use Rattle.event.specs.Answer.{orElse, offeredRow}
 use Rattle.law.specs.Lists.{find}
 use Rattle.law.specs.Table.{Verdict, refused, wasEphemeral, duplicate, older, stored, noRoom, Offer, hasKey, verdict}
 use Rattle.table.specs.Layout.{Held, capacityOf, countOf, countPlace, slotPlace, slotBytes}
-use Rattle.table.specs.Events.{SignedEvent, signedTiles, ofHeld, view}
+use Rattle.table.specs.Events.{SignedEvent, signedEvents, ofHeld, view}
 use Rattle.table.specs.Sound.{sound}
 use Rattle.table.specs.declared.Offered.{Offered}
 use Rattle.table.specs.declared.Offered.the-variants.{Ephemeral, Duplicate, Older, Stored, Refused}
@@ -87,7 +87,7 @@ abbrev pub offeredOf : Offering → Held
 offeredOf (asMessage m) = heldOf m (partsOf m)
 offeredOf (asParts b p) = heldOf b p
 
-unfoldable pub judge : Offering → Offer signedTiles
+unfoldable pub judge : Offering → Offer signedEvents
 judge o = cond (isValid o) (some (ofHeld (offeredOf o))) none
 
 -- ---- the answer
@@ -102,7 +102,7 @@ answerOf r noRoom = Refused 12
 
 -- "Verdicts of an offer after row 11": law/Table, `verdict`
 unfoldable pub verdictOn : List ℕ → Offering → Verdict
-verdictOn b o = verdict signedTiles (capacityOf b) (view b) (judge o)
+verdictOn b o = verdict signedEvents (capacityOf b) (view b) (judge o)
 
 -- rows 1 to 10, then 11, then the verdict
 unfoldable pub answer : List ℕ → Offering → Offered
@@ -126,7 +126,7 @@ isStored (Refused r) = false
 -- ---- the table afterwards
 -- "over the slot with its key, else in slot C"
 unfoldable pub slotFor : List ℕ → Held → ℕ
-slotFor b h = find (hasKey signedTiles (ofHeld h)) (view b)
+slotFor b h = find (hasKey signedEvents (ofHeld h)) (view b)
 
 abbrev pub countAfter : List ℕ → ℕ → ℕ
 countAfter b k = cond (ltb k (countOf b)) (countOf b) (countOf b + 1)

@@ -21,7 +21,7 @@ use Rattle.law.specs.Lists.{_∈_}
 use Rattle.law.specs.Table.{Verdict, refused, wasEphemeral, duplicate, older, stored, noRoom}
 use Rattle.law.specs.Machine.{Machine, Demand3On}
 use Rattle.table.specs.Layout.{capacityOf, isByte}
-use Rattle.table.specs.Events.{SignedEvent, Signature, tiles, view}
+use Rattle.table.specs.Events.{SignedEvent, Signature, tableEvents, view}
 use Rattle.table.specs.Sound.{sound}
 use Rattle.table.specs.Offer.{Offering, asMessage, asParts, judge, answer, next}
 use Rattle.table.specs.declared.Offered.{Offered}
@@ -73,7 +73,7 @@ verdictOf Older = older
 verdictOf Stored = stored
 verdictOf (Refused r) = cond (eqb r 12) noRoom refused
 
-abbrev pub relay : Machine tiles Signature
+abbrev pub relay : Machine tableEvents Signature
 relay = record {
   State = List ℕ;
   Offering = Offering;
@@ -90,4 +90,4 @@ relay = record {
 
 -- demand 3, whole: proofs/Demand3
 abbrev pub Demand3 : Type 0
-Demand3 = Demand3On tiles Signature relay
+Demand3 = Demand3On tableEvents Signature relay

@@ -14,7 +14,7 @@ use Rattle.text.specs.Kinds.{isEphemeral}
 use Rattle.law.specs.Lists.{any}
 use Rattle.law.specs.Table.{hasId, hasKey}
 use Rattle.table.specs.Layout.{headerSize, slotSize, capacityOf, countOf, slotSizeOf, firstSlotOf, tableSize, heldSlots, laterSlots, timeIn, kindIn, lengthIn, dIn, textIn, restIn, dPlace}
-use Rattle.table.specs.Events.{SignedEvent, signedTiles, view}
+use Rattle.table.specs.Events.{SignedEvent, signedEvents, view}
 
 -- "the buffer has at least 16 bytes"
 unfoldable pub hasHeader : List ℕ → Bool
@@ -88,11 +88,11 @@ noneTwice same (x ∷ xs) = not (any (same x) xs) && noneTwice same xs
 
 -- "no id .. held twice"
 unfoldable pub noIdTwice : List ℕ → Bool
-noIdTwice b = noneTwice (hasId signedTiles) (view b)
+noIdTwice b = noneTwice (hasId signedEvents) (view b)
 
 -- "no .. key held twice"
 unfoldable pub noKeyTwice : List ℕ → Bool
-noKeyTwice b = noneTwice (hasKey signedTiles) (view b)
+noKeyTwice b = noneTwice (hasKey signedEvents) (view b)
 
 -- "zeros where said": "later slots are zero". "Bytes after slot N-1 are never read"
 unfoldable pub laterZero : List ℕ → Bool
