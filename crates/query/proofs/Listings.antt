@@ -18,7 +18,8 @@ use Rattle.event.specs.Lent.{said, eventOf}
 use Rattle.event.specs.Answer.{orElse, isLarge}
 use Rattle.table.specs.Sound.{sound}
 use Rattle.query.specs.Match.{matchesSome}
-use Rattle.query.specs.declared.Matched.the-variants.{Matches, Differs, Unmatched}
+use Rattle.query.specs.declared.Matched.the-variants.{Matches, Differs}
+use Rattle.query.specs.declared.Matched.the-variants as matching
 use Rattle.query.specs.Answer.{answerList, filtersAt, filtersRow, matchedRow, matched, matchNumber, matchValue, listingRow, listed, listedRow, numberOf, valueOf}
 use Rattle.query.specs.declared.Listing.the-variants.{Count, Refused}
 use Rattle.query.specs.Laws.{RowHolds, of-filter, not-closed, miscounted, Lowest, MatchedHolds, of-event, of-filters, too-large, MatchedRowIs, MatchedMeans, ListingHolds, of-lent, not-sound, too-short, ListingRowIs, ListingIs, ListingMeans}
@@ -96,7 +97,7 @@ matched-means b p m v =
     record { number = n; value = a }
   where
     go : (r : ℕ) → (eqb r 0 ≡ true) ⊎ (eqb r 0 ≡ false) → (x : Bool)
-        → (matchNumber (cond (eqb r 0) (cond x Matches Differs) (Unmatched r)) ≡ r) × (T (matchValue (cond (eqb r 0) (cond x Matches Differs) (Unmatched r))) ↔ ((r ≡ 0) × T x))
+        → (matchNumber (cond (eqb r 0) (cond x Matches Differs) (matching.Refused r)) ≡ r) × (T (matchValue (cond (eqb r 0) (cond x Matches Differs) (matching.Refused r))) ↔ ((r ≡ 0) × T x))
     go r (inl e) true = rw e (sym (eqb-true r 0 e), (λ t. (eqb-true r 0 e, tt), λ h. tt))
     go r (inl e) false = rw e (sym (eqb-true r 0 e), (λ t. absurd t, λ h. h .1))
     go r (inr e) x = rw e (refl, (λ t. absurd t, λ h. absurd (eqb-false r 0 e (h .0))))

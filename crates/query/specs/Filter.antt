@@ -1,7 +1,7 @@
 -- 01, "Shape": a filter as it is meant, every string decoded; and the one that lent parts p over the buffer b spell.
 use mathlib.Core.Bool.{cond}
 use mathlib.Core.Option.{Option, none, some}
-use mathlib.Core.List.{List, [], _∷_, map}
+use mathlib.Core.List.{List, [], _∷_}
 use Prim.Native.Nat.{ℕ}
 use lib.IntN.{ℤ}
 use lib.ListN.{getD}

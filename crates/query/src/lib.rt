@@ -10,5 +10,5 @@ pub enum Listing {
 pub enum Matched {
     Matches,
     Differs,
-    Unmatched(u8),
+    Refused(u8),
 }
