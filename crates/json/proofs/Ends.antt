@@ -4,10 +4,9 @@ use mathlib.Core.Path.{_≡_, refl, sym, ap, _∙_}
 use mathlib.Core.List.{List}
 use mathlib.Core.Bool.{Bool, true, false, cond, false≢true}
 use Prim.Native.Nat.{ℕ, zero, suc, _+_, _<_, _≤_}
-use native.Mathlib.Decide.{decLe}
 use native.Mathlib.Omega.{arith}
 use lib.ListN.{length, getD}
-use borrow.Author.Tests.{le-leb, lt-leb, ne-eqb, eqb-true}
+use borrow.Author.Tests.{eqb-true}
 use Rattle.json.specs.Grammar.{case, classOf, oneAt, hexAt, escapedAt, charAt, charsUpTo, charsAt}
 use Rattle.json.specs.declared.Class.{Class}
 use Rattle.json.specs.declared.Class.the-variants.{Plain, Hex, Short, Byte}
@@ -17,20 +16,6 @@ use Rattle.json.proofs.Bytes.{class-within}
 
 pub ends-bad : {A : Type 0} {n : ℕ} → Bad ≡ End n → A
 ends-bad e = absurd (let z : _≡_ {A = ℕ} 0 1 = cc in omega arith)
-
--- ---- bytes that stand for themselves
-plain-own : (b : ℕ) → 0x20 ≤ b → (b ≡ 0x22 → ⊥) → (b ≡ 0x5C → ⊥) → classOf Plain b ≡ true
-unfolding classOf
-plain-own b h q p = go (decLe b 0x21) (decLe b 0x5B)
-  where
-    go : Dec (b ≤ 0x21) → Dec (b ≤ 0x5B) → classOf Plain b ≡ true
-    go (yes x) y = rw (le-leb 0x20 b h, le-leb b 0x21 x)
-    go (no x) (yes y) = rw (le-leb 0x20 b h, lt-leb b 0x21 (omega arith), le-leb 0x23 b (omega arith), le-leb b 0x5B y)
-    go (no x) (no y) = rw (le-leb 0x20 b h, lt-leb b 0x21 (omega arith), le-leb 0x23 b (omega arith), lt-leb b 0x5B (omega arith), le-leb 0x5D b (omega arith))
-
-plain-low : (b : ℕ) → b < 0x20 → classOf Plain b ≡ false
-unfolding classOf
-plain-low b h = rw (lt-leb 0x20 b h, lt-leb 0x23 b (omega arith), lt-leb 0x5D b (omega arith))
 
 -- ---- what a `case` that ends went through
 pub then-end : {n : ℕ} (o : Out) (f : ℕ → Out) → case o f Bad ≡ End n → (m : ℕ) × (o ≡ End m) × (f m ≡ End n)
@@ -157,25 +142,6 @@ module _ (s : List ℕ) where
     pub char-escaped : classOf Plain (getD s at 0) ≡ false → charAt s at ≡ escapedAt s at
     unfolding charAt oneAt
     char-escaped e = rw e
-
-    -- and by tests of it
-    pub char-slash : getD s at 0 ≡ 0x5C → charAt s at ≡ escapedAt s at
-    unfolding classOf
-    char-slash e = char-escaped (rw e)
-
-    pub char-own : (getD s at 0 ≡ 0x5C → ⊥) → 0x20 ≤ getD s at 0 → (getD s at 0 ≡ 0x22 → ⊥) → charAt s at ≡ End (at + 1)
-    char-own p h q = char-plain (plain-own (getD s at 0) h q p)
-
-    no-char : (getD s at 0 ≡ 0x5C → ⊥) → classOf Plain (getD s at 0) ≡ false → charAt s at ≡ Bad
-    unfolding escapedAt oneAt classOf
-    no-char p e = char-escaped e ∙ rw (ne-eqb (getD s at 0) 0x5C p)
-
-    pub char-low : (getD s at 0 ≡ 0x5C → ⊥) → getD s at 0 < 0x20 → charAt s at ≡ Bad
-    char-low p h = no-char p (plain-low (getD s at 0) h)
-
-    pub char-quote : (getD s at 0 ≡ 0x5C → ⊥) → getD s at 0 ≡ 0x22 → charAt s at ≡ Bad
-    unfolding classOf
-    char-quote p e = no-char p (rw e)
 
     pub chars-past : length s ≤ at → charsAt s at ≡ at
     chars-past h = go (charAt s at) refl

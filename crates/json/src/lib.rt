@@ -286,21 +286,14 @@ fn chars(s: &[u8], at: usize) -> usize
 {
     let mut i = at;
     while i < s.len() {
-        let b = s[i];
-        if b == b'\\' {
-            let Out::End(n) = escaped(s, i) else {
-                return i;
-            };
-            i = n;
+        if plain(s[i]) {
+            i += 1;
             continue;
         }
-        if b < 0x20 {
+        let Out::End(n) = escaped(s, i) else {
             return i;
-        }
-        if b == b'"' {
-            return i;
-        }
-        i += 1;
+        };
+        i = n;
     }
     i
 }
