@@ -143,6 +143,19 @@ module _ (s : List ℕ) where
     unfolding charAt oneAt
     char-escaped e = rw e
 
+    -- four characters that are bytes which stand for themselves
+    pub chars-four : classOf Plain (getD s at 0) ≡ true → classOf Plain (getD s (at + 1) 0) ≡ true → classOf Plain (getD s (at + 2) 0) ≡ true
+        → classOf Plain (getD s (at + 3) 0) ≡ true → charsAt s (at + 4) ≡ charsAt s at
+    unfolding charAt oneAt
+    chars-four a b c d =
+        let y : at + 1 + 1 ≡ at + 2 = omega arith in
+        let z : at + 2 + 1 ≡ at + 3 = omega arith in
+        let w : at + 3 + 1 ≡ at + 4 = omega arith in
+        chars-more (at + 3) (at + 4) (rw d (ap End w))
+        ∙ chars-more (at + 2) (at + 3) (rw c (ap End z))
+        ∙ chars-more (at + 1) (at + 2) (rw b (ap End y))
+        ∙ chars-more at (at + 1) (char-plain a)
+
     pub chars-past : length s ≤ at → charsAt s at ≡ at
     chars-past h = go (charAt s at) refl
       where

@@ -3,8 +3,8 @@
 ghost use mathlib.Core.Path.{_≡_};
 ghost use Prim.Native.Nat.{_<_};
 ghost use mathlib.Core.Bool.{true, false};
-ghost use lib.ListN.{getD};
-ghost use Rattle.json.specs.Grammar.{case, within, classOf, past, wsAt, oneAt, tokenAt, noZero, wordAt, literalAt, digitsAt, intAt, fracAt, expAt, numberAt, hexAt, escapedAt, charsAt, stringAt, isSpelling, scalarAt, closeOf, openedAt, startAt, headAt, nextAt};
+ghost use lib.ListN.{length, getD};
+ghost use Rattle.json.specs.Grammar.{case, within, classOf, past, wsAt, oneAt, tokenAt, noZero, wordAt, literalAt, digitsAt, intAt, fracAt, expAt, numberAt, hexAt, escapedAt, charsAt, stringAt, isSpelling, scalarAt, closeOf, openedAt, startAt, headAt, nextAt, Skips};
 ghost use Rattle.json.specs.Tree.{endOf, onLeaf, treeAt, isText};
 
 // The most brackets and braces that may be open at once.
@@ -46,7 +46,30 @@ fn between(low: u8, high: u8, b: u8) -> bool
 fn plain(b: u8) -> bool
     ensures { λ r. ⌜ r ≡ classOf Class.Plain b ⌝ }
 {
-    between(0x20, 0x21, b) || (between(0x23, 0x5b, b) || 0x5d <= b)
+    0x5d <= b || (between(0x23, 0x5b, b) || between(0x20, 0x21, b))
+}
+
+// Past four bytes that stand for themselves, or i: a string is mostly such bytes.
+fn past4(s: &[u8], i: usize) -> usize
+    requires { ⌜ i < length (now s) ⌝ }
+    ensures { λ r. ⌜ Skips (now (s .entry)) i r ⌝ }
+{
+    if s.len() - i < 4 {
+        return i;
+    }
+    if !plain(s[i]) {
+        return i;
+    }
+    if !plain(s[i + 1]) {
+        return i;
+    }
+    if !plain(s[i + 2]) {
+        return i;
+    }
+    if !plain(s[i + 3]) {
+        return i;
+    }
+    i + 4
 }
 
 // What a backslash may stand before, but for u.
@@ -286,6 +309,11 @@ fn chars(s: &[u8], at: usize) -> usize
 {
     let mut i = at;
     while i < s.len() {
+        let n = past4(s, i);
+        if i < n {
+            i = n;
+            continue;
+        }
         if plain(s[i]) {
             i += 1;
             continue;
