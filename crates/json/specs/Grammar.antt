@@ -178,3 +178,7 @@ noZero (b ∷ w) = ltb 0 b && noZero w
 pub record Skips (s : List ℕ) (i r : ℕ) : Type 0 where
   pub same : charsAt s r ≡ charsAt s i
   pub on : i ≤ r
+
+-- and: r tells that four characters from i on are bytes which stand for themselves
+pub record Owned (s : List ℕ) (i : ℕ) (r : Bool) : Type 0 where
+  pub same : r ≡ true → charsAt s (i + 4) ≡ charsAt s i

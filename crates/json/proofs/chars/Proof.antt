@@ -15,12 +15,12 @@ Inv-loop s at i₀ i = charsAt s i ≡ charsAt s at
 abbrev μ-loop : tie.MeasureT-loop
 μ-loop s at i₀ i = length s - i
 
--- past four bytes at once
+-- past eight bytes at once
 loop-less : tie.Need-loop-less Inv-loop μ-loop
 loop-less c = let h = c .before .before .loop-test .taken in let k = c .if1 .taken in omega arith
 
 loop-again : tie.Need-loop-again Inv-loop μ-loop
-loop-again c = c .before .past4 .ensures .same ∙ c .before .before .before .loop .inv
+loop-again c = c .before .past8 .ensures .same ∙ c .before .before .before .loop .inv
 
 loop-less-3 : tie.Need-loop-less-3 Inv-loop μ-loop
 loop-less-3 c =
