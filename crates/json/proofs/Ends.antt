@@ -2,7 +2,7 @@
 -- string never run out of fuel.
 use mathlib.Core.Path.{_≡_, refl, sym, ap, _∙_}
 use mathlib.Core.List.{List}
-use mathlib.Core.Bool.{Bool, true, false, cond, false≢true}
+use mathlib.Core.Bool.{Bool, true, false, cond, false≢true, _&&_}
 use Prim.Native.Nat.{ℕ, zero, suc, _+_, _<_, _≤_}
 use native.Mathlib.Omega.{arith}
 use lib.ListN.{length, getD}
@@ -16,6 +16,10 @@ use Rattle.json.proofs.Bytes.{class-within}
 
 pub ends-bad : {A : Type 0} {n : ℕ} → Bad ≡ End n → A
 ends-bad e = absurd (let z : _≡_ {A = ℕ} 0 1 = cc in omega arith)
+
+pub all-both : (a b : Bool) → (a && b) ≡ true → (a ≡ true) × (b ≡ true)
+all-both true b e = (refl, e)
+all-both false b e = absurd (false≢true e)
 
 -- ---- what a `case` that ends went through
 pub then-end : {n : ℕ} (o : Out) (f : ℕ → Out) → case o f Bad ≡ End n → (m : ℕ) × (o ≡ End m) × (f m ≡ End n)
@@ -142,6 +146,22 @@ module _ (s : List ℕ) where
     pub char-escaped : classOf Plain (getD s at 0) ≡ false → charAt s at ≡ escapedAt s at
     unfolding charAt oneAt
     char-escaped e = rw e
+
+    -- four characters that are bytes which stand for themselves
+    pub chars-four : classOf Plain (getD s at 0) ≡ true → classOf Plain (getD s (at + 1) 0) ≡ true → classOf Plain (getD s (at + 2) 0) ≡ true
+        → classOf Plain (getD s (at + 3) 0) ≡ true → charsAt s (at + 4) ≡ charsAt s at
+    unfolding charAt oneAt
+    chars-four a b c d =
+        let y : at + 1 + 1 ≡ at + 2 = omega arith in
+        let z : at + 2 + 1 ≡ at + 3 = omega arith in
+        let w : at + 3 + 1 ≡ at + 4 = omega arith in
+        chars-more (at + 3) (at + 4) (rw d (ap End w))
+        ∙ chars-more (at + 2) (at + 3) (rw c (ap End z))
+        ∙ chars-more (at + 1) (at + 2) (rw b (ap End y))
+        ∙ chars-more at (at + 1) (char-plain a)
+
+    pub chars-eight : charsAt s (at + 4 + 4) ≡ charsAt s (at + 4) → charsAt s (at + 4) ≡ charsAt s at → charsAt s (at + 8) ≡ charsAt s at
+    chars-eight x y = let z : at + 8 ≡ at + 4 + 4 = omega arith in ap (charsAt s) z ∙ x ∙ y
 
     pub chars-past : length s ≤ at → charsAt s at ≡ at
     chars-past h = go (charAt s at) refl

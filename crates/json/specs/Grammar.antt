@@ -1,6 +1,7 @@
 -- RFC 8259, sections 2 to 7, but for the values that hold values (Tree.antt): for each rule a function from a place in the text to the
 -- place after what stands there. Past the end stands 0, which no rule takes.
-use Prim.Native.Nat.{ℕ, zero, suc, _+_}
+use mathlib.Core.Path.{_≡_}
+use Prim.Native.Nat.{ℕ, zero, suc, _+_, _≤_}
 use mathlib.Core.List.{List, [], _∷_}
 use mathlib.Core.Bool.{Bool, true, false, cond, _&&_, _||_}
 use lib.ListN.{length, getD, drop}
@@ -172,3 +173,12 @@ nextAt s at named = case (tokenAt s 0x2C at) More (case (tokenAt s (closeOf name
 abbrev pub noZero : List ℕ → Bool
 noZero [] = true
 noZero (b ∷ w) = ltb 0 b && noZero w
+
+-- and: the characters from r on end where those from i on end
+pub record Skips (s : List ℕ) (i r : ℕ) : Type 0 where
+  pub same : charsAt s r ≡ charsAt s i
+  pub on : i ≤ r
+
+-- and: r tells that four characters from i on are bytes which stand for themselves
+pub record Owned (s : List ℕ) (i : ℕ) (r : Bool) : Type 0 where
+  pub same : r ≡ true → charsAt s (i + 4) ≡ charsAt s i

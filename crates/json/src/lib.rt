@@ -1,10 +1,10 @@
 // RFC 8259's grammar by recursive descent, with at most DEPTH brackets and braces open at once (01, row 3), and the calls by which a
 // text is walked. A place may be any number: past the end stands 0, which no rule takes.
 ghost use mathlib.Core.Path.{_≡_};
-ghost use Prim.Native.Nat.{_<_};
+ghost use Prim.Native.Nat.{_+_, _<_, _≤_};
 ghost use mathlib.Core.Bool.{true, false};
-ghost use lib.ListN.{getD};
-ghost use Rattle.json.specs.Grammar.{case, within, classOf, past, wsAt, oneAt, tokenAt, noZero, wordAt, literalAt, digitsAt, intAt, fracAt, expAt, numberAt, hexAt, escapedAt, charsAt, stringAt, isSpelling, scalarAt, closeOf, openedAt, startAt, headAt, nextAt};
+ghost use lib.ListN.{length, getD};
+ghost use Rattle.json.specs.Grammar.{case, within, classOf, past, wsAt, oneAt, tokenAt, noZero, wordAt, literalAt, digitsAt, intAt, fracAt, expAt, numberAt, hexAt, escapedAt, charsAt, stringAt, isSpelling, scalarAt, closeOf, openedAt, startAt, headAt, nextAt, Skips, Owned};
 ghost use Rattle.json.specs.Tree.{endOf, onLeaf, treeAt, isText};
 
 // The most brackets and braces that may be open at once.
@@ -46,7 +46,36 @@ fn between(low: u8, high: u8, b: u8) -> bool
 fn plain(b: u8) -> bool
     ensures { λ r. ⌜ r ≡ classOf Class.Plain b ⌝ }
 {
-    between(0x20, 0x21, b) || (between(0x23, 0x5b, b) || 0x5d <= b)
+    0x5d <= b || (between(0x23, 0x5b, b) || between(0x20, 0x21, b))
+}
+
+// Whether a byte stands for itself, with no branch.
+fn own(b: u8) -> bool
+    ensures { λ r. ⌜ r ≡ classOf Class.Plain b ⌝ }
+{
+    (0x20 <= b) & (b != 0x22) & (b != 0x5c)
+}
+
+// Whether four bytes from i on do.
+fn own4(s: &[u8], i: usize) -> bool
+    requires { ⌜ i + 4 ≤ length (now s) ⌝ }
+    ensures { λ r. ⌜ Owned (now (s .entry)) i r ⌝ }
+{
+    own(s[i]) & own(s[i + 1]) & own(s[i + 2]) & own(s[i + 3])
+}
+
+// Past eight bytes that stand for themselves, or i: a string is mostly such bytes.
+fn past8(s: &[u8], i: usize) -> usize
+    requires { ⌜ i < length (now s) ⌝ }
+    ensures { λ r. ⌜ Skips (now (s .entry)) i r ⌝ }
+{
+    if s.len() - i < 8 {
+        return i;
+    }
+    if own4(s, i) & own4(s, i + 4) {
+        return i + 8;
+    }
+    i
 }
 
 // What a backslash may stand before, but for u.
@@ -286,6 +315,11 @@ fn chars(s: &[u8], at: usize) -> usize
 {
     let mut i = at;
     while i < s.len() {
+        let n = past8(s, i);
+        if i < n {
+            i = n;
+            continue;
+        }
         if plain(s[i]) {
             i += 1;
             continue;

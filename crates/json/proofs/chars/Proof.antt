@@ -15,23 +15,30 @@ Inv-loop s at i₀ i = charsAt s i ≡ charsAt s at
 abbrev μ-loop : tie.MeasureT-loop
 μ-loop s at i₀ i = length s - i
 
-loop-less-2 : tie.Need-loop-less-2 Inv-loop μ-loop
-loop-less-2 c =
+-- past eight bytes at once
+loop-less : tie.Need-loop-less Inv-loop μ-loop
+loop-less c = let h = c .before .before .loop-test .taken in let k = c .if1 .taken in omega arith
+
+loop-again : tie.Need-loop-again Inv-loop μ-loop
+loop-again c = c .before .past8 .ensures .same ∙ c .before .before .before .loop .inv
+
+loop-less-3 : tie.Need-loop-less-3 Inv-loop μ-loop
+loop-less-3 c =
     let d = c .before .before .before in
     let h = escaped-ends _ _ _ (sym (d .escaped .ensures) ∙ c .before .n .given .1) in
     omega arith
 
-loop-again-2 : tie.Need-loop-again-2 Inv-loop μ-loop
-loop-again-2 c =
+loop-again-3 : tie.Need-loop-again-3 Inv-loop μ-loop
+loop-again-3 c =
     let d = c .before .before .before in
-    let p = char-escaped _ _ (sym (d .before .before .plain .ensures) ∙ d .before .if1 .left) in
-    chars-more _ _ _ (p ∙ sym (d .escaped .ensures) ∙ c .before .n .given .1) ∙ d .before .before .before .before .before .loop .inv
+    let p = char-escaped _ _ (sym (d .before .before .plain .ensures) ∙ d .before .if2 .left) in
+    chars-more _ _ _ (p ∙ sym (d .escaped .ensures) ∙ c .before .n .given .1) ∙ d .before .before .before .before .before .before .before .loop .inv
 
 returns : tie.Need-returns Inv-loop μ-loop
 returns c =
     let d = c .before .before in
-    let p = char-escaped _ _ (sym (d .before .before .plain .ensures) ∙ d .before .if1 .left) in
-    sym (chars-none _ _ (p ∙ sym (d .escaped .ensures) ∙ c .enum-told .given .1)) ∙ d .before .before .before .before .before .loop .inv
+    let p = char-escaped _ _ (sym (d .before .before .plain .ensures) ∙ d .before .if2 .left) in
+    sym (chars-none _ _ (p ∙ sym (d .escaped .ensures) ∙ c .enum-told .given .1)) ∙ d .before .before .before .before .before .before .before .loop .inv
 
 pub chars-spec : {M : Type 1} → statement M
 chars-spec =
@@ -40,11 +47,14 @@ chars-spec =
     Inv-loop
     μ-loop
     (λ c. refl)
+    (search needs)
+    loop-less
+    loop-again
     (search needs) (search needs) (search needs)
     (λ c. omega arith)
-    (λ c. chars-more _ _ _ (char-plain _ _ (sym (c .before .plain .ensures) ∙ c .if1 .taken)) ∙ c .before .before .before .before .loop .inv)
+    (λ c. chars-more _ _ _ (char-plain _ _ (sym (c .before .plain .ensures) ∙ c .if2 .taken)) ∙ c .before .before .before .before .before .before .loop .inv)
     (search needs) (search needs) (search needs)
     returns
-    loop-less-2
-    loop-again-2
+    loop-less-3
+    loop-again-3
     (λ c. sym (chars-past _ _ (c .loop-test .left)) ∙ c .before .loop .inv))
