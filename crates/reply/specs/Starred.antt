@@ -63,9 +63,6 @@ dated time kind tags content = record { pubkey = A; time = time; kind = kind; ta
 abbrev pub lastByte : ℕ → List ℕ
 lastByte x = replicate 31 0 ++ (x ∷ [])
 
-abbrev pub plain : Filter
-plain = record { ids = none; authors = none; kinds = none; since = Absent; until = Absent; limit = Absent; conditions = [] }
-
 abbrev pub limitOnly : Bound → Filter
 limitOnly n = record { ids = none; authors = none; kinds = none; since = Absent; until = Absent; limit = n; conditions = [] }
 

@@ -6,17 +6,22 @@ use Prim.Native.Nat.{ℕ, zero, suc, _+_, _*_, _≤_, _<_}
 use native.Mathlib.Omega.{arith}
 use lib.Dec.{eqb, ltb}
 use lib.ListN.{length, getD, take, drop, length-drop, List·getD-map}
-use lib.Seq.{drop-drop, take-append-le, drop-append-le}
+use lib.Seq.{drop-at, drop-drop, take-add, take-take, length-take-le, take-append-le, drop-append-le}
 use borrow.Author.Tests.{ltb-true, lt-ltb, le-ltb, eqb-true, ne-eqb}
 use Rattle.law.specs.Lists.{_∈_}
 use Rattle.law.specs.Cells.{cells}
 use Rattle.law.proofs.Cells.{length-cells, cell-at}
-use Rattle.table.specs.Layout.{headerSize, slotSize, tableSize, slotPlace, capacityOf, countOf, slotAt, heldSlots, textIn}
+use Rattle.wire.specs.Limits.{mostText}
+use Rattle.rows.specs.Strings.{part}
+use Rattle.table.specs.Layout.{headerSize, slotSize, tableSize, slotPlace, capacityOf, countOf, slotAt, heldSlots, textPlace, lengthIn, textIn}
 use Rattle.table.specs.Events.{inSlot, view}
-use Rattle.table.specs.Sound.{sound}
+use Rattle.table.specs.Sound.{slotSound, slotsSound, sound}
 use Rattle.table.specs.Format.{shownRow, shown}
-use Rattle.table.specs.Claims.{ShownHeld, ShownRows, ViewAt, ShownNeverRead}
+use Rattle.table.specs.Claims.{ShownHeld, ShownInside, ShownRows, HeldCount, ViewAt, ShownNeverRead}
+use Rattle.table.proofs.Lists.{all-has}
+use Rattle.table.proofs.Slots.{sound-text-length}
 use Rattle.table.proofs.Bytes.{clauses}
+use Rattle.table.proofs.Stored.{length-view}
 use Rattle.table.proofs.Unread.{count-append, sound-append}
 
 pub entry-in : {A : Type 0} (l : List A) (k : ℕ) (d : A) → k < length l → getD l k d ∈ l
@@ -58,9 +63,33 @@ shown-rows b k = record {
   empty = λ n. rw (ne-eqb (shownRow b k) 0 n);
 }
 
+pub held-count : HeldCount
+held-count = length-view
+
 pub shown-held : ShownHeld
 unfolding shown
 shown-held b k r = (slot-held b k (shown-if b k r .1), rw r)
+
+-- a part of a slot that ends within it is a part of the table
+text-place : (b : List ℕ) (k n : ℕ) → slotPlace k + slotSize ≤ length b → n ≤ mostText → take n (drop textPlace (slotAt b k)) ≡ part b (slotPlace k + textPlace) n
+text-place b k n h le =
+    let x : List ℕ = drop (slotPlace k) b in
+    let l : slotSize ≤ length x = omega (arith, length-drop (slotPlace k) b) in
+    ap (λ (y : List ℕ). take n (drop textPlace y)) (take-add textPlace mostText x)
+    ∙ ap (take n) (drop-at (take textPlace x) (take mostText (drop textPlace x)) textPlace (length-take-le textPlace x (omega arith)))
+    ∙ take-take n mostText (drop textPlace x) le
+    ∙ ap (take n) (drop-drop textPlace (slotPlace k) b)
+
+pub shown-inside : ShownInside
+unfolding shown textIn slotsSound
+shown-inside b k r =
+    let (s, h) = shown-if b k r in
+    let c = clauses b s in
+    let few = c .count in
+    let fit = c .fit in
+    let m = entry-in (heldSlots b) k [] (omega (arith, length-cells slotSize (countOf b) (drop headerSize b))) in
+    let ok : slotSound (slotAt b k) ≡ true = rw (slot-entry b k h) at (all-has slotSound (heldSlots b) (c .slots) m) in
+    rw r (text-place b k (lengthIn (slotAt b k)) (omega arith) (sound-text-length (slotAt b k) ok))
 
 module _ (b t : List ℕ) (k : ℕ) (full : length b ≡ tableSize (capacityOf b)) where
   row-append : shownRow (b ++ t) k ≡ shownRow b k

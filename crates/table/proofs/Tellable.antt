@@ -198,4 +198,4 @@ tellable b s g m =
 pub offerable : Offerable
 offerable e sig f l n k =
     let s : SignedEvent = ofHeld (record { id = digest (serialise e); sig = sig; event = e }) in
-    (asParts (toldIn s) (toldParts s e), judged-again (toldIn s) (toldParts s e) s refl n k (tells-text s e (read-back e f l) refl n k))
+    (toldIn s, toldParts s e, judged-again (toldIn s) (toldParts s e) s refl n k (tells-text s e (read-back e f l) refl n k))

@@ -24,7 +24,7 @@ use Rattle.law.proofs.WrongRelays.{OfRegular}
 use Rattle.law.proofs.WrongRelays as wrong
 use Rattle.table.specs.Layout.{tableSize, capacityOf, countOf}
 use Rattle.table.specs.Events.{Signature, tableEvents, classOfText, view}
-use Rattle.table.specs.Offer.{Offering, isStored, judge, answer, next}
+use Rattle.table.specs.Offer.{Offering, asParts, isStored, judge, answer, next}
 use Rattle.table.specs.Format.{formatRow, formatted}
 use Rattle.table.specs.Relay.{AsParts, Good, verdictOf, relay}
 use Rattle.table.specs.declared.Offered.{Offered}
@@ -73,8 +73,8 @@ blank = replicate 64 0
 offer-of : (t : ℕ) → Suits (noted t) → (o : Offering) × OfRegular tableEvents Signature relay o (named (noted t))
 unfolding all
 offer-of t s =
-    let (o, j) = offerable (noted t) blank (s .fit) (omega (arith, s .size)) refl refl in
-    (o, record { signature = blank; valid = j; kind = is-regular t s })
+    let (c, p, j) = offerable (noted t) blank (s .fit) (omega (arith, s .size)) refl refl in
+    (asParts c p, record { signature = blank; valid = j; kind = is-regular t s })
 
 -- ---- a fresh table of two slots
 two-fit : (b : List ℕ) → length b ≡ tableSize 2 → formatRow 2 b ≡ 0

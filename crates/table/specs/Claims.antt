@@ -25,7 +25,7 @@ use Rattle.event.specs.Answer.{hexOf, offeredRow}
 use Rattle.law.specs.Lists.{_∈_}
 use Rattle.law.specs.Table.{ephemeral, regular, keyed, verdict}
 use Rattle.law.specs.Machine.{Fresh}
-use Rattle.table.specs.Layout.{Held, Fits, slotSize, tableSize, slotPlace, countPlace, capacityOf, countOf, slotAt, isByte, dIn, textIn, noSpan, slotBytes}
+use Rattle.table.specs.Layout.{Held, Fits, slotSize, tableSize, slotPlace, countPlace, capacityOf, countOf, slotAt, isByte, dIn, textIn, noSpan, slotBytes, textPlace, lengthIn}
 use Rattle.table.specs.Events.{SignedEvent, Signature, classOfText, timeOfText, tableEvents, signedEvents, inSlot, ofHeld, view}
 use Rattle.table.specs.Sound.{slotSound, sound}
 use Rattle.table.specs.Offer.{Offering, asMessage, asParts, isEvent, messageOfferRow, rowOf, isValid, isStored, judge, answerOf, answer, offeredOf, slotFor, next}
@@ -127,12 +127,20 @@ DPlace = (s : List ℕ) (e : Event) → slotSound s ≡ true → readText (textI
 abbrev pub ShownHeld : Type 0
 ShownHeld = (b : List ℕ) (k : ℕ) → shownRow b k ≡ 0 → (inSlot (slotAt b k) ∈ view b) × (shown b k ≡ inSlot (slotAt b k) .0 .text)
 
+-- ".. inside the table": the place of what is handed back
+abbrev pub ShownInside : Type 0
+ShownInside = (b : List ℕ) (k : ℕ) → shownRow b k ≡ 0 → shown b k ≡ part b (slotPlace k + textPlace) (lengthIn (slotAt b k))
+
 -- 11 before 14; on a refusal "a part handed back is empty"
 pub record ShownRows (b : List ℕ) (k : ℕ) : Type 0 where
   pub unsound : sound b ≡ false → shownRow b k ≡ 11
   pub not-held : sound b ≡ true → countOf b ≤ k → shownRow b k ≡ 14
   pub none : sound b ≡ true → k < countOf b → shownRow b k ≡ 0
   pub empty : shownRow b k ≢ 0 → shown b k ≡ []
+
+-- the held count of the header is the number of events held
+abbrev pub HeldCount : Type 0
+HeldCount = (b : List ℕ) → length (view b) ≡ countOf b
 
 -- entry k of what is held is slot k
 abbrev pub ViewAt : Type 0
@@ -150,7 +158,8 @@ Tellable = (b : List ℕ) (s : SignedEvent) → Good b → s ∈ view b → (o :
 abbrev pub ToldExactly : Type 0
 ToldExactly = (b c : List ℕ) (p : EventParts) (s : SignedEvent) → Good b → s ∈ view b → Tells c p s ↔ (judge (asParts c p) ≡ some s)
 
--- every event within the limits, with any 64 bytes as its signature, can be offered and is then valid: no relay may refuse everything
+-- every event within the limits, with any 64 bytes as its signature, can be offered as parts and is then valid: no relay may refuse
+-- everything. Of messages: reply/proofs/Accepted has one that is valid
 abbrev pub Offerable : Type 0
 Offerable = (e : Event) (sig : List ℕ) → isFit e ≡ true → length (serialise e) ≤ mostText → length sig ≡ 64 → all isByte sig ≡ true →
-    (o : Offering) × (judge o ≡ some (ofHeld (record { id = digest (serialise e); sig = sig; event = e })))
+    (c : List ℕ) × (p : EventParts) × (judge (asParts c p) ≡ some (ofHeld (record { id = digest (serialise e); sig = sig; event = e })))
