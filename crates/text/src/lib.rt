@@ -9,7 +9,7 @@ ghost use Rattle.wire.specs.Bytes.{isHex};
 ghost use Rattle.text.specs.Event.{Tag, comma, isPubkey};
 ghost use Rattle.text.specs.Read.{got, standsAt, closedAt, byteOf, bodyFrom, stringAt, tagAt, tagsAt, runOf, timeAt, kindAt, readText};
 ghost use Rattle.text.specs.Kinds.{classOf, isNamedD, second};
-ghost use Rattle.text.specs.Answer.{spanOf, answerOf};
+ghost use Rattle.text.specs.Answer.{spanOf, answerOf, numberOf, rowOf};
 ghost use Rattle.text.specs.Parts.{endOf, timeIn, kindIn, opens, noZero, foundOf, lookOf, taggedOf, restAt, restOf};
 
 // 01, "Kinds and keys".
@@ -437,6 +437,7 @@ fn rest_at(t: &[u8], at: usize) -> Rest
 // A text read back alone.
 pub fn read_text(t: &[u8]) -> TextAnswer
     ensures { λ r. ⌜ r ≡ answerOf (readText (now (t .entry))) ⌝ }
+    ensures { λ r. ⌜ numberOf r ≡ rowOf (readText (now (t .entry))) ⌝ }
 {
     if MOST_TEXT < t.len() {
         return TextAnswer::TooLarge;
