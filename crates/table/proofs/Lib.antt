@@ -4,7 +4,7 @@
 -- table after a store. Unread, Shown: what stands behind the last slot, and what is shown. Hex, Valid: what holds of a valid offer.
 -- Refused, Again: a spelling that decodes to a string within the limits is not refused. Strings, Arrays, Tellable, Fair: the parts of what is
 -- held, and that parts judged to be it are just those. Rows: the rows of an offer in their order. Texts: what the law takes from a text.
--- DPlaces: where d stands. SoundBytes: a sound table byte for byte. WrongRelays: relays that demand 3 shuts out.
+-- DPlaces: where d stands. Clauses: soundness clause by clause. SoundBytes: a held slot byte for byte. WrongRelays: relays that demand 3 shuts out.
 pub mod Fields
 pub mod Slots
 pub mod Texts
@@ -27,6 +27,7 @@ pub mod Strings
 pub mod Arrays
 pub mod Tellable
 pub mod SoundBytes
+pub mod Clauses
 pub mod Fair
 pub mod Demand3
 pub mod WrongRelays
