@@ -10,6 +10,7 @@ use lib.Dec.{eqb, ltb}
 use lib.ListN.{length, take, drop, length-drop}
 use lib.Seq.{take-append-le, drop-append-le}
 use Rattle.text.specs.Read.{readText}
+use Rattle.message.specs.declared.FilterParts.{FilterParts}
 use Rattle.event.specs.Answer.{orElse, hexOf}
 use Rattle.table.specs.Layout.{slotSize, tableSize, slotPlace, capacityOf, countOf, slotAt, idIn, textIn}
 use Rattle.table.specs.Events.{signedEvents, inSlot}
@@ -18,7 +19,7 @@ use Rattle.table.proofs.Bytes.{clauses}
 use Rattle.table.proofs.Unread.{count-append, sound-append}
 use Rattle.query.specs.Filter.{Filter}
 use Rattle.query.specs.declared.Listing.the-variants.{Count, Refused}
-use Rattle.query.specs.Answer.{keep, among, from, insert, newestFirst, cut, picked, pickedBySome, union, newerSlot, matchesIn, matchesSlot, answerList, filtersAt, filtersRow, listingRow, listed, listedRow}
+use Rattle.query.specs.Answer.{keep, among, from, insert, newestFirst, cut, picked, pickedBySome, union, newerSlot, matchesIn, matchesSlot, answerList, meant, filtersRow, listingRow, listed, listedRow}
 use Rattle.query.specs.Laws.{not-sound, ListingNeverRead}
 use Rattle.query.proofs.Sorting.{bool, among-here, among-later, keep-among, keep-same, from-among, sort-among}
 use Rattle.query.proofs.Listings.{listing-row-is}
@@ -85,37 +86,37 @@ module _ (b t : List ℕ) (full : length b ≡ tableSize (capacityOf b)) where
         within : (k : ℕ) → among (from 0 (countOf b)) k ≡ true → k < countOf b
         within k m = let (l, h) = from-among 0 (countOf b) k m in omega arith
 
-  module _ (m : List ℕ) (v : ℕ) (row : List ℕ) where
+  module _ (m : List ℕ) (fs : List FilterParts) (n : ℕ) (row : List ℕ) where
     abbrev later : List ℕ → Bool → ℕ
-    later a s = orElse (filtersRow m v) (cond s (cond (ltb (length row) (length a)) 13 0) 11)
+    later a s = orElse (filtersRow m fs n) (cond s (cond (ltb (length row) (length a)) 13 0) 11)
 
-    row-append : listingRow (b ++ t) m v row ≡ listingRow b m v row
+    row-append : listingRow (b ++ t) m fs n row ≡ listingRow b m fs n row
     unfolding listingRow
-    row-append = ap (later (answerList (b ++ t) (filtersAt m v))) (sound-append b t full) ∙ go (sound b) refl
+    row-append = ap (later (answerList (b ++ t) (meant m fs n))) (sound-append b t full) ∙ go (sound b) refl
       where
-        go : (s : Bool) → sound b ≡ s → later (answerList (b ++ t) (filtersAt m v)) s ≡ later (answerList b (filtersAt m v)) s
-        go true e = ap (λ a. later a true) (answer-append e (filtersAt m v))
+        go : (s : Bool) → sound b ≡ s → later (answerList (b ++ t) (meant m fs n)) s ≡ later (answerList b (meant m fs n)) s
+        go true e = ap (λ a. later a true) (answer-append e (meant m fs n))
         go false e = refl
 
     -- an unsound table is refused
-    is-refused : sound b ≡ false → eqb (listingRow b m v row) 0 ≡ false
-    is-refused e = ne-eqb (listingRow b m v row) 0 (listing-row-is b m v row .least 11 (not-sound e) (λ z. absurd (omega arith)) .0)
+    is-refused : sound b ≡ false → eqb (listingRow b m fs n row) 0 ≡ false
+    is-refused e = ne-eqb (listingRow b m fs n row) 0 (listing-row-is b m fs n row .least 11 (not-sound e) (λ z. absurd (omega arith)) .0)
 
     -- so what is given by the row, and by the answer if there is one, is the same
     given : {A : Type 0} (w : List ℕ → A) (r : ℕ → A) →
-        cond (eqb (listingRow (b ++ t) m v row) 0) (w (answerList (b ++ t) (filtersAt m v))) (r (listingRow (b ++ t) m v row))
-        ≡ cond (eqb (listingRow b m v row) 0) (w (answerList b (filtersAt m v))) (r (listingRow b m v row))
+        cond (eqb (listingRow (b ++ t) m fs n row) 0) (w (answerList (b ++ t) (meant m fs n))) (r (listingRow (b ++ t) m fs n row))
+        ≡ cond (eqb (listingRow b m fs n row) 0) (w (answerList b (meant m fs n))) (r (listingRow b m fs n row))
     given w r =
-        ap (λ x. cond (eqb x 0) (w (answerList (b ++ t) (filtersAt m v))) (r x)) row-append
-        ∙ ⊎-elim (λ e. ap (λ a. cond (eqb (listingRow b m v row) 0) (w a) (r (listingRow b m v row))) (answer-append e (filtersAt m v))) (λ e. rw (is-refused e)) (bool (sound b))
+        ap (λ x. cond (eqb x 0) (w (answerList (b ++ t) (meant m fs n))) (r x)) row-append
+        ∙ ⊎-elim (λ e. ap (λ a. cond (eqb (listingRow b m fs n row) 0) (w a) (r (listingRow b m fs n row))) (answer-append e (meant m fs n))) (λ e. rw (is-refused e)) (bool (sound b))
 
-    listed-append : listed (b ++ t) m v row ≡ listed b m v row
+    listed-append : listed (b ++ t) m fs n row ≡ listed b m fs n row
     unfolding listed
     listed-append = given (λ a. Count (length a)) Refused
 
-    written-append : listedRow (b ++ t) m v row ≡ listedRow b m v row
+    written-append : listedRow (b ++ t) m fs n row ≡ listedRow b m fs n row
     unfolding listedRow
     written-append = given (λ a. a ++ drop (length a) row) (λ r. row)
 
 pub listing-never-read : ListingNeverRead
-listing-never-read b t full = (answer-append b t full, λ m v row. (listed-append b t full m v row, written-append b t full m v row))
+listing-never-read b t full = (answer-append b t full, λ m fs n row. (listed-append b t full m fs n row, written-append b t full m fs n row))
