@@ -1,8 +1,8 @@
 -- 01, "The table": "Bytes after slot N-1 are never read", of a REQ's answer: the last claim of specs/Laws.
-use mathlib.Core.Path.{_≡_, refl, sym, ap, ap₂, _∙_}
-use mathlib.Core.Bool.{Bool, true, false, cond, _||_}
+use mathlib.Core.Path.{_≡_, refl, ap, ap₂, _∙_}
+use mathlib.Core.Bool.{Bool, true, false, cond}
 use mathlib.Core.Logic.{⊎-elim}
-use mathlib.Core.List.{List, [], _∷_, _++_}
+use mathlib.Core.List.{List, _++_}
 use Prim.Native.Nat.{ℕ, _+_, _≤_, _<_}
 use native.Mathlib.Omega.{arith}
 use borrow.Author.Tests.{ne-eqb}
@@ -19,43 +19,11 @@ use Rattle.table.proofs.Bytes.{clauses}
 use Rattle.table.proofs.Unread.{count-append, sound-append}
 use Rattle.query.specs.Filter.{Filter}
 use Rattle.query.specs.declared.Listing.the-variants.{Count, Refused}
-use Rattle.query.specs.Answer.{keep, among, from, insert, newestFirst, cut, picked, pickedBySome, union, newerSlot, matchesIn, matchesSlot, answerList, meant, filtersRow, listingRow, listed, listedRow}
+use Rattle.query.specs.Answer.{among, from, union, newerSlot, matchesIn, matchesSlot, answerList, meant, filtersRow, listingRow, listed, listedRow}
 use Rattle.query.specs.Laws.{not-sound, ListingNeverRead}
-use Rattle.query.proofs.Sorting.{bool, among-here, among-later, keep-among, keep-same, from-among, sort-among}
+use Rattle.query.proofs.Sorting.{bool, from-among}
+use Rattle.query.proofs.Answers.{union-same}
 use Rattle.query.proofs.Listings.{listing-row-is}
-
--- ---- two orders and two tests that agree on some slots give the same answer over them
-insert-same : (n n' : ℕ → ℕ → Bool) (x : ℕ) (l : List ℕ) → ((s : ℕ) → among l s ≡ true → n x s ≡ n' x s) → insert n x l ≡ insert n' x l
-unfolding insert
-insert-same n n' x [] h = refl
-insert-same n n' x (y ∷ l) h = rw (h y (among-here y l), insert-same n n' x l (λ s m. h s (among-later y l s m)))
-
-newest-same : (n n' : ℕ → ℕ → Bool) (l : List ℕ) → ((s t : ℕ) → among l s ≡ true → among l t ≡ true → n s t ≡ n' s t) → newestFirst n l ≡ newestFirst n' l
-unfolding newestFirst
-newest-same n n' [] h = refl
-newest-same n n' (x ∷ l) h =
-    ap (insert n x) (newest-same n n' l (λ s t m o. h s t (among-later x l s m) (among-later x l t o)))
-    ∙ insert-same n n' x (newestFirst n' l) (λ s m. h x s (among-here x l) (among-later x l s (sym (sort-among n' l s) ∙ m)))
-
-module _ (n n' : ℕ → ℕ → Bool) (f f' : Filter → ℕ → Bool) (held : List ℕ)
-    (order : (s t : ℕ) → among held s ≡ true → among held t ≡ true → n s t ≡ n' s t)
-    (test : (g : Filter) (s : ℕ) → among held s ≡ true → f g s ≡ f' g s) where
-  kept-same : (p q : ℕ → Bool) → ((s : ℕ) → among held s ≡ true → p s ≡ q s) → newestFirst n (keep p held) ≡ newestFirst n' (keep q held)
-  kept-same p q h =
-      ap (newestFirst n) (keep-same p q held h)
-      ∙ newest-same n n' (keep q held) (λ s t m o. order s t (keep-among q held s m) (keep-among q held t o))
-
-  picked-same : (g : Filter) → picked n f held g ≡ picked n' f' held g
-  unfolding picked
-  picked-same g = ap (cut (g .limit)) (kept-same (f g) (f' g) (test g))
-
-  some-same : (s : ℕ) (fs : List Filter) → pickedBySome n f held fs s ≡ pickedBySome n' f' held fs s
-  some-same s [] = refl
-  some-same s (g ∷ fs) = ap₂ (λ l r. among l s || r) (picked-same g) (some-same s fs)
-
-  union-same : (fs : List Filter) → union n f held fs ≡ union n' f' held fs
-  unfolding union
-  union-same fs = kept-same (pickedBySome n f held fs) (pickedBySome n' f' held fs) (λ s m. some-same s fs)
 
 -- ---- a table with bytes behind its last slot
 module _ (b t : List ℕ) (full : length b ≡ tableSize (capacityOf b)) where
