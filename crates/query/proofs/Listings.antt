@@ -47,13 +47,13 @@ event-small : (b : List ℕ) (p : EventParts) → eventRow b p ≤ 8
 unfolding eventRow
 event-small b p = lowest-small (event2 b p) (event4 b p) (event5 b p) (body6 (p .body)) (event7 b p) (body8 b (p .body))
 
--- the lowest row of some that are at most 8 is at most 8
-small : {P : ℕ → Type 0} (r : ℕ) → ((k : ℕ) → P k → k ≤ 8) → Lowest P r → r ≤ 8
-small r h p = ⊎-elim (λ e. let z = eqb-true r 0 e in omega arith) (λ e. h r (p .holds (eqb-false r 0 e))) (bool (eqb r 0))
+-- the lowest row of some that are at most n is at most n
+small : {P : ℕ → Type 0} (n r : ℕ) → ((k : ℕ) → P k → k ≤ n) → Lowest P r → r ≤ n
+small n r h p = ⊎-elim (λ e. let z = eqb-true r 0 e in omega arith) (λ e. h r (p .holds (eqb-false r 0 e))) (bool (eqb r 0))
 
--- a row of at most 8, or else one of more, is the lowest of both
-or-else : {P Q : ℕ → Type 0} (r s : ℕ) → ((k : ℕ) → P k → k ≤ 8) → ((k : ℕ) → Q k → 8 < k) → Lowest P r → Lowest Q s → Lowest (λ k. P k ⊎ Q k) (orElse r s)
-or-else {P} {Q} r s low high p q = go (eqb r 0) refl
+-- a row of at most n, or else one of more, is the lowest of both
+pub or-else : {P Q : ℕ → Type 0} (n r s : ℕ) → ((k : ℕ) → P k → k ≤ n) → ((k : ℕ) → Q k → n < k) → Lowest P r → Lowest Q s → Lowest (λ k. P k ⊎ Q k) (orElse r s)
+or-else {P} {Q} n r s low high p q = go (eqb r 0) refl
   where
     go : (b : Bool) → eqb r 0 ≡ b → Lowest (λ k. P k ⊎ Q k) (cond b s r)
     go true e = record {
@@ -62,7 +62,7 @@ or-else {P} {Q} r s low high p q = go (eqb r 0) refl
     }
     go false e = record {
       holds = λ ne. inl (p .holds ne);
-      least = λ k h ne. ⊎-elim (λ i. p .least k i ne) (λ i. (eqb-false r 0 e, let y = high k i in let z = small r low p in omega arith)) h;
+      least = λ k h ne. ⊎-elim (λ i. p .least k i ne) (λ i. (eqb-false r 0 e, let y = high k i in let z = small n r low p in omega arith)) h;
     }
 
 -- ---- matching
@@ -70,7 +70,7 @@ pub matched-row-is : MatchedRowIs
 unfolding matchedRow
 matched-row-is b p m fs n =
     alike to from
-    (or-else _ (cond (isLarge b (p .body)) 9 0) (λ k. ⊎-elim (λ e. let z = event-small b p in omega (arith, e)) (row-small m fs n k)) (λ k h. let z = h .0 in omega (arith, z))
+    (or-else 8 _ (cond (isLarge b (p .body)) 9 0) (λ k. ⊎-elim (λ e. let z = event-small b p in omega (arith, e)) (row-small m fs n k)) (λ k h. let z = h .0 in omega (arith, z))
     (join (eventRow b p) (filtersRow m fs n) (alone (eventRow b p)) (filters-row-is m fs n))
     (large (isLarge b (p .body)) refl))
   where
@@ -137,7 +137,7 @@ module _ (b m : List ℕ) (fs : List FilterParts) (n : ℕ) (row : List ℕ) whe
   unfolding listingRow
   listing-row =
       alike to-listing of-listing
-      (or-else (filtersRow m fs n) _ (row-small m fs n) (λ k. ⊎-elim (λ q. let z = q .0 in omega (arith, z)) (λ q. let z = q .0 in omega (arith, z)))
+      (or-else 8 (filtersRow m fs n) _ (row-small m fs n) (λ k. ⊎-elim (λ q. let z = q .0 in omega (arith, z)) (λ q. let z = q .0 in omega (arith, z)))
       (filters-row-is m fs n) (later (sound b) (ltb (length row) (length slots)) refl refl))
 
   long-enough : listingRow b m fs n row ≡ 0 → length slots ≤ length row

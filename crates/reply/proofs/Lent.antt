@@ -32,7 +32,7 @@ use Rattle.reply.specs.Lent.{subscription8, partsRow, shortRow, outputAf
 use Rattle.reply.specs.Laws.{lentText, ok-id, ok-reason, event-subscription, eose-subscription, closed-subscription, closed-reason, notice-reason, of-event, of-eose, of-closed, EventHolds, event-utf8, event-string, event-shape, event-number, event-hex, event-count, event-large, PartsHold, not-utf8, not-allowed, not-spelled, not-hex, miscounted, in-event, PartsRowIs, PartsPass, ReplyHolds, of-parts, too-short, ReplyRowIs, PartsFirst, ShortOutput, ReplyFits, WritesOr, RepliedMeans, SerialisedNumber, OfferedNumber}
 use Rattle.reply.proofs.Which.{verdict-rows}
 
-zero-or : (r : ℕ) → (r ≡ 0) ⊎ (r ≢ 0)
+pub zero-or : (r : ℕ) → (r ≡ 0) ⊎ (r ≢ 0)
 zero-or r = ⊎-elim (λ e. inl (eqb-true r 0 e)) (λ e. inr (eqb-false r 0 e)) (bool (eqb r 0))
 
 -- ---- a text is written that fits where no row refuses it
@@ -284,7 +284,7 @@ event-holds b p _ (event-hex h) = (omega arith, omega arith)
 event-holds b p _ (event-count h) = (omega arith, omega arith)
 event-holds b p _ (event-large h) = (omega arith, omega arith)
 
-parts-hold : (b : List ℕ) (q : ReplyParts) (k : ℕ) → PartsHold b q k → (2 ≤ k) × (k ≤ 9)
+pub parts-hold : (b : List ℕ) (q : ReplyParts) (k : ℕ) → PartsHold b q k → (2 ≤ k) × (k ≤ 9)
 parts-hold b q _ (not-utf8 s h) = (omega arith, omega arith)
 parts-hold b q _ (not-allowed s h) = (omega arith, omega arith)
 parts-hold b q _ (not-spelled s h) = (omega arith, omega arith)
