@@ -80,7 +80,7 @@ read-some tooLarge h = absurd (false≢true h)
 read-some wrongShape h = absurd (false≢true h)
 read-some (read e) h = (e, refl)
 
-slot-reads : (b : List ℕ) (k : ℕ) → sound b ≡ true → k < countOf b → (e : Event) × (readText (textIn (slotAt b k)) ≡ read e)
+pub slot-reads : (b : List ℕ) (k : ℕ) → sound b ≡ true → k < countOf b → (e : Event) × (readText (textIn (slotAt b k)) ≡ read e)
 unfolding slotsSound slotSound textReads
 slot-reads b k s h =
     let l = length-cells slotSize (countOf b) (drop headerSize b) in
