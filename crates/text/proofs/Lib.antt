@@ -11,6 +11,7 @@ pub mod Keys
 pub mod Cases
 -- A law for each way out of the code.
 pub mod Ways
+pub mod Blocks
 pub mod Fields
 pub mod Named
 pub mod Texts

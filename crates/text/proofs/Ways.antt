@@ -288,32 +288,16 @@ module _ {A : Type 0} (one : ℕ → Got A) (s : List ℕ) (k at : ℕ) where
     turn-wrong f g = let x = end-got (one at) n q in ap endOf (members-wrong one s k at n (x .it) h (x .is) b e f g)
 
 -- ---- hex
-module _ (x : ℕ) where
-  pub hex-under : x < 48 → false ≡ isHex x
-  unfolding isHex
-  hex-under h = rw (lt-leb 48 x h, lt-leb 97 x (omega arith))
-
-  pub hex-between : 57 < x → x < 97 → false ≡ isHex x
-  unfolding isHex
-  hex-between h l = rw (le-leb 48 x (omega arith), lt-leb x 57 h, lt-leb 97 x l)
-
-  pub hex-letter : 97 ≤ x → leb x 102 ≡ isHex x
-  unfolding isHex
-  hex-letter h = rw (le-leb 48 x (omega arith), lt-leb x 57 (omega arith), le-leb 97 x h)
-
 module _ (p : List ℕ) (i : ℕ) where
-  pub hex-over : length p ≤ i → all isHex (drop i p) ≡ true
+  pub hex-over : (a : Bool) → length p ≤ i → (a && all isHex (drop i p)) ≡ a
   unfolding all
-  hex-over h = rw (drop-of-length-le p {i = i} h)
+  hex-over true h = rw (drop-of-length-le p {i = i} h)
+  hex-over false h = refl
 
-  module _ (h : i < length p) where
-    pub hex-bad : isHex (getD p i 0) ≡ false → all isHex (drop i p) ≡ false
-    unfolding all
-    hex-bad e = rw (drop-cons p i 0, all, e)
-
-    pub hex-good : isHex (getD p i 0) ≡ true → all isHex (drop i p) ≡ all isHex (drop (i + 1) p)
-    unfolding all
-    hex-good e = rw (drop-cons p i 0, all, e, add-one)
+  pub hex-more : (a b : Bool) → i < length p → b ≡ isHex (getD p i 0) → (a && all isHex (drop i p)) ≡ ((a && b) && all isHex (drop (i + 1) p))
+  unfolding all
+  hex-more true b h e = rw (drop-cons p i 0, all, add-one, e)
+  hex-more false b h e = refl
 
 -- ---- the next comma: m is its place
 module _ {m : ℕ} (s : List ℕ) (i : ℕ) (inv : m ≡ i + length (runOf (drop i s))) where

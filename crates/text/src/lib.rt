@@ -1,16 +1,17 @@
 // The text that is hashed, read back, and the class of a kind.
 ghost use mathlib.Core.Path.{_≡_};
-ghost use mathlib.Core.Bool.{true, false};
+ghost use mathlib.Core.Bool.{true, false, cond};
 ghost use mathlib.Core.List.{[]};
 ghost use Prim.Native.Nat.{ℕ, _+_, _<_, _≤_};
 ghost use lib.ListN.{length, getD, drop};
 ghost use Rattle.wire.specs.Escape.{escape};
 ghost use Rattle.wire.specs.Bytes.{isHex};
+ghost use Rattle.utf8.specs.Utf8.{isUtf8};
 ghost use Rattle.text.specs.Event.{Tag, comma, isPubkey};
-ghost use Rattle.text.specs.Read.{got, standsAt, closedAt, byteOf, bodyFrom, stringAt, tagAt, tagsAt, runOf, timeAt, kindAt, readText};
+ghost use Rattle.text.specs.Read.{got, standsAt, closedAt, byteOf, isRaw, bodyFrom, stringAt, tagAt, tagsAt, runOf, timeAt, kindAt, readText};
 ghost use Rattle.text.specs.Kinds.{classOf, isNamedD, second};
 ghost use Rattle.text.specs.Answer.{spanOf, answerOf, numberOf, rowOf};
-ghost use Rattle.text.specs.Parts.{endOf, timeIn, kindIn, opens, noZero, foundOf, lookOf, taggedOf, restAt, restOf};
+ghost use Rattle.text.specs.Parts.{endOf, Passes, Raws, timeIn, kindIn, opens, noZero, foundOf, lookOf, taggedOf, restAt, restOf};
 
 // 01, "Kinds and keys".
 pub enum Class {
@@ -157,11 +158,65 @@ fn unescaped(c: u8) -> u8
     }
 }
 
-// The place after the closing quote of a string whose opening quote stands before `at`.
+// Whether a byte of a string stands as it is.
+fn is_raw(x: u8) -> bool
+    ensures { λ r. ⌜ r ≡ isRaw x ⌝ }
+{
+    (0x20 <= x) & (x != b'"') & (x != b'\\')
+}
+
+fn lesser(a: u8, b: u8) -> u8
+    ensures { λ r. ⌜ r ≤ a ⌝ }
+    ensures { λ r. ⌜ r ≤ b ⌝ }
+{
+    if a < b { a } else { b }
+}
+
+// The place in a block where the bytes that stand as they are end at the latest: at k, unless the byte there is one.
+fn end_at(k: u8, raw: bool) -> u8
+    ensures { λ r. ⌜ r ≡ cond raw 32 k ⌝ }
+{
+    if raw { 32 } else { k }
+}
+
+// How many bytes of the 32 at i stand as they are, up to the first that does not. All are tested, with no way out of the loop, so that it is
+// compiled to vector code.
+fn raw_run(s: &[u8], i: usize) -> usize
+    requires { ⌜ i + 32 ≤ length (now s) ⌝ }
+    ensures { λ r. ⌜ Raws (now (s .entry)) i r ⌝ }
+{
+    let mut n: u8 = 32;
+    let mut k = 0;
+    while k < 32 {
+        n = lesser(n, end_at(k as u8, is_raw(s[i + k])));
+        k += 1;
+    }
+    n as usize
+}
+
+// Past bytes that stand as they are, 32 at a time.
+fn past_raw(s: &[u8], at: usize) -> usize
+    requires { ⌜ at ≤ length (now s) ⌝ }
+    ensures { λ r. ⌜ Passes (now (s .entry)) at r ⌝ }
+{
+    let mut i = at;
+    while 32 <= s.len() - i {
+        let n = raw_run(s, i);
+        if n < 32 {
+            return i + n;
+        }
+        i += 32;
+    }
+    i
+}
+
+// The place after the closing quote of a string whose opening quote stands before `at`. Bytes go one at a time until 16 in a row stood as they
+// are: short strings, and escapes close to each other, are faster so.
 fn body_end(s: &[u8], at: usize) -> Out
     ensures { λ r. ⌜ r ≡ endOf (bodyFrom false at (drop at (now (s .entry)))) ⌝ }
 {
     let mut i = at;
+    let mut run: usize = 0;
     while i < s.len() {
         let x = s[i];
         if x == b'\\' {
@@ -169,6 +224,7 @@ fn body_end(s: &[u8], at: usize) -> Out
                 return Out::Bad;
             }
             i += 2;
+            run = 0;
             continue;
         }
         if x == b'"' {
@@ -178,8 +234,35 @@ fn body_end(s: &[u8], at: usize) -> Out
             return Out::Bad;
         }
         i += 1;
+        run += 1;
+        if run == 16 {
+            i = past_raw(s, i);
+            run = 0;
+        }
     }
     Out::Bad
+}
+
+// Whether no byte is above 7F, with no way out of the loop.
+fn is_ascii(s: &[u8]) -> bool
+    ensures { λ r. ⌜ (r ≡ true → isUtf8 (now (s .entry)) ≡ true) ⌝ }
+{
+    let mut high = false;
+    let mut i = 0;
+    while i < s.len() {
+        high = high | (0x7f < s[i]);
+        i += 1;
+    }
+    !high
+}
+
+fn is_text(s: &[u8]) -> bool
+    ensures { λ r. ⌜ r ≡ isUtf8 (now (s .entry)) ⌝ }
+{
+    if is_ascii(s) {
+        return true;
+    }
+    utf8::is_utf8(s)
 }
 
 // A string with its quotes.
@@ -193,7 +276,7 @@ fn string_end(s: &[u8], at: usize) -> Out
     match body_end(s, a) {
         Out::End(n) => {
             let e = n - 1;
-            if utf8::is_utf8(&s[a..e]) {
+            if is_text(&s[a..e]) {
                 return Out::End(n);
             }
             Out::Bad
@@ -364,32 +447,23 @@ fn kind_at(s: &[u8], at: usize) -> Kind
 fn is_hex_digit(x: u8) -> bool
     ensures { λ r. ⌜ r ≡ isHex x ⌝ }
 {
-    if x < b'0' {
-        return false;
-    }
-    if x <= b'9' {
-        return true;
-    }
-    if x < b'a' {
-        return false;
-    }
-    x <= b'f'
+    ((b'0' <= x) & (x <= b'9')) | ((b'a' <= x) & (x <= b'f'))
 }
 
+// With no way out of the loop.
 fn is_pubkey(p: &[u8]) -> bool
     ensures { λ r. ⌜ r ≡ isPubkey (now (p .entry)) ⌝ }
 {
     if p.len() != 64 {
         return false;
     }
+    let mut hex = true;
     let mut i = 0;
     while i < p.len() {
-        if !is_hex_digit(p[i]) {
-            return false;
-        }
+        hex = hex & is_hex_digit(p[i]);
         i += 1;
     }
-    true
+    hex
 }
 
 // [0,"PUBKEY",

@@ -13,10 +13,10 @@ inside : (c : tie.After-known-told) → (c .before .before .before .before .befo
 inside c = body-inside _ _ _ (sym (c .before .before .before .body-end .ensures) ∙ c .before .n .given .1)
 
 returns-2 : tie.Need-returns-2
-returns-2 c = string-yes _ _ (sym (c .before .before .before .before .before .before .before .before .byte .ensures) ∙ c .before .before .before .before .before .before .before .if1 .left) _ _ (sym (c .before .before .before .before .before .before .body-end .ensures) ∙ c .before .before .before .before .n .given .1) (c .before .is-utf8 .ensures) (c .if2 .taken)
+returns-2 c = string-yes _ _ (sym (c .before .before .before .before .before .before .before .before .byte .ensures) ∙ c .before .before .before .before .before .before .before .if1 .left) _ _ (sym (c .before .before .before .before .before .before .body-end .ensures) ∙ c .before .before .before .before .n .given .1) (c .before .is-text .ensures) (c .if2 .taken)
 
 returns-3 : tie.Need-returns-3
-returns-3 c = string-no _ _ (sym (c .before .before .before .before .before .before .before .before .byte .ensures) ∙ c .before .before .before .before .before .before .before .if1 .left) _ _ (sym (c .before .before .before .before .before .before .body-end .ensures) ∙ c .before .before .before .before .n .given .1) (c .before .is-utf8 .ensures) (c .if2 .left)
+returns-3 c = string-no _ _ (sym (c .before .before .before .before .before .before .before .before .byte .ensures) ∙ c .before .before .before .before .before .before .before .if1 .left) _ _ (sym (c .before .before .before .before .before .before .body-end .ensures) ∙ c .before .before .before .before .n .given .1) (c .before .is-text .ensures) (c .if2 .left)
 
 pub string-end-spec : {M : Type 1} → statement M
 string-end-spec =
