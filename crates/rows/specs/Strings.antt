@@ -2,14 +2,10 @@
 use Prim.Native.Nat.{ℕ, _+_, _-_}
 use mathlib.Core.List.{List, []}
 use mathlib.Core.Bool.{Bool, true, false, _&&_, _||_}
-use lib.ListN.{take, drop}
+pub use Rattle.wire.specs.Bytes.{part}
 use Rattle.json.specs.Grammar.{case, stringAt}
 use Rattle.json.specs.Tree.{Json, word, num, str, arr, obj, Items, nil, item}
 use Rattle.spell.specs.Spell.{refuses}
-
--- the part of a text at a place
-abbrev pub part : List ℕ → ℕ → ℕ → List ℕ
-part s start len = take len (drop start s)
 
 -- the string that begins at p, as spelled between its quotes: an object's item begins with its name
 unfoldable pub spelledAt : List ℕ → ℕ → List ℕ

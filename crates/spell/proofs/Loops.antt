@@ -1,18 +1,19 @@
--- What a loop over the decoded bytes knows of the list left, an element a turn: a comparison, a count of characters, hex, escapes.
+-- What a loop over the decoded bytes knows of the list left, an element a turn: a comparison, a count of characters, hex, escapes, pairs of
+-- hex digits.
 use mathlib.Core.Bool.{Bool, true, false, cond, _&&_, and-true, and-false}
-use mathlib.Core.Path.{_≡_, refl, _∙_, ap}
+use mathlib.Core.Path.{_≡_, refl, sym, _∙_, ap}
 use mathlib.Core.List.{List, [], _∷_, _++_}
 use Prim.Native.Nat.{ℕ, zero, suc, _+_, _-_, _*_, _≤_, _<_}
 use native.Mathlib.Omega.{arith}
 use native.Mathlib.Numerals.{add-one, sub-one}
 use borrow.Author.Tests.{eq-eqb, ne-eqb}
 use lib.Dec.{eqb, eqb·suc-suc, eqb·suc-zero}
-use lib.ListN.{length, getD, drop, length-append}
+use lib.ListN.{length, getD, drop, length-append, length-drop}
 use lib.Seq.{drop-cons}
 use Rattle.wire.specs.Escape.{escOne, escape}
 use Rattle.wire.proofs.Escapes.{esc-two}
 use Rattle.wire.specs.Bytes.{sameBytes, isHex}
-use Rattle.spell.specs.Spell.{isTail, points, all}
+use Rattle.spell.specs.Spell.{hexVal, unhex, isTail, points, all}
 
 -- the elements from i on
 pub byte-turn : (s : List ℕ) (i : ℕ) → i < length s → drop i s ≡ getD s i 0 ∷ drop (i + 1) s
@@ -100,3 +101,20 @@ pub escape-few : (s : List ℕ) → length (escape s) ≤ 2 * length s
 unfolding escape
 escape-few [] = omega arith
 escape-few (b ∷ s) = rw (length-append (escOne b) (escape s)) (omega (arith, esc-two b, escape-few s))
+
+-- one turn over pairs of hex digits
+module _ (s : List ℕ) (i : ℕ) where
+  pub unhex-turn : i + 1 < length s → unhex (drop i s) ≡ ((hexVal (getD s i 0) * 16 + hexVal (getD s (i + 1) 0)) ∷ []) ++ unhex (drop (i + 2) s)
+  unfolding unhex
+  unhex-turn h =
+      let e : i + 1 + 1 ≡ i + 2 = omega arith in
+      rw (byte-turn s i (omega arith), byte-turn s (i + 1) h, e)
+
+  pub unhex-none : length s ≤ i + 1 → unhex (drop i s) ≡ []
+  unfolding unhex
+  unhex-none h = go (drop i s) (omega (arith, length-drop i s))
+    where
+      go : (l : List ℕ) → length l ≤ 1 → unhex l ≡ []
+      go [] k = refl
+      go (x ∷ []) k = refl
+      go (x ∷ y ∷ l) k = absurd (omega arith)

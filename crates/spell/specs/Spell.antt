@@ -18,6 +18,12 @@ hexVal x =
     (cond (ltb x 0x61) 0
     (cond (leb x 0x66) (x - 0x61 + 10) 0)))))
 
+-- the bytes that pairs of hex digits stand for; a last digit without its pair stands for nothing
+unfoldable pub unhex : List ℕ → List ℕ
+unhex [] = []
+unhex (x ∷ []) = []
+unhex (x ∷ y ∷ l) = (hexVal x * 16 + hexVal y) ∷ unhex l
+
 -- the number of four hex digits
 unfoldable pub four : ℕ → ℕ → ℕ → ℕ → ℕ
 four a b c d = hexVal a * 4096 + hexVal b * 256 + hexVal c * 16 + hexVal d

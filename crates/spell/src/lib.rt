@@ -4,7 +4,7 @@ ghost use Prim.Native.Nat.{_+_, _≤_, _<_};
 ghost use lib.ListN.{length, getD, drop};
 ghost use Rattle.wire.specs.Put.{Puts};
 ghost use Rattle.wire.specs.Bytes.{sameBytes, isHex};
-ghost use Rattle.spell.specs.Spell.{hexVal, four, fourAt, shortOf, isPair, pairOf, unicodeOf, utf8Of, isSurrogate, isControl, isRefused, refuses, decode, isTail, characterCount, isHexOf};
+ghost use Rattle.spell.specs.Spell.{hexVal, unhex, four, fourAt, shortOf, isPair, pairOf, unicodeOf, utf8Of, isSurrogate, isControl, isRefused, refuses, decode, isTail, characterCount, isHexOf};
 ghost use Rattle.wire.specs.Escape.{escape};
 ghost use Rattle.spell.specs.Steps.{Sized, Begins, Within, Stepped, Stays, Same};
 
@@ -581,6 +581,24 @@ pub fn put_escaped(out: &mut [u8], at: usize, p: &[u8]) -> usize
         o = wire::put_escaped_byte(out, o, x.byte);
         i = x.at;
         k = x.taken;
+    }
+    o
+}
+
+// The bytes that pairs of hex digits stand for, into `out` from `at` on; the index after them. Any other byte counts as the digit 0.
+pub fn put_unhex(out: &mut [u8], at: usize, s: &[u8]) -> usize
+    ensures { λ r. ⌜ Puts (now (out .entry)) at (unhex (now (s .entry))) r (now (out .exit)) ⌝ }
+{
+    if out.len() < at {
+        return out.len();
+    }
+    let mut o = at;
+    let mut i = 0;
+    while i + 1 < s.len() {
+        let h = hex_val(s[i]);
+        let l = hex_val(s[i + 1]);
+        o = wire::put_byte(out, o, (h * 16 + l) as u8);
+        i += 2;
     }
     o
 }
