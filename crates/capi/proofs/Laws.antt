@@ -22,8 +22,8 @@ use Rattle.wire.proofs.Laws.{put-over, Rest, rest-start}
 use Rattle.message.specs.Parts.{filterAt}
 use Rattle.message.specs.Lists.{upTo, nextOf, elementsFrom}
 use Rattle.message.specs.declared.Body.{Body}
-use Rattle.message.specs.declared.Listed.{Listed}
-use Rattle.message.specs.declared.Listed.the-variants.{Absent, At}
+use Rattle.message.specs.declared.Element.{Element}
+use Rattle.message.specs.declared.Element.the-variants.{At, Ended, Broken}
 use Rattle.event.specs.Answer.{serialised, serialisedOut}
 use Rattle.event.specs.declared.Written.{Written}
 use Rattle.capi.specs.Numbers.{filterNumbers, filtersAt, filtersFrom, bodyFrom}
@@ -107,18 +107,24 @@ filters-all s first d i h =
     let n : length s - 0 ≡ length s = omega arith in
     rw n (rest-start d i (filtersAt s (upTo (length s) s (At first))) h)
 
-module _ (s : List ℕ) (k : ℕ) (x : Listed) where
+module _ (s : List ℕ) (k : ℕ) (x : Element) where
   module _ (h : k < length s) where
-    pub filters-turn : (v : ℕ) (y : Listed) → x ≡ At v → y ≡ nextOf s v
+    pub filters-turn : (v : ℕ) (y : Element) → x ≡ At v → y ≡ nextOf s v
         → filtersAt s (upTo (length s - k) s x) ≡ filterNumbers (filterAt s v) ++ filtersAt s (upTo (length s - (k + 1)) s y)
     unfolding filtersAt upTo
     filters-turn v y e f =
         let n : length s - k ≡ suc (length s - (k + 1)) = omega arith in
         rw (e, n, f)
 
-    pub filters-none : x ≡ Absent → filtersAt s (upTo (length s - k) s x) ≡ []
+    pub filters-ended : x ≡ Ended → filtersAt s (upTo (length s - k) s x) ≡ []
     unfolding filtersAt upTo
-    filters-none e =
+    filters-ended e =
+        let n : length s - k ≡ suc (length s - (k + 1)) = omega arith in
+        rw (e, n)
+
+    pub filters-broken : x ≡ Broken → filtersAt s (upTo (length s - k) s x) ≡ []
+    unfolding filtersAt upTo
+    filters-broken e =
         let n : length s - k ≡ suc (length s - (k + 1)) = omega arith in
         rw (e, n)
 

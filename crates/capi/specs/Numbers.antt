@@ -13,6 +13,7 @@ use Rattle.message.specs.declared.Bound.{Bound}
 use Rattle.message.specs.declared.Bound.the-variants as bound
 use Rattle.message.specs.declared.Listed.{Listed}
 use Rattle.message.specs.declared.Listed.the-variants as listed
+use Rattle.message.specs.declared.Element.the-variants as element
 use Rattle.message.specs.declared.Message.{Message}
 use Rattle.message.specs.declared.Message.the-variants as message
 use Rattle.text.specs.declared.Text.{Text}
@@ -49,7 +50,7 @@ filtersAt s [] = []
 filtersAt s (v ∷ vs) = filterNumbers (filterAt s v) ++ filtersAt s vs
 
 unfoldable pub filtersFrom : List ℕ → ℕ → List ℕ
-filtersFrom s first = filtersAt s (elementsFrom s (listed.At first))
+filtersFrom s first = filtersAt s (elementsFrom s (element.At first))
 
 -- the first number says what was read: 1 an EVENT, 2 a REQ, 3 a CLOSE
 abbrev pub messageNumbers : List ℕ → Message → List ℕ

@@ -8,6 +8,7 @@ ghost use Rattle.capi.specs.Calls.{digestRow, digestOut, readRow, readOu
 ghost use Rattle.capi.specs.Numbers.{placeOf, flagOf, bitsOf, bodyFrom, eventNumbers, filterNumbers, filtersFrom, messageNumbers, textNumbers};
 use message::Body;
 use message::Bound;
+use message::Element;
 use message::EventParts;
 use message::FilterParts;
 use message::Listed;
@@ -164,14 +165,17 @@ fn put_filters(out: &mut [u64], at: usize, s: &[u8], first: usize) -> usize
         return out.len();
     }
     let mut o = at;
-    let mut x = Listed::At(first);
+    let mut x = Element::At(first);
     let mut k: usize = 0;
     while k < s.len() {
         match x {
-            Listed::Absent => {
+            Element::Ended => {
                 return o;
             }
-            Listed::At(v) => {
+            Element::Broken => {
+                return o;
+            }
+            Element::At(v) => {
                 let f = filter_numbers(message::filter_at(s, v));
                 o = put_numbers(out, o, &f);
                 x = message::next(s, v);

@@ -4,6 +4,8 @@ pub mod Walks
 pub mod Elements
 pub mod Found
 pub mod Reading
+mod Worded
+pub mod Order
 mod Ranks
 mod Edges
 mod Facts

@@ -21,14 +21,14 @@ use Rattle.rows.specs.Rows.{row1, row2, row3}
 use Rattle.shape.specs.Shape.{Word, event, req, close, other, wordOf, nameAt, Opened, opened, hasShape, isOne, isThen, isString, isEvent, isFilter, idName}
 use Rattle.wire.specs.Limits.{mostCharacters}
 use Rattle.shape.specs.Rows.{row4, row5, row6, row7, row8, treeRow, rootRow, messageRow, outside, wrongSubscription}
-use Rattle.message.specs.declared.Listed.the-variants.{At}
+use Rattle.message.specs.declared.Element.the-variants.{At}
 use Rattle.message.specs.declared.Message.the-variants as message
 use Rattle.message.specs.declared.Named.{Named}
 use Rattle.message.specs.declared.Named.the-variants as names
 use Rattle.message.specs.Lists.{firstOf, within, nextOf}
 use Rattle.message.specs.Parts.{memberOf, spanOf, spanIn, membersOf, membersGot, membersAt, eventOf, eventAt}
 use Rattle.message.specs.Read.{firstOf as firstElement, secondPlace, partsOf, inRoot, readOf, rowOf, RowRead, idNamed, subscriptionNamed, namedIn, namedRoot, isEarly, namedOf}
-use Rattle.message.specs.Steps.{placeFound, spanAt, openingOf, openingAt, wordPlace, secondFrom, partsAt, labelNamed, namedAt}
+use Rattle.message.specs.Steps.{spanAt, openingOf, openingAt, elementPlace, wordPlace, secondFrom, partsAt, labelNamed, namedAt}
 use Rattle.message.proofs.Walks.{never, bind-got, deeper}
 use Rattle.message.proofs.Pieces.{scalar-string}
 use Rattle.message.proofs.Elements.{group-of, firstPlace, Listing, end, one, array-listing}
@@ -115,7 +115,7 @@ unfolding spelledAt
 string-at s v a n m e = let (k, q, x, y) = string-tree s 6 v a n m e in rw (q, x, y)
 
 -- ---- the parts of a message by places
-third-place : (q w : ℕ) (u : Json) (us : Items) → placeFound (firstPlace us) ≡ secondPlace (item q w u us)
+third-place : (q w : ℕ) (u : Json) (us : Items) → elementPlace (firstPlace us) ≡ secondPlace (item q w u us)
 third-place q w u nil = refl
 third-place q w u (item p v t ts) = refl
 
@@ -132,7 +132,7 @@ module _ (s : List ℕ) (p v a n q w : ℕ) (u : Json) (us : Items) (m : ℕ) (r
 
   word-is : wordPlace s ≡ v
   unfolding wordPlace
-  word-is = ap placeFound (listing .0)
+  word-is = ap elementPlace (listing .0)
 
   opening-is : openingAt s v ≡ openingOf (wordOf (decode (part s a n)))
   unfolding openingAt nameAt
@@ -140,11 +140,11 @@ module _ (s : List ℕ) (p v a n q w : ℕ) (u : Json) (us : Items) (m : ℕ) (r
 
   second-is : secondFrom s v ≡ w
   unfolding secondFrom
-  second-is = ap placeFound (laid .1)
+  second-is = ap elementPlace (laid .1)
 
   third-is : secondFrom s w ≡ secondPlace (item q w u us)
   unfolding secondFrom
-  third-is = ap placeFound (laid .3) ∙ third-place q w u us
+  third-is = ap elementPlace (laid .3) ∙ third-place q w u us
 
   span-second : spanAt s w ≡ spanOf u
   span-second = span-is s w (laid .2 .1)

@@ -10,37 +10,40 @@ use Rattle.json.specs.declared.Start.the-variants.{Leaf, Empty, Many}
 use Rattle.json.specs.declared.Next.{Next}
 use Rattle.json.specs.declared.Next.the-variants.{More, Done, Wrong}
 use mathlib.Core.Bool.{Bool, true, false}
-use Rattle.message.specs.declared.Listed.{Listed}
-use Rattle.message.specs.declared.Listed.the-variants.{Absent, At}
+use Rattle.message.specs.declared.Element.{Element}
+use Rattle.message.specs.declared.Element.the-variants.{At, Ended, Broken}
 
--- the first element of the array that begins so
-abbrev pub firstOf : Start → Listed
-firstOf Leaf = Absent
-firstOf (Empty n named) = Absent
-firstOf (Many i true) = Absent
+-- the first element of the array that begins so; Broken where no array begins
+abbrev pub firstOf : Start → Element
+firstOf Leaf = Broken
+firstOf (Empty n true) = Broken
+firstOf (Empty n false) = Ended
+firstOf (Many i true) = Broken
 firstOf (Many i false) = At i
 
-abbrev pub moreOf : Next → Listed
+-- what stands after an element: a comma, the closing bracket, neither
+abbrev pub moreOf : Next → Element
 moreOf (More j) = At j
-moreOf (Done n) = Absent
-moreOf Wrong = Absent
+moreOf (Done n) = Ended
+moreOf Wrong = Broken
 
 -- the brackets and braces that may be open at once within an element
 abbrev pub within : ℕ
 within = 7
 
--- the element after the one at v
-unfoldable pub nextOf : List ℕ → ℕ → Listed
-nextOf s v = case (endOf (treeAt s within v)) (λ n. moreOf (nextAt s n false)) Absent
+-- the element after the one at v; Broken where no value stands there
+unfoldable pub nextOf : List ℕ → ℕ → Element
+nextOf s v = case (endOf (treeAt s within v)) (λ n. moreOf (nextAt s n false)) Broken
 
 -- an element and those after it, of at most f
-unfoldable pub upTo : ℕ → List ℕ → Listed → List ℕ
+unfoldable pub upTo : ℕ → List ℕ → Element → List ℕ
 upTo zero s x = []
-upTo (suc f) s Absent = []
+upTo (suc f) s Ended = []
+upTo (suc f) s Broken = []
 upTo (suc f) s (At v) = v ∷ upTo f s (nextOf s v)
 
 -- an element and those after it: a text has no more elements than bytes
-unfoldable pub elementsFrom : List ℕ → Listed → List ℕ
+unfoldable pub elementsFrom : List ℕ → Element → List ℕ
 elementsFrom s x = upTo (length s) s x
 
 -- the elements of the array at a place

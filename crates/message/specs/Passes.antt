@@ -5,7 +5,7 @@ use mathlib.Core.List.{List, List·Memᴰ}
 use lib.ListN.{length}
 use Rattle.message.specs.declared.EventParts.{EventParts}
 use Rattle.message.specs.declared.ReqParts.{ReqParts}
-use Rattle.message.specs.declared.Listed.the-variants.{At}
+use Rattle.message.specs.declared.Element.the-variants.{At}
 use Rattle.message.specs.declared.Message.the-variants.{Event, Req}
 use Rattle.message.specs.Parts.{filterAt}
 use Rattle.message.specs.Lists.{elementsFrom}

@@ -2,11 +2,12 @@
 use Prim.Native.Nat.{ℕ}
 use mathlib.Core.Path.{_≡_}
 use mathlib.Core.List.{List}
-use mathlib.Core.Bool.{Bool, cond, _&&_}
+use mathlib.Core.Bool.{Bool, true, false, cond, _&&_}
 use lib.Dec.{eqb, leb}
 use Rattle.wire.specs.Limits.{hexLength}
 use Rattle.json.specs.Tree.{Json, word, num, str, arr, obj, Items, nil, item, Got, none, got, root}
 use Rattle.rows.specs.Strings.{part}
+use Rattle.rows.specs.Rows.{onRoot}
 use Rattle.spell.specs.Spell.{isHexOf}
 use Rattle.shape.specs.Shape.{Word, event, req, close, other, Opened, opened, idName}
 use Rattle.shape.specs.Rows.{messageRow, wrongSubscription}
@@ -51,6 +52,17 @@ rowOf (message.Refused r) = r
 
 abbrev pub RowRead : Type 0
 RowRead = (s : List ℕ) → rowOf (readOf s) ≡ messageRow s
+
+-- ---- 01: "offering one tests 1 to 12 .. and gives 5 also if it isn't an EVENT"; "Names and the first word compare as decoded"
+abbrev pub isEventWord : Word → Bool
+isEventWord event = true
+isEventWord req = false
+isEventWord close = false
+isEventWord other = false
+
+-- the message's first word is EVENT, whatever else is wrong with it; false where no JSON value begins the text
+unfoldable pub isEvent : List ℕ → Bool
+isEvent m = onRoot (λ t. isEventWord (opened m t .first)) (root m)
 
 -- ---- 01, "Filters and replies": "Rows 6-12 give OK with false if the id field is 64 lower-case hex; CLOSED for a REQ whose subscription
 -- id is within bounds; otherwise NOTICE". What is found in a text that has its shape (rows 1 to 5 do not hold); nothing elsewhere

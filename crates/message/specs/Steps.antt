@@ -15,12 +15,14 @@ use Rattle.wire.specs.Limits.{mostCharacters}
 use Rattle.wire.specs.Bytes.{sameBytes}
 use Rattle.spell.specs.Spell.{decode, characterCount}
 use Rattle.rows.specs.Strings.{part, spelledAt}
-use Rattle.shape.specs.Shape.{nameAt, Word, event, req, close, other, wordOf, idName, pubkeyName, createdAtName, kindName, tagsName, contentName, sigName, idsName, authorsName, kindsName, sinceName, untilName, limitName}
+use Rattle.shape.specs.Shape.{nameAt, Word, event, req, close, other, wordOf, eventWord, idName, pubkeyName, createdAtName, kindName, tagsName, contentName, sigName, idsName, authorsName, kindsName, sinceName, untilName, limitName}
 use Rattle.message.specs.declared.Span.{Span}
 use Rattle.message.specs.declared.Bound.{Bound}
 use Rattle.message.specs.declared.Bound.the-variants as bound
 use Rattle.message.specs.declared.Listed.{Listed}
 use Rattle.message.specs.declared.Listed.the-variants.{Absent, At}
+use Rattle.message.specs.declared.Element.{Element}
+use Rattle.message.specs.declared.Element.the-variants as element
 use Rattle.message.specs.declared.Body.{Body}
 use Rattle.message.specs.declared.Members.{Members}
 use Rattle.shape.specs.Rows.{outside}
@@ -129,11 +131,22 @@ openingOf other = opening.Other
 unfoldable pub openingAt : List ℕ → ℕ → Opening
 openingAt s i = openingOf (wordOf (nameAt s i))
 
+abbrev pub elementPlace : Element → ℕ
+elementPlace (element.At v) = v
+elementPlace element.Ended = 0
+elementPlace element.Broken = 0
+
 unfoldable pub wordPlace : List ℕ → ℕ
-wordPlace s = placeFound (firstOf (startAt s (wsAt s 0)))
+wordPlace s = elementPlace (firstOf (startAt s (wsAt s 0)))
 
 unfoldable pub secondFrom : List ℕ → ℕ → ℕ
-secondFrom s i = placeFound (nextOf s i)
+secondFrom s i = elementPlace (nextOf s i)
+
+-- whether an element is the string EVENT
+unfoldable pub isEventAt : List ℕ → Element → Bool
+isEventAt s (element.At v) = sameBytes (decode (part s (spanAt s v .start) (spanAt s v .len))) eventWord
+isEventAt s element.Ended = false
+isEventAt s element.Broken = false
 
 unfoldable pub partsAt : List ℕ → Opening → ℕ → Message
 partsAt s opening.Event j = message.Event (eventAt s j)

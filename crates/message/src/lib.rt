@@ -7,9 +7,9 @@ ghost use Rattle.json.specs.Grammar.{startAt};
 ghost use Rattle.rows.specs.Strings.{part, spelledAt};
 ghost use Rattle.message.specs.Parts.{valueOf, membersAt, eventAt, filterAt};
 ghost use Rattle.message.specs.Lists.{firstOf, nextOf};
-ghost use Rattle.message.specs.Read.{readOf, idNamed, isEarly, namedOf};
+ghost use Rattle.message.specs.Read.{readOf, isEvent, idNamed, isEarly, namedOf};
 ghost use Rattle.message.specs.Lent.{isInside, string2, string4, string5, string7, wrongNumber, inBound, body2, body4, body5, body6, body7, body8, bodyRow, eventRow, filterRow};
-ghost use Rattle.message.specs.Steps.{kept, eventStep, filterStep, stepOf, noMembers, foundIn, leafAt, spanAt, numberAt, spanFound, numberFound, boundFound, placeFound, bodyFound, openingAt, wordPlace, secondFrom, partsAt, labelNamed, namedAt, toldOf, rankOf, Lowest, ValueRank, ListRank};
+ghost use Rattle.message.specs.Steps.{kept, eventStep, filterStep, stepOf, noMembers, foundIn, leafAt, spanAt, numberAt, spanFound, numberFound, boundFound, placeFound, bodyFound, openingAt, elementPlace, wordPlace, secondFrom, isEventAt, partsAt, labelNamed, namedAt, toldOf, rankOf, Lowest, ValueRank, ListRank};
 use json::Kind;
 use json::Next;
 use json::Out;
@@ -67,6 +67,13 @@ pub enum Bound {
 pub enum Listed {
     Absent,
     At(usize),
+}
+
+// A step of a walk over an array: the place of an element, the array's end, or no array that goes on so.
+pub enum Element {
+    At(usize),
+    Ended,
+    Broken,
 }
 
 // `conditions` is the place of the object whose # members are the conditions.
@@ -396,7 +403,7 @@ fn body_in(s: &[u8], m: Members) -> Body
 }
 
 // The parts of the event whose object stands at a place.
-pub fn event_at(s: &[u8], at: usize) -> EventParts
+fn event_at(s: &[u8], at: usize) -> EventParts
     ensures { λ r. ⌜ r ≡ eventAt (now (s .entry)) at ⌝ }
 {
     let m = find(s, at, true);
@@ -433,28 +440,29 @@ pub fn filter_at(s: &[u8], at: usize) -> FilterParts
     }
 }
 
-// The first element of the array at a place.
-pub fn first(s: &[u8], at: usize) -> Listed
+// The first element of the array at a place. Ended: it has none. Broken: no array begins there.
+pub fn first(s: &[u8], at: usize) -> Element
     ensures { λ r. ⌜ r ≡ firstOf (startAt (now (s .entry)) at) ⌝ }
 {
     match json::begin(s, at) {
-        Start::Leaf => Listed::Absent,
-        Start::Empty(_, _) => Listed::Absent,
-        Start::Many(i, named) => { if named { Listed::Absent } else { Listed::At(i) } }
+        Start::Leaf => Element::Broken,
+        Start::Empty(_, named) => { if named { Element::Broken } else { Element::Ended } }
+        Start::Many(i, named) => { if named { Element::Broken } else { Element::At(i) } }
     }
 }
 
-// The element after the one at a place.
-pub fn next(s: &[u8], at: usize) -> Listed
+// The element after the one at a place. Ended: the closing bracket follows it. Broken: no value stands there, or neither a comma nor the
+// bracket follows.
+pub fn next(s: &[u8], at: usize) -> Element
     ensures { λ r. ⌜ r ≡ nextOf (now (s .entry)) at ⌝ }
 {
     match json::value(s, at, WITHIN) {
         Out::End(n) => match json::after(s, n, false) {
-            Next::More(j) => Listed::At(j),
-            Next::Done(_) => Listed::Absent,
-            Next::Wrong => Listed::Absent,
+            Next::More(j) => Element::At(j),
+            Next::Done(_) => Element::Ended,
+            Next::Wrong => Element::Broken,
         },
-        Out::Bad => Listed::Absent,
+        Out::Bad => Element::Broken,
     }
 }
 
@@ -473,18 +481,28 @@ fn opening_at(s: &[u8], at: usize) -> Opening
     }
 }
 
+fn element_place(x: Element) -> usize
+    ensures { λ r. ⌜ r ≡ elementPlace x ⌝ }
+{
+    match x {
+        Element::At(v) => v,
+        Element::Ended => 0,
+        Element::Broken => 0,
+    }
+}
+
 // The place of a message's first element.
 fn word_place(s: &[u8]) -> usize
     ensures { λ r. ⌜ r ≡ wordPlace (now (s .entry)) ⌝ }
 {
-    place_in(first(s, json::space(s, 0)))
+    element_place(first(s, json::space(s, 0)))
 }
 
 // The place of the element after the one at a place.
 fn second(s: &[u8], at: usize) -> usize
     ensures { λ r. ⌜ r ≡ secondFrom (now (s .entry)) at ⌝ }
 {
-    place_in(next(s, at))
+    element_place(next(s, at))
 }
 
 // The parts of a message, by its first word; its second element stands at j.
@@ -519,6 +537,31 @@ pub fn read(s: &[u8]) -> Message
     }
     let i = word_place(s);
     parts(s, opening_at(s, i), second(s, i))
+}
+
+// Whether an element is the string EVENT.
+fn is_event_at(s: &[u8], x: Element) -> bool
+    ensures { λ r. ⌜ r ≡ isEventAt (now (s .entry)) x ⌝ }
+{
+    match x {
+        Element::At(v) => {
+            let p = span_at(s, v);
+            spell::spells(piece(s, p.start, p.len), b"EVENT")
+        }
+        Element::Ended => false,
+        Element::Broken => false,
+    }
+}
+
+// Whether the first word of a message is EVENT, whatever else is wrong with it.
+pub fn is_event(s: &[u8]) -> bool
+    ensures { λ r. ⌜ r ≡ isEvent (now (s .entry)) ⌝ }
+{
+    let at = json::space(s, 0);
+    match json::value(s, at, DEPTH) {
+        Out::End(_) => is_event_at(s, first(s, at)),
+        Out::Bad => false,
+    }
 }
 
 fn early(row: u8) -> bool

@@ -9,6 +9,7 @@ use message::Body;
 use message::Bound;
 use message::EventParts;
 use message::FilterParts;
+use message::Element;
 use message::Listed;
 use message::Message;
 use message::ReqParts;
@@ -287,16 +288,19 @@ fn put_filter(out: &mut [u8], at: usize, s: &[u8], place: usize) -> usize {
 
 fn put_filters(out: &mut [u8], at: usize, s: &[u8], place: usize) -> usize {
     let mut o = at;
-    let mut x = Listed::At(place);
+    let mut x = Element::At(place);
     let mut k: usize = 0;
     while k < s.len() {
         match x {
-            Listed::At(v) => {
+            Element::At(v) => {
                 o = wire::put(out, o, b",");
                 o = put_filter(out, o, s, v);
                 x = message::next(s, v);
             }
-            Listed::Absent => {
+            Element::Ended => {
+                return o;
+            }
+            Element::Broken => {
                 return o;
             }
         }

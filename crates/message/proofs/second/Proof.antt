@@ -6,4 +6,4 @@ use Rattle.message.proofs.second.Tie as tie
 
 pub second-spec : {M : Type 1} → statement M
 unfolding secondFrom
-second-spec = tie.close (tie.spec (λ c κs. search needs) (λ c κs. search needs) (λ c. c .place-in .ensures ∙ simp (← c .before .next .ensures)))
+second-spec = tie.close (tie.spec (λ c κs. search needs) (λ c κs. search needs) (λ c. c .element-place .ensures ∙ simp (← c .before .next .ensures)))

@@ -8,4 +8,4 @@ pub word-place-spec : {M : Type 1} → statement M
 unfolding wordPlace
 word-place-spec =
     tie.close
-    (tie.spec (λ c κs. search needs) (λ c κs. search needs) (λ c κs. search needs) (λ c. c .place-in .ensures ∙ simp (← c .before .before .space .ensures, ← c .before .first .ensures)))
+    (tie.spec (λ c κs. search needs) (λ c κs. search needs) (λ c κs. search needs) (λ c. c .element-place .ensures ∙ simp (← c .before .before .space .ensures, ← c .before .first .ensures)))
