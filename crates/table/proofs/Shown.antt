@@ -1,15 +1,14 @@
 -- What is shown is what is held, and nothing behind the last slot is read.
-use mathlib.Core.Path.{_≡_, refl, sym, ap, ap₂, _∙_}
+use mathlib.Core.Path.{_≡_, refl, sym, ap, _∙_}
 use mathlib.Core.Bool.{Bool, true, false, cond}
-use mathlib.Core.List.{List, [], _∷_, _++_, map, List·Memᴰ·head, List·Memᴰ·tail, Memᴰ·map, Memᴰ·cast}
+use mathlib.Core.List.{List, [], _∷_, _++_, List·Memᴰ·head, List·Memᴰ·tail, Memᴰ·map, Memᴰ·cast}
 use Prim.Native.Nat.{ℕ, zero, suc, _+_, _*_, _≤_, _<_}
 use native.Mathlib.Omega.{arith}
 use lib.Dec.{eqb, ltb}
 use lib.ListN.{length, getD, take, drop, length-drop, List·getD-map}
-use lib.Seq.{drop-at, drop-drop, take-add, take-take, length-take-le, take-append-le, drop-append-le}
+use lib.Seq.{drop-drop, take-append-le, drop-append-le}
 use borrow.Author.Tests.{ltb-true, lt-ltb, le-ltb, eqb-true, ne-eqb}
 use Rattle.law.specs.Lists.{_∈_}
-use Rattle.law.specs.Cells.{cells}
 use Rattle.law.proofs.Cells.{length-cells, cell-at}
 use Rattle.wire.specs.Limits.{mostText}
 use Rattle.rows.specs.Strings.{part}
@@ -19,7 +18,7 @@ use Rattle.table.specs.Sound.{slotSound, slotsSound, sound}
 use Rattle.table.specs.Format.{shownRow, shown}
 use Rattle.table.specs.Claims.{ShownHeld, ShownInside, ShownRows, HeldCount, ViewAt, ShownNeverRead}
 use Rattle.table.proofs.Lists.{all-has}
-use Rattle.table.proofs.Slots.{sound-text-length}
+use Rattle.table.proofs.Slots.{sound-text-length, part-length, length-at, text-at}
 use Rattle.table.proofs.Bytes.{clauses}
 use Rattle.table.proofs.Stored.{length-view}
 use Rattle.table.proofs.Unread.{count-append, sound-append}
@@ -43,6 +42,20 @@ unfolding view
 slot-held b k h =
     Memᴰ·cast (ap inSlot (sym (slot-entry b k h)))
     (Memᴰ·map inSlot (entry-in (heldSlots b) k [] (omega (arith, length-cells slotSize (countOf b) (drop headerSize b)))))
+
+-- ---- a held slot of a sound table
+module _ (b : List ℕ) (ok : sound b ≡ true) (k : ℕ) (h : k < countOf b) where
+  pub slot-sound-at : slotSound (slotAt b k) ≡ true
+  unfolding slotsSound
+  slot-sound-at =
+      let m = entry-in (heldSlots b) k [] (omega (arith, length-cells slotSize (countOf b) (drop headerSize b))) in
+      all-has slotSound (heldSlots b) (clauses b ok .slots) (Memᴰ·cast (sym (slot-entry b k h)) m)
+
+  pub slot-size : length (slotAt b k) ≡ slotSize
+  slot-size = let c = clauses b ok in part-length b (slotPlace k) slotSize (omega (arith, c .count, c .fit))
+
+  pub text-small : lengthIn (slotAt b k) ≤ mostText
+  text-small = sound-text-length (slotAt b k) slot-sound-at
 
 -- a slot is shown exactly where the table is sound and the slot held
 pub shown-if : (b : List ℕ) (k : ℕ) → shownRow b k ≡ 0 → (sound b ≡ true) × (k < countOf b)
@@ -70,26 +83,12 @@ pub shown-held : ShownHeld
 unfolding shown
 shown-held b k r = (slot-held b k (shown-if b k r .1), rw r)
 
--- a part of a slot that ends within it is a part of the table
-text-place : (b : List ℕ) (k n : ℕ) → slotPlace k + slotSize ≤ length b → n ≤ mostText → take n (drop textPlace (slotAt b k)) ≡ part b (slotPlace k + textPlace) n
-text-place b k n h le =
-    let x : List ℕ = drop (slotPlace k) b in
-    let l : slotSize ≤ length x = omega (arith, length-drop (slotPlace k) b) in
-    ap (λ (y : List ℕ). take n (drop textPlace y)) (take-add textPlace mostText x)
-    ∙ ap (take n) (drop-at (take textPlace x) (take mostText (drop textPlace x)) textPlace (length-take-le textPlace x (omega arith)))
-    ∙ take-take n mostText (drop textPlace x) le
-    ∙ ap (take n) (drop-drop textPlace (slotPlace k) b)
-
 pub shown-inside : ShownInside
-unfolding shown textIn slotsSound
+unfolding shown
 shown-inside b k r =
     let (s, h) = shown-if b k r in
-    let c = clauses b s in
-    let few = c .count in
-    let fit = c .fit in
-    let m = entry-in (heldSlots b) k [] (omega (arith, length-cells slotSize (countOf b) (drop headerSize b))) in
-    let ok : slotSound (slotAt b k) ≡ true = rw (slot-entry b k h) at (all-has slotSound (heldSlots b) (c .slots) m) in
-    rw r (text-place b k (lengthIn (slotAt b k)) (omega arith) (sound-text-length (slotAt b k) ok))
+    let m = text-small b s k h in
+    rw r (sym (ap (part b (slotPlace k + textPlace)) (sym (length-at b k)) ∙ text-at b k m))
 
 module _ (b t : List ℕ) (k : ℕ) (full : length b ≡ tableSize (capacityOf b)) where
   row-append : shownRow (b ++ t) k ≡ shownRow b k

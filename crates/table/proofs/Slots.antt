@@ -1,21 +1,23 @@
--- An event written to a slot is read back from it, and a slot that is sound is what its event writes.
+-- An event written to a slot is read back from it, and a slot that is sound is what its event writes; the fields of slot k as parts of the
+-- table.
 use mathlib.Core.Path.{_≡_, refl, sym, ap, ap₂, _∙_}
 use mathlib.Core.Bool.{true, false, not, _&&_}
-use mathlib.Core.List.{List, _++_}
-use Prim.Native.Nat.{ℕ, _+_, _-_, _≤_, _<_, _^_}
+use mathlib.Core.List.{List, [], _∷_, _++_}
+use Prim.Native.Nat.{ℕ, zero, suc, _+_, _-_, _≤_, _<_, _^_}
 use native.Mathlib.Omega.{arith}
 use lib.Dec.{eqb, leb, ltb}
 use lib.IntN.{ℤ, pos, negsuc}
-use lib.ListN.{length, drop, replicate, length-append, length-replicate, length-take, length-drop}
-use lib.Seq.{drop-at}
+use lib.ListN.{length, take, drop, replicate, length-append, length-replicate, length-take, length-drop}
+use lib.Seq.{drop-at, drop-drop, take-take}
 use lib.Signed.{mag}
 use borrow.Author.Tests.{ltb-false, not-true, le-leb, leb-true, eq-eqb, eqb-true}
 use Rattle.wire.specs.Limits.{widest, mostText}
-use Rattle.wire.specs.Field.{leBytes, fieldAt, signed, unsigned}
+use Rattle.wire.specs.Field.{le, leBytes, fieldAt, signed, unsigned}
 use Rattle.wire.proofs.Fields.{length-leBytes, signed-unsigned}
 use Rattle.numeral.specs.Whole.{isWithin}
+use Rattle.rows.specs.Strings.{part}
 use Rattle.text.specs.Event.{Event, serialise, isTime, all}
-use Rattle.text.specs.Read.{read, readText, IsTextOf}
+use Rattle.text.specs.Read.{Read, tooLarge, wrongShape, read, readText, IsTextOf}
 use Rattle.text.specs.Kinds.{isEphemeral, classOf}
 use Rattle.text.specs.declared.Class.{Class}
 use Rattle.text.specs.declared.Class.the-variants.{Regular, Replaceable, Ephemeral, Addressable}
@@ -23,7 +25,7 @@ use Rattle.text.proofs.Pieces.{both}
 use Rattle.text.proofs.Limits.{limits-of}
 use Rattle.text.proofs.RoundTrip.{read-back, read-same}
 use Rattle.text.proofs.Places.{d-inside}
-use Rattle.table.specs.Layout.{Held, Fits, slotSize, idIn, sigIn, timeIn, kindIn, lengthIn, dIn, textIn, restIn, isByte, dIfAddressable, dPlace, textBytes, slotBytes}
+use Rattle.table.specs.Layout.{Held, Fits, slotSize, slotPlace, slotAt, textPlace, idIn, sigIn, timeIn, kindIn, lengthIn, dIn, textIn, restIn, isByte, dIfAddressable, dPlace, textBytes, slotBytes}
 use Rattle.table.specs.Events.{inSlot, ofHeld}
 use Rattle.table.specs.Sound.{isRead, textReads, agreesWith, fieldsAgree, isLasting, isZero, zeroAfterText, slotSound}
 use Rattle.table.proofs.Fields.{piece, after, cut, field, after-field, field-back, byte-small, zeros-zero, zero-zeros}
@@ -161,6 +163,11 @@ module _ (h : Held) (f : Fits h) where
       (zeros-zero (mostText - length (serialise (h .event))))
 
 -- ---- what soundness says of a slot whose text is read as e
+pub read-of : (r : Read) → isRead r ≡ true → (e : Event) × (r ≡ read e)
+read-of tooLarge h = absurd (let z : _≡_ {A = ℕ} 0 1 = cc in omega arith)
+read-of wrongShape h = absurd (let z : _≡_ {A = ℕ} 0 1 = cc in omega arith)
+read-of (read e) h = (e, refl)
+
 module _ (s : List ℕ) (ok : slotSound s ≡ true) where
   text-sound : textReads s ≡ true
   unfolding slotSound
@@ -173,6 +180,14 @@ module _ (s : List ℕ) (ok : slotSound s ≡ true) where
   pub sound-text-length : lengthIn s ≤ mostText
   unfolding textReads
   sound-text-length = leb-true (lengthIn s) mostText (both (leb (lengthIn s) mostText) (isRead (readText (textIn s))) text-sound .0)
+
+  pub sound-event : (e : Event) × (readText (textIn s) ≡ read e)
+  unfolding textReads
+  sound-event = read-of (readText (textIn s)) (both (leb (lengthIn s) mostText) (isRead (readText (textIn s))) text-sound .1)
+
+  pub sound-lasting : isEphemeral (kindIn s) ≡ false
+  unfolding isLasting
+  sound-lasting = not-true (isEphemeral (kindIn s)) (both (isLasting s) (zeroAfterText s) (both (fieldsAgree s) (isLasting s && zeroAfterText s) rest-sound .1) .0)
 
   pub sound-rest : isZero (restIn s) ≡ true
   unfolding zeroAfterText
@@ -224,3 +239,50 @@ slot-is s e l b ok r =
     let r104 = field-back s (fromLength e) 104 2 (e .kind) (omega arith) small (sound-kind s ok e r) r106 in
     let r96 = field-back s (fromKind e) 96 8 (unsigned (e .time)) (omega arith) small (sound-time s ok e r) r104 in
     cut s 0 32 ∙ ap (idIn s ++_) (cut s 32 64 ∙ ap (sigIn s ++_) r96)
+
+-- ---- parts of parts
+take-inside : (k i n : ℕ) (l : List ℕ) → i + k ≤ n → take k (drop i (take n l)) ≡ take k (drop i l)
+take-inside k zero n l h = take-take k n l (omega arith)
+take-inside k (suc i) zero l h = absurd (omega arith)
+take-inside k (suc i) (suc n) [] h = refl
+take-inside k (suc i) (suc n) (x ∷ l) h = take-inside k i n l (omega arith)
+
+pub part-part : (b : List ℕ) (p n i k : ℕ) → i + k ≤ n → part (part b p n) i k ≡ part b (p + i) k
+part-part b p n i k h = take-inside k i n (drop p b) h ∙ ap (take k) (drop-drop i p b)
+
+pub part-length : (s : List ℕ) (i k : ℕ) → i + k ≤ length s → length (part s i k) ≡ k
+part-length s i k h = omega (arith, length-take k (drop i s), length-drop i s)
+
+-- ---- the fields of slot k, as parts of the table
+module _ (b : List ℕ) (k : ℕ) where
+  pub field-at : (i n : ℕ) → i + n ≤ slotSize → fieldAt b (slotPlace k + i) n ≡ fieldAt (slotAt b k) i n
+  unfolding fieldAt
+  field-at i n h = ap le (sym (part-part b (slotPlace k) slotSize i n h))
+
+  pub id-at : part b (slotPlace k) 32 ≡ idIn (slotAt b k)
+  unfolding idIn
+  id-at =
+      let z : slotPlace k + 0 ≡ slotPlace k = omega arith in
+      sym (part-part b (slotPlace k) slotSize 0 32 (omega arith) ∙ ap (λ (p : ℕ). part b p 32) z)
+
+  pub sig-at : part b (slotPlace k + 32) 64 ≡ sigIn (slotAt b k)
+  unfolding sigIn
+  sig-at = sym (part-part b (slotPlace k) slotSize 32 64 (omega arith))
+
+  pub time-at : fieldAt b (slotPlace k + 96) 8 ≡ timeIn (slotAt b k)
+  time-at = field-at 96 8 (omega arith)
+
+  pub kind-at : fieldAt b (slotPlace k + 104) 2 ≡ kindIn (slotAt b k)
+  unfolding kindIn
+  kind-at = field-at 104 2 (omega arith)
+
+  pub length-at : fieldAt b (slotPlace k + 106) 2 ≡ lengthIn (slotAt b k)
+  unfolding lengthIn
+  length-at = field-at 106 2 (omega arith)
+
+  -- the text of a sound slot, which is at most 4,096 bytes
+  pub text-at : lengthIn (slotAt b k) ≤ mostText → part b (slotPlace k + textPlace) (fieldAt b (slotPlace k + 106) 2) ≡ textIn (slotAt b k)
+  unfolding textIn
+  text-at h =
+      ap (part b (slotPlace k + textPlace)) length-at
+      ∙ sym (part-part b (slotPlace k) slotSize textPlace (lengthIn (slotAt b k)) (omega arith))

@@ -7,12 +7,10 @@ use mathlib.Core.List.{List, [], _∷_, _++_, append-assoc, append-nil, map, Lis
 use Prim.Native.Nat.{ℕ, _+_}
 use native.Mathlib.Omega.{arith}
 use borrow.Author.Tests.{le-leb}
-use lib.Dec.{leb}
 use lib.IntN.{pos}
 use lib.ListN.{length, length-append}
 use lib.Seq.{take-at, drop-at}
 use Rattle.wire.specs.Bytes.{isHex}
-use Rattle.wire.specs.Limits.{mostText}
 use Rattle.wire.specs.Escape.{escape}
 use Rattle.utf8.specs.Utf8.{isUtf8}
 use Rattle.json.specs.Grammar.{isSpelling}
@@ -23,24 +21,27 @@ use Rattle.spell.specs.Spell.{decode}
 use Rattle.spell.specs.Spell as spell
 use Rattle.spell.proofs.Laws.{decode-escape, hex-itself, hex-escape}
 use Rattle.text.specs.Event.{Event, opening, closing, comma, bracket, quoted, tagsText, serialise, all, isPlainByte, isString}
-use Rattle.text.specs.Read.{Read, tooLarge, wrongShape, read, readText, IsTextOf}
+use Rattle.text.specs.Read.{read, readText, IsTextOf}
 use Rattle.text.specs.Answer.{tagsPlace, contentPlace}
 use Rattle.text.proofs.Pieces.{spelt, left, right, byte-is, both}
 use Rattle.text.proofs.Strings.{utf8-escape}
 use Rattle.text.proofs.Limits.{Limits, limits-of}
 use Rattle.text.proofs.Rows.{pubkey-length}
 use Rattle.text.proofs.RoundTrip.{read-back, read-same}
+use Rattle.message.specs.declared.Span.{Span}
 use Rattle.message.specs.declared.EventParts.{EventParts}
 use Rattle.message.specs.Lent.{isInside}
 use Rattle.event.specs.Answer.{hexOf}
 use Rattle.event.proofs.Answers.{hex-length}
 use Rattle.law.specs.Lists.{_∈_}
-use Rattle.table.specs.Layout.{isByte, lengthIn, textIn, heldSlots}
+use Rattle.table.specs.Layout.{isByte, heldSlots}
 use Rattle.table.specs.Events.{SignedEvent, inSlot, ofHeld, view}
-use Rattle.table.specs.Sound.{isRead, textReads, slotSound, slotsSound, sound, hasHeader, capacityFits, slotsFit, countFits, othersAsAbove}
+use Rattle.table.specs.Sound.{slotSound, slotsSound, sound}
 use Rattle.table.specs.Offer.{asParts}
 use Rattle.table.specs.Relay.{Spells, SpellsTags, Tells}
 use Rattle.table.specs.Claims.{Tellable, Offerable}
+use Rattle.table.proofs.Slots.{sound-event}
+use Rattle.table.proofs.Bytes.{clauses}
 use Rattle.table.proofs.Hex.{hex-is, digest-length, digest-bytes}
 use Rattle.table.proofs.Again.{hex-string}
 use Rattle.table.proofs.Strings.{escape-spelling}
@@ -53,25 +54,11 @@ unfolding all
 held-slot [] s e m = absurd (List·Memᴰ·not-nil m)
 held-slot (x ∷ xs) s e m = let (p, q) = both (slotSound x) _ e in ⊎-elim (λ z. (x, z, p)) (λ k. held-slot xs s q k) (List·Memᴰ·cases-cons m)
 
-slots-sound : (b : List ℕ) → sound b ≡ true → slotsSound b ≡ true
-unfolding sound
-slots-sound b e =
-    let e₁ = both (hasHeader b) _ e .1 in
-    let e₂ = both (capacityFits b) _ e₁ .1 in
-    let e₃ = both (slotsFit b) _ e₂ .1 in
-    let e₄ = both (countFits b) _ e₃ .1 in
-    both (slotsSound b) _ (both (othersAsAbove b) _ e₄ .1) .0
-
-pub read-of : (r : Read) → isRead r ≡ true → (e : Event) × (r ≡ read e)
-read-of tooLarge h = absurd (let z : _≡_ {A = ℕ} 0 1 = cc in omega arith)
-read-of wrongShape h = absurd (let z : _≡_ {A = ℕ} 0 1 = cc in omega arith)
-read-of (read e) h = (e, refl)
-
 pub held-read : (b : List ℕ) (s : SignedEvent) → sound b ≡ true → s ∈ view b → (e : Event) × (readText (s .0 .text) ≡ read e)
-unfolding view slotsSound slotSound textReads
+unfolding view slotsSound
 held-read b s g m =
-    let (c, z, h) = held-slot (heldSlots b) s (slots-sound b g) m in
-    let (e, r) = read-of (readText (textIn c)) (both (leb (lengthIn c) mostText) _ (both (textReads c) _ h .0) .1) in
+    let (c, z, h) = held-slot (heldSlots b) s (clauses b g .slots) m in
+    let (e, r) = sound-event c h in
     (e, ap (λ (x : SignedEvent). readText (x .0 .text)) z ∙ r)
 
 -- ---- a part
@@ -102,26 +89,7 @@ module _ (p q r : List ℕ) (at k : ℕ) (l : length p ≡ at) where
       let (a, u) = both (all isPlainByte q) _ h in
       spells p (escape q) r at k l m q (utf8-escape q ∙ u) (escape-spelling q a) (decode-escape q)
 
--- ---- the parts of an event in its text, with hex of its id and signature behind
-abbrev hexes : SignedEvent → List ℕ
-hexes s = hexOf (s .0 .id) ++ hexOf (s .1)
-
-abbrev pub toldIn : SignedEvent → List ℕ
-toldIn s = s .0 .text ++ (hexOf (s .0 .id) ++ hexOf (s .1))
-
-abbrev pub toldParts : SignedEvent → Event → EventParts
-toldParts s e = record {
-  id = record { start = length (s .0 .text); len = 64 };
-  body = record {
-    pubkey = record { start = 4; len = 64 };
-    «created_at» = e .time;
-    kind = pos (e .kind);
-    tags = tagsPlace e;
-    content = record { start = contentPlace e; len = length (escape (e .content)) };
-  };
-  sig = record { start = length (s .0 .text) + 64; len = 128 };
-}
-
+-- ---- the parts of an event in its text t, with any bytes r behind
 -- [0,"PUBKEY",TIME,KIND,
 abbrev back : Event → List ℕ
 back e = closing ++ (decimal (e .time) ++ (comma ++ (digits (e .kind) ++ comma)))
@@ -129,17 +97,19 @@ back e = closing ++ (decimal (e .time) ++ (comma ++ (digits (e .kind) ++ comma))
 abbrev front : Event → List ℕ
 front e = opening ++ (e .pubkey ++ back e)
 
--- "CONTENT"] and the hex
-abbrev after : SignedEvent → Event → List ℕ
-after s e = quoted (e .content) ++ (bracket ++ hexes s)
+-- "CONTENT"] and what stands behind
+abbrev after : Event → List ℕ → List ℕ
+after e r = quoted (e .content) ++ (bracket ++ r)
 
-module _ (s : SignedEvent) (e : Event) (a : IsTextOf (s .0 .text) e) (id-length : length (hexOf (s .0 .id)) ≡ 64) (id-hex : spell.all isHex (hexOf (s .0 .id)) ≡ true)
-    (sig-length : length (hexOf (s .1)) ≡ 128) (sig-hex : spell.all isHex (hexOf (s .1)) ≡ true) where
+abbrev pub pubkeyPart : Span
+pubkeyPart = record { start = 4; len = 64 }
+
+abbrev pub contentPart : Event → Span
+contentPart e = record { start = contentPlace e; len = length (escape (e .content)) }
+
+module _ (t : List ℕ) (e : Event) (a : IsTextOf t e) where
   limits : Limits e
   limits = limits-of e (a .fit)
-
-  whole : {l : List ℕ} → l ≡ serialise e ++ hexes s → l ≡ toldIn s
-  whole z = z ∙ ap (λ (t : List ℕ). t ++ hexes s) (a .same)
 
   pubkey-size : length (e .pubkey) ≡ 64
   pubkey-size = pubkey-length (e .pubkey) (limits .pubkey)
@@ -147,6 +117,55 @@ module _ (s : SignedEvent) (e : Event) (a : IsTextOf (s .0 .text) e) (id-length 
   front-size : length (front e) ≡ tagsPlace e
   front-size = let h = pubkey-size in simp length-append (omega arith)
 
+  module _ (r : List ℕ) where
+    whole : {l : List ℕ} → l ≡ serialise e ++ r → l ≡ t ++ r
+    whole z = z ∙ ap (λ (x : List ℕ). x ++ r) (a .same)
+
+    told-pubkey : Spells (t ++ r) pubkeyPart (e .pubkey)
+    unfolding serialise
+    told-pubkey =
+        let z : opening ++ (e .pubkey ++ (back e ++ (tagsText (e .tags) ++ (comma ++ after e r)))) ≡ t ++ r = whole (simp append-assoc) in
+        rw z at (spells-hex opening (e .pubkey) (back e ++ (tagsText (e .tags) ++ (comma ++ after e r))) 4 64 refl pubkey-size (pubkey-hex (e .pubkey) (limits .pubkey)))
+
+    told-content : Spells (t ++ r) (contentPart e) (e .content)
+    unfolding serialise quoted
+    told-content =
+        let p : List ℕ = front e ++ (tagsText (e .tags) ++ (44 ∷ 34 ∷ [])) in
+        let z : p ++ (escape (e .content) ++ (34 ∷ (bracket ++ r))) ≡ t ++ r = whole (simp append-assoc) in
+        let l : length p ≡ contentPlace e = simp length-append (omega (arith, pubkey-size)) in
+        rw z at (spells-string p (e .content) (34 ∷ (bracket ++ r)) (contentPlace e) (length (escape (e .content))) l refl (limits .content))
+
+    told-tags : SpellsTags (t ++ r) (tagsPlace e) (e .tags)
+    unfolding serialise
+    told-tags =
+        let k = tagsText (e .tags) in
+        let z : t ++ r ≡ front e ++ ((k ++ (44 ∷ [])) ++ after e r) = sym (whole (simp append-assoc)) in
+        let b = spelt (t ++ r) (k ++ (44 ∷ [])) (after e r) (tagsPlace e) (tagsPlace e + length (k ++ (44 ∷ []))) (rw z (drop-at (front e) ((k ++ (44 ∷ [])) ++ after e r) (tagsPlace e) front-size)) refl in
+        tags-spelled (t ++ r) (e .tags) (tagsPlace e) (tagsPlace e + length k) (limits .tags) (left k (44 ∷ []) b) (byte-is (right k (44 ∷ []) b))
+
+  -- the text alone
+  pub pubkey-said : Spells t pubkeyPart (e .pubkey)
+  pubkey-said = rw (append-nil t) at (told-pubkey [])
+
+  pub content-said : Spells t (contentPart e) (e .content)
+  content-said = rw (append-nil t) at (told-content [])
+
+  pub tags-said : SpellsTags t (tagsPlace e) (e .tags)
+  tags-said = rw (append-nil t) at (told-tags [])
+
+-- ---- and with the hex of its id and signature behind
+abbrev pub toldIn : SignedEvent → List ℕ
+toldIn s = s .0 .text ++ (hexOf (s .0 .id) ++ hexOf (s .1))
+
+abbrev pub toldParts : SignedEvent → Event → EventParts
+toldParts s e = record {
+  id = record { start = length (s .0 .text); len = 64 };
+  body = record { pubkey = pubkeyPart; «created_at» = e .time; kind = pos (e .kind); tags = tagsPlace e; content = contentPart e };
+  sig = record { start = length (s .0 .text) + 64; len = 128 };
+}
+
+module _ (s : SignedEvent) (e : Event) (a : IsTextOf (s .0 .text) e) (id-length : length (hexOf (s .0 .id)) ≡ 64) (id-hex : spell.all isHex (hexOf (s .0 .id)) ≡ true)
+    (sig-length : length (hexOf (s .1)) ≡ 128) (sig-hex : spell.all isHex (hexOf (s .1)) ≡ true) where
   told-id : Spells (toldIn s) (toldParts s e .id) (hexOf (s .0 .id))
   told-id = spells-hex (s .0 .text) (hexOf (s .0 .id)) (hexOf (s .1)) (length (s .0 .text)) 64 refl id-length id-hex
 
@@ -155,30 +174,20 @@ module _ (s : SignedEvent) (e : Event) (a : IsTextOf (s .0 .text) e) (id-length 
       let z : (s .0 .text ++ hexOf (s .0 .id)) ++ (hexOf (s .1) ++ []) ≡ toldIn s = simp (append-assoc, append-nil) in
       rw z at (spells-hex (s .0 .text ++ hexOf (s .0 .id)) (hexOf (s .1)) [] (length (s .0 .text) + 64) 128 (simp length-append (omega arith)) sig-length sig-hex)
 
-  told-pubkey : Spells (toldIn s) (toldParts s e .body .pubkey) (e .pubkey)
-  unfolding serialise
-  told-pubkey =
-      let z : opening ++ (e .pubkey ++ (back e ++ (tagsText (e .tags) ++ (comma ++ after s e)))) ≡ toldIn s = whole (simp append-assoc) in
-      rw z at (spells-hex opening (e .pubkey) (back e ++ (tagsText (e .tags) ++ (comma ++ after s e))) 4 64 refl pubkey-size (pubkey-hex (e .pubkey) (limits .pubkey)))
-
-  told-content : Spells (toldIn s) (toldParts s e .body .content) (e .content)
-  unfolding serialise quoted
-  told-content =
-      let p : List ℕ = front e ++ (tagsText (e .tags) ++ (44 ∷ 34 ∷ [])) in
-      let z : p ++ (escape (e .content) ++ (34 ∷ (bracket ++ hexes s))) ≡ toldIn s = whole (simp append-assoc) in
-      let l : length p ≡ contentPlace e = simp length-append (omega (arith, pubkey-size)) in
-      rw z at (spells-string p (e .content) (34 ∷ (bracket ++ hexes s)) (contentPlace e) (length (escape (e .content))) l refl (limits .content))
-
-  told-tags : SpellsTags (toldIn s) (tagsPlace e) (e .tags)
-  unfolding serialise
-  told-tags =
-      let t = tagsText (e .tags) in
-      let z : toldIn s ≡ front e ++ ((t ++ (44 ∷ [])) ++ after s e) = sym (whole (simp append-assoc)) in
-      let b = spelt (toldIn s) (t ++ (44 ∷ [])) (after s e) (tagsPlace e) (tagsPlace e + length (t ++ (44 ∷ []))) (rw z (drop-at (front e) ((t ++ (44 ∷ [])) ++ after s e) (tagsPlace e) front-size)) refl in
-      tags-spelled (toldIn s) (e .tags) (tagsPlace e) (tagsPlace e + length t) (limits .tags) (left t (44 ∷ []) b) (byte-is (right t (44 ∷ []) b))
-
   told : readText (s .0 .text) ≡ read e → Tells (toldIn s) (toldParts s e) s
-  told r = record { event = e; text = r; id = told-id; pubkey = told-pubkey; time = refl; kind = refl; tags = told-tags; content = told-content; sig = told-sig }
+  told r =
+      let h : List ℕ = hexOf (s .0 .id) ++ hexOf (s .1) in
+      record {
+        event = e;
+        text = r;
+        id = told-id;
+        pubkey = told-pubkey (s .0 .text) e a h;
+        time = refl;
+        kind = refl;
+        tags = told-tags (s .0 .text) e a h;
+        content = told-content (s .0 .text) e a h;
+        sig = told-sig;
+      }
 
 -- parts of an event whose id is its text's hash, with a signature of 64 bytes
 tells-text : (s : SignedEvent) (e : Event) → readText (s .0 .text) ≡ read e → s .0 .id ≡ digest (s .0 .text) → length (s .1) ≡ 64 → all isByte (s .1) ≡ true

@@ -71,7 +71,7 @@ lowest-most : (r2 r4 r5 r6 r7 r8 : Bool) → lowest r2 r4 r5 r6 r7 r8 ≤ 10
 lowest-most r2 r4 r5 r6 r7 r8 = search (cond-most, lit≤, tt) depth 14
 
 -- ---- parts that rows 2 and 4 to 10 let pass
-hex-part : (k : ℕ) (b : List ℕ) (p : Span) → string5 b p ≡ false → string7 k b p ≡ false → length (said b p) ≡ k
+pub hex-part : (k : ℕ) (b : List ℕ) (p : Span) → string5 b p ≡ false → string7 k b p ≡ false → length (said b p) ≡ k
 unfolding string5 string7
 hex-part k b p e f = hex-length k (part b (p .start) (p .len)) (not-false _ (and-fails (isSpelled b p) _ (not-false (isSpelled b p) e) f))
 
@@ -99,7 +99,7 @@ module _ (b : List ℕ) (p : EventParts) (e : offeredRow b p ≡ 0) where
       let x7 = or-neither (body7 b (p .body)) _ (or-neither (string7 64 b (p .id)) _ (n .not7) .1) .0 in
       simp (x2, x4, x5, n .not6, x7, n .not8)
 
-  sig-length : length (said b (p .sig)) ≡ 128
+  pub sig-length : length (said b (p .sig)) ≡ 128
   unfolding event5 event7
   sig-length =
       let n = clean in
