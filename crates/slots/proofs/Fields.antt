@@ -2,20 +2,15 @@
 use mathlib.Core.Path.{_≡_, refl, sym, ap, ap₂, _∙_}
 use mathlib.Core.Bool.{Bool, true, false, not, _&&_, and-assoc, and-comm, and-false}
 use mathlib.Core.List.{List}
-use Prim.Native.Nat.{ℕ, _+_, _≤_, _<_, _^_}
+use Prim.Native.Nat.{ℕ, _+_, _≤_, _<_}
 use native.Mathlib.Omega.{arith}
 use lib.Dec.{eqb, leb}
-use lib.IntN.{ℤ}
-use lib.Signed.{mag}
-use mir.Syntax.{w64}
-use mir.Val.{toZ, ofZ}
-use mir.ValLaws.{toZ-ofZ}
 use lib.ListN.{length, drop, length-drop}
 use lib.Seq.{take-all}
 use borrow.Author.Tests.{le-leb, lt-leb, eqb-true, eq-eqb, ne-eqb}
+use Rattle.wire.specs.Bytes.{part}
 use Rattle.wire.specs.Limits.{mostText}
 use Rattle.wire.specs.Field.{fieldAt, unsigned}
-use Rattle.rows.specs.Strings.{part}
 use Rattle.text.specs.Event.{Event}
 use Rattle.text.specs.Read.{Read, tooLarge, wrongShape, read, readText}
 use Rattle.text.specs.Kinds.{isEphemeral, keyOf, classOf}
@@ -31,10 +26,6 @@ use Rattle.table.specs.Events.{classFor}
 use Rattle.table.specs.Sound.{isRead, isZero, textReads, agreesWith, fieldsAgree, isLasting, zeroAfterText, slotSound}
 use Rattle.table.proofs.Distinct.{class-lasts}
 use Rattle.slots.specs.Slots.{dAgrees, agreesText}
-
--- a signed number that is lent on is the number itself
-pub bits-back : (x : ℤ) {r : ℕ} → mag x < 2 ^ 63 → r ≡ unsigned (toZ w64 (ofZ w64 x)) → r ≡ unsigned x
-bits-back x f e = e ∙ ap unsigned (toZ-ofZ w64 x (record { sfits = f }))
 
 -- ---- the fields of a slot and what its text answers
 module _ (s : List ℕ) (t : Text) {r u : ℕ} (a : r ≡ fieldAt s 96 8) (b : u ≡ unsigned (t .time)) where

@@ -7,12 +7,12 @@ use native.Mathlib.Omega.{arith}
 use lib.Dec.{eqb, ltb, leb}
 use lib.ListN.{length, drop, replicate, length-append, length-replicate}
 use borrow.Author.Tests.{le-leb, lt-leb, lt-ltb, le-ltb, ne-eqb}
+use Rattle.wire.specs.Bytes.{part}
 use Rattle.wire.specs.Limits.{mostSlots}
 use Rattle.wire.specs.Put.{put, Puts}
 use Rattle.wire.specs.Field.{leBytes, fieldAt}
 use Rattle.wire.proofs.Laws.{puts-whole}
 use Rattle.wire.proofs.Fields.{length-leBytes}
-use Rattle.rows.specs.Strings.{part}
 use Rattle.table.specs.Layout.{headerSize, slotSize, slotPlace, tableSize, countOf, lengthIn, headerBytes, slotAt, textPlace}
 use Rattle.table.specs.Sound.{sound}
 use Rattle.table.specs.Format.{formatRow, formatted, shownRow, shown}

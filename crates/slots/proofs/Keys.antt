@@ -12,9 +12,8 @@ use Rattle.wire.specs.Limits.{mostText, mostStrings, mostTags}
 use Rattle.utf8.specs.Utf8.{isUtf8}
 use Rattle.wire.specs.Escape.{escape}
 use Rattle.wire.specs.Field.{fieldAt}
-use Rattle.wire.specs.Bytes.{sameBytes}
+use Rattle.wire.specs.Bytes.{sameBytes, part}
 use Rattle.wire.proofs.Bytes.{same-equal, equal-same}
-use Rattle.rows.specs.Strings.{part}
 use Rattle.text.specs.Event.{Tag, Event, all, isPlainByte, isString, isTag, isTags}
 use Rattle.text.specs.Read.{Read, read, readText, IsTextOf}
 use Rattle.text.specs.Kinds.{Key, sameKey, keyIn, keyOf, classOf, isNamedD, second, dOf}

@@ -7,9 +7,9 @@ use native.Mathlib.Omega.{arith}
 use lib.Dec.{eqb, leb}
 use lib.ListN.{length}
 use borrow.Author.Tests.{leb-true, le-leb, lt-leb, eq-eqb, ne-eqb}
+use Rattle.wire.specs.Bytes.{part}
 use Rattle.wire.specs.Limits.{mostSlots}
 use Rattle.wire.specs.Field.{fieldAt}
-use Rattle.rows.specs.Strings.{part}
 use Rattle.text.specs.Event.{all}
 use Rattle.text.proofs.Pieces.{both}
 use Rattle.table.specs.Layout.{headerSize, slotSize, tableSize, capacityOf, countOf, slotSizeOf, firstSlotOf}

@@ -3,7 +3,7 @@ use mathlib.Core.Bool.{cond}
 use mathlib.Core.List.{List, []}
 use Prim.Native.Nat.{ℕ, _+_}
 use lib.Dec.{eqb}
-use Rattle.rows.specs.Strings.{part}
+use Rattle.wire.specs.Bytes.{part}
 use Rattle.table.specs.Layout.{slotPlace, textPlace, lengthIn, slotAt}
 use Rattle.table.specs.Format.{shownRow}
 use Rattle.slots.specs.declared.Shown.{Shown}

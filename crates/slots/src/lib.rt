@@ -10,7 +10,6 @@ ghost use Rattle.wire.specs.Limits.{mostSlots};
 ghost use Rattle.wire.specs.Bytes.{sameBytes};
 ghost use Rattle.wire.specs.Field.{leBytes};
 ghost use Rattle.wire.specs.Put.{Puts};
-ghost use Rattle.rows.specs.Strings.{part};
 ghost use Rattle.text.specs.Event.{all};
 ghost use Rattle.text.specs.Kinds.{classOf};
 ghost use Rattle.law.specs.Lists.{any};
@@ -40,21 +39,6 @@ pub enum Shown {
 }
 
 // ---- bytes
-// The part of a buffer at a place, as far as it lies in it.
-fn piece(b: &[u8], start: usize, len: usize) -> &[u8]
-    ensures { λ r. ⌜ now r ≡ part (now (b .entry)) start len ⌝ }
-{
-    if b.len() <= start {
-        return &b[..0];
-    }
-    let room = b.len() - start;
-    if room < len {
-        return &b[start..];
-    }
-    let end = start + len;
-    &b[start..end]
-}
-
 // Whether two slices hold the same bytes.
 fn same(a: &[u8], b: &[u8]) -> bool
     ensures { λ r. ⌜ r ≡ sameBytes (now (a .entry)) (now (b .entry)) ⌝ }
@@ -96,14 +80,14 @@ pub fn slot(table: &[u8], k: usize) -> &[u8]
     if (table.len() - HEADER) / SLOT < k {
         return &table[..0];
     }
-    piece(table, HEADER + k * SLOT, SLOT)
+    wire::piece(table, HEADER + k * SLOT, SLOT)
 }
 
 // The text of a slot.
 fn text_of(s: &[u8]) -> &[u8]
     ensures { λ r. ⌜ now r ≡ textIn (now (s .entry)) ⌝ }
 {
-    piece(s, TEXT, wire::le_at(s, 106, 2) as usize)
+    wire::piece(s, TEXT, wire::le_at(s, 106, 2) as usize)
 }
 
 // d's escaped bytes, of a slot.
@@ -112,7 +96,7 @@ fn d_of(s: &[u8]) -> &[u8]
 {
     let at = wire::le_at(s, 108, 2) as usize;
     let len = wire::le_at(s, 110, 2) as usize;
-    piece(text_of(s), at, len)
+    wire::piece(text_of(s), at, len)
 }
 
 fn both_are(a: u64, b: u64, c: u64, d: u64) -> bool
@@ -163,12 +147,12 @@ fn slot_sound(s: &[u8]) -> bool
     if MOST_TEXT < n {
         return false;
     }
-    match text::read_text(piece(s, TEXT, n)) {
+    match text::read_text(wire::piece(s, TEXT, n)) {
         text::TextAnswer::Read(t) => {
             if !agrees(s, t) {
                 return false;
             }
-            is_zero(piece(s, TEXT + n, s.len()))
+            is_zero(wire::piece(s, TEXT + n, s.len()))
         }
         text::TextAnswer::TooLarge => false,
         text::TextAnswer::WrongShape => false,
@@ -180,7 +164,7 @@ fn slot_sound(s: &[u8]) -> bool
 pub fn same_id(s: &[u8], t: &[u8]) -> bool
     ensures { λ r. ⌜ r ≡ sameIdIn (now (s .entry)) (now (t .entry)) ⌝ }
 {
-    same(piece(t, 0, 32), piece(s, 0, 32))
+    same(wire::piece(t, 0, 32), wire::piece(s, 0, 32))
 }
 
 // Whether events of a kind have a key.
@@ -206,7 +190,7 @@ pub fn same_key(s: &[u8], t: &[u8]) -> bool
     if !keyed(k as u16) {
         return false;
     }
-    if !same(piece(text_of(t), 4, 64), piece(text_of(s), 4, 64)) {
+    if !same(wire::piece(text_of(t), 4, 64), wire::piece(text_of(s), 4, 64)) {
         return false;
     }
     same(d_of(t), d_of(s))
@@ -217,7 +201,7 @@ pub fn same_key(s: &[u8], t: &[u8]) -> bool
 fn id_mark(s: &[u8]) -> u32
     ensures { λ r. ⌜ r ≡ idMark (now (s .entry)) ⌝ }
 {
-    wire::le_at(piece(s, 0, 32), 0, 4) as u32
+    wire::le_at(wire::piece(s, 0, 32), 0, 4) as u32
 }
 
 // The last four bytes as a number.
@@ -234,7 +218,7 @@ fn last(d: &[u8]) -> u32
 fn key_mark(s: &[u8]) -> u32
     ensures { λ r. ⌜ r ≡ keyMark (now (s .entry)) ⌝ }
 {
-    last(d_of(s)) ^ last(piece(text_of(s), 4, 64))
+    last(d_of(s)) ^ last(wire::piece(text_of(s), 4, 64))
 }
 
 // The marks of slots 0 to c-1.
@@ -383,7 +367,7 @@ pub fn sound(table: &[u8]) -> bool
     if !apart(table, c) {
         return false;
     }
-    is_zero(piece(table, HEADER + c * SLOT, (n - c) * SLOT))
+    is_zero(wire::piece(table, HEADER + c * SLOT, (n - c) * SLOT))
 }
 
 // ---- formatting
@@ -431,7 +415,7 @@ pub fn shown_at(table: &[u8], slot: usize) -> Shown
         return Shown::Refused(14);
     }
     let a = HEADER + slot * SLOT;
-    let n = wire::le_at(piece(table, a, SLOT), 106, 2) as usize;
+    let n = wire::le_at(wire::piece(table, a, SLOT), 106, 2) as usize;
     Shown::At(a + TEXT, n)
 }
 
@@ -440,7 +424,7 @@ pub fn show(table: &[u8], slot: usize) -> &[u8]
     ensures { λ r. ⌜ now r ≡ shown (now (table .entry)) slot ⌝ }
 {
     match shown_at(table, slot) {
-        Shown::At(at, len) => piece(table, at, len),
+        Shown::At(at, len) => wire::piece(table, at, len),
         Shown::Refused(_) => &table[..0],
     }
 }

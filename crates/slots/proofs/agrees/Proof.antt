@@ -2,7 +2,8 @@
 use mathlib.Core.Path.{_≡_}
 use borrow.Author.Needs.{needs}
 use Rattle.wire.specs.Field.{unsigned}
-use Rattle.slots.proofs.Fields.{bits-back, other-time, other-kind, by-d}
+use Rattle.wire.proofs.Fields.{bits-back}
+use Rattle.slots.proofs.Fields.{other-time, other-kind, by-d}
 use Rattle.slots.proofs.agrees.Statement.{statement}
 use Rattle.slots.proofs.agrees.Tie as tie
 

@@ -1,7 +1,7 @@
 use mathlib.Core.Path.{ap, ap₂, _∙_}
 use borrow.Author.Needs.{needs}
 use lib.Bits.{bitXor}
-use Rattle.rows.specs.Strings.{part}
+use Rattle.wire.specs.Bytes.{part}
 use Rattle.slots.specs.Slots.{pubkeyIn}
 use Rattle.slots.specs.Marks.{lastOf, keyMark}
 use Rattle.slots.proofs.key_mark.Statement.{statement}

@@ -3,8 +3,7 @@ use mathlib.Core.Path.{ap, ap₂, _∙_}
 use native.Mathlib.Omega.{arith}
 use borrow.Author.Needs.{needs}
 use borrow.Author.Tests.{not-true, not-false}
-use Rattle.wire.specs.Bytes.{sameBytes}
-use Rattle.rows.specs.Strings.{part}
+use Rattle.wire.specs.Bytes.{sameBytes, part}
 use Rattle.slots.specs.Slots.{pubkeyIn}
 use Rattle.slots.proofs.Keys.{other-kinds, no-key, other-pubkey, d-decides}
 use Rattle.slots.proofs.same_key.Statement.{statement}

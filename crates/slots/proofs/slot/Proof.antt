@@ -1,7 +1,7 @@
 -- Where slot k begins behind the buffer's end, there are none of its bytes.
 use native.Mathlib.Omega.{arith}
 use borrow.Author.Needs.{needs}
-use Rattle.event.proofs.Strings.{part-none}
+use Rattle.wire.proofs.Bytes.{part-none}
 use Rattle.table.specs.Layout.{slotPlace, slotSize}
 use Rattle.slots.proofs.slot.Statement.{statement}
 use Rattle.slots.proofs.slot.Tie as tie
