@@ -2,13 +2,14 @@
 use mathlib.Core.Path.{_≡_, refl, sym, ap, _∙_}
 use mathlib.Core.Bool.{Bool, true, false, cond}
 use mathlib.Core.List.{List, [], _∷_, _++_, append-nil}
-use Prim.Native.Nat.{ℕ, _+_, _/_, _%_, _≤_, _<_}
+use Prim.Native.Nat.{ℕ, zero, suc, _+_, _/_, _%_, _≤_, _<_}
 use native.Mathlib.Numerals.{add-one}
 use native.Mathlib.Omega.{arith}
-use borrow.Author.Tests.{lt-ltb, le-ltb, eq-eqb, ne-eqb}
+use native.Mathlib.Decide.{decLe}
+use borrow.Author.Tests.{lt-ltb, le-ltb, eq-eqb, ne-eqb, ltb-false}
 use lib.Dec.{ltb}
-use lib.ListN.{length, take, drop, getD, replicate, drop-of-length-le}
-use lib.Seq.{take-append-seam, drop-cons}
+use lib.ListN.{length, take, drop, getD, replicate, drop-of-length-le, length-take}
+use lib.Seq.{take-append-seam, drop-cons, length-take-le}
 use Rattle.wire.specs.Put.{Puts}
 use Rattle.wire.proofs.Laws.{length-put, puts-whole}
 use Rattle.digest.specs.Digest.{digest}
@@ -20,37 +21,53 @@ use Rattle.spell.specs.Spell.{decode}
 use Rattle.message.specs.declared.Body.{Body}
 use Rattle.message.specs.declared.EventParts.{EventParts}
 use Rattle.message.specs.Lent.{bodyRow, eventRow}
+use Rattle.event.specs.declared.Written.{Written}
 use Rattle.event.specs.declared.Written.the-variants.{Wrote, Refused}
 use Rattle.event.specs.declared.Identified.{Identified}
 use Rattle.event.specs.Lent.{said, textOf}
-use Rattle.event.specs.Answer.{hexDigit, hexOf, hashedOf, isLarge, textRow, serialisedRow, serialised, serialisedOut, identified, hasId, offeredRow}
+use Rattle.event.specs.Answer.{orElse, isLarge, textRow, shortRow, serialisedRow, answered, serialised, numberOf, writtenOut, serialisedOut, hashedOf, identified, hexDigit, hexOf, hasId, offeredRow}
+use Rattle.event.specs.Answer.{offeredTextRow, offered, offeredOut}
+use Rattle.event.specs.Walk.{Tested}
+
+-- ---- a text's hash
+pub text-large : (t : List ℕ) → 4096 < length t → record { row = 9; id = replicate 32 0 } ≡ hashedOf t
+unfolding hashedOf
+text-large t h = rw (lt-ltb 4096 (length t) h)
+
+pub text-hashed : (t : List ℕ) → length t ≤ 4096 → {x : Digest} → x ≡ digested t → record { row = 0; id = x .bytes } ≡ hashedOf t
+unfolding hashedOf
+text-hashed t h e = rw (e, digest-done t (omega arith), le-ltb 4096 (length t) h)
+
+pub room-kept : {d t o : List ℕ} {i n : ℕ} → length d ≡ 4097 → Puts d i t n o → length o ≡ 4097
+room-kept {d} {t} {i = i} room p = ap length (p .bytes) ∙ length-put d i t ∙ room
 
 -- ---- the text in a buffer that has room for one byte more than a text may have
 module _ {d t o : List ℕ} {n : ℕ} (room : length o ≡ 4097) (p : Puts d 0 t n o) where
   same : length d ≡ 4097
   same = sym (length-put d 0 t) ∙ ap length (sym (p .bytes)) ∙ room
 
-  pub text-large : 4096 < n → record { row = 9; id = replicate 32 0 } ≡ hashedOf t
-  unfolding hashedOf
-  text-large h = let s = same in rw (lt-ltb 4096 (length t) (omega (arith, p .next)))
+  pub prefix-length : n ≡ length (take n o)
+  prefix-length = let s = same in sym (length-take-le n o (omega (arith, p .next)))
 
-  module _ (h : n ≤ 4096) where
-    small : length t ≤ 4096
-    small = let s = same in omega (arith, p .next)
+  -- a text of at most 4,096 bytes stands whole in it
+  small : n ≤ 4096 → length t ≤ 4096
+  small h = let s = same in omega (arith, p .next)
 
-    is : take n o ≡ t
-    is =
-        let s = same in
-        let l = small in
-        let (e, f) = puts-whole (omega arith) p in
-        rw (e, f) (take-append-seam t (drop (length t) d))
+  pub prefix-is : n ≤ 4096 → take n o ≡ t
+  prefix-is h =
+      let s = same in
+      let l = small h in
+      let (e, f) = puts-whole (omega arith) p in
+      rw (e, f) (take-append-seam t (drop (length t) d))
 
-    pub prefix-length : n ≡ length (take n o)
-    prefix-length = let s = same in let l = small in omega (arith, p .next, ap length is)
-
-    pub text-hashed : {x : Digest} → x ≡ digested (take n o) → record { row = 0; id = x .bytes } ≡ hashedOf t
-    unfolding hashedOf
-    text-hashed e = rw (e, is, digest-done t (omega (arith, small)), le-ltb 4096 (length t) small)
+  pub prefix-hashed : {x : Identified} → x ≡ hashedOf (take n o) → x ≡ hashedOf t
+  prefix-hashed {x} e = go (decLe n 4096)
+    where
+      go : Dec (n ≤ 4096) → x ≡ hashedOf t
+      go (yes h) = e ∙ ap hashedOf (prefix-is h)
+      go (no h) =
+          let s = same in
+          e ∙ sym (text-large (take n o) (omega (arith, prefix-length))) ∙ text-large t (omega (arith, p .next))
 
 -- ---- hex
 module _ (s : List ℕ) (i : ℕ) where
@@ -81,82 +98,190 @@ hex-whole l {d} {o} room e p =
 pub id-spelled : {t : Bool} {q o k h : List ℕ} → q ≡ k → o ≡ h → t ≡ sameBytes (decode q) o → t ≡ sameBytes (decode k) h
 id-spelled e f g = rw (e, f) at g
 
--- ---- the ways out
+-- ---- an answer and an output by a row and a text
+abbrev pub Outcome : ℕ → List ℕ → List ℕ → Written → List ℕ → Type 0
+Outcome r t out w o = (w ≡ answered r (length t)) × ((numberOf w ≡ r) × (o ≡ writtenOut r t out))
+
+pub number-is : (r n : ℕ) → numberOf (answered r n) ≡ r
+number-is zero n = refl
+number-is (suc r) n = rw (ne-eqb (suc r) 0 (λ q. omega arith))
+
+module _ (t out : List ℕ) where
+  pub outcome : {r : ℕ} {w : Written} {o : List ℕ} → w ≡ answered r (length t) → o ≡ writtenOut r t out → Outcome r t out w o
+  outcome {r} e f = (e, (ap numberOf e ∙ number-is r (length t), f))
+
+  -- a row that holds refuses, one that does not lets the next decide
+  pub refused : (r s : ℕ) {x : ℕ} → x ≡ r → (x ≡ 0 → ⊥) → Outcome (orElse r s) t out (Refused x) out
+  refused r s {x} e n = let h = ne-eqb r 0 (λ q. n (e ∙ q)) in outcome (simp (h, e)) (simp h)
+
+  pub passed : (r s : ℕ) → r ≡ 0 → {w : Written} {o : List ℕ} → w ≡ answered s (length t) → o ≡ writtenOut s t out → Outcome (orElse r s) t out w o
+  passed r s z e f = let h = eq-eqb r 0 z in outcome (e ∙ rw h) (f ∙ rw h)
+
+  -- row 13, or the text from the output's start
+  pub too-short : length out < length t → (Refused 13 ≡ answered (shortRow t out) (length t)) × (out ≡ writtenOut (shortRow t out) t out)
+  too-short h = let q = lt-ltb (length out) (length t) h in (rw q, rw q)
+
+  pub room-for : length t ≤ length out → {m : ℕ} {o : List ℕ} → Puts out 0 t m o → (Wrote m ≡ answered (shortRow t out) (length t)) × (o ≡ writtenOut (shortRow t out) t out)
+  room-for h x =
+      let q = le-ltb (length out) (length t) h in
+      let (y, w) = puts-whole h x in
+      (rw (q, y), rw (q, w))
+
+-- the row and the length of an answer
+pub wrote-is : (r n : ℕ) {x : ℕ} → Wrote x ≡ answered r n → (r ≡ 0) × (x ≡ n)
+wrote-is zero n e = (refl, cc)
+wrote-is (suc r) n {x} e =
+    absurd (let q : Wrote x ≡ Refused (suc r) = e ∙ rw (ne-eqb (suc r) 0 (λ q. omega arith)) in let z : _≡_ {A = ℕ} 0 1 = cc in omega arith)
+
+pub refused-is : (r n : ℕ) {x : ℕ} → Refused x ≡ answered r n → (x ≡ r) × (x ≡ 0 → ⊥)
+refused-is zero n e = absurd (let z : _≡_ {A = ℕ} 0 1 = cc in omega arith)
+refused-is (suc r) n {x} e =
+    let q : Refused x ≡ Refused (suc r) = e ∙ rw (ne-eqb (suc r) 0 (λ q. omega arith)) in
+    let y : x ≡ suc r = cc in
+    (y, λ z. omega arith)
+
+-- ---- the ways out of serialising
+abbrev pub AsSerialised : List ℕ → Body → List ℕ → Written → List ℕ → Type 0
+AsSerialised b p out w o = (w ≡ serialised b p out) × ((numberOf w ≡ serialisedRow b p out) × (o ≡ serialisedOut b p out))
+
 module _ (b : List ℕ) (p : Body) (out : List ℕ) {r : ℕ} (e : r ≡ bodyRow b p) where
-  pub body-refused : (r ≡ 0 → ⊥) → (Refused r ≡ serialised b p out) × (out ≡ serialisedOut b p out)
+  pub body-refused : (r ≡ 0 → ⊥) → AsSerialised b p out (Refused r) out
   unfolding serialised serialisedOut serialisedRow textRow
-  body-refused n = let h = ne-eqb (bodyRow b p) 0 (λ q. n (e ∙ q)) in (simp (h, e), simp h)
+  body-refused n = refused (textOf b p) out (textRow b p) (shortRow (textOf b p) out) (e ∙ rw (ne-eqb (bodyRow b p) 0 (λ q. n (e ∙ q)))) n
 
   module _ (z : r ≡ 0) {d t : List ℕ} {n : ℕ} (room : length t ≡ 4097) (l : Puts d 0 (textOf b p) n t) where
-    pub large-refused : 4096 < n → (Refused 9 ≡ serialised b p out) × (out ≡ serialisedOut b p out)
+    pub large-refused : 4096 < n → AsSerialised b p out (Refused 9) out
     unfolding serialised serialisedOut serialisedRow textRow isLarge
     large-refused h =
-        let q = eq-eqb (bodyRow b p) 0 (sym e ∙ z) in
         let s = same room l in
+        let q = eq-eqb (bodyRow b p) 0 (sym e ∙ z) in
         let k = lt-ltb 4096 (length (textOf b p)) (omega (arith, l .next)) in
-        (rw (q, k), rw (q, k))
+        refused (textOf b p) out (textRow b p) (shortRow (textOf b p) out) (rw (q, k)) (λ q. omega arith)
 
-    module _ (h : n ≤ 4096) where
-      pub short-refused : length out < n → (Refused 13 ≡ serialised b p out) × (out ≡ serialisedOut b p out)
-      unfolding serialised serialisedOut serialisedRow textRow isLarge
-      short-refused m =
-          let q = eq-eqb (bodyRow b p) 0 (sym e ∙ z) in
-          let s = same room l in
-          let f = small room l h in
-          let k = le-ltb 4096 (length (textOf b p)) f in
-          let j = lt-ltb (length out) (length (textOf b p)) (omega (arith, l .next)) in
-          (rw (q, k, j), rw (q, k, j))
-
-      pub text-written : n ≤ length out → {m : ℕ} {o : List ℕ} → Puts out 0 (take n t) m o → (Wrote m ≡ serialised b p out) × (o ≡ serialisedOut b p out)
-      unfolding serialised serialisedOut serialisedRow textRow isLarge
-      text-written r {m} {o} x =
-          let q = eq-eqb (bodyRow b p) 0 (sym e ∙ z) in
-          let s = same room l in
-          let f = small room l h in
-          let g : length (textOf b p) ≤ length out = omega (arith, l .next) in
-          let k = le-ltb 4096 (length (textOf b p)) f in
-          let v = le-ltb (length out) (length (textOf b p)) g in
-          let x′ : Puts out 0 (textOf b p) m o = rw (is room l h) at x in
-          let (y, w) = puts-whole g x′ in
-          (rw (q, k, v, y), rw (q, k, v, w))
+    pub text-given : n ≤ 4096 → {w : Written} {o : List ℕ} → w ≡ answered (shortRow (take n t) out) (length (take n t)) → o ≡ writtenOut (shortRow (take n t) out) (take n t) out
+        → AsSerialised b p out w o
+    unfolding serialised serialisedOut serialisedRow textRow isLarge
+    text-given h f g =
+        let q = eq-eqb (bodyRow b p) 0 (sym e ∙ z) in
+        let k = le-ltb 4096 (length (textOf b p)) (small room l h) in
+        let i = prefix-is room l h in
+        passed (textOf b p) out (textRow b p) (shortRow (textOf b p) out) (rw (q, k)) (rw i at f) (rw i at g)
 
 module _ (b : List ℕ) (p : Body) {r : ℕ} (e : r ≡ bodyRow b p) where
   pub id-refused : (r ≡ 0 → ⊥) → record { row = r; id = replicate 32 0 } ≡ identified b p
   unfolding identified textRow
   id-refused n = simp (ne-eqb (bodyRow b p) 0 (λ q. n (e ∙ q)), e)
 
-  pub id-hashed : r ≡ 0 → {x : Identified} → x ≡ hashedOf (textOf b p) → x ≡ identified b p
+  pub id-hashed : r ≡ 0 → {d t : List ℕ} {n : ℕ} → length t ≡ 4097 → Puts d 0 (textOf b p) n t → {x : Identified} → x ≡ hashedOf (take n t) → x ≡ identified b p
   unfolding identified textRow hashedOf isLarge
-  id-hashed z f = f ∙ rw (eq-eqb (bodyRow b p) 0 (sym e ∙ z))
+  id-hashed z room l f = prefix-hashed room l f ∙ rw (eq-eqb (bodyRow b p) 0 (sym e ∙ z))
 
--- ---- an event offered
+-- ---- the rows of an offer
+rows-refused : (b : List ℕ) (p : EventParts) (t : List ℕ) {x : ℕ} → x ≡ offeredRow b p → (x ≡ 0 → ⊥) → Tested b p (Refused x) t
+rows-refused b p t e n = record { says = simp (ne-eqb (offeredRow b p) 0 (λ q. n (e ∙ q)), e); there = λ z. absurd (n (e ∙ z)) }
+
 module _ (b : List ℕ) (p : EventParts) {r : ℕ} (e : r ≡ eventRow b p) where
-  pub parts-refused : (r ≡ 0 → ⊥) → r ≡ offeredRow b p
+  pub parts-refused : (t : List ℕ) → (r ≡ 0 → ⊥) → Tested b p (Refused r) t
   unfolding offeredRow
-  parts-refused n = e ∙ rw (ne-eqb (eventRow b p) 0 (λ q. n (e ∙ q)))
+  parts-refused t n = rows-refused b p t (e ∙ rw (ne-eqb (eventRow b p) 0 (λ q. n (e ∙ q)))) n
 
-  module _ (z : r ≡ 0) {x : Identified} (f : x ≡ hashedOf (textOf b (p .body))) where
-    pub large-offered : (x .row ≡ 0 → ⊥) → x .row ≡ offeredRow b p
-    unfolding offeredRow hashedOf isLarge
-    large-offered n = rw (eq-eqb (eventRow b p) 0 (sym e ∙ z)) (go (ltb 4096 (length (textOf b (p .body)))) (ap (λ (y : Identified). y .row) f))
+  module _ (z : r ≡ 0) {d t : List ℕ} {n : ℕ} (room : length t ≡ 4097) (l : Puts d 0 (textOf b (p .body)) n t) {x : Identified} (f : x ≡ hashedOf (take n t)) where
+    row-is : x .row ≡ cond (isLarge b (p .body)) 9 0
+    unfolding hashedOf isLarge
+    row-is = ap (λ (y : Identified). y .row) (prefix-hashed room l f)
+
+    pub large-offered : (x .row ≡ 0 → ⊥) → Tested b p (Refused (x .row)) t
+    unfolding offeredRow
+    large-offered n = rows-refused b p t (rw (eq-eqb (eventRow b p) 0 (sym e ∙ z)) (go (isLarge b (p .body)) row-is)) n
       where
         go : (t : Bool) → x .row ≡ cond t 9 0 → x .row ≡ cond t 9 (cond (hasId b p) 0 10)
         go true q = q
         go false q = absurd (n q)
 
     module _ (y : x .row ≡ 0) where
-      small-offered : ltb 4096 (length (textOf b (p .body))) ≡ false
-      unfolding hashedOf
-      small-offered = go (ltb 4096 (length (textOf b (p .body)))) (sym (ap (λ (w : Identified). w .row) f) ∙ y)
+      not-large : isLarge b (p .body) ≡ false
+      not-large = go (isLarge b (p .body)) (sym row-is ∙ y)
         where
           go : (t : Bool) → _≡_ {A = ℕ} (cond t 9 0) 0 → t ≡ false
           go true q = absurd (omega arith)
           go false q = refl
 
       id-is : x .id ≡ digest (textOf b (p .body))
-      unfolding hashedOf
-      id-is = ap (λ (w : Identified). w .id) f ∙ rw small-offered
+      unfolding hashedOf isLarge
+      id-is = ap (λ (w : Identified). w .id) (prefix-hashed room l f) ∙ rw not-large
 
-      pub id-offered : {t : Bool} → t ≡ sameBytes (said b (p .id)) (hexOf (x .id)) → cond t 0 10 ≡ offeredRow b p
-      unfolding offeredRow isLarge hasId
-      id-offered q = rw (eq-eqb (eventRow b p) 0 (sym e ∙ z), small-offered, q, id-is)
+      row-offered : {t : Bool} → t ≡ sameBytes (said b (p .id)) (hexOf (x .id)) → cond t 0 10 ≡ offeredRow b p
+      unfolding offeredRow hasId
+      row-offered q = rw (eq-eqb (eventRow b p) 0 (sym e ∙ z), not-large, q, id-is)
+
+      pub other-id : false ≡ sameBytes (said b (p .id)) (hexOf (x .id)) → Tested b p (Refused 10) t
+      other-id q = rows-refused b p t (row-offered q) (λ q. omega arith)
+
+      pub own-id : true ≡ sameBytes (said b (p .id)) (hexOf (x .id)) → Tested b p (Wrote n) t
+      unfolding isLarge
+      own-id q =
+          let h : length (textOf b (p .body)) ≤ 4096 = ltb-false 4096 (length (textOf b (p .body))) not-large in
+          let s = same room l in
+          let m : n ≡ length (textOf b (p .body)) = omega (arith, l .next) in
+          record { says = rw (eq-eqb (offeredRow b p) 0 (sym (row-offered q)), m); there = λ z. rw (← m) (prefix-is room l (omega arith)) }
+
+-- ---- an event offered: its row, and its text
+abbrev pub AsOffered : List ℕ → EventParts → List ℕ → Written → List ℕ → Type 0
+AsOffered b p out w o = (w ≡ offered b p out) × ((numberOf w ≡ offeredTextRow b p out) × (o ≡ offeredOut b p out))
+
+module _ (b : List ℕ) (p : EventParts) {w : Written} {t : List ℕ} (k : Tested b p w t) {x : ℕ} where
+  module _ (e : w ≡ Refused x) where
+    refusal : (x ≡ offeredRow b p) × (x ≡ 0 → ⊥)
+    refusal = refused-is (offeredRow b p) (length (textOf b (p .body))) (sym e ∙ k .says)
+
+    pub row-of : x ≡ offeredRow b p
+    row-of = refusal .0
+
+    pub rows-first : (out : List ℕ) → AsOffered b p out (Refused x) out
+    unfolding offered offeredOut offeredTextRow
+    rows-first out = refused (textOf b (p .body)) out (offeredRow b p) (shortRow (textOf b (p .body)) out) (refusal .0) (refusal .1)
+
+  module _ (e : w ≡ Wrote x) where
+    length-is : x ≡ length (textOf b (p .body))
+    length-is = wrote-is (offeredRow b p) (length (textOf b (p .body))) (sym e ∙ k .says) .1
+
+    pub row-none : 0 ≡ offeredRow b p
+    row-none = sym (wrote-is (offeredRow b p) (length (textOf b (p .body))) (sym e ∙ k .says) .0)
+
+    text-is : take x t ≡ textOf b (p .body)
+    text-is = rw length-is (k .there (sym row-none))
+
+    pub text-length : x ≡ length (take x t)
+    text-length = length-is ∙ ap length (sym text-is)
+
+    pub text-inside : x ≤ length t
+    text-inside = omega (arith, text-length, length-take x t)
+
+    pub then-given : (out : List ℕ) {v : Written} {o : List ℕ} → v ≡ answered (shortRow (take x t) out) (length (take x t)) → o ≡ writtenOut (shortRow (take x t) out) (take x t) out
+        → AsOffered b p out v o
+    unfolding offered offeredOut offeredTextRow
+    then-given out f g =
+        passed (textOf b (p .body)) out (offeredRow b p) (shortRow (textOf b (p .body)) out) (sym row-none) (rw text-is at f) (rw text-is at g)
+
+-- what is offered and refused by no row has a text of at most 4,096 bytes
+pub offered-small : (b : List ℕ) (p : EventParts) → offeredRow b p ≡ 0 → length (textOf b (p .body)) ≤ 4096
+unfolding offeredRow isLarge
+offered-small b p e = ltb-false 4096 (length (textOf b (p .body))) (go (eventRow b p) (ltb 4096 (length (textOf b (p .body)))) e)
+  where
+    go : (r : ℕ) (l : Bool) → orElse r (cond l 9 (cond (hasId b p) 0 10)) ≡ 0 → l ≡ false
+    go zero true q = absurd (omega arith)
+    go zero false q = refl
+    go (suc r) l q = absurd (let z : suc r ≡ 0 = sym (rw (ne-eqb (suc r) 0 (λ q. omega arith))) ∙ q in omega arith)
+
+-- an output that has room for the text, as has any of 4,096 bytes, is not too short: the row is that of the offer
+module _ (b : List ℕ) (p : EventParts) (out : List ℕ) where
+  pub row-alone : (offeredRow b p ≡ 0 → length (textOf b (p .body)) ≤ length out) → offeredTextRow b p out ≡ offeredRow b p
+  unfolding offeredTextRow
+  row-alone h = go (offeredRow b p) refl
+    where
+      go : (r : ℕ) → offeredRow b p ≡ r → orElse r (shortRow (textOf b (p .body)) out) ≡ r
+      go zero q = rw (le-ltb (length out) (length (textOf b (p .body))) (h q))
+      go (suc r) q = rw (ne-eqb (suc r) 0 (λ q. omega arith))
+
+  pub row-alone-most : 4096 ≤ length out → offeredTextRow b p out ≡ offeredRow b p
+  row-alone-most h = row-alone (λ e. omega (arith, offered-small b p e))

@@ -27,8 +27,11 @@ orElse r s = cond (eqb r 0) s r
 unfoldable pub textRow : List ℕ → Body → ℕ
 textRow b p = orElse (bodyRow b p) (cond (isLarge b p) 9 0)
 
+abbrev pub shortRow : List ℕ → List ℕ → ℕ
+shortRow t out = cond (ltb (length out) (length t)) 13 0
+
 unfoldable pub serialisedRow : List ℕ → Body → List ℕ → ℕ
-serialisedRow b p out = orElse (textRow b p) (cond (ltb (length out) (length (textOf b p))) 13 0)
+serialisedRow b p out = orElse (textRow b p) (shortRow (textOf b p) out)
 
 abbrev pub answered : ℕ → ℕ → Written
 answered r n = cond (eqb r 0) (Wrote n) (Refused r)
@@ -37,8 +40,11 @@ unfoldable pub serialised : List ℕ → Body → List ℕ → Written
 serialised b p out = answered (serialisedRow b p out) (length (textOf b p))
 
 -- "Output is written from its start, and its rest stays"; on a refusal "every lent buffer stays as found"
+abbrev pub writtenOut : ℕ → List ℕ → List ℕ → List ℕ
+writtenOut r t out = cond (eqb r 0) (t ++ drop (length t) out) out
+
 unfoldable pub serialisedOut : List ℕ → Body → List ℕ → List ℕ
-serialisedOut b p out = cond (eqb (serialisedRow b p out) 0) (textOf b p ++ drop (length (textOf b p)) out) out
+serialisedOut b p out = writtenOut (serialisedRow b p out) (textOf b p) out
 
 -- the number of 01, and the value
 abbrev pub numberOf : Written → ℕ
@@ -74,3 +80,13 @@ hasId b p = sameBytes (said b (p .id)) (hexOf (digest (textOf b (p .body))))
 -- rows 2 and 4 to 8 of all parts, then 9, then 10
 unfoldable pub offeredRow : List ℕ → EventParts → ℕ
 offeredRow b p = orElse (eventRow b p) (cond (isLarge b (p .body)) 9 (cond (hasId b p) 0 10))
+
+-- the text of what is offered, into an output: then 13
+unfoldable pub offeredTextRow : List ℕ → EventParts → List ℕ → ℕ
+offeredTextRow b p out = orElse (offeredRow b p) (shortRow (textOf b (p .body)) out)
+
+unfoldable pub offered : List ℕ → EventParts → List ℕ → Written
+offered b p out = answered (offeredTextRow b p out) (length (textOf b (p .body)))
+
+unfoldable pub offeredOut : List ℕ → EventParts → List ℕ → List ℕ
+offeredOut b p out = writtenOut (offeredTextRow b p out) (textOf b (p .body)) out

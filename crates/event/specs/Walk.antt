@@ -3,7 +3,7 @@ use Prim.Native.Nat.{ℕ, _+_, min}
 use mathlib.Core.Bool.{true, false}
 use mathlib.Core.Path.{_≡_}
 use mathlib.Core.List.{List, _++_}
-use lib.ListN.{length}
+use lib.ListN.{length, take}
 use Rattle.json.specs.Grammar.{case, startAt}
 use Rattle.json.specs.Tree.{Json, Items, Got, got, endOf, treeAt, depth}
 use Rattle.json.specs.declared.Out.{Out}
@@ -14,7 +14,10 @@ use Rattle.wire.specs.Put.{Puts}
 use Rattle.numeral.specs.Decimal.{digits, decimal}
 use Rattle.text.specs.Event.{opening, closing, comma, bracket, quoted, membersText, tagText, tagsText}
 use Rattle.message.specs.declared.Body.{Body}
-use Rattle.event.specs.Lent.{said, natural, stringOf, stringsOf, tagOf, tagsOf, tagsAt}
+use Rattle.message.specs.declared.EventParts.{EventParts}
+use Rattle.event.specs.declared.Written.{Written}
+use Rattle.event.specs.Lent.{said, natural, stringOf, stringsOf, tagOf, tagsOf, tagsAt, textOf}
+use Rattle.event.specs.Answer.{answered, offeredRow}
 
 -- the brackets and braces that may be open at once in a tag, and in what it holds
 abbrev pub tagDepth : ℕ
@@ -65,9 +68,10 @@ firstOf (Many first false) = End first
 unfoldable pub firstTag : List ℕ → ℕ → Out
 firstTag b at = case (endOf (treeAt b depth at)) (λ n. firstOf (startAt b at)) Bad
 
--- what begins at a place is all of it: the array stands there to its end
-pub record Complete (b : List ℕ) (at : ℕ) : Type 0 where
-  pub is : firstOf (startAt b at) ≡ firstTag b at
+-- the rows of an offer are tested: what that answers, and where none holds, the text at the start of a buffer
+pub record Tested (b : List ℕ) (p : EventParts) (r : Written) (t : List ℕ) : Type 0 where
+  pub says : r ≡ answered (offeredRow b p) (length (textOf b (p .body)))
+  pub there : offeredRow b p ≡ 0 → take (length (textOf b (p .body))) t ≡ textOf b (p .body)
 
 -- the text up to the tags, and from them on
 unfoldable pub frontText : List ℕ → Body → List ℕ

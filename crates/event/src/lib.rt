@@ -11,8 +11,9 @@ ghost use Rattle.wire.specs.Bytes.{sameBytes};
 ghost use Rattle.spell.specs.Spell.{decode};
 ghost use Rattle.text.specs.Event.{quoted, tagsText};
 ghost use Rattle.event.specs.Lent.{said, natural, tagsAt, textOf};
-ghost use Rattle.event.specs.Walk.{tagDepth, stringDepth, puts, Counts, mostLength, lengthOf, Does, firstOf, firstTag, Complete, frontText, backText, stringText, stringsText, oneTagText, allTagsText};
-ghost use Rattle.event.specs.Answer.{hexDigit, hexOf, hashedOf, serialised, serialisedOut, identified, offeredRow};
+ghost use Rattle.event.specs.Walk.{tagDepth, stringDepth, puts, Counts, mostLength, lengthOf, Does, firstOf, firstTag, Tested, frontText, backText, stringText, stringsText, oneTagText, allTagsText};
+ghost use Rattle.event.specs.Answer.{hexDigit, hexOf, hashedOf, shortRow, answered, writtenOut, numberOf, serialisedRow, serialised, serialisedOut, identified};
+ghost use Rattle.event.specs.Answer.{offeredRow, offeredTextRow, offered, offeredOut};
 ghost use Rattle.event.specs.Order.{isLower, isNewer};
 
 // The most brackets and braces open at once in the tags' array, in a tag and in what a tag holds.
@@ -449,29 +450,51 @@ pub fn put_hex(out: &mut [u8], at: usize, s: &[u8]) -> usize
     o
 }
 
-// SHA-256 of the text, or row 9, where the tags' array stands to its end. A byte more than a text may have shows that it is too long.
-fn hashed(b: &[u8], p: message::Body) -> Identified
-    requires { ⌜ Complete (now b) (p .tags) ⌝ }
-    ensures { λ r. ⌜ r ≡ hashedOf (textOf (now (b .entry)) p) ⌝ }
+// SHA-256 of a text, or row 9.
+fn hashed(t: &[u8]) -> Identified
+    ensures { λ r. ⌜ r ≡ hashedOf (now (t .entry)) ⌝ }
 {
-    let mut t = [0u8; 4097];
-    let known = begun(b, p.tags);
-    let n = put_whole(&mut t, 0, b, p, known);
-    if MOST_TEXT < n {
+    if MOST_TEXT < t.len() {
         return Identified {
             row: 9,
             id: [0u8; 32],
         };
     }
-    let d = digest::digest_of(&t[..n]);
+    let d = digest::digest_of(t);
     let id = d.bytes;
     Identified { row: 0, id }
+}
+
+// The id of the event that the parts spell. The text is put together in a buffer: a byte more than a text may have shows that it is too long.
+pub fn id_of(b: &[u8], p: message::Body) -> Identified
+    ensures { λ r. ⌜ r ≡ identified (now (b .entry)) p ⌝ }
+{
+    let row = message::body_row(b, p);
+    if row != 0 {
+        return Identified { row, id: [0u8; 32] };
+    }
+    let mut t = [0u8; 4097];
+    let known = begun(b, p.tags);
+    let n = put_whole(&mut t, 0, b, p, known);
+    hashed(&t[..n])
+}
+
+// A text from the start of an output, or row 13.
+fn give(t: &[u8], out: &mut [u8]) -> Written
+    ensures { λ r. ⌜ r ≡ answered (shortRow (now (t .entry)) (now (out .entry))) (length (now (t .entry))) ⌝ }
+    ensures { λ _. ⌜ now (out .exit) ≡ writtenOut (shortRow (now (t .entry)) (now (out .entry))) (now (t .entry)) (now (out .entry)) ⌝ }
+{
+    if out.len() < t.len() {
+        return Written::Refused(13);
+    }
+    Written::Wrote(wire::put(out, 0, t))
 }
 
 // The text of the event that the parts spell, from the start of `out`. It is put together in a buffer of its own, so that nothing is
 // written to `out` before every row is tested.
 pub fn serialise(b: &[u8], p: message::Body, out: &mut [u8]) -> Written
     ensures { λ r. ⌜ r ≡ serialised (now (b .entry)) p (now (out .entry)) ⌝ }
+    ensures { λ r. ⌜ numberOf r ≡ serialisedRow (now (b .entry)) p (now (out .entry)) ⌝ }
     ensures { λ _. ⌜ now (out .exit) ≡ serialisedOut (now (b .entry)) p (now (out .entry)) ⌝ }
 {
     let row = message::body_row(b, p);
@@ -484,21 +507,7 @@ pub fn serialise(b: &[u8], p: message::Body, out: &mut [u8]) -> Written
     if MOST_TEXT < n {
         return Written::Refused(9);
     }
-    if out.len() < n {
-        return Written::Refused(13);
-    }
-    Written::Wrote(wire::put(out, 0, &t[..n]))
-}
-
-// The id of the event that the parts spell.
-pub fn id_of(b: &[u8], p: message::Body) -> Identified
-    ensures { λ r. ⌜ r ≡ identified (now (b .entry)) p ⌝ }
-{
-    let row = message::body_row(b, p);
-    if row != 0 {
-        return Identified { row, id: [0u8; 32] };
-    }
-    hashed(b, p)
+    give(&t[..n], out)
 }
 
 // Whether a string part decodes to the hex of an id.
@@ -510,26 +519,53 @@ fn spells_id(b: &[u8], s: message::Span, id: [u8; 32]) -> bool
     spell::spells(piece(b, s.start, s.len), &hex)
 }
 
+// Rows 2 and 4 to 10 of an event that is offered as parts; where none holds, its text stands at the start of `t`.
+fn tested(b: &[u8], p: message::EventParts, t: &mut [u8]) -> Written
+    requires { ⌜ length (now t) ≡ 4097 ⌝ }
+    ensures { λ r. ⌜ Tested (now (b .entry)) p r (now (t .exit)) ⌝ }
+{
+    let row = message::event_row(b, p);
+    if row != 0 {
+        return Written::Refused(row);
+    }
+    let given = p.id;
+    let body = p.body;
+    let known = begun(b, body.tags);
+    let n = put_whole(t, 0, b, body, known);
+    let h = hashed(&t[..n]);
+    let large = h.row;
+    if large != 0 {
+        return Written::Refused(large);
+    }
+    let id = h.id;
+    if spells_id(b, given, id) {
+        return Written::Wrote(n);
+    }
+    Written::Refused(10)
+}
+
 // Rows 2 and 4 to 10 of an event that is offered as parts.
 pub fn offered_row(b: &[u8], p: message::EventParts) -> u8
     ensures { λ r. ⌜ r ≡ offeredRow (now (b .entry)) p ⌝ }
 {
-    let row = message::event_row(b, p);
-    if row != 0 {
-        return row;
+    let mut t = [0u8; 4097];
+    match tested(b, p, &mut t) {
+        Written::Wrote(_) => 0,
+        Written::Refused(row) => row,
     }
-    let given = p.id;
-    let body = p.body;
-    let h = hashed(b, body);
-    let large = h.row;
-    if large != 0 {
-        return large;
+}
+
+// The same rows, then 13; where none holds, the event's text from the start of `out`. It is serialised once and hashed once.
+pub fn offered_text(b: &[u8], p: message::EventParts, out: &mut [u8]) -> Written
+    ensures { λ r. ⌜ r ≡ offered (now (b .entry)) p (now (out .entry)) ⌝ }
+    ensures { λ r. ⌜ numberOf r ≡ offeredTextRow (now (b .entry)) p (now (out .entry)) ⌝ }
+    ensures { λ _. ⌜ now (out .exit) ≡ offeredOut (now (b .entry)) p (now (out .entry)) ⌝ }
+{
+    let mut t = [0u8; 4097];
+    match tested(b, p, &mut t) {
+        Written::Wrote(n) => give(&t[..n], out),
+        Written::Refused(row) => Written::Refused(row),
     }
-    let id = h.id;
-    if spells_id(b, given, id) {
-        return 0;
-    }
-    10
 }
 
 // Whether p is the lower: by the first byte that differs, and of two where one begins the other, the shorter.

@@ -1,10 +1,11 @@
 -- Texts, and what the definitions say of them, by computation.
 use mathlib.Core.Path.{_≡_, refl}
-use mathlib.Core.List.{List, [], _∷_}
-use mathlib.Core.Bool.{true, false}
-use Prim.Native.Nat.{ℕ}
+use mathlib.Core.List.{List, [], _∷_, _++_}
+use mathlib.Core.Bool.{Bool, true, false, cond, not}
+use Prim.Native.Nat.{ℕ, zero, suc}
 use Prim.Native.Char.{code}
 use Prim.Native.String.{String, [] as none-left, _∷_ as _then_}
+use Rattle.json.specs.declared.Class.the-variants.{Space, Digit, Plain, Hex, Short, Exponent, Sign}
 use Rattle.json.specs.Grammar.{classOf, run, past, oneAt, tokenAt, wordAt, literalAt, digitsAt, intAt, fracAt, expAt, numberAt, hexAt, escapedAt, charAt, charsUpTo, charsAt, stringAt, isSpelling, scalarAt}
 use Rattle.json.specs.Tree.{word, num, str, arr, obj, nil, item, got, itemsAt, treeAt, root, isText}
 
@@ -53,3 +54,24 @@ tree = refl
 spellings : (isSpelling (bytes "") ≡ true) × (isSpelling (bytes "a\\n\\\"") ≡ true) × (isSpelling (bytes "a\"") ≡ false) × (isSpelling (bytes "\\") ≡ false)
 unfolding classOf run past oneAt tokenAt wordAt hexAt escapedAt charAt charsUpTo charsAt
 spellings = (refl, refl, refl, refl)
+
+-- the bytes of each terminal, of 256; of unescaped, those that it has not
+abbrev those : (ℕ → Bool) → ℕ → List ℕ
+those f zero = []
+those f (suc n) = those f n ++ cond (f n) (n ∷ []) []
+
+terminals :
+    (those (classOf Space) 256 ≡ 0x09 ∷ 0x0A ∷ 0x0D ∷ 0x20 ∷ [])
+    × (those (classOf Digit) 256 ≡ 0x30 ∷ 0x31 ∷ 0x32 ∷ 0x33 ∷ 0x34 ∷ 0x35 ∷ 0x36 ∷ 0x37 ∷ 0x38 ∷ 0x39 ∷ [])
+    × (those (classOf Hex) 256
+    ≡ 0x30 ∷ 0x31 ∷ 0x32 ∷ 0x33 ∷ 0x34 ∷ 0x35 ∷ 0x36 ∷ 0x37 ∷ 0x38 ∷ 0x39 ∷ 0x41 ∷ 0x42 ∷ 0x43 ∷ 0x44 ∷ 0x45 ∷ 0x46 ∷
+    0x61 ∷ 0x62 ∷ 0x63 ∷ 0x64 ∷ 0x65 ∷ 0x66 ∷ [])
+    × (those (classOf Short) 256 ≡ 0x22 ∷ 0x2F ∷ 0x5C ∷ 0x62 ∷ 0x66 ∷ 0x6E ∷ 0x72 ∷ 0x74 ∷ [])
+    × (those (classOf Exponent) 256 ≡ 0x45 ∷ 0x65 ∷ [])
+    × (those (classOf Sign) 256 ≡ 0x2B ∷ 0x2D ∷ [])
+    × (those (λ b. not (classOf Plain b)) 256
+    ≡ 0x00 ∷ 0x01 ∷ 0x02 ∷ 0x03 ∷ 0x04 ∷ 0x05 ∷ 0x06 ∷ 0x07 ∷ 0x08 ∷ 0x09 ∷ 0x0A ∷ 0x0B ∷ 0x0C ∷ 0x0D ∷ 0x0E ∷ 0x0F ∷
+    0x10 ∷ 0x11 ∷ 0x12 ∷ 0x13 ∷ 0x14 ∷ 0x15 ∷ 0x16 ∷ 0x17 ∷ 0x18 ∷ 0x19 ∷ 0x1A ∷ 0x1B ∷ 0x1C ∷ 0x1D ∷ 0x1E ∷ 0x1F ∷
+    0x22 ∷ 0x5C ∷ [])
+unfolding classOf
+terminals = (refl, refl, refl, refl, refl, refl, refl)

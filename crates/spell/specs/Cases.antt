@@ -1,9 +1,11 @@
--- Worked cases: the escapes of RFC 8259 section 7, its pair of surrogates, row 4, hex and the count of characters.
-use mathlib.Core.Bool.{true, false}
+-- Worked cases: the escapes of RFC 8259 section 7, its pair of surrogates, row 4, hex, the count of characters, and tables of the bytes
+-- that the definitions tell apart.
+use mathlib.Core.Bool.{true, false, not}
 use mathlib.Core.Path.{_≡_, refl}
 use mathlib.Core.List.{[], _∷_}
-use Rattle.wire.specs.Bytes.{sameBytes, isHex}
-use Rattle.spell.specs.Spell.{hexVal, four, fourAt, shortOf, isPair, pairOf, unicodeOf, charOf, charsFrom, utf8Of, bytesOf, joined, decode, isRefused, any, refuses, points, characterCount, all, isHexOf}
+use lib.Dec.{ltb, eqb}
+use Rattle.wire.specs.Bytes.{sameBytes, isHex, those}
+use Rattle.spell.specs.Spell.{hexVal, unhex, four, fourAt, shortOf, isPair, pairOf, unicodeOf, charOf, charsFrom, utf8Of, bytesOf, joined, decode, isSurrogate, isControl, isRefused, any, refuses, points, characterCount, all, isHexOf}
 use Rattle.wire.specs.Escape.{letterOf, escOne, escape}
 
 -- \" \\ \/ \b \f \n \r \t
@@ -81,3 +83,54 @@ written :
     × (escape (0x5c ∷ 0x0d ∷ 0x09 ∷ 0x08 ∷ 0x0c ∷ 0x2f ∷ 0xe9 ∷ []) ≡ 0x5c ∷ 0x5c ∷ 0x5c ∷ 0x72 ∷ 0x5c ∷ 0x74 ∷ 0x5c ∷ 0x62 ∷ 0x5c ∷ 0x66 ∷ 0x2f ∷ 0xe9 ∷ [])
 unfolding escape escOne letterOf
 written = (refl, refl, refl)
+
+-- of 256 bytes: the controls that row 4 refuses, the bytes that stand for another after a backslash, the digits that are not 0
+bytes :
+    (those isControl 256
+    ≡ 0x00 ∷ 0x01 ∷ 0x02 ∷ 0x03 ∷ 0x04 ∷ 0x05 ∷ 0x06 ∷ 0x07 ∷ 0x0b ∷ 0x0e ∷ 0x0f ∷ 0x10 ∷ 0x11 ∷ 0x12 ∷ 0x13 ∷ 0x14 ∷
+    0x15 ∷ 0x16 ∷ 0x17 ∷ 0x18 ∷ 0x19 ∷ 0x1a ∷ 0x1b ∷ 0x1c ∷ 0x1d ∷ 0x1e ∷ 0x1f ∷ [])
+    × (those (λ y. not (eqb (shortOf y) y)) 256 ≡ 0x62 ∷ 0x66 ∷ 0x6e ∷ 0x72 ∷ 0x74 ∷ [])
+    × (those (λ x. ltb 0 (hexVal x)) 256
+    ≡ 0x31 ∷ 0x32 ∷ 0x33 ∷ 0x34 ∷ 0x35 ∷ 0x36 ∷ 0x37 ∷ 0x38 ∷ 0x39 ∷ 0x41 ∷ 0x42 ∷ 0x43 ∷ 0x44 ∷ 0x45 ∷ 0x46 ∷ 0x61 ∷
+    0x62 ∷ 0x63 ∷ 0x64 ∷ 0x65 ∷ 0x66 ∷ [])
+unfolding shortOf hexVal
+bytes = (refl, refl, refl)
+
+-- both cases of the digits by their number, 0123456789abcdefABCDEF in pairs; a digit too many; bytes that are no digits
+pairs :
+    (unhex (0x30 ∷ 0x31 ∷ 0x32 ∷ 0x33 ∷ 0x34 ∷ 0x35 ∷ 0x36 ∷ 0x37 ∷ 0x38 ∷ 0x39 ∷ 0x61 ∷ 0x62 ∷ 0x63 ∷ 0x64 ∷ 0x65 ∷ 0x66 ∷ [])
+    ≡ 0x01 ∷ 0x23 ∷ 0x45 ∷ 0x67 ∷ 0x89 ∷ 0xab ∷ 0xcd ∷ 0xef ∷ [])
+    × (unhex (0x41 ∷ 0x42 ∷ 0x43 ∷ 0x44 ∷ 0x45 ∷ 0x46 ∷ 0x37 ∷ []) ≡ 0xab ∷ 0xcd ∷ 0xef ∷ [])
+    × (unhex (0x67 ∷ 0x31 ∷ 0x66 ∷ 0x2f ∷ []) ≡ 0x01 ∷ 0xf0 ∷ [])
+unfolding unhex hexVal
+pairs = (refl, refl, refl)
+
+-- the borders of surrogates, of high and low ones in a pair, and of the numbers that pairs stand for
+surrogates :
+    (isSurrogate 0xd7ff ≡ false)
+    × (isSurrogate 0xd800 ≡ true)
+    × (isSurrogate 0xdfff ≡ true)
+    × (isSurrogate 0xe000 ≡ false)
+    × (isPair 0xd7ff 0x5c 0x75 0xdc00 ≡ false)
+    × (isPair 0xd800 0x5c 0x75 0xdbff ≡ false)
+    × (isPair 0xd800 0x5c 0x75 0xdc00 ≡ true)
+    × (isPair 0xdbff 0x5c 0x75 0xdfff ≡ true)
+    × (isPair 0xdbff 0x5c 0x75 0xe000 ≡ false)
+    × (isPair 0xdc00 0x5c 0x75 0xdc00 ≡ false)
+    × (pairOf 0xd800 0xdc00 ≡ 0x10000)
+    × (pairOf 0xd800 0xdfff ≡ 0x103ff)
+    × (pairOf 0xdbff 0xdfff ≡ 0x10ffff)
+unfolding isPair pairOf
+surrogates = (refl, refl, refl, refl, refl, refl, refl, refl, refl, refl, refl, refl, refl)
+
+-- RFC 3629 section 3, the first and the last number of each row of its table
+octets :
+    (utf8Of 0x7f ≡ 0x7f ∷ [])
+    × (utf8Of 0x80 ≡ 0xc2 ∷ 0x80 ∷ [])
+    × (utf8Of 0x7ff ≡ 0xdf ∷ 0xbf ∷ [])
+    × (utf8Of 0x800 ≡ 0xe0 ∷ 0xa0 ∷ 0x80 ∷ [])
+    × (utf8Of 0xffff ≡ 0xef ∷ 0xbf ∷ 0xbf ∷ [])
+    × (utf8Of 0x10000 ≡ 0xf0 ∷ 0x90 ∷ 0x80 ∷ 0x80 ∷ [])
+    × (utf8Of 0x10ffff ≡ 0xf4 ∷ 0x8f ∷ 0xbf ∷ 0xbf ∷ [])
+unfolding utf8Of
+octets = (refl, refl, refl, refl, refl, refl, refl)

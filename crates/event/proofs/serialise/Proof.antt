@@ -1,7 +1,7 @@
 -- A law for each way out. A text of at most 4,096 bytes stands whole in the buffer.
 use mathlib.Core.Path.{_∙_}
 use borrow.Author.Needs.{needs}
-use Rattle.event.proofs.Answers.{prefix-length, body-refused, large-refused, short-refused, text-written}
+use Rattle.event.proofs.Answers.{prefix-length, body-refused, large-refused, text-given}
 use Rattle.event.proofs.Complete.{body-complete}
 use Rattle.event.proofs.serialise.Statement.{statement}
 use Rattle.event.proofs.serialise.Tie as tie
@@ -9,46 +9,36 @@ use Rattle.event.proofs.serialise.Tie as tie
 returns : tie.Need-returns
 returns c = body-refused _ _ _ (c .before .body-row .ensures) (c .if1 .taken)
 
-returns-2 : tie.Need-returns-2
-returns-2 c =
-    let c1 = c .before in
-    let c2 = c1 .before in
-    let c4 = c2 .before .before .before in
-    large-refused _ _ _ (c4 .before .body-row .ensures) (c4 .if1 .left) (c1 .t2 .given) (c2 .put-whole .ensures) (c .if2 .taken)
-
-returns-3 : tie.Need-returns-3
-returns-3 c =
-    let c1 = c .before in
-    let c2 = c1 .before in
-    let c3 = c2 .before in
-    let c5 = c3 .before .before .before in
-    short-refused _ _ _ (c5 .before .body-row .ensures) (c5 .if1 .left) (c2 .t2 .given) (c3 .put-whole .ensures) (c1 .if2 .left) (c .if3 .taken)
-
-slice-aggregate-put : tie.Need-slice-aggregate-put
-slice-aggregate-put c =
-    let c2 = c .before .before in
-    let c3 = c2 .before in
-    let c4 = c3 .before in
-    prefix-length (c4 .t2 .given) (c4 .before .put-whole .ensures) (c3 .if2 .left)
-
-returns-4 : tie.Need-returns-4
-returns-4 c =
-    let c2 = c .before .before in
-    let c5 = c2 .before .before .before in
-    let c6 = c5 .before in
-    let c7 = c6 .before in
-    let c8 = c7 .before in
-    let c10 = c8 .before .before .before in
-    text-written _ _ _ (c10 .before .body-row .ensures) (c10 .if1 .left) (c7 .t2 .given) (c8 .put-whole .ensures) (c6 .if2 .left) (c5 .if3 .left) (c2 .put .ensures)
-
 put-whole-requires : tie.Need-put-whole-requires
 put-whole-requires c κs =
     let c1 = c .before in
     let c2 = c1 .before in
-    c1 .begun .ensures ∙ body-complete _ _ (c2 .before .body-row .ensures) (c2 .if1 .left) .is
+    c1 .begun .ensures ∙ body-complete _ _ (c2 .before .body-row .ensures) (c2 .if1 .left)
+
+returns-2 : tie.Need-returns-2
+returns-2 c =
+    let c1 = c .before in
+    let c2 = c1 .before in
+    let c5 = c2 .before .before .before in
+    large-refused _ _ _ (c5 .before .body-row .ensures) (c5 .if1 .left) (c1 .t2 .given) (c2 .put-whole .ensures) (c .if2 .taken)
+
+slice-aggregate-give : tie.Need-slice-aggregate-give
+slice-aggregate-give c =
+    let c2 = c .before .before in
+    prefix-length (c2 .t2 .given) (c2 .before .put-whole .ensures)
+
+returns-3 : tie.Need-returns-3
+returns-3 c =
+    let c2 = c .before .before in
+    let c5 = c2 .before .before .before in
+    let c6 = c5 .before in
+    let c7 = c6 .before in
+    let c10 = c7 .before .before .before in
+    text-given _ _ _ (c10 .before .body-row .ensures) (c10 .if1 .left) (c6 .t2 .given) (c7 .put-whole .ensures) (c5 .if2 .left)
+    (c2 .give .ensures .0) (c2 .give .ensures .1)
 
 pub serialise-spec : {M : Type 1} → statement M
 serialise-spec =
     tie.close
-    (tie.spec (λ c κs. search needs) returns (λ c κs. search needs) (λ c. search needs) put-whole-requires returns-2 returns-3
-    (λ c. search needs) slice-aggregate-put (λ c κs. search needs) (λ c. search needs) returns-4)
+    (tie.spec (λ c κs. search needs) returns (λ c κs. search needs) (λ c. search needs) put-whole-requires returns-2
+    (λ c. search needs) slice-aggregate-give (λ c κs. search needs) (λ c. search needs) returns-3)
