@@ -2,18 +2,17 @@
 -- holds."
 use mathlib.Core.Bool.{Bool, true, false, cond, not, _&&_}
 use mathlib.Core.Option.{Option, none, some}
-use mathlib.Core.List.{List, [], _∷_}
-use Prim.Native.Nat.{ℕ, _+_, _*_}
+use mathlib.Core.List.{List}
+use Prim.Native.Nat.{ℕ, _+_}
 use lib.Dec.{eqb, ltb}
 use lib.IntN.{pos}
 use Rattle.wire.specs.Put.{put}
 use Rattle.wire.specs.Field.{leBytes}
-use Rattle.json.specs.Tree.{root}
-use Rattle.rows.specs.Rows.{onRoot, textRow}
-use Rattle.spell.specs.Spell.{hexVal}
-use Rattle.shape.specs.Shape.{Word, event, req, close, other, opened}
+use Rattle.rows.specs.Rows.{textRow}
+pub use Rattle.spell.specs.Spell.{unhex}
 use Rattle.shape.specs.Rows.{messageRow}
 use Rattle.message.specs.Parts.{nowhere}
+pub use Rattle.message.specs.Read.{isEventWord, isEvent}
 use Rattle.message.specs.Read.{readOf}
 use Rattle.message.specs.declared.EventParts.{EventParts}
 use Rattle.message.specs.declared.Message.{Message}
@@ -34,16 +33,6 @@ pub data Offering : Type 0 where
   asParts : List ℕ → EventParts → Offering
 
 -- ---- rows 1 to 10
-abbrev pub isEventWord : Word → Bool
-isEventWord event = true
-isEventWord req = false
-isEventWord close = false
-isEventWord other = false
-
--- the message's first word is EVENT
-unfoldable pub isEvent : List ℕ → Bool
-isEvent m = onRoot (λ t. isEventWord (opened m t .first)) (root m)
-
 -- the parts of an EVENT message; of no other is anything offered
 abbrev pub noParts : EventParts
 noParts = record {
@@ -72,12 +61,6 @@ rowOf (asParts b p) = offeredRow b p
 -- "A valid event is one offered, as a message or as parts, that none of rows 1 to 10 refuses."
 abbrev pub isValid : Offering → Bool
 isValid o = eqb (rowOf o) 0
-
--- the bytes that pairs of hex digits stand for
-unfoldable pub unhex : List ℕ → List ℕ
-unhex [] = []
-unhex (x ∷ []) = []
-unhex (x ∷ y ∷ l) = (hexVal x * 16 + hexVal y) ∷ unhex l
 
 -- the event of parts, with its id and signature as bytes
 unfoldable pub heldOf : List ℕ → EventParts → Held

@@ -1,0 +1,178 @@
+-- Two slots: in sound ones the test on bytes is the test on keys, so no two clash exactly where no id and no key is held twice.
+use mathlib.Core.Path.{_≡_, refl, sym, ap, ap₂, _∙_}
+use mathlib.Core.Bool.{Bool, true, false, not, cond, _&&_, _||_, and-comm}
+use mathlib.Core.Logic.{_≢_, inl}
+use mathlib.Core.List.{List, [], _∷_, map}
+use Prim.Native.Nat.{ℕ, _+_}
+use native.Mathlib.Omega.{arith}
+use lib.Dec.{eqb, leb}
+use lib.ListN.{length}
+use borrow.Author.Tests.{eqb-true, eq-eqb, ne-eqb}
+use Rattle.wire.specs.Limits.{mostText, mostStrings, mostTags}
+use Rattle.utf8.specs.Utf8.{isUtf8}
+use Rattle.wire.specs.Escape.{escape}
+use Rattle.wire.specs.Field.{fieldAt}
+use Rattle.wire.specs.Bytes.{sameBytes, part}
+use Rattle.wire.proofs.Bytes.{same-equal, equal-same}
+use Rattle.text.specs.Event.{Tag, Event, all, isPlainByte, isString, isTag, isTags}
+use Rattle.text.specs.Read.{Read, read, readText, IsTextOf}
+use Rattle.text.specs.Kinds.{Key, sameKey, keyIn, keyOf, classOf, isNamedD, second, dOf}
+use Rattle.text.specs.declared.Class.{Class}
+use Rattle.text.specs.declared.Class.the-variants.{Regular, Replaceable, Ephemeral, Addressable}
+use Rattle.text.proofs.Pieces.{both}
+use Rattle.text.proofs.Limits.{limits-of}
+use Rattle.text.proofs.Strings.{escape-once}
+use Rattle.text.proofs.Places.{pubkey-stands}
+use Rattle.text.proofs.RoundTrip.{read-same}
+use Rattle.law.specs.Table.{shareKey, hasId, hasKey}
+use Rattle.table.specs.Layout.{kindIn, lengthIn, textIn, idIn, heldSlots, countOf}
+use Rattle.table.specs.Events.{signedEvents, inSlot, classFor, classIn, classOfEvent, classOfText, view}
+use Rattle.table.specs.Sound.{textReads, slotSound, slotsSound, noneTwice, noIdTwice, noKeyTwice}
+use Rattle.table.proofs.Slots.{sound-kind}
+use Rattle.table.proofs.Tellable.{read-of}
+use Rattle.table.proofs.DPlaces.{d-place}
+use Rattle.slots.specs.Slots.{hasKeyIn, pubkeyIn, dBytesIn, sameIdIn, sameKeyIn, clash, from}
+use Rattle.slots.proofs.Pairs.{none-map, none-or, none-as}
+
+-- ---- d is a string
+second-plain : (t : Tag) → isTag t ≡ true → all isPlainByte (second t) ≡ true
+unfolding isTag isString all
+second-plain [] h = refl
+second-plain (v ∷ []) h = refl
+second-plain (v ∷ w ∷ t) h =
+    let n = length (v ∷ w ∷ t) in
+    let a = both (leb n mostStrings) (all isString (v ∷ w ∷ t)) (both (leb 1 n) (leb n mostStrings && all isString (v ∷ w ∷ t)) h .1) .1 in
+    both (all isPlainByte w) (isUtf8 w) (both (isString w) (all isString t) (both (isString v) (all isString (w ∷ t)) a .1) .0) .0
+
+d-plain : (ts : List Tag) → all isTag ts ≡ true → all isPlainByte (dOf ts) ≡ true
+unfolding dOf all
+d-plain [] h = refl
+d-plain (t ∷ ts) h = let a = both (isTag t) (all isTag ts) h in go (isNamedD t) (second-plain t (a .0)) (d-plain ts (a .1))
+  where
+    go : (n : Bool) → all isPlainByte (second t) ≡ true → all isPlainByte (dOf ts) ≡ true → all isPlainByte (cond n (second t) (dOf ts)) ≡ true
+    go true p q = p
+    go false p q = q
+
+-- two tests that imply each other
+same-tests : (a b : Bool) → (a ≡ true → b ≡ true) → (b ≡ true → a ≡ true) → a ≡ b
+same-tests true b f g = sym (f refl)
+same-tests false true f g = g refl
+same-tests false false f g = refl
+
+same-escaped : (u v : List ℕ) → all isPlainByte u ≡ true → all isPlainByte v ≡ true → sameBytes u v ≡ sameBytes (escape u) (escape v)
+same-escaped u v p q = same-tests (sameBytes u v) (sameBytes (escape u) (escape v))
+    (λ e. equal-same (escape u) (escape v) (ap escape (same-equal u v e)))
+    (λ e. equal-same u v (escape-once u v p q (same-equal (escape u) (escape v) e)))
+
+-- ---- a sound slot, by the event of its text
+pub record Slot (s : List ℕ) (e : Event) : Type 0 where
+  pub class : classOfText (textIn s) ≡ classFor (classOf (e .kind)) (keyIn (classOf (e .kind)) e)
+  pub kind : kindIn s ≡ e .kind
+  pub pubkey : pubkeyIn s ≡ e .pubkey
+  pub d-none : classOf (e .kind) ≢ Addressable → dBytesIn s ≡ []
+  pub d-there : classOf (e .kind) ≡ Addressable → dBytesIn s ≡ escape (dOf (e .tags))
+  pub plain : all isPlainByte (dOf (e .tags)) ≡ true
+
+pub read-in : (s : List ℕ) → slotSound s ≡ true → (e : Event) × (readText (textIn s) ≡ read e)
+unfolding slotSound textReads
+read-in s ok = read-of (readText (textIn s)) (both (leb (lengthIn s) mostText) _ (both (textReads s) _ ok .0) .1)
+
+pub slot-of : (s : List ℕ) → slotSound s ≡ true → (e : Event) × Slot s e
+unfolding classOfText classOfEvent keyOf pubkeyIn dBytesIn isTags
+slot-of s ok =
+    let (e, r) = read-in s ok in
+    let t = read-same (textIn s) e r in
+    let p = d-place s e ok r in (
+      e,
+      record {
+        class = ap classIn r;
+        kind = sound-kind s ok e r;
+        pubkey = pubkey-stands (textIn s) e t;
+        d-none = λ n. rw (p .nowhere (inl n));
+        d-there = p .stands;
+        plain = d-plain (e .tags) (both (leb (length (e .tags)) mostTags) (all isTag (e .tags)) (limits-of e (t .fit) .tags) .1);
+      },
+    )
+
+-- ---- keys of different kinds differ
+key-apart : (c d : Class) (e f : Event) → eqb (e .kind) (f .kind) ≡ false → shareKey sameKey (classFor c (keyIn c e)) (classFor d (keyIn d f)) ≡ false
+key-apart Regular d e f h = refl
+key-apart Ephemeral d e f h = refl
+key-apart Replaceable Regular e f h = refl
+key-apart Replaceable Ephemeral e f h = refl
+key-apart Replaceable Replaceable e f h = rw h
+key-apart Replaceable Addressable e f h = refl
+key-apart Addressable Regular e f h = refl
+key-apart Addressable Ephemeral e f h = refl
+key-apart Addressable Replaceable e f h = refl
+key-apart Addressable Addressable e f h = rw h
+
+-- of one class: s holds e, t holds f
+key-alike : (c : Class) (s t : List ℕ) (e f : Event) → Slot s e → Slot t f → classOf (e .kind) ≡ c → classOf (f .kind) ≡ c → eqb (f .kind) (e .kind) ≡ true
+    → shareKey sameKey (classFor c (keyIn c f)) (classFor c (keyIn c e)) ≡ (hasKeyIn c && (sameBytes (f .pubkey) (e .pubkey) && sameBytes (dBytesIn t) (dBytesIn s)))
+unfolding sameBytes
+key-alike Regular s t e f a b p q h = refl
+key-alike Ephemeral s t e f a b p q h = refl
+key-alike Replaceable s t e f a b p q h =
+    let x = sameBytes (f .pubkey) (e .pubkey) in
+    let n = b .d-none (λ z. other (sym q ∙ z)) in
+    let m = a .d-none (λ z. other (sym p ∙ z)) in
+    rw (h, n, m) (and-comm true x)
+  where
+    other : Replaceable ≢ Addressable
+    other z = let y : _≡_ {A = ℕ} 0 1 = cc in omega arith
+key-alike Addressable s t e f a b p q h =
+    rw (h, b .d-there q, a .d-there p, same-escaped (dOf (f .tags)) (dOf (e .tags)) (b .plain) (a .plain))
+
+pub key-same : (s t : List ℕ) → slotSound s ≡ true → slotSound t ≡ true → hasKey signedEvents (inSlot s) (inSlot t) ≡ sameKeyIn s t
+unfolding sameKeyIn
+key-same s t ok on =
+    let (e, a) = slot-of s ok in
+    let (f, b) = slot-of t on in
+    ap₂ (shareKey sameKey) (b .class) (a .class) ∙ go e f a b (eqb (f .kind) (e .kind)) refl
+    ∙ sym (ap₂ (λ j k. eqb j k && (hasKeyIn (classOf j) && (sameBytes (pubkeyIn t) (pubkeyIn s) && sameBytes (dBytesIn t) (dBytesIn s)))) (b .kind) (a .kind))
+  where
+    go : (e f : Event) → Slot s e → Slot t f → (x : Bool) → eqb (f .kind) (e .kind) ≡ x
+        → shareKey sameKey (classFor (classOf (f .kind)) (keyIn (classOf (f .kind)) f)) (classFor (classOf (e .kind)) (keyIn (classOf (e .kind)) e))
+        ≡ (eqb (f .kind) (e .kind) && (hasKeyIn (classOf (f .kind)) && (sameBytes (pubkeyIn t) (pubkeyIn s) && sameBytes (dBytesIn t) (dBytesIn s))))
+    go e f a b false h = key-apart (classOf (f .kind)) (classOf (e .kind)) f e h ∙ sym (ap (_&& (hasKeyIn (classOf (f .kind)) && (sameBytes (pubkeyIn t) (pubkeyIn s) && sameBytes (dBytesIn t) (dBytesIn s)))) h)
+    go e f a b true h =
+        let c = ap classOf (eqb-true (f .kind) (e .kind) h) in
+        ap (λ d. shareKey sameKey (classFor (classOf (f .kind)) (keyIn (classOf (f .kind)) f)) (classFor d (keyIn d e))) (sym c)
+        ∙ key-alike (classOf (f .kind)) s t e f a b (sym c) refl h
+        ∙ ap (_&& (hasKeyIn (classOf (f .kind)) && (sameBytes (f .pubkey) (e .pubkey) && sameBytes (dBytesIn t) (dBytesIn s)))) (sym h)
+        ∙ ap (λ k. eqb (f .kind) (e .kind) && (hasKeyIn (classOf (f .kind)) && (k && sameBytes (dBytesIn t) (dBytesIn s)))) (sym (ap₂ sameBytes (b .pubkey) (a .pubkey)))
+
+-- ---- the whole table
+pub apart-is : (b : List ℕ) → slotsSound b ≡ true → (noIdTwice b && noKeyTwice b) ≡ noneTwice clash (from b 0 (countOf b))
+unfolding slotsSound noIdTwice noKeyTwice view from clash sameIdIn
+apart-is b ok =
+    let l = heldSlots b in
+    ap₂ _&&_ (none-map inSlot (hasId signedEvents) l)
+    (none-map inSlot (hasKey signedEvents) l ∙ none-as slotSound (λ s t. hasKey signedEvents (inSlot s) (inSlot t)) sameKeyIn key-same l ok)
+    ∙ none-or (λ s t. sameBytes (idIn t) (idIn s)) sameKeyIn l
+
+-- ---- the key of two slots, test by test
+module _ (s t : List ℕ) {j k : ℕ} (a : k ≡ fieldAt t 104 2) (b : j ≡ fieldAt s 104 2) where
+  pub other-kinds : (k ≡ j → ⊥) → false ≡ sameKeyIn s t
+  unfolding sameKeyIn kindIn
+  other-kinds n = sym (ap (_&& (hasKeyIn (classOf (kindIn t)) && (sameBytes (pubkeyIn t) (pubkeyIn s) && sameBytes (dBytesIn t) (dBytesIn s)))) (ne-eqb (fieldAt t 104 2) (fieldAt s 104 2) (λ e. n (a ∙ e ∙ sym b))))
+
+  module _ (e : k ≡ j) {x : Bool} (c : x ≡ hasKeyIn (classOf k)) where
+    kinds : eqb (fieldAt t 104 2) (fieldAt s 104 2) ≡ true
+    kinds = eq-eqb (fieldAt t 104 2) (fieldAt s 104 2) (sym a ∙ e ∙ b)
+
+    by-key : sameKeyIn s t ≡ (x && (sameBytes (pubkeyIn t) (pubkeyIn s) && sameBytes (dBytesIn t) (dBytesIn s)))
+    unfolding sameKeyIn kindIn
+    by-key = ap (_&& (hasKeyIn (classOf (fieldAt t 104 2)) && (sameBytes (pubkeyIn t) (pubkeyIn s) && sameBytes (dBytesIn t) (dBytesIn s)))) kinds
+        ∙ ap (_&& (sameBytes (pubkeyIn t) (pubkeyIn s) && sameBytes (dBytesIn t) (dBytesIn s))) (ap (λ n. hasKeyIn (classOf n)) (sym a) ∙ sym c)
+
+    pub no-key : x ≡ false → false ≡ sameKeyIn s t
+    no-key f = sym (by-key ∙ ap (_&& (sameBytes (pubkeyIn t) (pubkeyIn s) && sameBytes (dBytesIn t) (dBytesIn s))) f)
+
+    module _ (f : x ≡ true) {y : Bool} (g : y ≡ sameBytes (pubkeyIn t) (pubkeyIn s)) where
+      pub other-pubkey : y ≡ false → false ≡ sameKeyIn s t
+      other-pubkey h = sym (by-key ∙ ap (_&& (sameBytes (pubkeyIn t) (pubkeyIn s) && sameBytes (dBytesIn t) (dBytesIn s))) f ∙ ap (_&& sameBytes (dBytesIn t) (dBytesIn s)) (sym g ∙ h))
+
+      pub d-decides : {z : Bool} → y ≡ true → z ≡ sameBytes (dBytesIn t) (dBytesIn s) → z ≡ sameKeyIn s t
+      d-decides h k = k ∙ sym (by-key ∙ ap (_&& (sameBytes (pubkeyIn t) (pubkeyIn s) && sameBytes (dBytesIn t) (dBytesIn s))) f ∙ ap (_&& sameBytes (dBytesIn t) (dBytesIn s)) (sym g ∙ h))

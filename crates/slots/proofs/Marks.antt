@@ -1,0 +1,83 @@
+-- Marks: stored one after another, and that slots whose marks differ have neither one id nor one key.
+use mathlib.Core.Path.{_≡_, refl, sym, ap, ap₂, _∙_}
+use mathlib.Core.Bool.{Bool, true, false, _||_}
+use mathlib.Core.List.{List}
+use Prim.Native.Nat.{ℕ, _+_, _-_, _<_}
+use native.Mathlib.Omega.{arith}
+use native.Mathlib.Decide.{decLt}
+use lib.Dec.{eqb}
+use lib.ListN.{length, getD, set}
+use lib.Seq.{getD-set-same, getD-set-other}
+use borrow.Author.Tests.{eqb-false}
+use Rattle.wire.specs.Bytes.{sameBytes}
+use Rattle.wire.specs.Field.{fieldAt}
+use Rattle.wire.proofs.Bytes.{same-equal}
+use Rattle.text.specs.Kinds.{classOf}
+use Rattle.text.proofs.Pieces.{both}
+use Rattle.law.specs.Lists.{any}
+use Rattle.event.proofs.Decoded.{or-neither}
+use Rattle.table.specs.Layout.{slotAt, kindIn, idIn}
+use Rattle.slots.specs.Slots.{hasKeyIn, pubkeyIn, dBytesIn, sameIdIn, sameKeyIn, clash, from}
+use Rattle.slots.specs.Marks.{idMark, keyMark, Marked, Unlike}
+use Rattle.slots.proofs.Bytes.{is-false}
+use Rattle.slots.proofs.Walk.{any-none}
+
+-- ---- a row of numbers, one more of them stored
+pub set-more : (f : ℕ → ℕ) (l : List ℕ) (i v : ℕ) → ((k : ℕ) → k < i → getD l k 0 ≡ f k) → i < length l → v ≡ f i → (k : ℕ) → k < i + 1 → getD (set l i v) k 0 ≡ f k
+set-more f l i v h n e k q = go (decLt k i)
+  where
+    go : Dec (k < i) → getD (set l i v) k 0 ≡ f k
+    go (yes y) = getD-set-other l i k v 0 (λ z. omega arith) ∙ h k y
+    go (no y) = let z : k ≡ i = omega arith in rw z (getD-set-same l i v 0 n ∙ e)
+
+-- ---- no later mark equals that of slot i
+
+pub unlike-more : {ids keys : List ℕ} {i j : ℕ} (h : Bool) → (h ≡ false → Unlike ids keys i j) → ((h || eqb (getD ids j 0) (getD ids i 0)) || eqb (getD keys j 0) (getD keys i 0)) ≡ false → Unlike ids keys i (j + 1)
+unlike-more {ids} {keys} {i} {j} h u e =
+    let (a, f) = or-neither (h || eqb (getD ids j 0) (getD ids i 0)) (eqb (getD keys j 0) (getD keys i 0)) e in
+    let (g, d) = or-neither h (eqb (getD ids j 0) (getD ids i 0)) a in
+    record { ids-differ = λ x p q. more ids (u g .ids-differ) d x p q; keys-differ = λ x p q. more keys (u g .keys-differ) f x p q }
+  where
+    more : (l : List ℕ) → ((x : ℕ) → i < x → x < j → getD l i 0 ≡ getD l x 0 → ⊥) → eqb (getD l j 0) (getD l i 0) ≡ false → (x : ℕ) → i < x → x < j + 1 → getD l i 0 ≡ getD l x 0 → ⊥
+    more l o w x p q z = go (decLt x j)
+      where
+        go : Dec (x < j) → ⊥
+        go (yes y) = o x p y z
+        go (no y) = let k : x ≡ j = omega arith in eqb-false (getD l j 0) (getD l i 0) w (ap (λ m. getD l m 0) (sym k) ∙ sym z)
+
+-- ---- two slots
+alike : (s t : List ℕ) → sameKeyIn s t ≡ true → keyMark t ≡ keyMark s
+unfolding sameKeyIn keyMark
+alike s t e =
+    let p = both (hasKeyIn (classOf (kindIn t))) _ (both (eqb (kindIn t) (kindIn s)) _ e .1) .1 in
+    let q = both (sameBytes (pubkeyIn t) (pubkeyIn s)) (sameBytes (dBytesIn t) (dBytesIn s)) p in
+    rw (same-equal (pubkeyIn t) (pubkeyIn s) (q .0), same-equal (dBytesIn t) (dBytesIn s) (q .1))
+
+module _ {b : List ℕ} {c : ℕ} {ids keys : List ℕ} (m : Marked b c ids keys) (i j : ℕ) (h : i < c) (k : j < c) where
+  pub ids-differ : (getD ids i 0 ≡ getD ids j 0 → ⊥) → false ≡ sameIdIn (slotAt b i) (slotAt b j)
+  unfolding sameIdIn idMark
+  ids-differ n =
+      sym (is-false (sameBytes (idIn (slotAt b j)) (idIn (slotAt b i)))
+      (λ e. n (m .ids-are i h ∙ ap (λ l. fieldAt l 0 4) (sym (same-equal (idIn (slotAt b j)) (idIn (slotAt b i)) e)) ∙ sym (m .ids-are j k))))
+
+  pub keys-differ : (getD keys i 0 ≡ getD keys j 0 → ⊥) → false ≡ sameKeyIn (slotAt b i) (slotAt b j)
+  keys-differ n = sym (is-false (sameKeyIn (slotAt b i) (slotAt b j)) (λ e. n (m .keys-are i h ∙ sym (alike (slotAt b i) (slotAt b j) e) ∙ sym (m .keys-are j k))))
+
+module _ (s t : List ℕ) where
+  pub clash-id : sameIdIn s t ≡ true → clash s t ≡ true
+  unfolding clash
+  clash-id e = ap (_|| sameKeyIn s t) e
+
+  pub clash-key : sameIdIn s t ≡ false → sameKeyIn s t ≡ true → clash s t ≡ true
+  unfolding clash
+  clash-key e f = ap₂ _||_ e f
+
+  pub clash-none : sameIdIn s t ≡ false → sameKeyIn s t ≡ false → clash s t ≡ false
+  unfolding clash
+  clash-none e f = ap₂ _||_ e f
+
+-- ---- no later slot is alike
+pub none-alike : {b : List ℕ} {c : ℕ} {ids keys : List ℕ} (i : ℕ) → Marked b c ids keys → i < c → Unlike ids keys i c → false ≡ any (clash (slotAt b i)) (from b (i + 1) (c - (i + 1)))
+none-alike {b} {c} {ids} {keys} i m h u =
+    sym (any-none b c (clash (slotAt b i)) (c - (i + 1)) (i + 1) refl
+    (λ j p q. clash-none (slotAt b i) (slotAt b j) (sym (ids-differ m i j h q (u .ids-differ j (omega arith) q))) (sym (keys-differ m i j h q (u .keys-differ j (omega arith) q)))))
