@@ -13,7 +13,7 @@ use Rattle.rows.specs.Rows.{row1, row2, row3}
 use Rattle.shape.specs.Shape.{Word, event, req, close, other, opened, countItems, count}
 use Rattle.shape.specs.Rows.{row4, row5, row6, row7, row8, treeRow, rootRow, messageRow, wrongRequest, wrongSubscription}
 use Rattle.message.specs.declared.FilterParts.{FilterParts}
-use Rattle.message.specs.declared.Listed.the-variants.{At}
+use Rattle.message.specs.declared.Element.the-variants.{At}
 use Rattle.message.specs.declared.ReqParts.{ReqParts}
 use Rattle.message.specs.declared.Message.the-variants as message
 use Rattle.message.specs.Parts as parts
