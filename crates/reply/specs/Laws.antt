@@ -29,8 +29,7 @@ use Rattle.event.specs.declared.Written.{Written}
 use Rattle.event.specs.declared.Written.the-variants as sent
 use Rattle.law.specs.Lists.{_∈_, any}
 use Rattle.table.specs.Layout.{tableSize, capacityOf, countOf, slotAt, idIn, sigIn, textIn}
-use Rattle.law.specs.Table.{Offer, IdPremise}
-use Rattle.law.specs.Claims.{Settled}
+use Rattle.law.specs.Table.{Offer, IdPremise, Settled}
 use Rattle.law.specs.Signature as signature
 use Rattle.law.specs.Machine.{judged, runOn, NoneLacksOn}
 use Rattle.table.specs.Events.{Signature, tableEvents, view}

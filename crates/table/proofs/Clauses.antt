@@ -19,9 +19,10 @@ use Rattle.text.specs.declared.Class as kinds
 use Rattle.text.specs.declared.Class.the-variants.{Regular, Replaceable, Ephemeral, Addressable}
 use Rattle.text.proofs.RoundTrip.{read-back, read-same}
 use Rattle.law.specs.Lists.{Pairwise}
-use Rattle.law.specs.Table.{keyed, shareKey, Distinct}
+use Rattle.law.specs.Table.{keyed, shareKey}
 use Rattle.law.specs.Table as law
 use Rattle.law.proofs.Cells.{length-cells}
+use Rattle.law.proofs.Sound.{Distinct}
 use Rattle.table.specs.Layout.{headerSize, slotSize, tableSize, slotPlace, capacityOf, countOf, slotAt, heldSlots, laterSlots, kindIn, lengthIn, dIn, textIn, restIn, dPlace}
 use Rattle.table.specs.Events.{SignedEvent, signedEvents, inSlot, classFor, classOfEvent, classIn, classOfText, view}
 use Rattle.table.specs.Sound.{isZero, textReads, agreesWith, fieldsAgree, isLasting, zeroAfterText, slotSound, slotsSound, laterZero, sound}

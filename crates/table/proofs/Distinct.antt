@@ -13,10 +13,11 @@ use Rattle.text.specs.declared.Class.the-variants.{Regular, Replaceable, Epheme
 use Rattle.text.proofs.Pieces.{both}
 use Rattle.text.proofs.Keys.{same-key}
 use Rattle.law.specs.Lists.{_∈_}
-use Rattle.law.specs.Table.{Laws, Distinct, hasId, hasKey}
+use Rattle.law.specs.Table.{Laws, hasId, hasKey}
 use Rattle.law.specs.Table as law
 use Rattle.law.proofs.Order.{laws}
 use Rattle.law.proofs.Signature.{signed-laws}
+use Rattle.law.proofs.Sound.{Distinct}
 use Rattle.table.specs.Layout.{kindIn, textIn, heldSlots, dIn, dPlace}
 use Rattle.wire.specs.Field.{fieldAt, unsigned}
 use Rattle.table.specs.Events.{SignedEvent, Signature, tableEvents, signedEvents, inSlot, classFor, classOfEvent, classIn, classOfText, timeOfText, view}

@@ -25,20 +25,21 @@ use Rattle.event.specs.Lent.{said, textOf}
 use Rattle.event.specs.Answer.{hexOf, offeredRow}
 use Rattle.law.specs.Lists.{_∈_}
 use Rattle.law.specs.Table.{ephemeral, regular, keyed, verdict}
-use Rattle.law.specs.Machine.{Fresh}
+use Rattle.law.specs.Machine.{runOn, ExchangesOn}
 use Rattle.table.specs.Layout.{Held, Fits, slotSize, tableSize, slotPlace, countPlace, capacityOf, countOf, slotSizeOf, firstSlotOf, slotAt, isByte, idIn, timeIn, kindIn, lengthIn, dIn, textPlace, textIn, noSpan, dPlace, slotBytes}
 use Rattle.table.specs.Events.{SignedEvent, Signature, classOfText, timeOfText, tableEvents, signedEvents, inSlot, ofHeld, view}
 use Rattle.table.specs.Sound.{slotSound, sound}
 use Rattle.table.specs.Offer.{Offering, asMessage, asParts, isEvent, messageOfferRow, rowOf, isValid, isStored, judge, answerOf, answer, offeredOf, slotFor, next}
 use Rattle.table.specs.Format.{formatRow, formatted, shownRow, shown}
-use Rattle.table.specs.Relay.{relay, Tells, AsParts, Good}
+use Rattle.table.specs.Relay.{relay, Fresh, Tells, AsParts}
 use Rattle.table.specs.declared.Offered.the-variants.{Refused}
 
 -- ---- formatting
--- "A fresh table is one just formatted, with any capacity and buffer that rows 13 and 14 let pass; its C is 0." Bytes after it stay
+-- "A fresh table is one just formatted ..; its C is 0." It is sound and has the capacity asked for, and bytes after it stay
 abbrev pub FormattedFresh : Type 0
 FormattedFresh = (N : ℕ) (b : List ℕ) → formatRow N b ≡ 0 →
-    Fresh tableEvents Signature relay (formatted N b)
+    (sound (formatted N b) ≡ true)
+    × (view (formatted N b) ≡ [])
     × (capacityOf (formatted N b) ≡ N)
     × (countOf (formatted N b) ≡ 0)
     × (length (formatted N b) ≡ length b)
@@ -185,13 +186,19 @@ abbrev pub ShownNeverRead : Type 0
 ShownNeverRead = (b t : List ℕ) (k : ℕ) → length b ≡ tableSize (capacityOf b) → (shownRow (b ++ t) k ≡ shownRow b k) × (shown (b ++ t) k ≡ shown b k)
 
 -- ---- parts
--- what a relay holds can be told: parts of it exist
+-- what a relay holds after a list of offers can be told: parts of it exist
 abbrev pub Tellable : Type 0
-Tellable = (b : List ℕ) (s : SignedEvent) → Good b → s ∈ view b → (o : Offering) × AsParts o s
+Tellable = (b : List ℕ) (os : List Offering) (s : SignedEvent) → Fresh b → s ∈ view (runOn tableEvents Signature relay b os) →
+    (o : Offering) × AsParts o s
 
 -- and parts that are judged to be what is held are just those that tell it
 abbrev pub ToldExactly : Type 0
-ToldExactly = (b c : List ℕ) (p : EventParts) (s : SignedEvent) → Good b → s ∈ view b → Tells c p s ↔ (judge (asParts c p) ≡ some s)
+ToldExactly = (b : List ℕ) (os : List Offering) (s : SignedEvent) → Fresh b → s ∈ view (runOn tableEvents Signature relay b os) →
+    (c : List ℕ) (p : EventParts) → Tells c p s ↔ (judge (asParts c p) ≡ some s)
+
+-- "Then each list goes on with offers, as parts, of what the other relay holds": whatever the histories, such offers exist
+abbrev pub Exchanges : Type 0
+Exchanges = ExchangesOn tableEvents Signature relay
 
 -- every event within the limits, with any 64 bytes as its signature, can be offered as parts and is then valid: no relay may refuse
 -- everything. Of messages: reply/proofs/Accepted has one that is valid
