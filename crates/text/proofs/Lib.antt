@@ -12,6 +12,7 @@ pub mod Cases
 -- A law for each way out of the code.
 pub mod Ways
 pub mod Blocks
+pub mod Windows
 pub mod Fields
 pub mod Named
 pub mod Texts

@@ -4,3 +4,4 @@ pub mod Read
 pub mod Kinds
 pub mod Answer
 pub mod Parts
+pub mod Windows
