@@ -16,4 +16,5 @@ pub mod Windows
 pub mod Fields
 pub mod Named
 pub mod Texts
+pub mod Whole
 pub mod Places

@@ -312,28 +312,20 @@ fn is_text(s: &[u8]) -> bool
     is_utf8(s)
 }
 
-// A string with its quotes.
+// A string with its quotes. In a text that is UTF-8 each string is.
 fn string_end(s: &[u8], at: usize) -> Out
+    requires { ⌜ isUtf8 (now s) ≡ true ⌝ }
     ensures { λ r. ⌜ r ≡ endOf (stringAt (now (s .entry)) at) ⌝ }
 {
     if byte(s, at) != b'"' {
         return Out::Bad;
     }
-    let a = at + 1;
-    match body_end(s, a) {
-        Out::End(n) => {
-            let e = n - 1;
-            if is_text(&s[a..e]) {
-                return Out::End(n);
-            }
-            Out::Bad
-        }
-        Out::Bad => Out::Bad,
-    }
+    body_end(s, at + 1)
 }
 
 // 1 to 16 strings between brackets.
 fn tag_end(s: &[u8], at: usize) -> Out
+    requires { ⌜ isUtf8 (now s) ≡ true ⌝ }
     ensures { λ r. ⌜ r ≡ endOf (tagAt (now (s .entry)) at) ⌝ }
 {
     if byte(s, at) != b'[' {
@@ -410,6 +402,7 @@ fn with_d(n: usize, d: Found) -> Tagged
 
 // Up to 64 tags between brackets, and d.
 fn tags_end(s: &[u8], at: usize) -> Tagged
+    requires { ⌜ isUtf8 (now s) ≡ true ⌝ }
     ensures { λ r. ⌜ r ≡ taggedOf Found.Not (at + 1) (tagsAt (now (s .entry)) at) ⌝ }
 {
     if byte(s, at) != b'[' {
@@ -531,6 +524,7 @@ fn is_opened(t: &[u8]) -> bool
 
 // TAGS,"CONTENT"] to the end of the text.
 fn rest_at(t: &[u8], at: usize) -> Rest
+    requires { ⌜ isUtf8 (now t) ≡ true ⌝ }
     ensures { λ r. ⌜ r ≡ restOf (length (now (t .entry))) at (restAt (now (t .entry)) at) ⌝ }
 {
     match tags_end(t, at) {
@@ -563,6 +557,9 @@ pub fn read_text(t: &[u8]) -> TextAnswer
         return TextAnswer::TooLarge;
     }
     if !is_opened(t) {
+        return TextAnswer::WrongShape;
+    }
+    if !is_text(t) {
         return TextAnswer::WrongShape;
     }
     match time_at(t, 70) {
