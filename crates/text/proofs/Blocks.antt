@@ -69,7 +69,7 @@ pub tested-all : {s : List ℕ} {i n k : ℕ} → Tested s i n k → 32 ≤ k �
 tested-all t h = record { few = t .few; all = λ j u. t .all j u (omega (arith, t .few)) }
 
 -- ---- ASCII
-or-false : (a b : Bool) → (a || b) ≡ false → (a ≡ false) × (b ≡ false)
+pub or-false : (a b : Bool) → (a || b) ≡ false → (a ≡ false) × (b ≡ false)
 or-false true b e = absurd (false≢true (sym e))
 or-false false b e = (refl, e)
 

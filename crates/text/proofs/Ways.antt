@@ -22,7 +22,7 @@ use Rattle.text.specs.declared.Class.the-variants.{Regular, Replaceable,
 use Rattle.text.specs.declared.Out.the-variants.{End, Bad}
 use Rattle.text.specs.declared.Move.the-variants.{Go, Stop, Refuse}
 use Rattle.text.proofs.Pieces.{both, spelt-inside}
-use Rattle.text.proofs.Strings.{body-spelt, utf8-escape}
+use Rattle.text.proofs.Strings.{body-spelt, body-utf8}
 
 pub ruleset tests = (lt-ltb, le-ltb, le-leb, lt-leb, eq-eqb, ne-eqb)
 
@@ -176,41 +176,13 @@ module _ (s : List ℕ) (at : ℕ) where
   unfolding stringAt
   string-other h = rw (ne-eqb (getD s at 0) 34 h)
 
-  module _ (h : getD s at 0 ≡ 34) where
-    pub string-none : endOf (bodyFrom false (at + 1) (drop (at + 1) s)) ≡ Bad → Bad ≡ endOf (stringAt s at)
-    unfolding stringAt
-    string-none q = rw (eq-eqb (getD s at 0) 34 h) (go (bodyFrom false (at + 1) (drop (at + 1) s)) q)
-      where
-        go : (g : Got (List ℕ)) → endOf g ≡ Bad → Bad ≡ endOf (checked g)
-        go none q = refl
-        go (got v n) q = absurd (let z : _≡_ {A = ℕ} 0 1 = cc in omega arith)
-
-    -- UTF-8 is asked of the bytes as they are spelt
-    module _ (n : ℕ) (u : Bool) (q : endOf (bodyFrom false (at + 1) (drop (at + 1) s)) ≡ End n) (w : u ≡ isUtf8 (take (n - 1 - (at + 1)) (drop (at + 1) s))) where
-      string-told : cond u (End n) Bad ≡ endOf (stringAt s at)
-      unfolding stringAt
-      string-told = rw (eq-eqb (getD s at 0) 34 h) (go (bodyFrom false (at + 1) (drop (at + 1) s)) refl q)
-        where
-          ends : (t : Bool) (v : List ℕ) (m : ℕ) → cond t (End m) Bad ≡ endOf (cond t (got v m) none)
-          ends true v m = refl
-          ends false v m = refl
-
-          go : (g : Got (List ℕ)) → bodyFrom false (at + 1) (drop (at + 1) s) ≡ g → endOf g ≡ End n → cond u (End n) Bad ≡ endOf (checked g)
-          go none e r = absurd (let z : _≡_ {A = ℕ} 0 1 = cc in omega arith)
-          go (got v m) e r =
-              let z : m ≡ n = cc in
-              let a = body-spelt s (at + 1) v m e in
-              let l : length (escape v) ≡ n - 1 - (at + 1) = omega (arith, a .end, length-append (escape v) (34 ∷ [])) in
-              let b : take (n - 1 - (at + 1)) (drop (at + 1) s) ≡ escape v =
-              rw (a .is, append-assoc) (take-at (escape v) ((34 ∷ []) ++ drop m s) (n - 1 - (at + 1)) l) in
-              let x : u ≡ isUtf8 v = w ∙ ap isUtf8 b ∙ utf8-escape v in
-              rw (← z, x) (ends (isUtf8 v) v m)
-
-      pub string-yes : u ≡ true → End n ≡ endOf (stringAt s at)
-      string-yes t = rw t at string-told
-
-      pub string-no : u ≡ false → Bad ≡ endOf (stringAt s at)
-      string-no t = rw t at string-told
+  pub string-is : getD s at 0 ≡ 34 → isUtf8 s ≡ true → endOf (bodyFrom false (at + 1) (drop (at + 1) s)) ≡ endOf (stringAt s at)
+  unfolding stringAt
+  string-is h u = rw (eq-eqb (getD s at 0) 34 h) (go (bodyFrom false (at + 1) (drop (at + 1) s)) refl)
+    where
+      go : (g : Got (List ℕ)) → bodyFrom false (at + 1) (drop (at + 1) s) ≡ g → endOf g ≡ endOf (checked g)
+      go none e = refl
+      go (got v n) e = rw (body-utf8 s at v n u h e)
 
 -- ---- members of a list
 module _ {A : Type 0} (one : ℕ → Got A) (s : List ℕ) where

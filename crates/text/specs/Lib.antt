@@ -4,4 +4,8 @@ pub mod Read
 pub mod Kinds
 pub mod Answer
 pub mod Parts
+<<<<<<< HEAD
 pub mod Examples
+=======
+pub mod Windows
+>>>>>>> w8

@@ -10,7 +10,12 @@ ghost use Rattle.utf8.specs.Utf8.{isUtf8};
 ghost use Rattle.text.specs.Event.{Tag, comma, isPubkey};
 ghost use Rattle.text.specs.Read.{got, standsAt, closedAt, byteOf, isRaw, bodyFrom, stringAt, tagAt, tagsAt, runOf, timeAt, kindAt, readText};
 ghost use Rattle.text.specs.Kinds.{classOf, isNamedD, second};
+<<<<<<< HEAD
 ghost use Rattle.text.specs.Answer.{spanOf, answerOf, numberOf, rowOf};
+=======
+ghost use Rattle.text.specs.Answer.{spanOf, answerOf};
+ghost use Rattle.text.specs.Windows.{wantsTail, isNarrow, isWrong};
+>>>>>>> w8
 ghost use Rattle.text.specs.Parts.{endOf, Passes, Raws, timeIn, kindIn, opens, noZero, foundOf, lookOf, taggedOf, restAt, restOf};
 
 // 01, "Kinds and keys".
@@ -256,37 +261,75 @@ fn is_ascii(s: &[u8]) -> bool
     !high
 }
 
+// Whether a tail of UTF-8 has to come after c, b and a.
+fn wants_tail(c: u8, b: u8, a: u8) -> bool
+    ensures { λ r. ⌜ r ≡ wantsTail c b a ⌝ }
+{
+    (0xc2 <= a) | (0xe0 <= b) | (0xf0 <= c)
+}
+
+// Whether x is a tail that may not come after the first octet a.
+fn is_narrow(a: u8, x: u8) -> bool
+    ensures { λ r. ⌜ r ≡ isNarrow a x ⌝ }
+{
+    ((a == 0xe0) & (x < 0xa0))
+        | (((a == 0xed) & (0x9f < x)) | (((a == 0xf0) & (x < 0x90)) | ((a == 0xf4) & (0x8f < x))))
+}
+
+// Whether x may not come after c, b and a.
+fn is_wrong(c: u8, b: u8, a: u8, x: u8) -> bool
+    ensures { λ r. ⌜ r ≡ isWrong c b a x ⌝ }
+{
+    let w = wants_tail(c, b, a);
+    (w & ((x < 0x80) | (0xbf < x)))
+        | (!w & (((0x80 <= x) & (x <= 0xc1)) | (0xf5 <= x)))
+        | is_narrow(a, x)
+}
+
+// Whether the bytes are UTF-8, each by the three before it, with no way out of the loop.
+fn is_utf8(s: &[u8]) -> bool
+    ensures { λ r. ⌜ r ≡ isUtf8 (now (s .entry)) ⌝ }
+{
+    let mut c: u8 = 0;
+    let mut b: u8 = 0;
+    let mut a: u8 = 0;
+    let mut wrong = false;
+    let mut i = 0;
+    while i < s.len() {
+        let x = s[i];
+        wrong = wrong | is_wrong(c, b, a, x);
+        c = b;
+        b = a;
+        a = x;
+        i += 1;
+    }
+    !(wrong | wants_tail(c, b, a))
+}
+
+// The same, sooner for ASCII.
 fn is_text(s: &[u8]) -> bool
     ensures { λ r. ⌜ r ≡ isUtf8 (now (s .entry)) ⌝ }
 {
     if is_ascii(s) {
         return true;
     }
-    utf8::is_utf8(s)
+    is_utf8(s)
 }
 
-// A string with its quotes.
+// A string with its quotes. In a text that is UTF-8 each string is.
 fn string_end(s: &[u8], at: usize) -> Out
+    requires { ⌜ isUtf8 (now s) ≡ true ⌝ }
     ensures { λ r. ⌜ r ≡ endOf (stringAt (now (s .entry)) at) ⌝ }
 {
     if byte(s, at) != b'"' {
         return Out::Bad;
     }
-    let a = at + 1;
-    match body_end(s, a) {
-        Out::End(n) => {
-            let e = n - 1;
-            if is_text(&s[a..e]) {
-                return Out::End(n);
-            }
-            Out::Bad
-        }
-        Out::Bad => Out::Bad,
-    }
+    body_end(s, at + 1)
 }
 
 // 1 to 16 strings between brackets.
 fn tag_end(s: &[u8], at: usize) -> Out
+    requires { ⌜ isUtf8 (now s) ≡ true ⌝ }
     ensures { λ r. ⌜ r ≡ endOf (tagAt (now (s .entry)) at) ⌝ }
 {
     if byte(s, at) != b'[' {
@@ -363,6 +406,7 @@ fn with_d(n: usize, d: Found) -> Tagged
 
 // Up to 64 tags between brackets, and d.
 fn tags_end(s: &[u8], at: usize) -> Tagged
+    requires { ⌜ isUtf8 (now s) ≡ true ⌝ }
     ensures { λ r. ⌜ r ≡ taggedOf Found.Not (at + 1) (tagsAt (now (s .entry)) at) ⌝ }
 {
     if byte(s, at) != b'[' {
@@ -484,6 +528,7 @@ fn is_opened(t: &[u8]) -> bool
 
 // TAGS,"CONTENT"] to the end of the text.
 fn rest_at(t: &[u8], at: usize) -> Rest
+    requires { ⌜ isUtf8 (now t) ≡ true ⌝ }
     ensures { λ r. ⌜ r ≡ restOf (length (now (t .entry))) at (restAt (now (t .entry)) at) ⌝ }
 {
     match tags_end(t, at) {
@@ -517,6 +562,9 @@ pub fn read_text(t: &[u8]) -> TextAnswer
         return TextAnswer::TooLarge;
     }
     if !is_opened(t) {
+        return TextAnswer::WrongShape;
+    }
+    if !is_text(t) {
         return TextAnswer::WrongShape;
     }
     match time_at(t, 70) {
