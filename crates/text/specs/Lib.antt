@@ -4,8 +4,5 @@ pub mod Read
 pub mod Kinds
 pub mod Answer
 pub mod Parts
-<<<<<<< HEAD
 pub mod Examples
-=======
 pub mod Windows
->>>>>>> w8

@@ -10,12 +10,8 @@ ghost use Rattle.utf8.specs.Utf8.{isUtf8};
 ghost use Rattle.text.specs.Event.{Tag, comma, isPubkey};
 ghost use Rattle.text.specs.Read.{got, standsAt, closedAt, byteOf, isRaw, bodyFrom, stringAt, tagAt, tagsAt, runOf, timeAt, kindAt, readText};
 ghost use Rattle.text.specs.Kinds.{classOf, isNamedD, second};
-<<<<<<< HEAD
 ghost use Rattle.text.specs.Answer.{spanOf, answerOf, numberOf, rowOf};
-=======
-ghost use Rattle.text.specs.Answer.{spanOf, answerOf};
 ghost use Rattle.text.specs.Windows.{wantsTail, isNarrow, isWrong};
->>>>>>> w8
 ghost use Rattle.text.specs.Parts.{endOf, Passes, Raws, timeIn, kindIn, opens, noZero, foundOf, lookOf, taggedOf, restAt, restOf};
 
 // 01, "Kinds and keys".
