@@ -9,10 +9,12 @@ use Rattle.json.specs.Grammar.{classOf, run, past, oneAt, tokenAt, wordAt, lite
 use Rattle.json.specs.Tree.{itemsAt, treeAt}
 use Rattle.spell.specs.Spell.{hexVal, four, fourAt, shortOf, isPair, pairOf, unicodeOf, charOf, charsFrom, utf8Of, bytesOf, joined, decode}
 use Rattle.message.specs.declared.Body.{Body}
+use Rattle.message.specs.declared.EventParts.{EventParts}
+use Rattle.message.specs.Lent.{eventRow}
 use Rattle.event.specs.Lent.{stringsOf, tagsOf, tagsAt, textOf}
 use Rattle.event.specs.declared.Written.the-variants.{Wrote, Refused}
 use Rattle.event.specs.Order.{isLower, isNewer}
-use Rattle.event.specs.Answer.{hexOf, isLarge, shortRow, answered, writtenOut, hashedOf}
+use Rattle.event.specs.Answer.{hexOf, orElse, isLarge, offeredRow, shortRow, answered, writtenOut, hashedOf}
 
 -- time -1 is older than 0; equal times, id 00..01 beats 00..02; an event is not newer than itself
 order :
@@ -37,6 +39,14 @@ large b p = (λ e. rw e, λ e. rw e)
 large-hashed : (t : List ℕ) → (length t ≡ 4096 → hashedOf t .row ≡ 0) × (length t ≡ 4097 → hashedOf t .row ≡ 9)
 unfolding hashedOf
 large-hashed t = (λ e. rw e, λ e. rw e)
+
+-- "Where several hold, the lowest number is given": 9 before 10 and before 13
+nine-first : (b : List ℕ) (p : EventParts) → eventRow b p ≡ 0 → isLarge b (p .body) ≡ true → offeredRow b p ≡ 9
+unfolding offeredRow
+nine-first b p e l = rw (e, l)
+
+lowest : (orElse 9 13 ≡ 9) × (orElse 0 13 ≡ 13)
+lowest = (refl, refl)
 
 -- an output as long as the text is long enough, and what is longer keeps its rest; one byte less is refused, and stays as found
 short : (shortRow (1 ∷ 2 ∷ []) (7 ∷ 8 ∷ []) ≡ 0) × (shortRow (1 ∷ 2 ∷ []) (7 ∷ []) ≡ 13) × (shortRow [] [] ≡ 0)
