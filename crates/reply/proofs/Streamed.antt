@@ -204,6 +204,15 @@ unfolding all
 all-each p [] e k i = absurd (List·Memᴰ·not-nil i)
 all-each p (x ∷ l) e k i = ⊎-elim (λ q. rw q (both (p x) (all p l) e .0)) (λ j. all-each p l (both (p x) (all p l) e .1) k j) (List·Memᴰ·cases-cons i)
 
+-- only a held slot has a line
+has-line : (b sub : List ℕ) (k : ℕ) → 0 < length (slotLine b sub k) → k < countOf b
+unfolding slotLine written
+has-line b sub k = go (ltb k (countOf b)) refl
+  where
+    go : (x : Bool) → ltb k (countOf b) ≡ x → 0 < length (written (cond x (eventIn sub (slotAt b k) (readText (textIn (slotAt b k)))) [])) → k < countOf b
+    go true e l = ltb-true k (countOf b) e
+    go false e l = absurd (omega arith)
+
 module _ (b ks m : List ℕ) (s : Span) (out : List ℕ) where
   abbrev ls : List (List ℕ)
   ls = slotLines b (said m s) ks
@@ -251,13 +260,15 @@ module _ (b ks m : List ℕ) (s : Span) (out : List ℕ) where
     where
       first : (js : List ℕ) → ks ≡ js → noneFits (length out) (slotLines b (said m s) js) ≡ true → EventsHold b ks m s out 13
       first [] e q = absurd (clash q refl)
-      first (k ∷ js) e q = none-fits e (ltb-true (length out) (length (slotLine b (said m s) k)) q)
+      first (k ∷ js) e q =
+          let l = ltb-true (length out) (length (slotLine b (said m s) k)) q in
+          none-fits e (has-line b (said m s) k (omega arith)) l
   to-events _ (inr (fourteen′ h)) = let (k, i, e) = all-or (λ k. ltb k (countOf b)) ks h in some-not-held i (ltb-false k (countOf b) e)
 
   of-events : (r : ℕ) → EventsHold b ks m s out r → PartsHold m (parts.Eose s) r ⊎ After r
   of-events r (of-label h) = inl h
   of-events _ (bad-table h) = inr (eleven′ h)
-  of-events _ (none-fits {k = k} e l) = inr (thirteen′ (rw e (lt-ltb (length out) (length (slotLine b (said m s) k)) l)))
+  of-events _ (none-fits {k = k} e h l) = inr (thirteen′ (rw e (lt-ltb (length out) (length (slotLine b (said m s) k)) l)))
   of-events _ (some-not-held {k = k} i l) = inr (fourteen′ (not-all (allHeld b ks) refl))
     where
       not-all : (x : Bool) → allHeld b ks ≡ x → x ≡ false

@@ -88,7 +88,7 @@ Batches = (room : ℕ) (ls : List (List ℕ)) → Batch room ls
 pub data EventsHold (b ks m : List ℕ) (s : Span) (out : List ℕ) : ℕ → Type 0 where
   of-label : {r : ℕ} → PartsHold m (parts.Eose s) r → EventsHold b ks m s out r
   bad-table : sound b ≡ false → EventsHold b ks m s out 11
-  none-fits : {k : ℕ} {js : List ℕ} → ks ≡ k ∷ js → length out < length (slotLine b (said m s) k) → EventsHold b ks m s out 13
+  none-fits : {k : ℕ} {js : List ℕ} → ks ≡ k ∷ js → k < countOf b → length out < length (slotLine b (said m s) k) → EventsHold b ks m s out 13
   some-not-held : {k : ℕ} → k ∈ ks → countOf b ≤ k → EventsHold b ks m s out 14
 
 abbrev pub EventsRowIs : Type 0
