@@ -188,7 +188,8 @@ STRINGS = {
     + [b"\\u001F", b"\\u000B"],
     5: [bytes([c]) for c in range(32)]
     + [b'"', b'a"', b'"a', b'""', b"\\", b"a\\", b"\\\\\\", b"\\u", b"\\u1", b"\\u12", b"\\u123", b"\\U0041", b"\\x41"]
-    + [b"\\u004g", b"\\u004G", b"\\u004/", b"\\u004:", b"\\u004@", b"\\u004`", b"\\u 041", b"\\\xc3\xa9", b"\\'", b"\\0"]
+    + [b"\\u004g", b"\\u004G", b"\\u004/", b"\\u004:", b"\\u004@", b"\\u004`", b"\\u 041", b"\\\xc3\xa9", b"\\'",
+        b"\\0"]
     + [b"\\ud800\x01", b"\\u0000\x00", b'\\ud800"', b"\x1f\\udc00", b"\\ud800\\"],
 }
 FINE = [b"", b"\\u0008\\t\\n\\u000c\\r", b"\\/", b"\x7f", b"[", b"]", b",", b"\\uD83D\\uDE00"]
@@ -240,15 +241,20 @@ def number_parts():
 
 TAGS = {
     2: ['[["\udcff"]]', '[["a","\udcc0\udc80"]]', '["\udcff"]', '{"\udcff":1}', '"\udcff"', '[["\udced\udca0\udc80"]]'],
-    4: ['[["\\ud800"]]', '[["a","\\u0000"]]', '["\\udc00"]', '{"\\ud800":1}', '"\\u001f"', '[[],["\\u000b"]]', '[[["\\ud800"]]]'],
-    5: [" []", "\n[]", "{}", '{"a":[]}', '"x"', "1", "-", "true", "null", "nul", "]", "[", "[[]", "[[],", "[[],]", "[,]"]
+    4: ['[["\\ud800"]]', '[["a","\\u0000"]]', '["\\udc00"]', '{"\\ud800":1}', '"\\u001f"', '[[],["\\u000b"]]',
+        '[[["\\ud800"]]]'],
+    5: [" []", "\n[]", "{}", '{"a":[]}', '"x"', "1", "-", "true", "null", "nul", "]", "[", "[[]", "[[],", "[[],]",
+        "[,]"]
     + ["[1]", '["a"]', "[[1]]", '[["a",null]]', '[["a"],{}]', '[["a"],"b"]', "[[[]]]", '[["a" "b"]]', '[["a"];["b"]]']
-    + ['[["\x01"]]', '[["\n"]]', '[["a]]', '[["\\x"]]', '[["\\u12"]]', '[["\\u004g"]]', "[" * 9 + "]" * 9, "[" * 8 + "]" * 8]
+    + ['[["\x01"]]', '[["\n"]]', '[["a]]', '[["\\x"]]', '[["\\u12"]]', '[["\\u004g"]]', "[" * 9 + "]" * 9,
+        "[" * 8 + "]" * 8]
     + ["[01]", "[\x0c]", "[\x00]", "[\xa0]", "\ufeff[]", '[["a"]\x0b]', "[ [ ] , 1 ]"],
     8: ["[[]]", '[["a"],[]]', "[[] ]", "[ [ ] ]", many("[]", 65), many('["t"]', 65), many('["t"]', 300)]
     + ["[%s]" % many('"s"', 17), "[%s]" % many('"s"', 100), '[["a"],%s]' % many('""', 17)],
-    0: ["[]", "[ ]", "[\n]", '[["a"]]', '[\n[\t"a"\r,\n"b" ]\n,["c"]\n]\n', many('["t"]', 64), "[]]]]", "[] x", "[]\udcff"]
-    + ["[%s]" % many('"s"', 16), many(many('""', 16), 64), '[["\\u0064","\\/"]]', '[["\\u0008\\u0009\\u000a\\u000c\\u000d\x7f"]]'],
+    0: ["[]", "[ ]", "[\n]", '[["a"]]', '[\n[\t"a"\r,\n"b" ]\n,["c"]\n]\n', many('["t"]', 64), "[]]]]", "[] x",
+        "[]\udcff"]
+    + ["[%s]" % many('"s"', 16), many(many('""', 16), 64), '[["\\u0064","\\/"]]',
+        '[["\\u0008\\u0009\\u000a\\u000c\\u000d\x7f"]]'],
 }
 
 
@@ -290,10 +296,12 @@ def pair_parts():
 # A filter lent as parts.
 
 HEXES = {
-    0: [many(plain(A), 1), '[\n"%s" , "%s"\t]' % (A, "0" * 64), '["%s"]' % ("\\u0061" * 64), "[%s]]" % plain(A), many(plain(A), 16)],
+    0: [many(plain(A), 1), '[\n"%s" , "%s"\t]' % (A, "0" * 64), '["%s"]' % ("\\u0061" * 64), "[%s]]" % plain(A),
+        many(plain(A), 16)],
     2: ['["\udcff"]', '"\udcff"', '["%s","\udcc3"]' % A],
     4: ['["\\ud800"]', '["%s\\u0000"]' % A, '{"\\ud800":1}', '"\\udc00"'],
-    5: ["", "{}", '"x"', "1", "null", "[1]", "[[]]", "[null]", "[%s,1]" % plain(A), "[%s" % plain(A), "[%s,]" % plain(A), ' ["x"]']
+    5: ["", "{}", '"x"', "1", "null", "[1]", "[[]]", "[null]", "[%s,1]" % plain(A), "[%s" % plain(A),
+        "[%s,]" % plain(A), ' ["x"]']
     + ['["x\x01"]', '["\\x"]', "[" * 9 + "]" * 9],
     7: ['[""]', '["%s"]' % A[1:], '["%sa"]' % A, '["%s"]' % A.upper(), '["%s",""]' % A, '["%s"]' % SIG]
     + ['["%s"]' % (A[:-1] + c) for c in "gG/:@`"],
@@ -304,32 +312,43 @@ SMALLS = {
     0: ["[0]", "[65535]", "[ 1\n,2]", many("1", 16), "[1]1"],
     2: ['["\udcff"]', '"\udcff"'],
     4: ['["\\ud800"]', '{"\\u0000":[]}', '[1,"\\ud800"]'],
-    5: ["", "{}", '["1"]', "[null]", "1", "[1", "[01]", "[+1]", "[1.]", "[.5]", "[1,]", "[-]", "[1,[]]", many("1", 16)[:-1] + ",true]", " [1]"],
-    6: ["[-1]", "[-0]", "[65536]", "[1.0]", "[1e3]", "[0e0]", "[1,65536]", "[99999999999999999999]", many("1", 16)[:-1] + ",-0]"]
+    5: ["", "{}", '["1"]', "[null]", "1", "[1", "[01]", "[+1]", "[1.]", "[.5]", "[1,]", "[-]", "[1,[]]",
+        many("1", 16)[:-1] + ",true]", " [1]"],
+    6: ["[-1]", "[-0]", "[65536]", "[1.0]", "[1e3]", "[0e0]", "[1,65536]", "[99999999999999999999]",
+        many("1", 16)[:-1] + ",-0]"]
     + ["[%d]" % n for n in (2**31, 2**32, 2**32 + 1, 2**63, 2**64, 2**64 + 1, 2**128)]
     + ["[%s]" % ("9" * 400)],
     8: ["[]", "[ ]", many("1", 17), many("65535", 100)],
 }
 CONDITIONS = {
     0: ["{}", "{ }", "{\n}", '{"#a":["v"]}', '{"#e":[""],"#E":["v","w"]}', '{"\\u0023\\u0061" :\n["v"]}', "{}}", "{}x"]
-    + ['{"ids":["%s"],"kinds":[1],"limit":0,"since":-1,"until":1}' % A, '{"authors":["%s"],"#a":%s}' % (A, many('""', 16))]
+    + ['{"ids":["%s"],"kinds":[1],"limit":0,"since":-1,"until":1}' % A, '{"authors":["%s"],"#a":%s}' % (A,
+        many('""', 16))]
     + ['{"#a":["v"],"#b":["v"],"#c":["v"],"#d":["v"]}'],
     2: ['{"#a":["\udcff"]}', '{"\udcff":1}', '"\udcff"', '["\udcff"]'],
     4: ['{"#a":["\\ud800"]}', '{"\\ud800":1}', '{"x":"\\u0000"}', '["\\u0001"]', '{"#a":["v"],"#\\u0000":["v"]}'],
-    5: ["", "[]", '"x"', "1", "null", "{", "}", '{"#a"}', '{"#a":}', '{"#a":[]', '{"#a":"v"}', '{"#a":[1]}', '{"#ab":["v"]}', '{"#":["v"]}']
-    + ['{"#1":["v"]}', '{"a":["v"]}', '{"x":1}', '{"":1}', '{"#a":["v"],"#a":["v"]}', '{"#a":["v"],"#\\u0061":["w"]}', " {}"]
-    + ['{"ids":["%s"],"\\u0069ds":["%s"]}' % (A, A), '{"\\u0069ds":["%s"],"ids":["%s"]}' % (A, A), '{"limit":1,"limit":1}']
-    + ['{"limit":1,"\\u006cimit":1}', '{"since":"1"}', '{"kinds":["1"]}', '{"id":["%s"]}' % A, '{"\\u0069d":["%s"]}' % A, '{"#a":["v"],}']
-    + ['{"#a":["v"] "#b":["v"]}', '{"#a":["\x02"]}', '{"#a":[[]]}', '{"#é":["v"]}', '{"#[":["v"]}', '{"#@":["v"]}', '{"#`":["v"]}', '{"#{":["v"]}'],
-    6: ['{"limit":-1}', '{"limit":65536}', '{"since":-0}', '{"until":1e3}', '{"kinds":[65536]}', '{"since":9007199254740992}', '{"#a":[],"limit":1.0}'],
+    5: ["", "[]", '"x"', "1", "null", "{", "}", '{"#a"}', '{"#a":}', '{"#a":[]', '{"#a":"v"}', '{"#a":[1]}',
+        '{"#ab":["v"]}', '{"#":["v"]}']
+    + ['{"#1":["v"]}', '{"a":["v"]}', '{"x":1}', '{"":1}', '{"#a":["v"],"#a":["v"]}', '{"#a":["v"],"#\\u0061":["w"]}',
+        " {}"]
+    + ['{"ids":["%s"],"\\u0069ds":["%s"]}' % (A, A), '{"\\u0069ds":["%s"],"ids":["%s"]}' % (A, A),
+        '{"limit":1,"limit":1}']
+    + ['{"limit":1,"\\u006cimit":1}', '{"since":"1"}', '{"kinds":["1"]}', '{"id":["%s"]}' % A,
+        '{"\\u0069d":["%s"]}' % A, '{"#a":["v"],}']
+    + ['{"#a":["v"] "#b":["v"]}', '{"#a":["\x02"]}', '{"#a":[[]]}', '{"#é":["v"]}', '{"#[":["v"]}', '{"#@":["v"]}',
+        '{"#`":["v"]}', '{"#{":["v"]}'],
+    6: ['{"limit":-1}', '{"limit":65536}', '{"since":-0}', '{"until":1e3}', '{"kinds":[65536]}',
+        '{"since":9007199254740992}', '{"#a":[],"limit":1.0}'],
     7: ['{"ids":[""]}', '{"authors":["%s"]}' % A.upper(), '{"#a":[],"ids":["x"]}'],
-    8: ['{"#a":[]}', '{"#a":%s}' % many('"v"', 17), '{"kinds":[]}', '{"ids":[]}', '{"#a":["v"],"#b":["v"],"#c":["v"],"#d":["v"],"#e":["v"]}'],
+    8: ['{"#a":[]}', '{"#a":%s}' % many('"v"', 17), '{"kinds":[]}', '{"ids":[]}',
+        '{"#a":["v"],"#b":["v"],"#c":["v"],"#d":["v"],"#e":["v"]}'],
 }
 VALUES = {"ids": HEXES, "authors": HEXES, "kinds": SMALLS, "conditions": CONDITIONS}
 BOUNDS = {
     name: {
         0: [0, 1, 65534, 65535] + ([-1, MAX_TIME, -MAX_TIME] if name != "limit" else []),
-        6: [MAX_TIME + 1, -MAX_TIME - 1, 2**63 - 1, -(2**63), 2**62] + ([-1, 65536, MAX_TIME, -(2**32)] if name == "limit" else []),
+        6: [MAX_TIME + 1, -MAX_TIME - 1, 2**63 - 1, -(2**63),
+            2**62] + ([-1, 65536, MAX_TIME, -(2**32)] if name == "limit" else []),
     }
     for name in ("since", "until", "limit")
 }
@@ -415,19 +434,24 @@ def messages():
     for at, (row, text) in enumerate(wanted):
         if at % 19 == 0 or len(text) < 100 and row in (0, 6, 7, 8) and at % 4 == 0:
             yield (None, row), message(raw(text))
-    for row, text in ((0, event_with()), (0, req("{}")), (0, '["CLOSE","s"]'), (6, event_with(kind="65536")), (8, req()), (5, "{}"), (5, "[]")):
+    for row, text in ((0, event_with()), (0, req("{}")), (0, '["CLOSE","s"]'), (6, event_with(kind="65536")),
+            (8, req()), (5, "{}"), (5, "[]")):
         yield (0, row), message(newlines(raw(text)))
         yield (0, row), message(b"\n" + raw(text) + b"\n\n")
-    for row, text in ((3, '["CLOSE","\n"]'), (3, '["CLOSE\n","s"]'), (3, '["CLOSE","s"\\n]'), (3, '["CLOSE","\\\n"]'), (3, "\n"), (3, "\n\n"), (0, '[\n"CLOSE"\n,\n"s"\n]\n')):
+    for row, text in ((3, '["CLOSE","\n"]'), (3, '["CLOSE\n","s"]'), (3, '["CLOSE","s"\\n]'), (3, '["CLOSE","\\\n"]'),
+            (3, "\n"), (3, "\n\n"), (0, '[\n"CLOSE"\n,\n"s"\n]\n')):
         yield (None, row), message(raw(text))
     # Every byte where white space may stand, after a backslash, raw in a string and as a digit of an escape.
     for byte in range(256):
-        for form in (b'%s["CLOSE","s"]', b'[%s"CLOSE","s"]', b'["CLOSE"%s,"s"]', b'["CLOSE","s"]%s', b'["REQ","s",{"limit"%s:1}]'):
+        for form in (b'%s["CLOSE","s"]', b'[%s"CLOSE","s"]', b'["CLOSE"%s,"s"]', b'["CLOSE","s"]%s',
+                b'["REQ","s",{"limit"%s:1}]'):
             yield None, message(form % bytes([byte]))
-        for form in (b'["CLOSE","%s"]', b'["CLOSE","\\%s"]', b'["CLOSE","\\u00%s1"]', b'["CLOSE","\\u006%s"]', b'["REQ","s",{"limit":%s}]'):
+        for form in (b'["CLOSE","%s"]', b'["CLOSE","\\%s"]', b'["CLOSE","\\u00%s1"]', b'["CLOSE","\\u006%s"]',
+                b'["REQ","s",{"limit":%s}]'):
             yield None, message(form % bytes([byte]))
     # Bounds of a subscription id, in characters; what a REQ and an EVENT of any row name.
-    for c in ("\xff", "\u07ff", "\u0800", "\uffff", "\U00010000", "\U0010ffff", "\x7f", "\x80", "\\u00ff", "\\ud83d\\ude00", "\\n"):
+    for c in ("\xff", "\u07ff", "\u0800", "\uffff", "\U00010000", "\U0010ffff", "\x7f", "\x80", "\\u00ff",
+            "\\ud83d\\ude00", "\\n"):
         for count in (1, 64, 65):
             sub = '"%s"' % (c * count)
             for row, filters in ((0, ["{}"]), (6, ['{"limit":-0}']), (7, ['{"ids":[""]}']), (8, [])):
@@ -436,9 +460,11 @@ def messages():
     for _, sub in SUB_FAULTS:
         for field in ('"limit":-1', '"kinds":[]', '"authors":["x"]', '"x":1'):
             yield None, message(raw(req("{%s}" % field, sub=sub)))
-    ids = [GOOD["id"], plain(A.upper()), plain(A[1:]), '""', '"%s"' % ("\\u0061" * 64), '"\\u0061%s"' % A[1:], plain(A[:-1] + "g"), "1"]
+    ids = [GOOD["id"], plain(A.upper()), plain(A[1:]), '""', '"%s"' % ("\\u0061" * 64), '"\\u0061%s"' % A[1:],
+        plain(A[:-1] + "g"), "1"]
     for spelled_id in ids:
-        for name, value in (("kind", "65536"), ("created_at", "-0"), ("sig", '""'), ("pubkey", '""'), ("tags", "[[]]"), ("kind", "1")):
+        for name, value in (("kind", "65536"), ("created_at", "-0"), ("sig", '""'), ("pubkey", '""'), ("tags", "[[]]"),
+                ("kind", "1")):
             fields = {**GOOD, "id": spelled_id, name: value}
             order = list(fields)
             for names in (order, order[::-1]):
@@ -456,7 +482,8 @@ def orders():
     yield (b"newer",), spelled(b"N", low + high, [32, 0, 0])
     yield (b"not",), spelled(b"N", high + low, [32, 0, 0])
     rng = random.Random(3)
-    ids = [bytes(32), b"\xff" * 32, b"\x7f" + bytes(31), b"\x80" + bytes(31), b"\x00" * 16 + b"\x01" * 16, rng.randbytes(32)]
+    ids = [bytes(32), b"\xff" * 32, b"\x7f" + bytes(31), b"\x80" + bytes(31), b"\x00" * 16 + b"\x01" * 16,
+        rng.randbytes(32)]
     for time in times:
         for other in times:
             for first, second in ((ids[0], ids[1]), (ids[3], ids[2])):
@@ -466,7 +493,8 @@ def orders():
             yield None, spelled(b"N", first + second, [32, 5, 5])
     for at in range(32):
         yield (b"newer",), spelled(b"N", bytes(32) + bytes(at) + b"\x80" + bytes(31 - at), [32, -3, -3])
-        yield (b"not",), spelled(b"N", bytes(at) + b"\x01" + bytes(31 - at) + bytes(at) + b"\x00" + b"\xff" * (31 - at), [32, 7, 7])
+        yield (b"not",), spelled(b"N",
+            bytes(at) + b"\x01" + bytes(31 - at) + bytes(at) + b"\x00" + b"\xff" * (31 - at), [32, 7, 7])
 
 
 def kinds():
@@ -477,9 +505,12 @@ def kinds():
 
 
 D_TAGS = [
-    [["d"]], [["d", ""]], [], [["d", "a"]], [["d", ""], ["d", "a"]], [["d"], ["d", "a"]], [["e", "x"], ["d", "a", "b"], ["d", "c"]],
-    [["D", "a"]], [["dd", "a"]], [["", "a"], ["d", "b"]], [["d", "\n\"\\\r\t\b\f"]], [["d", "é€😀\x7f"]], [["d\n", "x"], ["d", "y"]],
-    [["t", "d"], ["d", '"],["d","z']], [["x", "d", "e"], ["d", "\\u0064"]], [['d"', "a"], ["d", "a" * 300]], [["t", "u"]] * 63 + [["d", "end"]],
+    [["d"]], [["d", ""]], [], [["d", "a"]], [["d", ""], ["d", "a"]], [["d"], ["d", "a"]], [["e", "x"], ["d", "a", "b"],
+        ["d", "c"]],
+    [["D", "a"]], [["dd", "a"]], [["", "a"], ["d", "b"]], [["d", "\n\"\\\r\t\b\f"]], [["d", "é€😀\x7f"]], [["d\n", "x"],
+        ["d", "y"]],
+    [["t", "d"], ["d", '"],["d","z']], [["x", "d", "e"], ["d", "\\u0064"]], [['d"', "a"],
+        ["d", "a" * 300]], [["t", "u"]] * 63 + [["d", "end"]],
     [["\u00e9", "\n"], ["d", "after"]], [["d", "/"]],
 ]
 
@@ -500,14 +531,17 @@ def texts():
     yield (5,), spelled(b"T", base + b"\n", [])
     yield (5,), spelled(b"T", b"\n" + base, [])
     # The same event in other spellings is no text.
-    for other in (base.replace(b",", b", "), base.replace(b"\\n", b"\\u000a"), base.replace(b'"x"', b'"\\u0078"'), base.replace(b"[0,", b"[-0,")):
+    for other in (base.replace(b",", b", "), base.replace(b"\\n", b"\\u000a"), base.replace(b'"x"', b'"\\u0078"'),
+            base.replace(b"[0,", b"[-0,")):
         yield (5,), spelled(b"T", other, [])
 
 
 def fields():
     rng = random.Random(4)
-    numbers = [0, 1, 255, 256, 65535, 65536, 4208, 2**31, 2**32 - 1, 2**32, 2**63 - 1, 2**63, 2**63 + 1, LAST - 7199, LAST - 1, LAST]
-    numbers += [2**53 - 1, TWO_64 - 2**53 + 1, 0x0102030405060708, 0x8070605040302010] + [rng.randrange(TWO_64) for _ in range(20)]
+    numbers = [0, 1, 255, 256, 65535, 65536, 4208, 2**31, 2**32 - 1, 2**32, 2**63 - 1, 2**63, 2**63 + 1, LAST - 7199,
+        LAST - 1, LAST]
+    numbers += [2**53 - 1, TWO_64 - 2**53 + 1, 0x0102030405060708,
+        0x8070605040302010] + [rng.randrange(TWO_64) for _ in range(20)]
     for n in numbers:
         for width in range(11):
             yield None, spelled(b"L", b"\xaa" * 14, [rng.randrange(4), width, n])
@@ -517,13 +551,15 @@ def fields():
     yield None, spelled(b"L", b"", [0, 8, LAST])
 
 
-MILLION = "cdc76e5c9914fb9281a1c7e284d73e67f1809a48a497200e046d39ccc7112cd0"  # FIPS 180-4 examples: one million times `a`
+# FIPS 180-4 examples: one million times `a`.
+MILLION = "cdc76e5c9914fb9281a1c7e284d73e67f1809a48a497200e046d39ccc7112cd0"
 
 
 def digests():
     rng = random.Random(5)
     yield (MILLION.encode(),), spelled(b"D", b"a" * 1000, [1000])
-    for size, times in ((8193, 1), (16400, 1), (1, 8193), (63, 200), (64, 129), (65, 130), (4097, 3), (55, 300), (56, 299)):
+    for size, times in ((8193, 1), (16400, 1), (1, 8193), (63, 200), (64, 129), (65, 130), (4097, 3), (55, 300),
+            (56, 299)):
         yield None, spelled(b"D", rng.randbytes(size), [times])
     yield (sha256(b"").encode(),), spelled(b"D", b"", [0])
     yield (sha256(b"").encode(),), spelled(b"D", b"", [1000])

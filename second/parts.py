@@ -1,4 +1,4 @@
-"""What parts_cases answers: parts lent by anybody (01, rows 2 and 4 to 10), and the calls on numbers, texts and messages.
+"""What parts_cases answers: parts lent by anybody (01, rows 2 and 4 to 10), calls on numbers, texts and messages.
 
 A string part is a pair (start, length); the tags and a filter's lists and conditions are places where a JSON value
 begins. A part's faults are a set of rows; the lowest of all parts is the answer.
@@ -242,7 +242,8 @@ def text_answer(text):
     row, event = read_text(text)
     if row:
         return [row]
-    fields = [spelled(event[name], EVENT[name]).encode() for name in ("pubkey", "created_at", "kind", "tags", "content")]
+    fields = [spelled(event[name], EVENT[name]).encode() for name in ("pubkey", "created_at", "kind", "tags",
+        "content")]
     tags = len(b"[0," + b",".join(fields[:3]) + b",")
     inner = tags + len(fields[3]) + len(b',"')
     at, length = d_place(event["tags"])

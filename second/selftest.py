@@ -223,13 +223,15 @@ def test_parts():
         letter, buffer, *numbers = line.split(b" ")
         answer = parts_answer(line)
         if letter == b"D":
-            same("digest %r" % line[:80], answer.decode(), hashlib.sha256(bytes.fromhex(buffer.strip(b"-").decode()) * int(numbers[0])).hexdigest())
+            same("digest %r" % line[:80], answer.decode(),
+                hashlib.sha256(bytes.fromhex(buffer.strip(b"-").decode()) * int(numbers[0])).hexdigest())
         elif letter == b"M" and len(line) < 65536:
             same("rows %r" % line[:300], row_of(answer), library_row(bytes.fromhex(buffer.decode())))
         elif letter == b"T":
             text = bytes.fromhex(buffer.strip(b"-").decode())
             same("text %r" % text[:300], answer.split(b" ")[0], library_text_answer(text).split(b" ")[0])
-            same("d of %r" % text[:300], library_d(text) if row_of(answer) == 0 else b"", b" ".join(answer.split(b" ")[8:]))
+            same("d of %r" % text[:300], library_d(text) if row_of(answer) == 0 else b"",
+                b" ".join(answer.split(b" ")[8:]))
         elif letter == b"L":
             same_field(bytes.fromhex(buffer.strip(b"-").decode()), *map(int, numbers), answer)
 

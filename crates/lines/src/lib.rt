@@ -2,7 +2,7 @@
 ghost use mathlib.Core.Path.{_≡_};
 ghost use Prim.Native.Nat.{_≤_};
 ghost use lib.ListN.{length};
-ghost use Rattle.lines.specs.Line.{nothing, IsLine};
+ghost use Rattle.lines.specs.Line.{nothing, NoEnd, IsLine};
 use libc::STDIN_FILENO;
 
 // What of the chunk is still to be taken.
@@ -27,8 +27,8 @@ struct Taken {
 }
 
 fn push(line: &mut [u8], n: usize, b: u8) -> usize
-    requires { ⌜ n ≤ length (now line) ⌝ }
-    ensures { λ r. ⌜ (r ≤ length (now (line .entry))) × (length (now (line .exit)) ≡ length (now (line .entry))) ⌝ }
+    requires { ⌜ (n ≤ length (now line)) × NoEnd (now line) n × (b ≡ 10 → ⊥) ⌝ }
+    ensures { λ r. ⌜ (r ≤ length (now (line .entry))) × (length (now (line .exit)) ≡ length (now (line .entry))) × NoEnd (now (line .exit)) r ⌝ }
 {
     if n < line.len() {
         line[n] = b;
@@ -39,8 +39,8 @@ fn push(line: &mut [u8], n: usize, b: u8) -> usize
 
 // Bytes of the chunk up to a line's end or its own.
 fn take(line: &mut [u8], n: usize, chunk: &[u8], at: usize, end: usize) -> Taken
-    requires { ⌜ n ≤ length (now line) ⌝ }
-    ensures { λ r. ⌜ (r .n ≤ length (now (line .entry))) × (length (now (line .exit)) ≡ length (now (line .entry))) ⌝ }
+    requires { ⌜ (n ≤ length (now line)) × NoEnd (now line) n ⌝ }
+    ensures { λ r. ⌜ (r .n ≤ length (now (line .entry))) × (length (now (line .exit)) ≡ length (now (line .entry))) × NoEnd (now (line .exit)) (r .n) ⌝ }
 {
     let mut k = n;
     let mut i = at;

@@ -3,12 +3,13 @@ use lib.ListN.{length}
 use mathlib.Core.Path.{_≡_}
 use borrow.Author.Needs.{needs}
 use native.Mathlib.Omega.{arith}
+use Rattle.lines.specs.Line.{NoEnd}
 use Rattle.lines.proofs.next.Statement.{statement}
 use Rattle.lines.proofs.next.Tie as tie
 
 abbrev Inv-loop : tie.InvT-loop
 Inv-loop line₀ chunk₀ n₀ at₀ end₀ turns₀ line chunk n at end turns =
-    (turns ≤ 0xffffffffffff) × (length line ≡ length line₀) × (length chunk ≡ length chunk₀) × (n ≤ length line₀)
+    (turns ≤ 0xffffffffffff) × (length line ≡ length line₀) × (length chunk ≡ length chunk₀) × (n ≤ length line₀) × NoEnd line n
 
 abbrev μ-loop : tie.MeasureT-loop
 μ-loop line₀ chunk₀ n₀ at₀ end₀ turns₀ line chunk n at end turns = 0xffffffffffff - turns

@@ -3,11 +3,12 @@ use lib.ListN.{length}
 use mathlib.Core.Path.{_≡_}
 use borrow.Author.Needs.{needs}
 use native.Mathlib.Omega.{arith}
+use Rattle.lines.specs.Line.{NoEnd}
 use Rattle.lines.proofs.take.Statement.{statement}
 use Rattle.lines.proofs.take.Tie as tie
 
 abbrev Inv-loop : tie.InvT-loop
-Inv-loop line₀ n chunk at end k₀ i₀ line k i = (length line ≡ length line₀) × (k ≤ length line₀)
+Inv-loop line₀ n chunk at end k₀ i₀ line k i = (length line ≡ length line₀) × (k ≤ length line₀) × NoEnd line k
 
 abbrev μ-loop : tie.MeasureT-loop
 μ-loop line₀ n chunk at end k₀ i₀ line k i = end - i
