@@ -1,6 +1,6 @@
 -- A turn or a way out of the code at a time: bytes, strings, lists, numbers, kinds.
 use mathlib.Core.Path.{_≡_, refl, sym, ap, _∙_}
-use mathlib.Core.Bool.{Bool, true, false, cond, _&&_, _||_}
+use mathlib.Core.Bool.{Bool, true, false, cond, not, _&&_, _||_, false≢true}
 use mathlib.Core.List.{List, [], _∷_, _++_, append-assoc}
 use Prim.Native.Nat.{ℕ, zero, suc, _+_, _-_, _<_, _≤_}
 use native.Mathlib.Numerals.{add-one, sub-one}
@@ -9,7 +9,7 @@ use native.Mathlib.Omega.{arith}
 use lib.Dec.{eqb, ltb, leb}
 use lib.ListN.{length, getD, take, drop, length-append, drop-of-length-le, List·getD-eq-default}
 use lib.Seq.{drop-cons, take-at}
-use borrow.Author.Tests.{lt-ltb, le-ltb, le-leb, lt-leb, eq-eqb, ne-eqb, eqb-true, ltb-true}
+use borrow.Author.Tests.{lt-ltb, le-ltb, le-leb, lt-leb, eq-eqb, ne-eqb, eqb-true, ltb-true, not-true, not-false}
 use Rattle.utf8.specs.Utf8.{isUtf8}
 use Rattle.wire.specs.Escape.{letterOf, escape}
 use Rattle.wire.specs.Limits.{mostStrings}
@@ -17,7 +17,7 @@ use Rattle.wire.specs.Bytes.{isHex}
 use Rattle.text.specs.Event.{isPlainByte, all}
 use Rattle.text.specs.Read.{Got, none, got, standsAt, isRaw, byteOf, moveOf, saidOf, push, bodyFrom, checked, stringAt, cons, follow, membersAt, tagAt, runOf}
 use Rattle.text.specs.Kinds.{isEphemeral, isAddressable, classOf}
-use Rattle.text.specs.Parts.{endOf, noZero}
+use Rattle.text.specs.Parts.{endOf, isLetter, noZero}
 use Rattle.text.specs.declared.Class.the-variants.{Regular, Replaceable, Ephemeral, Addressable}
 use Rattle.text.specs.declared.Out.the-variants.{End, Bad}
 use Rattle.text.specs.declared.Move.the-variants.{Go, Stop, Refuse}
@@ -98,6 +98,22 @@ raw-high x h p q =
       ne-eqb x 12 (λ e. omega arith),
     )
 
+-- ---- a letter after a backslash
+pub letter-is : (c : ℕ) → (eqb c 110 || (eqb c 34 || (eqb c 92 || (eqb c 114 || (eqb c 116 || (eqb c 98 || eqb c 102)))))) ≡ isLetter c
+unfolding byteOf
+letter-is c = go (eqb c 110) (eqb c 34) (eqb c 92) (eqb c 114) (eqb c 116) (eqb c 98) (eqb c 102)
+  where
+    go : (n q s r t b f : Bool) → (n || (q || (s || (r || (t || (b || f))))))
+        ≡ not (eqb (cond n 0x0a (cond q 0x22 (cond s 0x5c (cond r 0x0d (cond t 0x09 (cond b 0x08 (cond f 0x0c 0))))))) 0)
+    go true q s r t b f = refl
+    go false true s r t b f = refl
+    go false false true r t b f = refl
+    go false false false true t b f = refl
+    go false false false false true b f = refl
+    go false false false false false true f = refl
+    go false false false false false false true = refl
+    go false false false false false false false = refl
+
 -- ---- a string's body
 end-push : (p : List ℕ) (g : Got (List ℕ)) → endOf (push p g) ≡ endOf g
 end-push p none = refl
@@ -123,28 +139,31 @@ module _ (e : Bool) (s : List ℕ) (i : ℕ) where
 
 -- by the bytes themselves: a backslash and its letter, the closing quote, a control, and a byte that stands as it is
 module _ (s : List ℕ) (i : ℕ) (h : i < length s) where
-  module _ (e : getD s i 0 ≡ 92) {u c : ℕ} (l : c ≡ getD s (i + 1) 0) (k : u ≡ byteOf c) where
+  module _ (e : getD s i 0 ≡ 92) {c : ℕ} {t : Bool} (l : c ≡ getD s (i + 1) 0) (k : t ≡ isLetter c) where
     slashed : endOf (bodyFrom false i (drop i s)) ≡ endOf (bodyFrom true (i + 1) (drop (i + 1) s))
     slashed = body-go false s i h true (rw e)
 
-    pub body-pair : (u ≡ 0 → ⊥) → endOf (bodyFrom false i (drop i s)) ≡ endOf (bodyFrom false (i + 2) (drop (i + 2) s))
+    pub body-pair : t ≡ true → endOf (bodyFrom false i (drop i s)) ≡ endOf (bodyFrom false (i + 2) (drop (i + 2) s))
     unfolding byteOf
     body-pair z = go (decLe (length s) (i + 1))
       where
+        is : isLetter (getD s (i + 1) 0) ≡ true
+        is = sym (ap isLetter l) ∙ sym k ∙ z
+
         go : Dec (length s ≤ i + 1) → endOf (bodyFrom false i (drop i s)) ≡ endOf (bodyFrom false (i + 2) (drop (i + 2) s))
-        go (yes m) = absurd (z (k ∙ rw (l, List·getD-eq-default s 0 m)))
+        go (yes m) = absurd (false≢true (rw (List·getD-eq-default s 0 m) at is))
         go (no m) =
             let two : i + 1 + 1 ≡ i + 2 = omega arith in
-            let d : eqb (byteOf (getD s (i + 1) 0)) 0 ≡ false = ne-eqb _ 0 (λ q. z (k ∙ ap byteOf l ∙ q)) in
+            let d = not-true (eqb (byteOf (getD s (i + 1) 0)) 0) is in
             slashed ∙ body-go true s (i + 1) (omega arith) false (rw d) ∙ ap (λ (j : ℕ). endOf (bodyFrom false j (drop j s))) two
 
-    pub body-unknown : u ≡ 0 → endOf (bodyFrom false i (drop i s)) ≡ Bad
+    pub body-unknown : t ≡ false → endOf (bodyFrom false i (drop i s)) ≡ Bad
     body-unknown z = go (decLe (length s) (i + 1))
       where
         go : Dec (length s ≤ i + 1) → endOf (bodyFrom false i (drop i s)) ≡ Bad
         go (yes m) = slashed ∙ body-over true s (i + 1) m
         go (no m) =
-            let d : eqb (byteOf (getD s (i + 1) 0)) 0 ≡ true = eq-eqb _ 0 (sym (ap byteOf l) ∙ sym k ∙ z) in
+            let d = not-false (eqb (byteOf (getD s (i + 1) 0)) 0) (sym (ap isLetter l) ∙ sym k ∙ z) in
             slashed ∙ body-refuse true s (i + 1) (omega arith) (rw d)
 
   module _ (e : getD s i 0 ≡ 92 → ⊥) where

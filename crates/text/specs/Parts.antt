@@ -1,5 +1,5 @@
 -- What the private functions hand on.
-use mathlib.Core.Bool.{Bool, true, false, cond, _&&_}
+use mathlib.Core.Bool.{Bool, true, false, cond, not, _&&_}
 use mathlib.Core.List.{List, [], _∷_}
 use mathlib.Core.Path.{_≡_}
 use Prim.Native.Nat.{ℕ, _+_, _<_, _≤_}
@@ -8,7 +8,7 @@ use lib.IntN.{ℤ}
 use lib.ListN.{length, getD, drop}
 use Rattle.wire.specs.Escape.{escape}
 use Rattle.text.specs.Event.{Tag, closing, comma, bracket, opening, tagsText}
-use Rattle.text.specs.Read.{Got, none, got, isRaw, bodyFrom, standsAt, closedAt, pairAt, pubkeyAt, tagsAt, stringAt}
+use Rattle.text.specs.Read.{Got, none, got, byteOf, isRaw, bodyFrom, standsAt, closedAt, pairAt, pubkeyAt, tagsAt, stringAt}
 use Rattle.text.specs.Kinds.{isNamedD, second}
 use Rattle.text.specs.Answer.{Span, spanOf, dSpan}
 use Rattle.text.specs.declared.Out.{Out}
@@ -27,6 +27,10 @@ use Rattle.text.specs.declared.Rest.the-variants as rest
 abbrev pub endOf : {A : Type 0} → Got A → Out
 endOf none = out.Bad
 endOf (got x n) = out.End n
+
+-- a letter that stands for a byte after a backslash
+abbrev pub isLetter : ℕ → Bool
+isLetter c = not (eqb (byteOf c) 0)
 
 -- ---- bytes of a string that stand as they are
 -- the string goes on from i as it does from r

@@ -8,11 +8,11 @@ ghost use Rattle.wire.specs.Escape.{escape};
 ghost use Rattle.wire.specs.Bytes.{isHex};
 ghost use Rattle.utf8.specs.Utf8.{isUtf8};
 ghost use Rattle.text.specs.Event.{Tag, comma, isPubkey};
-ghost use Rattle.text.specs.Read.{got, standsAt, closedAt, byteOf, isRaw, bodyFrom, stringAt, tagAt, tagsAt, runOf, timeAt, kindAt, readText};
+ghost use Rattle.text.specs.Read.{got, standsAt, closedAt, isRaw, bodyFrom, stringAt, tagAt, tagsAt, runOf, timeAt, kindAt, readText};
 ghost use Rattle.text.specs.Kinds.{classOf, isNamedD, second};
 ghost use Rattle.text.specs.Answer.{spanOf, answerOf, numberOf, rowOf};
 ghost use Rattle.text.specs.Windows.{wantsTail, isNarrow, isWrong};
-ghost use Rattle.text.specs.Parts.{endOf, Passes, Raws, timeIn, kindIn, opens, noZero, foundOf, lookOf, taggedOf, restAt, restOf};
+ghost use Rattle.text.specs.Parts.{endOf, isLetter, Passes, Raws, timeIn, kindIn, opens, noZero, foundOf, lookOf, taggedOf, restAt, restOf};
 
 // 01, "Kinds and keys".
 pub enum Class {
@@ -143,20 +143,13 @@ fn stands(s: &[u8], at: usize, w: &[u8]) -> bool
     true
 }
 
-// The byte that a letter after a backslash stands for, and 0 for no such letter.
-fn unescaped(c: u8) -> u8
-    ensures { λ r. ⌜ r ≡ byteOf c ⌝ }
+// Whether a letter after a backslash stands for a byte.
+fn is_letter(c: u8) -> bool
+    ensures { λ r. ⌜ r ≡ isLetter c ⌝ }
 {
-    match c {
-        b'n' => b'\n',
-        b'"' => b'"',
-        b'\\' => b'\\',
-        b'r' => b'\r',
-        b't' => b'\t',
-        b'b' => 0x08,
-        b'f' => 0x0c,
-        _ => 0,
-    }
+    (c == b'n')
+        | ((c == b'"')
+            | ((c == b'\\') | ((c == b'r') | ((c == b't') | ((c == b'b') | (c == b'f'))))))
 }
 
 // Whether a byte of a string stands as it is.
@@ -221,7 +214,7 @@ fn body_end(s: &[u8], at: usize) -> Out
     while i < s.len() {
         let x = s[i];
         if x == b'\\' {
-            if unescaped(byte(s, i + 1)) == 0 {
+            if !is_letter(byte(s, i + 1)) {
                 return Out::Bad;
             }
             i += 2;

@@ -4,6 +4,7 @@ use mathlib.Core.Bool.{false}
 use Prim.Native.Nat.{_-_, _<_}
 use native.Mathlib.Omega.{arith}
 use borrow.Author.Needs.{needs}
+use borrow.Author.Tests.{not-true, not-false}
 use lib.ListN.{length, drop}
 use Rattle.text.specs.Read.{bodyFrom}
 use Rattle.text.specs.Parts.{endOf}
@@ -21,13 +22,13 @@ returns : tie.Need-returns Inv-loop μ-loop
 returns c =
     let c2 = c .before .before in
     let c5 = c2 .before .before .before in
-    sym (c5 .before .loop .inv .1 ∙ body-unknown _ _ (c5 .loop-test .taken) (c2 .before .if1 .taken) (c2 .byte .ensures) (c .before .unescaped .ensures) (c .if2 .taken))
+    sym (c5 .before .loop .inv .1 ∙ body-unknown _ _ (c5 .loop-test .taken) (c2 .before .if1 .taken) (c2 .byte .ensures) (c .before .is-letter .ensures) (not-true _ (c .if2 .taken)))
 
 loop-again : tie.Need-loop-again Inv-loop μ-loop
 loop-again c =
     let c2 = c .before .before in
     let c5 = c2 .before .before .before in
-    (omega arith, c5 .before .loop .inv .1 ∙ body-pair _ _ (c5 .loop-test .taken) (c2 .before .if1 .taken) (c2 .byte .ensures) (c .before .unescaped .ensures) (c .if2 .left))
+    (omega arith, c5 .before .loop .inv .1 ∙ body-pair _ _ (c5 .loop-test .taken) (c2 .before .if1 .taken) (c2 .byte .ensures) (c .before .is-letter .ensures) (not-false _ (c .if2 .left)))
 
 returns-2 : tie.Need-returns-2 Inv-loop μ-loop
 returns-2 c =
