@@ -3,7 +3,8 @@
 import re
 import sys
 
-from rows import Refused, canonical, offered, read_json, read_message, read_text, text_of
+from parts import LINE_BYTES, parts_answer
+from rows import Refused, canonical, offered, read_json, read_message, read_text, row_of, text_of
 from sha256 import sha256
 
 LINE = re.compile(rb"(-|([0-9a-f]{2})+)( [0-9]+(,[0-9]+)*)?")
@@ -12,7 +13,7 @@ LENGTH = re.compile(rb"0|[1-9][0-9]{0,3}")
 
 def digest_answer(line):
     """A message in hex, then the lengths of pieces: the digest of the whole (01, "The text that is hashed")."""
-    if not LINE.fullmatch(line):
+    if len(line) >= LINE_BYTES or not LINE.fullmatch(line):
         return b"bad line"
     spelled, _, pieces = line.partition(b" ")
     message = b"" if spelled == b"-" else bytes.fromhex(spelled.decode())
@@ -25,12 +26,8 @@ def digest_answer(line):
 
 
 def json_answer(line):
-    """The lowest of rows 1 to 4, or 0."""
-    try:
-        read_json(line)
-    except Refused as refusal:
-        return b"%d" % refusal.args
-    return b"0"
+    """The lowest of rows 1 to 4, or 0, and of rows 1 to 8."""
+    return b"%d %d" % (row_of(line, read_json), row_of(line, read_message))
 
 
 def message_answer(line):
@@ -55,6 +52,7 @@ ANSWERS = {
     "json_cases": json_answer,
     "message_cases": message_answer,
     "event_cases": event_answer,
+    "parts_cases": parts_answer,
 }
 
 

@@ -6,6 +6,7 @@ import cases_digest
 import cases_event
 import cases_json
 import cases_message
+import cases_parts
 
 # The lines, and what stands after the last one: two files end without 0A.
 CASES = {
@@ -13,6 +14,7 @@ CASES = {
     "json_cases": (cases_json.lines, b""),
     "message_cases": (cases_message.lines, b""),
     "event_cases": (cases_event.lines, b"\n"),
+    "parts_cases": (cases_parts.lines, b"\n"),
 }
 
 

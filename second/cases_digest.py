@@ -82,6 +82,8 @@ def cut_lines(rng):
         while sum(pieces) > length:
             pieces.pop()
         yield line(rng.randbytes(length), pieces or None)
+    yield long_line(65534)
+    yield long_line(65535)
     yield line(rng.randbytes(1000), [1] * 1000)
     yield line(rng.randbytes(8191))
     yield line(rng.randbytes(8191), [8191])
@@ -90,6 +92,12 @@ def cut_lines(rng):
     yield line(rng.randbytes(8192), [8192])
     yield line(rng.randbytes(8192), [64] * 128)
     yield line(rng.randbytes(8192), [63, 1, 64, 65, 55, 8, 7936])
+
+
+def long_line(size):
+    """A line of size bytes: a message of one byte or none, in very many empty pieces."""
+    message = b"- 0" if size % 2 else b"00 0"
+    return message + b",0" * ((size - len(message)) // 2)
 
 
 def bad_lines():
@@ -120,6 +128,8 @@ def bad_lines():
     yield rng.randbytes(8193).hex().encode() + b" 8192,1"
     yield rng.randbytes(8192).hex().encode() + b" 8192,1"
     yield rng.randbytes(8191).hex().encode() + b" 8192"
+    yield long_line(65536)
+    yield long_line(65537)
 
 
 def lines():

@@ -103,6 +103,9 @@ def text_borders():
     yield 9, "T " + "\udcff" * 4097
     yield 5, "T " + "\udcff" * 4096
     yield 9, "T " + "x" * 9000
+    for size in (65535, 65536, 65537):
+        yield 9, "T " + "x" * (size - 2)
+    yield 1, offer(made()) + " " * 65536
 
 
 def wrong_ids():

@@ -123,6 +123,8 @@ def long_lines():
         yield b"0." + b"0" * (8190 + extra)
     yield b'"' + b"\\u0041" * 1365 + b'"'
     yield b"x" * 20000
+    for size in (65535, 65536, 65537):
+        yield b"[]" + b" " * (size - 2)
 
 
 def random_value(rng, depth):
@@ -161,7 +163,8 @@ def lines():
     out += [raw(form % number) for number in NUMBERS for form in ("[%s]", '{"a":%s}', " %s ", "[0,%s ]")]
     out += [raw(form % literal) for literal in LITERALS[:12] for form in ("[%s]", '{"a":%s}', " %s ")]
     out += [raw('{%s:1}' % s) for s in STRINGS] + [raw("[%s]" % s) for s in STRINGS]
-    for form in rb'%s "%s" "\%s" %s[] []%s [%s] [1%s] [1%s2] ["a"%s] {"a"%s1} 1%s -%s true%s "\u00%s1"'.split(b" "):
+    forms = rb'%s "%s" "\%s" %s[] []%s [%s] [1%s] [1%s2] ["a"%s] {"a"%s1} 1%s -%s true%s'
+    for form in (forms + rb' "\u00%s1" "\u%s041" "\u0%s41" "\u004%s"').split(b" "):
         out += [form % byte for byte in BYTES]
     out += [raw('"\\u%04x"' % code) for code in list(range(0x30)) + [0x7E, 0x7F, 0x80, 0x9F, 0xA0]]
     out += [raw('"\\u%04X"' % code) for code in range(0x20)]

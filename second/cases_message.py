@@ -254,6 +254,7 @@ def hex_strings():
 # Counts.
 
 SUB_CHARACTERS = r'a é € 😀 \u0061 \u00e9 \uD83D\uDE00 \n \" \\ \/'.split() + ["e\u0301", "\u200d"]
+SUB_CHARACTERS += ["\x7f", "\x80", "\xbf", "\xc0", "\xff", "\u07ff", "\u0800", "\uffff", "\U00010000", "\U0010ffff"]
 
 
 def counts():
@@ -445,6 +446,8 @@ def long_lines():
         yield row, '["REQ","s",{"#x":["%s"]}]' % ("é" * 4000 + "y" * (size - 8023))
     for text in ["x" * 8193, '["CLOSE","\udcff"]' + " " * 8180, '["CLOSE",1]' + " " * 8182, "[" * 8193]:
         yield 1, text
+    for size in (65535, 65536, 65537):
+        yield 1, '["CLOSE","s"]' + " " * (size - 13)
     yield 5, '["CLOSE",1]' + " " * 8181
     yield 0, event_with(content='"' + "\\u0041" * 1200 + '"')
     yield 0, event_with(content='"' + "\\ud83d\\ude00" * 600 + '"', tags='[["%s"]]' % ("€" * 100))

@@ -55,6 +55,15 @@ def refuse_if(holds, row):
         raise Refused(row)
 
 
+def row_of(given, test):
+    """The row by which a test refuses what it is given, or 0."""
+    try:
+        test(given)
+    except Refused as refusal:
+        return refusal.args[0]
+    return 0
+
+
 def read_json(line):
     """Rows 1 to 4: the value of a line of bytes."""
     refuse_if(len(line) > MESSAGE_BYTES, 1)

@@ -12,6 +12,7 @@ from functools import cache
 import cases_digest
 import cases_event
 import cases_message
+import cases_parts
 from answer import ANSWERS, lines
 from cases import stdin
 from json_text import NotUtf8, characters
@@ -22,8 +23,8 @@ from spell import damaged, raw
 A = "a" * 64
 failures = []
 stored = cache(lambda name: lines(stdin(name)))
-digest_answer, json_answer, message_answer, event_answer = (
-    cache(ANSWERS[name]) for name in ("digest_cases", "json_cases", "message_cases", "event_cases")
+digest_answer, json_answer, message_answer, event_answer, parts_answer = (
+    cache(ANSWERS[name]) for name in ("digest_cases", "json_cases", "message_cases", "event_cases", "parts_cases")
 )
 
 
@@ -212,8 +213,50 @@ def library_text_answer(text):
     return b"0 " + text if good else b"5"
 
 
+def test_parts():
+    for label, line in cases_parts.labelled():
+        found = parts_answer(line).split(b" ")
+        for got, want in zip(found, label or ()):
+            if want is not None:
+                same("parts %r" % line[:300], got, want if isinstance(want, bytes) else b"%d" % want)
+    for line in stored("parts_cases"):
+        letter, buffer, *numbers = line.split(b" ")
+        answer = parts_answer(line)
+        if letter == b"D":
+            same("digest %r" % line[:80], answer.decode(),
+                hashlib.sha256(bytes.fromhex(buffer.strip(b"-").decode()) * int(numbers[0])).hexdigest())
+        elif letter == b"M" and len(line) < 65536:
+            same("rows %r" % line[:300], row_of(answer), library_row(bytes.fromhex(buffer.decode())))
+        elif letter == b"T":
+            text = bytes.fromhex(buffer.strip(b"-").decode())
+            same("text %r" % text[:300], answer.split(b" ")[0], library_text_answer(text).split(b" ")[0])
+            same("d of %r" % text[:300], library_d(text) if row_of(answer) == 0 else b"",
+                b" ".join(answer.split(b" ")[8:]))
+        elif letter == b"L":
+            same_field(bytes.fromhex(buffer.strip(b"-").decode()), *map(int, numbers), answer)
+
+
+def library_d(text):
+    """d as the bytes of the text spell it, by json."""
+    values = [tag[1] if len(tag) > 1 else "" for tag in json.loads(text)[4] if tag[0] == "d"]
+    return json.dumps(values[0], ensure_ascii=False).encode()[1:-1] if values else b""
+
+
+def same_field(buffer, at, width, number, answer):
+    """A field by int.to_bytes and int.from_bytes."""
+    end, back, signed, unsigned, after = answer.split(b" ")
+    whole = number.to_bytes(8, "little")
+    same("signed %d" % number, int(signed), int.from_bytes(whole, "little", signed=True))
+    same("unsigned %d" % number, int(unsigned), number)
+    if at + width <= len(buffer):
+        field = whole.ljust(width, b"\0")[:width]
+        same("field %r" % answer, bytes.fromhex(after.decode()), buffer[:at] + field + buffer[at + width :])
+        same("read %r" % answer, int(back), int.from_bytes(field[:8], "little"))
+        same("end %r" % answer, int(end), at + width)
+
+
 if __name__ == "__main__":
-    for test in (test_digest, test_utf8, test_json, test_messages, test_events):
+    for test in (test_digest, test_utf8, test_json, test_messages, test_events, test_parts):
         test()
     print("selftest: %d differences" % len(failures))
     sys.exit(1 if failures else 0)

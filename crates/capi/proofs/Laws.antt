@@ -24,10 +24,10 @@ use Rattle.message.specs.Lists.{upTo, nextOf, elementsFrom}
 use Rattle.message.specs.declared.Body.{Body}
 use Rattle.message.specs.declared.Element.{Element}
 use Rattle.message.specs.declared.Element.the-variants.{At, Ended, Broken}
-use Rattle.event.specs.Answer.{serialised, serialisedOut}
+use Rattle.event.specs.Answer.{numberOf, serialised, serialisedOut}
 use Rattle.event.specs.declared.Written.{Written}
 use Rattle.capi.specs.Numbers.{filterNumbers, filtersAt, filtersFrom, bodyFrom}
-use Rattle.capi.specs.Calls.{digestRow, digestOut, lentRow, lentOut, writtenOf}
+use Rattle.capi.specs.Calls.{digestRow, digestOut, lentRow, lentOut, lengthOr}
 
 length-digest : (l : List ℕ) → length (digest l) ≡ 32
 unfolding digest digestBytes
@@ -95,10 +95,17 @@ bits-back x f e = e ∙ ap unsigned (toZ-ofZ w64 x (record { sfits = f }))
 pub body-back : (a n : ℕ) (t k : ℤ) (g c m : ℕ) {x : Body} → SFits w64 t → SFits w64 k → x ≡ bodyFrom a n (toZ w64 (ofZ w64 t)) (toZ w64 (ofZ w64 k)) g c m → x ≡ bodyFrom a n t k g c m
 body-back a n t k g c m ft fk e = rw (toZ-ofZ w64 t ft, toZ-ofZ w64 k fk) at e
 
-pub wrote-is : (b : List ℕ) (p : Body) (out : List ℕ) {x : Body} {w v : Written} {o : List ℕ} → x ≡ p → w ≡ serialised b x out → o ≡ serialisedOut b x out → w ≡ v
-    → (writtenOf v ≡ writtenOf (serialised b p out)) × (o ≡ serialisedOut b p out)
-wrote-is b p out g e f h =
-    (ap writtenOf (sym h ∙ e ∙ ap (λ (y : Body). serialised b y out) g), f ∙ ap (λ (y : Body). serialisedOut b y out) g)
+module _ (b : List ℕ) (p : Body) (out : List ℕ) {x : Body} {w : Written} {o : List ℕ} (g : x ≡ p) (e : w ≡ serialised b x out) (f : o ≡ serialisedOut b x out) where
+  written-as : {v : Written} → w ≡ v → v ≡ serialised b p out
+  written-as h = sym h ∙ e ∙ ap (λ (y : Body). serialised b y out) g
+
+  bytes-as : o ≡ serialisedOut b p out
+  bytes-as = f ∙ ap (λ (y : Body). serialisedOut b y out) g
+
+  -- what is answered and left, with m in the lent number
+  pub said-length : {v : Written} (m : ℕ) → w ≡ v →
+      (numberOf v ≡ numberOf (serialised b p out)) × ((o ≡ serialisedOut b p out) × (lengthOr v m ≡ lengthOr (serialised b p out) m))
+  said-length m h = (ap numberOf (written-as h), (bytes-as, ap (λ z. lengthOr z m) (written-as h)))
 
 -- ---- the filters of a REQ, and those that are left after k
 pub filters-all : (s : List ℕ) (first : ℕ) (d : List ℕ) (i : ℕ) → i ≤ length d → Rest d i (filtersFrom s first) d i (filtersAt s (upTo (length s - 0) s (At first)))

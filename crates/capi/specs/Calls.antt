@@ -12,6 +12,7 @@ use Rattle.message.specs.declared.Body.{Body}
 use Rattle.text.specs.Read.{readText}
 use Rattle.text.specs.Answer.{answerOf, numberOf}
 use Rattle.event.specs.Answer.{identified, serialised, serialisedOut}
+use Rattle.event.specs.Answer as written
 use Rattle.event.specs.declared.Written.{Written}
 use Rattle.event.specs.declared.Written.the-variants.{Wrote, Refused}
 use Rattle.capi.specs.Numbers.{messageNumbers, answerNumbers}
@@ -44,16 +45,19 @@ readTextRow t out = lentRow (numberOf (answerOf (readText t))) 7 out
 abbrev pub readTextOut : List ℕ → List ℕ → List ℕ
 readTextOut t out = lentOut (numberOf (answerOf (readText t))) 7 (answerNumbers (answerOf (readText t))) out
 
--- ---- an event's text: its length or the row
-abbrev pub writtenOf : Written → ℕ
-writtenOf (Wrote n) = n
-writtenOf (Refused r) = r
-
-abbrev pub serialiseAnswer : List ℕ → Body → List ℕ → ℕ
-serialiseAnswer b p out = writtenOf (serialised b p out)
+-- ---- an event's text: rows 2 and 4 to 9, then 13. Its length goes to a number of its own, which stays on a refusal
+abbrev pub serialiseRow : List ℕ → Body → List ℕ → ℕ
+serialiseRow b p out = written.numberOf (serialised b p out)
 
 abbrev pub serialiseOut : List ℕ → Body → List ℕ → List ℕ
 serialiseOut b p out = serialisedOut b p out
+
+abbrev pub lengthOr : Written → ℕ → ℕ
+lengthOr (Wrote n) m = n
+lengthOr (Refused r) m = m
+
+abbrev pub serialiseLength : List ℕ → Body → List ℕ → ℕ → ℕ
+serialiseLength b p out m = lengthOr (serialised b p out) m
 
 -- ---- its id
 abbrev pub idRow : List ℕ → Body → List ℕ → ℕ

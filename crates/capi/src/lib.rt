@@ -4,7 +4,7 @@ ghost use Rattle.wire.specs.Put.{Puts};
 ghost use Rattle.rows.specs.Rows.{textRow};
 ghost use Rattle.shape.specs.Rows.{messageRow};
 ghost use Rattle.message.specs.Read.{rowOf};
-ghost use Rattle.capi.specs.Calls.{digestRow, digestOut, readRow, readOut, readTextRow, readTextOut, serialiseAnswer, serialiseOut, idRow, idOut};
+ghost use Rattle.capi.specs.Calls.{digestRow, digestOut, readRow, readOut, readTextRow, readTextOut, serialiseRow, serialiseOut, serialiseLength, idRow, idOut};
 ghost use Rattle.capi.specs.Numbers.{placeOf, flagOf, bitsOf, bodyFrom, eventNumbers, filterNumbers, filtersFrom, messageNumbers, textNumbers};
 use message::Body;
 use message::Bound;
@@ -300,8 +300,8 @@ fn body_from(
     }
 }
 
-// The text of the event that the parts spell, from the start of `out`: how many bytes it has, or the row that refuses it. No text has fewer
-// than 80 bytes.
+// The text of the event that the parts spell, from the start of `out`, and how many bytes it has into `len`: the row that refuses it, 13, or 0.
+// On a refusal both stay as found.
 #[no_mangle]
 pub extern "C" fn plavdrosa_serialise(
     bytes: &[u8],
@@ -313,9 +313,11 @@ pub extern "C" fn plavdrosa_serialise(
     content: usize,
     content_len: usize,
     out: &mut [u8],
-) -> usize
-    ensures { λ r. ⌜ r ≡ serialiseAnswer (now (bytes .entry)) (bodyFrom pubkey «pubkey_len» «created_at» kind tags content «content_len») (now (out .entry)) ⌝ }
+    len: &mut usize,
+) -> u8
+    ensures { λ r. ⌜ r ≡ serialiseRow (now (bytes .entry)) (bodyFrom pubkey «pubkey_len» «created_at» kind tags content «content_len») (now (out .entry)) ⌝ }
     ensures { λ _. ⌜ now (out .exit) ≡ serialiseOut (now (bytes .entry)) (bodyFrom pubkey «pubkey_len» «created_at» kind tags content «content_len») (now (out .entry)) ⌝ }
+    ensures { λ _. ⌜ now (len .exit) ≡ serialiseLength (now (bytes .entry)) (bodyFrom pubkey «pubkey_len» «created_at» kind tags content «content_len») (now (out .entry)) (now (len .entry)) ⌝ }
 {
     let p = body_from(
         pubkey,
@@ -327,8 +329,11 @@ pub extern "C" fn plavdrosa_serialise(
         content_len,
     );
     match event::serialise(bytes, p, out) {
-        event::Written::Wrote(n) => n,
-        event::Written::Refused(r) => r as usize,
+        event::Written::Wrote(n) => {
+            *len = n;
+            0
+        }
+        event::Written::Refused(r) => r,
     }
 }
 

@@ -1,11 +1,17 @@
--- Laws of lists that a loop fills from the front, and of a message that lies in two parts. Assumes nothing.
+-- Laws of lists that a loop fills from the front, of a message that lies in two parts, and of the answers' numbers. Assumes nothing.
 use mathlib.Core.Path.{_≡_, refl, ap, _∙_}
 use mathlib.Core.List.{List, [], _∷_, _++_, append-nil}
 use Prim.Native.Nat.{ℕ, zero, suc, _+_, _-_, _*_, _≤_, _<_}
 use native.Mathlib.Omega.{arith}
 use lib.ListN.{length, take, drop, set, replicate, length-append, List·getD-append}
 use lib.Seq.{take-suc-set, length-take-le, getD-take, getD-drop, getD-append-add, drop-append-add}
+use Rattle.digest.specs.declared.Sha256.{Sha256}
+use Rattle.digest.specs.declared.Updated.{Updated}
+use Rattle.digest.specs.declared.Finished.{Finished}
+use Rattle.digest.specs.declared.Digest.{Digest}
 use Rattle.digest.specs.Block.{at, wordAt, next}
+use Rattle.digest.specs.State.{numberOf, countRow, updated, finished, digested}
+use Rattle.digest.specs.Pieces.{update-number, finish-number, digest-number}
 
 -- the first n elements, one more of them
 pub filled : (w : List ℕ) (n m v : ℕ) {f : List ℕ} → take n w ≡ f → m ≡ suc n → n < length w → take m (set w n v) ≡ f ++ (v ∷ [])
@@ -63,3 +69,13 @@ take-zeros (suc z) (suc n) h = ap {B = List ℕ} (λ r. 0 ∷ r) (take-zeros z n
 
 pub begun : (z m : ℕ) → m ≡ suc z → z ≤ 71 → take {A = ℕ} m (0x80 ∷ replicate 71 0) ≡ ((0x80 ∷ []) ++ replicate z 0) ++ []
 begun z m e h = rw (e, append-nil, take-zeros z 71)
+
+-- an answer that is the definition's has its number
+pub updates : {u : Updated} (s : Sha256) (d : List ℕ) → u ≡ updated s d → (u ≡ updated s d) × (numberOf (u .answer) ≡ countRow (s .total + length d))
+updates s d e = (e, ap (λ (u : Updated). numberOf (u .answer)) e ∙ update-number s d)
+
+pub finishes : {f : Finished} (s : Sha256) → f ≡ finished s → (f ≡ finished s) × (numberOf (f .answer) ≡ countRow (s .total))
+finishes s e = (e, ap (λ (f : Finished). numberOf (f .answer)) e ∙ finish-number s)
+
+pub digests : {r : Digest} (l : List ℕ) → r ≡ digested l → (r ≡ digested l) × (numberOf (r .answer) ≡ countRow (length l))
+digests l e = (e, ap (λ (r : Digest). numberOf (r .answer)) e ∙ digest-number l)

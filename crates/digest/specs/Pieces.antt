@@ -16,7 +16,7 @@ use Rattle.digest.specs.declared.Finished.{Finished}
 use Rattle.digest.specs.declared.Digest.{Digest}
 use Rattle.digest.specs.Block.{H0}
 use Rattle.digest.specs.Digest.{padding, padded, hashed, rest, digestBytes, digest}
-use Rattle.digest.specs.State.{numberOf, most, pick, waiting, stateAfter, stateOf, updated, finished, digested}
+use Rattle.digest.specs.State.{numberOf, most, pick, countRow, waiting, stateAfter, stateOf, updated, finished, digested}
 use Rattle.digest.specs.Parts.{waits, hashed-more, state-more}
 
 -- what the calls answer within the limit, for any state
@@ -62,7 +62,7 @@ unfolding stateAfter digest padded
 finish-stands l h = finish-done (stateOf l) h ∙ rw (still l, hashed-more H0 l (padding (length l)))
 
 -- the number of 01: 8 over the most bytes, else 0
-pub update-number : (s : Sha256) (d : List ℕ) → numberOf (updated s d .answer) ≡ pick (leb (s .total + length d) most) 0 8
+pub update-number : (s : Sha256) (d : List ℕ) → numberOf (updated s d .answer) ≡ countRow (s .total + length d)
 unfolding updated
 update-number s d = go (leb (s .total + length d) most)
   where
@@ -72,7 +72,7 @@ update-number s d = go (leb (s .total + length d) most)
     go true = refl
     go false = refl
 
-pub finish-number : (s : Sha256) → numberOf (finished s .answer) ≡ pick (leb (s .total) most) 0 8
+pub finish-number : (s : Sha256) → numberOf (finished s .answer) ≡ countRow (s .total)
 unfolding finished
 finish-number s = go (leb (s .total) most)
   where
@@ -84,7 +84,7 @@ finish-number s = go (leb (s .total) most)
     go true = refl
     go false = refl
 
-pub digest-number : (l : List ℕ) → numberOf (digested l .answer) ≡ pick (leb (length l) most) 0 8
+pub digest-number : (l : List ℕ) → numberOf (digested l .answer) ≡ countRow (length l)
 unfolding digested
 digest-number l = go (leb (length l) most)
   where

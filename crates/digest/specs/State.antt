@@ -22,6 +22,14 @@ numberOf TooLong = 8
 abbrev pub most : ℕ
 most = 2 ^ 61 - 1
 
+abbrev pub pick : {A : Type 0} → Bool → A → A → A
+pick true a b = a
+pick false a b = b
+
+-- "A count over 2^61 - 1 bytes, fed or finished, is refused by row 8": 01's number for n bytes in all
+abbrev pub countRow : ℕ → ℕ
+countRow n = pick (leb n most) 0 8
+
 -- the first n bytes of l, with zeros past its end
 unfoldable pub firstBytes : List ℕ → ℕ → List ℕ
 firstBytes l zero = []
@@ -38,10 +46,6 @@ stateAfter h l n = record { words = hashed h l; block = firstBytes (rest l) 64; 
 -- the state of nothing fed, and of the bytes l fed
 abbrev pub stateOf : List ℕ → Sha256
 stateOf l = stateAfter H0 l (length l)
-
-abbrev pub pick : {A : Type 0} → Bool → A → A → A
-pick true a b = a
-pick false a b = b
 
 -- update: the bytes d are taken in; or they are too many, and the state is the one given
 unfoldable pub updated : Sha256 → List ℕ → Updated

@@ -8,7 +8,7 @@ ghost use lib.ListN.{length, take, drop, getD};
 ghost use Rattle.digest.specs.Words.{Ch, Maj, Σ0, Σ1, σ0, σ1};
 ghost use Rattle.digest.specs.Block.{wordAt, round, rounds, words, schedule, compress};
 ghost use Rattle.digest.specs.Digest.{zeros, padding, hashed, digestBytes};
-ghost use Rattle.digest.specs.State.{most, firstBytes, stateOf, updated, finished, digested};
+ghost use Rattle.digest.specs.State.{numberOf, most, countRow, firstBytes, stateOf, updated, finished, digested};
 
 // The most bytes that a digest takes: 2^61 - 1 (01, "The text that is hashed").
 const MOST: u64 = 0x1fff_ffff_ffff_ffff;
@@ -357,6 +357,7 @@ impl Sha256 {
 
     pub fn update(mut self, bytes: &[u8]) -> Updated
         ensures { λ r. ⌜ r ≡ updated self (now (bytes .entry)) ⌝ }
+        ensures { λ r. ⌜ numberOf (r .answer) ≡ countRow (self .total + length (now (bytes .entry))) ⌝ }
     {
         let total = self.total;
         let n = bytes.len() as u64;
@@ -389,6 +390,7 @@ impl Sha256 {
 
     pub fn finish(self) -> Finished
         ensures { λ r. ⌜ r ≡ finished self ⌝ }
+        ensures { λ r. ⌜ numberOf (r .answer) ≡ countRow (self .total) ⌝ }
     {
         let total = self.total;
         if total > MOST {
@@ -415,6 +417,7 @@ impl Sha256 {
 // The digest of a whole slice.
 pub fn digest_of(bytes: &[u8]) -> Digest
     ensures { λ r. ⌜ r ≡ digested (now (bytes .entry)) ⌝ }
+    ensures { λ r. ⌜ numberOf (r .answer) ≡ countRow (length (now (bytes .entry))) ⌝ }
 {
     let u = Sha256::new().update(bytes);
     let a = u.answer;

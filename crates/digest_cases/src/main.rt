@@ -4,7 +4,6 @@
 ghost use Prim.Native.Nat.{_≤_};
 ghost use lib.ListN.{length};
 use digest::Sha256;
-use libc::STDIN_FILENO;
 use libc::STDOUT_FILENO;
 
 // The number of a hex digit, 16 for any other byte.
@@ -258,69 +257,21 @@ fn answer(line: &[u8], n: usize) {
     }
 }
 
-// A byte more of standard input; how many bytes of the line are there now.
-fn push(line: &mut [u8], n: usize, b: u8) -> usize {
-    if b == b'\n' {
-        answer(line, n);
-        return 0;
-    }
-    if n < line.len() {
-        line[n] = b;
-        return n + 1;
-    }
-    n
-}
-
-fn feed(line: &mut [u8], n: usize, chunk: &[u8]) -> usize {
-    let mut k = n;
-    for i in 0..chunk.len() {
-        k = push(line, k, chunk[i]);
-    }
-    k
-}
-
-// Reads once; how many bytes of the line are there now, or that the input has ended.
-struct Turn {
-    more: bool,
-    n: usize,
-}
-
-fn read_once(line: &mut [u8], n: usize) -> Turn {
-    let mut chunk = io::large_buffer();
-    let got = libc::read(STDIN_FILENO, &mut chunk);
-    let k = io::count(got, &chunk);
-    if k == 0 {
-        return Turn { more: false, n };
-    }
-    let next = feed(line, n, &chunk[..k]);
-    Turn {
-        more: true,
-        n: next,
-    }
-}
-
-// A last line without its end counts if it is not empty.
-fn end(line: &[u8], n: usize) {
-    if 0 < n {
-        answer(line, n);
-    }
-}
-
-fn run(line: &mut [u8]) {
-    let mut n: usize = 0;
-    let mut turns: u64 = 0;
-    while turns < 0xffff_ffff_ffff {
-        let t = read_once(line, n);
-        n = t.n;
-        if !t.more {
-            end(line, n);
-            return;
-        }
-        turns += 1;
-    }
-}
-
 fn main() {
     let mut line = io::large_buffer();
-    run(&mut line);
+    let mut chunk = io::large_buffer();
+    let mut r = lines::none();
+    let mut k: u64 = 0;
+    while k < 0xffff_ffff_ffff {
+        let l = lines::next(&mut line, &mut chunk, r);
+        if !l.some {
+            return;
+        }
+        answer(&line, l.n);
+        r = lines::Rest {
+            at: l.at,
+            end: l.end,
+        };
+        k += 1;
+    }
 }

@@ -6,11 +6,12 @@ use Prim.Native.Nat.{ℕ, zero, suc, _+_, _/_, _%_, _≤_, _<_}
 use native.Mathlib.Numerals.{add-one}
 use native.Mathlib.Omega.{arith}
 use native.Mathlib.Decide.{decLe}
-use borrow.Author.Tests.{lt-ltb, le-ltb, eq-eqb, ne-eqb, ltb-false}
+use borrow.Author.Tests.{lt-ltb, le-ltb, eq-eqb, ne-eqb, ltb-true, ltb-false}
 use lib.Dec.{ltb}
 use lib.ListN.{length, take, drop, getD, replicate, drop-of-length-le, length-take}
 use lib.Seq.{take-append-seam, drop-cons, length-take-le}
 use Rattle.wire.specs.Put.{Puts}
+use Rattle.wire.specs.Escape.{escOne, escape}
 use Rattle.wire.proofs.Laws.{length-put, puts-whole}
 use Rattle.digest.specs.Digest.{digest}
 use Rattle.digest.specs.State.{digested}
@@ -18,6 +19,7 @@ use Rattle.digest.specs.declared.Digest.{Digest}
 use Rattle.digest.specs.Pieces.{digest-done}
 use Rattle.wire.specs.Bytes.{sameBytes}
 use Rattle.spell.specs.Spell.{decode}
+use Rattle.text.proofs.Places.{escape-none}
 use Rattle.message.specs.declared.Body.{Body}
 use Rattle.message.specs.declared.EventParts.{EventParts}
 use Rattle.message.specs.Lent.{bodyRow, eventRow}
@@ -83,6 +85,19 @@ pub hex-length : (l : List ℕ) → length (hexOf l) ≡ length l + length l
 unfolding hexOf
 hex-length [] = refl
 hex-length (x ∷ l) = omega (arith, hex-length l)
+
+digit-plain : (d : ℕ) → escOne (hexDigit d) ≡ hexDigit d ∷ []
+digit-plain d = go (ltb d 10) refl
+  where
+    go : (t : Bool) → ltb d 10 ≡ t → escOne (cond t (48 + d) (87 + d)) ≡ cond t (48 + d) (87 + d) ∷ []
+    go true e = let h = ltb-true d 10 e in escape-none (48 + d) (omega arith) (λ q. omega arith)
+    go false e = let h = ltb-false d 10 e in escape-none (87 + d) (omega arith) (λ q. omega arith)
+
+-- it has no escapes
+pub escape-hex : (l : List ℕ) → escape (hexOf l) ≡ hexOf l
+unfolding escape hexOf
+escape-hex [] = refl
+escape-hex (x ∷ l) = rw (digit-plain (x / 16), digit-plain (x % 16), escape-hex l)
 
 pub hex-put : {d o : List ℕ} {i r x y : ℕ} → y ≡ x → Puts d i (y ∷ []) r o → Puts d i (x ∷ []) r o
 hex-put e p = rw e at p

@@ -1,4 +1,4 @@
--- A part of a buffer, cut off where that ends; a string between quotes; what is read as a string is one.
+-- A string between quotes; what is read as a string is one, and what it says.
 use mathlib.Core.Path.{_≡_, refl, sym, ap, _∙_}
 use mathlib.Core.Bool.{Bool, true, false}
 use mathlib.Core.List.{List, [], _∷_}
@@ -10,13 +10,12 @@ use lib.Signed.{ltZ}
 use mir.Syntax.{w64}
 use mir.Val.{toZ, ofZ, SFits}
 use mir.ValLaws.{toZ-ofZ}
-use lib.ListN.{length, take, drop, length-drop, drop-of-length-le}
-use lib.Seq.{take-all, take-nil}
+use lib.ListN.{length}
 use Rattle.wire.specs.Put.{Puts}
 use Rattle.wire.specs.Escape.{escape}
 use Rattle.wire.specs.Field.{unsigned}
 use Rattle.wire.proofs.Laws.{puts-then}
-use Rattle.spell.specs.Spell.{decode}
+use Rattle.spell.specs.Spell.{charsFrom, joined, decode}
 use Rattle.json.specs.Grammar.{case, classOf, oneAt, tokenAt, stringAt, numberAt, literalAt, scalarAt, startAt, wsAt}
 use Rattle.json.specs.Tree.{Json, word, num, str, arr, obj, Items, nil, Got, none, got, endOf, bind, onLeaf, node, itemsAt, groupAt, treeAt}
 use Rattle.json.specs.declared.Out.{Out}
@@ -27,22 +26,11 @@ use Rattle.json.specs.declared.Start.the-variants.{Leaf, Empty, Many}
 use Rattle.json.proofs.Ends.{byte-is}
 use Rattle.json.proofs.Spelled.{string-parts}
 use Rattle.json.proofs.Trees.{tree-open}
-use Rattle.rows.specs.Strings.{part}
+use Rattle.rows.specs.Strings.{part, spelledAt}
 use Rattle.text.specs.Event.{quoted}
 use Rattle.message.proofs.Walks.{never}
 use Rattle.event.specs.Lent.{stringOf, natural}
 use Rattle.event.specs.Walk.{Does, stringText}
-
--- ---- parts
-module _ (b : List ℕ) (start len : ℕ) where
-  pub part-none : length b ≤ start → [] ≡ part b start len
-  part-none h = sym (ap (take len) (drop-of-length-le b {i = start} h) ∙ take-nil len)
-
-  pub part-cut : length b - start < len → take (length b - start) (drop start b) ≡ part b start len
-  part-cut h = take-all (length b - start) (drop start b) (simp length-drop (omega arith)) ∙ sym (take-all len (drop start b) (simp length-drop (omega arith)))
-
-  pub part-in : take (start + len - start) (drop start b) ≡ part b start len
-  part-in = let e : start + len - start ≡ len = omega arith in rw e
 
 -- ---- between quotes
 pub quoted-put : {d o₁ o₂ o₃ : List ℕ} {i a c r : ℕ} (v : List ℕ) → Puts d i (34 ∷ []) a o₁ → Puts o₁ a (escape v) c o₂ → Puts o₂ c (34 ∷ []) r o₃ → Puts d i (quoted v) r o₃
@@ -108,6 +96,19 @@ module _ (s : List ℕ) (v : ℕ) where
         on Leaf q = leaf-out (numberAt s v) (literalAt s v) (rw e at q)
         on (Empty m named) q = node-out named nil m q
         on (Many i named) q = many named (itemsAt (treeAt s d) s named (length s) i) q
+
+-- the string that is spelled at the place of a value says what the value says: nothing where it is none
+module _ (b : List ℕ) (v : ℕ) (t : Json) (m : ℕ) (w : treeAt b 7 v ≡ got t m) where
+  pub spelled-says : decode (spelledAt b v) ≡ stringOf b t
+  unfolding spelledAt decode charsFrom joined
+  spelled-says = go (stringAt b v) refl
+    where
+      said : (n : ℕ) (u : Json) (k : ℕ) → got (str (v + 1) (n - v - 2)) k ≡ got u m → decode (part b (v + 1) (n - v - 2)) ≡ stringOf b u
+      said n u k q = let z : str (v + 1) (n - v - 2) ≡ u = cc in ap (stringOf b) z
+
+      go : (o : Out) → stringAt b v ≡ o → decode (case o (λ n. part b (v + 1) (n - v - 2)) []) ≡ stringOf b t
+      go (End n) e = said n t _ (sym (string-tree b v 6 n e) ∙ w)
+      go Bad e = sym (string-out b v (λ t. stringOf b t ≡ []) (λ a n. refl) (λ a n. refl) (λ ts. refl) (λ ts. refl) t m 6 e w)
 
 -- ---- the ways out of the functions on a string
 module _ {S : Type 0} {does : S → List ℕ → S → Type 0} (b : List ℕ) (v : ℕ) {x y : S} {next : ℕ} where

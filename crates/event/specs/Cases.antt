@@ -1,10 +1,20 @@
--- Worked cases of the order and of hex.
+-- Worked cases of the order, of hex, of the borders of rows 9 and 13, and of lent tags.
+use Prim.Native.Nat.{ℕ}
 use mathlib.Core.Bool.{true, false}
 use mathlib.Core.Path.{_≡_, refl}
-use mathlib.Core.List.{[], _∷_}
+use mathlib.Core.List.{List, [], _∷_}
 use lib.IntN.{pos, negsuc}
+use lib.ListN.{length}
+use Rattle.json.specs.Grammar.{classOf, run, past, oneAt, tokenAt, wordAt, literalAt, digitsAt, intAt, fracAt, expAt, numberAt, hexAt, escapedAt, charAt, charsUpTo, charsAt, stringAt, scalarAt}
+use Rattle.json.specs.Tree.{itemsAt, treeAt}
+use Rattle.spell.specs.Spell.{hexVal, four, fourAt, shortOf, isPair, pairOf, unicodeOf, charOf, charsFrom, utf8Of, bytesOf, joined, decode}
+use Rattle.message.specs.declared.Body.{Body}
+use Rattle.message.specs.declared.EventParts.{EventParts}
+use Rattle.message.specs.Lent.{eventRow}
+use Rattle.event.specs.Lent.{stringsOf, tagsOf, tagsAt, textOf}
+use Rattle.event.specs.declared.Written.the-variants.{Wrote, Refused}
 use Rattle.event.specs.Order.{isLower, isNewer}
-use Rattle.event.specs.Answer.{hexOf}
+use Rattle.event.specs.Answer.{hexOf, orElse, isLarge, offeredRow, shortRow, answered, writtenOut, hashedOf}
 
 -- time -1 is older than 0; equal times, id 00..01 beats 00..02; an event is not newer than itself
 order :
@@ -16,6 +26,41 @@ order :
 unfolding isNewer isLower
 order = (refl, refl, refl, refl, refl)
 
-hex : hexOf (0x00 ∷ 0x9a ∷ 0xf0 ∷ []) ≡ 48 ∷ 48 ∷ 57 ∷ 97 ∷ 102 ∷ 48 ∷ []
+-- 01 23 45 67 89 ab cd ef
+hex : hexOf (0x01 ∷ 0x23 ∷ 0x45 ∷ 0x67 ∷ 0x89 ∷ 0xab ∷ 0xcd ∷ 0xef ∷ []) ≡ 48 ∷ 49 ∷ 50 ∷ 51 ∷ 52 ∷ 53 ∷ 54 ∷ 55 ∷ 56 ∷ 57 ∷ 97 ∷ 98 ∷ 99 ∷ 100 ∷ 101 ∷ 102 ∷ []
 unfolding hexOf
 hex = refl
+
+-- "serialised text over 4,096 bytes": 4,096 are taken, 4,097 are not; by the text's length, and where it is hashed
+large : (b : List ℕ) (p : Body) → (length (textOf b p) ≡ 4096 → isLarge b p ≡ false) × (length (textOf b p) ≡ 4097 → isLarge b p ≡ true)
+unfolding isLarge
+large b p = (λ e. rw e, λ e. rw e)
+
+large-hashed : (t : List ℕ) → (length t ≡ 4096 → hashedOf t .row ≡ 0) × (length t ≡ 4097 → hashedOf t .row ≡ 9)
+unfolding hashedOf
+large-hashed t = (λ e. rw e, λ e. rw e)
+
+-- "Where several hold, the lowest number is given": 9 before 10 and before 13
+nine-first : (b : List ℕ) (p : EventParts) → eventRow b p ≡ 0 → isLarge b (p .body) ≡ true → offeredRow b p ≡ 9
+unfolding offeredRow
+nine-first b p e l = rw (e, l)
+
+lowest : (orElse 9 13 ≡ 9) × (orElse 0 13 ≡ 13)
+lowest = (refl, refl)
+
+-- an output as long as the text is long enough, and what is longer keeps its rest; one byte less is refused, and stays as found
+short : (shortRow (1 ∷ 2 ∷ []) (7 ∷ 8 ∷ []) ≡ 0) × (shortRow (1 ∷ 2 ∷ []) (7 ∷ []) ≡ 13) × (shortRow [] [] ≡ 0)
+short = (refl, refl, refl)
+
+outputs : (writtenOut 0 (1 ∷ 2 ∷ []) (7 ∷ 8 ∷ 9 ∷ []) ≡ 1 ∷ 2 ∷ 9 ∷ []) × (writtenOut 13 (1 ∷ 2 ∷ []) (7 ∷ []) ≡ 7 ∷ [])
+outputs = (refl, refl)
+
+answers : (answered 0 2 ≡ Wrote 2) × (answered 9 2 ≡ Refused 9)
+answers = (refl, refl)
+
+-- [ ["\u0064","\/"],[]] : what the strings say, not how they are spelled; what is no string of a tag, and no tag, is empty: [1,[7]]
+tags :
+    (tagsAt (91 ∷ 32 ∷ 91 ∷ 34 ∷ 92 ∷ 117 ∷ 48 ∷ 48 ∷ 54 ∷ 52 ∷ 34 ∷ 44 ∷ 34 ∷ 92 ∷ 47 ∷ 34 ∷ 93 ∷ 44 ∷ 91 ∷ 93 ∷ 93 ∷ []) 0 ≡ ((100 ∷ []) ∷ (47 ∷ []) ∷ []) ∷ [] ∷ [])
+    × (tagsAt (91 ∷ 49 ∷ 44 ∷ 91 ∷ 55 ∷ 93 ∷ 93 ∷ []) 0 ≡ [] ∷ ([] ∷ []) ∷ [])
+unfolding tagsAt tagsOf stringsOf classOf run past oneAt tokenAt wordAt literalAt digitsAt intAt fracAt expAt numberAt hexAt escapedAt charAt charsUpTo charsAt stringAt scalarAt itemsAt treeAt hexVal four fourAt shortOf isPair pairOf unicodeOf charOf charsFrom utf8Of bytesOf joined decode
+tags = (refl, refl)

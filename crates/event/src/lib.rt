@@ -6,7 +6,6 @@ ghost use lib.ListN.{length};
 ghost use Rattle.wire.specs.Put.{Puts};
 ghost use Rattle.json.specs.Grammar.{case, startAt};
 ghost use Rattle.json.specs.Tree.{endOf, treeAt, itemsAt};
-ghost use Rattle.rows.specs.Strings.{part};
 ghost use Rattle.wire.specs.Bytes.{sameBytes};
 ghost use Rattle.spell.specs.Spell.{decode};
 ghost use Rattle.text.specs.Event.{quoted, tagsText};
@@ -47,21 +46,6 @@ pub struct Identified {
     pub id: [u8; 32],
 }
 
-// The part of a buffer at a place, as far as it lies in it.
-fn piece(b: &[u8], start: usize, len: usize) -> &[u8]
-    ensures { λ r. ⌜ now r ≡ part (now (b .entry)) start len ⌝ }
-{
-    if b.len() <= start {
-        return &b[..0];
-    }
-    let room = b.len() - start;
-    if room < len {
-        return &b[start..];
-    }
-    let end = start + len;
-    &b[start..end]
-}
-
 // A string as spelled, decoded and escaped between quotes.
 fn put_quoted(out: &mut [u8], at: usize, p: &[u8]) -> usize
     ensures { λ r. ⌜ Puts (now (out .entry)) at (quoted (decode (now (p .entry)))) r (now (out .exit)) ⌝ }
@@ -87,7 +71,7 @@ fn put_string(out: &mut [u8], at: usize, b: &[u8], v: usize) -> Reached
 {
     match json::string(b, v) {
         json::Out::End(n) => {
-            let o = put_quoted(out, at, piece(b, v + 1, n - v - 2));
+            let o = put_quoted(out, at, wire::piece(b, v + 1, n - v - 2));
             Reached {
                 at: o,
                 next: json::space(b, n),
@@ -252,7 +236,7 @@ fn put_front(out: &mut [u8], at: usize, b: &[u8], p: message::Body) -> usize
 {
     let pubkey = p.pubkey;
     let a = wire::put(out, at, b"[0,\"");
-    let c = spell::put_decoded(out, a, piece(b, pubkey.start, pubkey.len));
+    let c = spell::put_decoded(out, a, wire::piece(b, pubkey.start, pubkey.len));
     let d = wire::put(out, c, b"\",");
     let e = numeral::put_decimal(out, d, p.created_at);
     let f = wire::put(out, e, b",");
@@ -268,7 +252,7 @@ fn put_back(out: &mut [u8], at: usize, b: &[u8], p: message::Body, known: json::
     let content = p.content;
     let a = put_tags_from(out, at, b, p.tags, known);
     let c = wire::put(out, a, b",");
-    let d = put_quoted(out, c, piece(b, content.start, content.len));
+    let d = put_quoted(out, c, wire::piece(b, content.start, content.len));
     wire::put(out, d, b"]")
 }
 
@@ -304,7 +288,7 @@ fn count_string(n: usize, b: &[u8], v: usize) -> Reached
 {
     match json::string(b, v) {
         json::Out::End(e) => {
-            let k = spell::escaped_len(piece(b, v + 1, e - v - 2));
+            let k = spell::escaped_len(wire::piece(b, v + 1, e - v - 2));
             Reached {
                 at: more(more(n, k), 2),
                 next: json::space(b, e),
@@ -419,11 +403,17 @@ pub fn text_len(b: &[u8], p: message::Body) -> usize
 {
     let pubkey = p.pubkey;
     let content = p.content;
-    let a = more(12, spell::decoded_len(piece(b, pubkey.start, pubkey.len)));
+    let a = more(
+        12,
+        spell::decoded_len(wire::piece(b, pubkey.start, pubkey.len)),
+    );
     let c = more(a, numeral::decimal_len(p.created_at));
     let d = more(c, numeral::natural_len(kind_of(p.kind)));
     let e = more(d, tags_len(b, p.tags));
-    more(e, spell::escaped_len(piece(b, content.start, content.len)))
+    more(
+        e,
+        spell::escaped_len(wire::piece(b, content.start, content.len)),
+    )
 }
 
 // One hex digit, and the digits of bytes, in lower case.
@@ -516,7 +506,7 @@ fn spells_id(b: &[u8], s: message::Span, id: [u8; 32]) -> bool
 {
     let mut hex = [0u8; 64];
     put_hex(&mut hex, 0, &id);
-    spell::spells(piece(b, s.start, s.len), &hex)
+    spell::spells(wire::piece(b, s.start, s.len), &hex)
 }
 
 // Rows 2 and 4 to 10 of an event that is offered as parts; where none holds, its text stands at the start of `t`.

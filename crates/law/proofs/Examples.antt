@@ -8,14 +8,16 @@ use Prim.Native.Nat.{ℕ, zero, suc}
 use lib.IntN.{ℤ, pos, negsuc}
 use lib.ListN.{replicate}
 use Rattle.law.specs.Lists.{_∈_}
-use Rattle.law.specs.Table.{Class, ephemeral, regular, keyed, Events}
+use Rattle.law.specs.Table.{Class, ephemeral, regular, keyed, Events, Laws}
 use Rattle.law.specs.Table.{Verdict, refused, wasEphemeral, duplicate, older, stored, noRoom}
-use Rattle.law.specs.Table.{Table, Offer, verdict, after, run, verdicts, lacks, Valid, Held, IdPremise, slotsNeeded}
-use Rattle.law.specs.Claims.{Settled, Relay, moment, end, Tells, Exchange, both, Fits}
+use Rattle.law.specs.Table.{Table, Offer, verdict, after, Valid, Held, IdPremise, Settled, slotsNeeded}
 use Rattle.wire.specs.Bytes.{sameBytes}
 use Rattle.law.specs.Event.{Event, newer, events}
 use Rattle.law.specs.Signature.{withSignature}
-use Rattle.law.specs.Machine.{Machine, Faithful, Passes}
+use Rattle.law.specs.Machine.{Machine, Demand3On, ExchangesOn}
+use Rattle.law.proofs.Run.{run, verdicts, lacks}
+use Rattle.law.proofs.Relays.{Relay, moment, end, Tells, Exchange, both, Fits}
+use Rattle.law.proofs.Machine.{Faithful, demand-3-on, exchanges-on}
 
 -- ---- Order
 
@@ -186,7 +188,7 @@ an-end-is-needed agree =
     let s = agree nowhere nowhere each-told each-told (λ e f v. absurd (List·Memᴰ·not-nil v)) tt tt in
     List·Memᴰ·not-nil (s .held (event 1 (0 ∷ [])) .0 (List·Memᴰ·head refl) .0)
 
--- ---- A relay that is faithful: the definition itself
+-- ---- A relay that meets demand 3: the definition itself
 
 module _ (E : Events) (Sig : Type 0) where
   pub record Listed : Type 0 where
@@ -198,6 +200,7 @@ module _ (E : Events) (Sig : Type 0) where
     State = Listed;
     Offering = Offer (withSignature E Sig);
     Answer = Verdict;
+    Fresh = λ b. b .held ≡ [];
     answer = λ b o. verdict (withSignature E Sig) (b .capacity) (b .held) o;
     next = λ b o. record { capacity = b .capacity; held = after (withSignature E Sig) (b .capacity) (b .held) o };
     verdictOf = λ v. v;
@@ -205,16 +208,23 @@ module _ (E : Events) (Sig : Type 0) where
     slots = λ b. b .held;
     judge = λ o. o;
     AsParts = λ o s. o ≡ some s;
-    Good = λ b. Unit {0};
   }
 
-  model-faithful : Faithful E Sig model
+  abbrev any-table : Listed → Type 0
+  any-table b = Unit {0}
+
+  model-faithful : Faithful E Sig model any-table
   model-faithful = record {
+    fresh = λ b f. tt;
+    empty = λ b f. f;
     good = λ b o g. tt;
     keeps = λ b o g. refl;
     says = λ b o g. refl;
     does = λ b o g. refl;
   }
 
-  model-passes : Passes E Sig model
-  model-passes b o s g m p = p
+  model-meets : Laws E → Demand3On E Sig model
+  model-meets L = demand-3-on E Sig model any-table model-faithful L (λ b o s g m p. p)
+
+  model-exchanges : ExchangesOn E Sig model
+  model-exchanges = exchanges-on E Sig model any-table model-faithful (λ b s g m. (some s, refl))

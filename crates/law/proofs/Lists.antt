@@ -198,6 +198,19 @@ module _ {A : Type 0} where
     without-other (List·Memᴰ·tail m) o y k q =
         ⊎-elim (λ e. o .0 _ m (ap f (sym e) ∙ q)) (λ j. without-other m (o .1) y j q) (List·Memᴰ·cases-cons k)
 
+-- two lists with the same entries, each once, have one length
+module _ {A : Type 0} where
+  pub same-length : (xs ys : List A) → Once (λ (x : A). x) xs → Once (λ (x : A). x) ys → ((x : A) → x ∈ xs ↔ x ∈ ys) → length xs ≡ length ys
+  same-length [] [] o r same = refl
+  same-length [] (y ∷ ys) o r same = absurd (List·Memᴰ·not-nil (same y .1 (List·Memᴰ·head refl)))
+  same-length (x ∷ xs) ys o r same =
+      let m = same x .0 (List·Memᴰ·head refl) in
+      ap suc (same-length xs (without m) (o .1) (without-once (λ x. x) m r) (λ y. (
+        λ k. without-keeps m (same y .0 (List·Memᴰ·tail k)) (λ q. o .0 y k (sym q)),
+        λ k. ⊎-elim (λ q. absurd (without-other (λ x. x) m r y k q)) (λ j. j) (List·Memᴰ·cases-cons (same y .1 (without-from m k))),
+      )))
+      ∙ sym (without-length m)
+
 -- ---- the count of different entries
 
 -- A list whose entries f tells apart, and which f takes to the entries of ys and to no others, is as long as ys has different entries.

@@ -1,16 +1,55 @@
--- The claims of demand 3 on two relays.
+-- Demand 3 on two relays, each a capacity and its lists of offers.
 use mathlib.Core.Path.{_≡_, ap, _∙_}
 use mathlib.Core.Logic.{_↔_, _⊎_, inl, inr, ⊎-elim, ⊎-swap}
 use mathlib.Core.List.{List, [], _++_, append-nil, append-assoc, List·Memᴰ·append-cases, Memᴰ·append-left, Memᴰ·append-right}
 use Prim.Native.Nat.{ℕ, _≤_}
 use native.Mathlib.Omega.{arith}
 use lib.ListN.{length}
-use Rattle.law.specs.Table.{Events, Laws, Offer, run, NoneLacks, Valid, IdPremise, Held, slotsNeeded}
-use Rattle.law.specs.Claims.{Settled, Enough, Relay, told, whole, moment, end, Tells, Exchange, both, Fits, RelaysAgree, RelaysFit, Demand3}
+use Rattle.law.specs.Table.{Events, Laws, Table, Offer, Valid, IdPremise, Held, SameHeld, Settled, slotsNeeded}
+use Rattle.law.proofs.Run.{run, NoneLacks}
 use Rattle.law.proofs.Held.{puts}
 use Rattle.law.proofs.Room.{puts-grow, puts-append, fits-run, short-fits}
-use Rattle.law.proofs.Law.{settled-same, ids-among, wins-among, enough-count, beginning-fits}
-use Rattle.law.proofs.Law.{held-set, beginnings, order-free, room-law, enough-law}
+use Rattle.law.proofs.Law.{settled-same, settled-count, ids-among, wins-among, Enough, enough-count, beginning-fits, held-set, enough-law}
+
+-- ---- two relays, as in specs/Machine
+
+module _ (E : Events) where
+  open Events E using (Event)
+
+  pub record Relay : Type 0 where
+    pub capacity : ℕ
+    pub history : List (Offer E)
+    pub early : List (Offer E)
+    pub late : List (Offer E)
+
+  abbrev pub told : Relay → List (Offer E)
+  told A = A .early ++ A .late
+
+  abbrev pub whole : Relay → List (Offer E)
+  whole A = A .history ++ told A
+
+  abbrev pub moment : Relay → Table E
+  moment A = run E (A .capacity) [] (A .history ++ A .early)
+
+  abbrev pub end : Relay → Table E
+  end A = run E (A .capacity) [] (whole A)
+
+  -- the valid events told to A are those that B holds at its moment
+  abbrev pub Tells : Relay → Relay → Type 0
+  Tells B A = (e : Event) → Valid E e (told A) ↔ Held E e (moment B)
+
+  pub record Exchange (A B : Relay) : Type 0 where
+    pub to-A : Tells B A
+    pub to-B : Tells A B
+    pub at-an-end : (A .early ≡ []) ⊎ (B .early ≡ [])
+
+  abbrev pub both : Relay → Relay → List (Offer E)
+  both A B = A .history ++ B .history
+
+  abbrev pub Fits : Relay → Type 0
+  Fits A = NoneLacks E (A .capacity) (whole A)
+
+-- ---- the claims
 
 module _ (E : Events) (L : Laws E) where
   open Events E using (Event)
@@ -20,7 +59,7 @@ module _ (E : Events) (L : Laws E) where
   pub told-enough : (M : ℕ) (gs zs os all : List (Offer E)) → IdPremise E all → NoneLacks E M os
       → ((e : Event) → Valid E e gs → Valid E e all) → ((e : Event) → Valid E e os → Valid E e all)
       → ((e : Event) → Valid E e all → Valid E e gs ⊎ Valid E e os)
-      → ((e : Event) → Valid E e zs ↔ Held E e (run E M [] os)) → Enough E (gs ++ zs) all
+      → ((e : Event) → Valid E e zs ↔ Held E e (run E M [] os)) → Enough E L (gs ++ zs) all
   told-enough M gs zs os all ids fit gsub osub parts held =
       let s = held-set E L M os (ids-among E L osub ids) fit in
       record {
@@ -42,7 +81,7 @@ module _ (E : Events) (L : Laws E) where
     to-B′ : (e : Event) → Valid E e (told E B) ↔ Held E e (run E (A .capacity) [] (A .history))
     to-B′ e = rw at-history at (to-B e)
 
-    enough-B : NoneLacks E (A .capacity) (A .history) → Enough E (whole E B) all
+    enough-B : NoneLacks E (A .capacity) (A .history) → Enough E L (whole E B) all
     enough-B fit = told-enough (A .capacity) (B .history) (told E B) (A .history) all ids fit
         bsub asub (λ e v. ⊎-swap (parts e v)) to-B′
 
@@ -52,7 +91,7 @@ module _ (E : Events) (L : Laws E) where
         (λ z. enough-B fit .among e (Memᴰ·append-right (B .history) (Memᴰ·append-left (B .late) z)))
         (List·Memᴰ·append-cases (B .history) v)
 
-    enough-A : NoneLacks E (A .capacity) (A .history) → NoneLacks E (B .capacity) (B .history ++ B .early) → Enough E (whole E A) all
+    enough-A : NoneLacks E (A .capacity) (A .history) → NoneLacks E (B .capacity) (B .history ++ B .early) → Enough E L (whole E A) all
     enough-A fit fit′ = told-enough (B .capacity) (A .history) (told E A) (B .history ++ B .early) all ids fit′
         asub (early-sub fit)
         (λ e v. ⊎-elim inl (λ b. inr (Memᴰ·append-left (B .early) b)) (parts e v)) to-A
@@ -76,7 +115,7 @@ module _ (E : Events) (L : Laws E) where
         let needA = enough-count E L (whole E A) all ids (enough-A past (moment-fits fitB)) in
         (short-fits E L (A .capacity) (whole E A) (omega (arith, needA)), fitB)
 
-  history-few : (os ps all : List (Offer E)) → IdPremise E all → Enough E (os ++ ps) all → length (puts E L [] os) ≤ slotsNeeded E all
+  history-few : (os ps all : List (Offer E)) → IdPremise E all → Enough E L (os ++ ps) all → length (puts E L [] os) ≤ slotsNeeded E all
   history-few os ps all ids n =
       let grown = puts-grow E L ps (puts E L [] os) in
       omega (arith, enough-count E L (os ++ ps) all ids n, grown, ap length (puts-append E L os ps []))
@@ -116,30 +155,23 @@ module _ (E : Events) (L : Laws E) where
         (s .1, s .0))
         (x .at-an-end)
 
-  pub relays-agree : RelaysAgree E
+  pub relays-agree : (A B : Relay E) → Exchange E A B → IdPremise E (both E A B) → Fits E A → Fits E B
+      → Settled E (end E A) (both E A B) × Settled E (end E B) (both E A B) × SameHeld E (end E A) (end E B)
   relays-agree A B x ids fit fit′ =
       let s = settled-both A B x ids fit fit′ in
       (s .0, s .1, settled-same E L (end E A) (end E B) (both E A B) (s .0) (s .1))
 
   -- a relay that lacks no room holds no more than its capacity
-  count-fits : (A : Relay E) (os : List (Offer E)) → Fits E A → Settled E (end E A) os → slotsNeeded E os ≤ A .capacity
-  count-fits A os fit s =
+  count-fits : (A : Relay E) (os : List (Offer E)) → IdPremise E os → Fits E A → Settled E (end E A) os → slotsNeeded E os ≤ A .capacity
+  count-fits A os ids fit s =
       let (q, le) = fits-run E L (A .capacity) (whole E A) fit in
-      omega (arith, s .count, ap length q, le)
+      omega (arith, settled-count E L (end E A) os ids s, ap length q, le)
 
-  pub relays-fit : RelaysFit E
+  pub relays-fit : (A B : Relay E) → Exchange E A B → IdPremise E (both E A B)
+      → (Fits E A × Fits E B) ↔ ((slotsNeeded E (both E A B) ≤ A .capacity) × (slotsNeeded E (both E A B) ≤ B .capacity))
   relays-fit A B x ids = (
     λ f.
         let s = settled-both A B x ids (f .0) (f .1) in
-        (count-fits A (both E A B) (f .0) (s .0), count-fits B (both E A B) (f .1) (s .1)),
+        (count-fits A (both E A B) ids (f .0) (s .0), count-fits B (both E A B) ids (f .1) (s .1)),
     λ le. fits A B x ids (le .0) (le .1),
   )
-
-  pub demand-3 : Demand3 E
-  demand-3 = record {
-    held-set = held-set E L;
-    beginnings = beginnings E L;
-    order-free = order-free E L;
-    relays-agree = relays-agree;
-    room-law = room-law E L;
-  }

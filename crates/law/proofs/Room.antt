@@ -10,8 +10,9 @@ use lib.Dec.{T, T-not, leb, leb→le, nleb→lt}
 use lib.ListN.{length}
 use Rattle.law.specs.Lists.{_∈_, any, store, different}
 use Rattle.law.specs.Table.{Class, ephemeral, regular, keyed, Events, Laws, isEphemeral, isNoRoom, isStored, firstOf}
-use Rattle.law.specs.Table.{Table, Offer, hasId, hasKey, hasKeyNewer, verdict, after, run, verdicts, lacks, NoneLacks}
+use Rattle.law.specs.Table.{Table, Offer, hasId, hasKey, hasKeyNewer, verdict, after}
 use Rattle.law.specs.Table.{Valid, IdPremise, idIfRegular, keyIfKeyed, regularIds, keys, slotsNeeded}
+use Rattle.law.proofs.Run.{run, verdicts, lacks, NoneLacks}
 use Rattle.law.proofs.Lists.{store-length, count-law}
 use Rattle.law.proofs.Held.{Place, own, shared, placeOf, place, Lasting, Right, covers, right}
 use Rattle.law.proofs.Held.{valid-cases, valid-skip, put, puts}

@@ -3,13 +3,14 @@ use mathlib.Core.Path.{_≡_, refl, ap, ap₂, _∙_}
 use mathlib.Core.Bool.{Bool, true, false, cond, _||_}
 use mathlib.Core.Logic.{⊎-elim}
 use mathlib.Core.Option.{none, some}
-use mathlib.Core.List.{List, [], _∷_, map}
+use mathlib.Core.List.{List, [], _∷_, _++_, map}
 use Prim.Native.Nat.{ℕ}
 use lib.ListN.{length-map}
-use Rattle.law.specs.Lists.{any, store}
+use Rattle.law.specs.Lists.{_∈_, any, store}
 use Rattle.law.specs.Table.{Events, Laws, isNoRoom, isStored, Table, Offer, hasId, hasKey, hasKeyNewer}
-use Rattle.law.specs.Table.{verdict, after, run, verdicts, lacks}
-use Rattle.law.specs.Signature.{withSignature, event, withoutSignature, SignatureStays}
+use Rattle.law.specs.Table.{verdict, after}
+use Rattle.law.specs.Signature.{withSignature, event, withoutSignature}
+use Rattle.law.proofs.Run.{run, verdicts, lacks}
 use Rattle.law.proofs.Sound.{later-beats}
 
 module _ {A B : Type 0} (f : A → B) where
@@ -76,7 +77,8 @@ module _ (E : Events) (Sig : Type 0) where
     total = λ a b. L .total (a .0) (b .0);
   }
 
-  pub signature-stays : Laws E → SignatureStays E Sig
+  pub signature-stays : Laws E → (N : ℕ) (os ps : List (Offer S)) (e : E .Event) (s r : Sig)
+      → (e, s) ∈ run S N [] os → (e, r) ∈ run S N [] (os ++ ps) → r ≡ s
   signature-stays L N os ps e s r m k = ⊎-elim
       (λ (q : (e, r) ≡ (e, s)). ap (λ x. x .1) q)
       (λ n. absurd (L .irreflexive e n))

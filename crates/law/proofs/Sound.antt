@@ -3,17 +3,24 @@ use mathlib.Core.Path.{_≡_, refl, sym, ap, _∙_}
 use mathlib.Core.Bool.{Bool, true, false, cond, not}
 use mathlib.Core.Logic.{_⊎_, inl, inr, ⊎-elim, _≢_}
 use mathlib.Core.Option.{none, some}
-use mathlib.Core.List.{List, [], _∷_, _++_, List·Memᴰ·head, List·Memᴰ·tail, List·Memᴰ·not-nil}
+use mathlib.Core.List.{List, [], _∷_, _++_, List·Memᴰ·not-nil}
 use Prim.Native.Nat.{ℕ}
 use lib.Dec.{T}
 use Rattle.law.specs.Lists.{_∈_, any, store, Pairwise, Once}
-use Rattle.law.specs.Table.{Class, ephemeral, regular, keyed, Events, Laws, isEphemeral, shareKey, stored, isStored, firstOf}
-use Rattle.law.specs.Table.{Table, Offer, hasId, hasKey, hasKeyNewer, lacksSlot, Distinct, verdict, after, run, Valid}
+use Rattle.law.specs.Table.{Class, ephemeral, regular, keyed, Events, Laws, Verdict, refused, wasEphemeral, duplicate, older, stored, noRoom, isEphemeral, shareKey, isStored, firstOf}
+use Rattle.law.specs.Table.{Table, Offer, hasId, hasKey, hasKeyNewer, lacksSlot, verdict, after}
+use Rattle.law.proofs.Run.{run}
 use Rattle.law.proofs.Lists.{store-from, store-pairwise, once-same}
 use Rattle.law.proofs.Held.{place, place-shares, Beats, Lasting, Covered, other-id, store-covers}
 
 module _ (E : Events) where
-  open Events E using (Event)
+  open Events E using (Event, idOf, classOf)
+
+  -- no ephemeral kind, no id and no key twice
+  pub record Distinct (t : Table E) : Type 0 where
+    pub lasting : (e : Event) → e ∈ t → T (not (isEphemeral (classOf e)))
+    pub ids : Once idOf t
+    pub keys : Pairwise (λ e h. T (hasKey E e h) → ⊥) t
 
   -- a stored event, and any other offer
   pub after-stored : (N : ℕ) (t : Table E) (e : Event) → verdict E N t (some e) ≡ stored → after E N t (some e) ≡ store (hasKey E e) e t
@@ -25,17 +32,35 @@ module _ (E : Events) where
   after-other N t none p = refl
   after-other N t (some e) p = rw p
 
-  -- what is held was held before or is a valid event of the list
-  pub run-from : (N : ℕ) (os : List (Offer E)) (t : Table E) (x : Event) → x ∈ run E N t os → (x ∈ t) ⊎ Valid E x os
+  -- what is held was held before or stored by an offer of the list
+  pub record StoredIn (N : ℕ) (t : Table E) (os : List (Offer E)) (x : Event) : Type 0 where
+    pub before : List (Offer E)
+    pub later : List (Offer E)
+    pub splits : os ≡ before ++ (some x ∷ later)
+    pub says : verdict E N (run E N t before) (some x) ≡ stored
+
+  pub run-from : (N : ℕ) (os : List (Offer E)) (t : Table E) (x : Event) → x ∈ run E N t os → (x ∈ t) ⊎ StoredIn N t os x
   unfolding run after
   run-from N [] t x m = inl m
-  run-from N (none ∷ os) t x m = ⊎-elim inl (λ v. inr (List·Memᴰ·tail v)) (run-from N os t x m)
-  run-from N (some e ∷ os) t x m =
-      ⊎-elim (go (isStored (verdict E N t (some e)))) (λ v. inr (List·Memᴰ·tail v)) (run-from N os (after E N t (some e)) x m)
+  run-from N (o ∷ os) t x m = ⊎-elim (here o) (λ s. inr (there o s)) (run-from N os (after E N t o) x m)
     where
-      go : (b : Bool) → x ∈ cond b (store (hasKey E e) e t) t → (x ∈ t) ⊎ Valid E x (some e ∷ os)
-      go true k = ⊎-elim (λ q. inr (List·Memᴰ·head (ap some q))) inl (store-from (hasKey E e) e t k)
-      go false k = inl k
+      there : (o : Offer E) → StoredIn N (after E N t o) os x → StoredIn N t (o ∷ os) x
+      there o s = record { before = o ∷ s .before; later = s .later; splits = ap (o ∷_) (s .splits); says = s .says }
+
+      now : (e : Event) → verdict E N t (some e) ≡ stored → x ≡ e → StoredIn N t (some e ∷ os) x
+      now e v q = record { before = []; later = os; splits = ap (λ y. some y ∷ os) (sym q); says = rw q v }
+
+      here : (o : Offer E) → x ∈ after E N t o → (x ∈ t) ⊎ StoredIn N t (o ∷ os) x
+      here none k = inl k
+      here (some e) k = go (verdict E N t (some e)) refl k
+        where
+          go : (v : Verdict) → verdict E N t (some e) ≡ v → x ∈ cond (isStored v) (store (hasKey E e) e t) t → (x ∈ t) ⊎ StoredIn N t (some e ∷ os) x
+          go refused p k = inl k
+          go wasEphemeral p k = inl k
+          go duplicate p k = inl k
+          go older p k = inl k
+          go stored p k = ⊎-elim (λ q. inr (now e p q)) inl (store-from (hasKey E e) e t k)
+          go noRoom p k = inl k
 
 module _ (E : Events) (L : Laws E) where
   open Events E using (Event, Id, Key, idOf, classOf, sameKey)

@@ -3,17 +3,31 @@ use mathlib.Core.Path.{_≡_, refl, sym, ap, ap₂, _∙_}
 use mathlib.Core.Bool.{Bool, true, false, cond, not, _||_, _&&_}
 use mathlib.Core.Logic.{_⊎_, inl, inr, ⊎-elim, _≢_}
 use mathlib.Core.Option.{some}
-use mathlib.Core.List.{List, [], _∷_, List·Memᴰ·head, List·Memᴰ·tail, List·Memᴰ·not-nil, List·Memᴰ·cases-cons, List·Memᴰ·eq-of-singleton}
+use mathlib.Core.List.{List, [], _∷_, _++_, List·Memᴰ·head, List·Memᴰ·tail, List·Memᴰ·not-nil, List·Memᴰ·cases-cons, List·Memᴰ·eq-of-singleton, Memᴰ·map, Memᴰ·of-map, Memᴰ·cast}
 use Prim.Native.Nat.{ℕ, _+_, _≤_}
 use native.Mathlib.Omega.{arith}
 use lib.Dec.{T, not-T, leb, leb→le}
 use lib.ListN.{length, length-map}
+use Rattle.law.specs.Lists.{_∈_}
 use Rattle.law.specs.Table.{regular, Events, Laws, stored, duplicate, firstOf}
-use Rattle.law.specs.Table.{Offer, verdict, after, Valid, IdPremise, Held, slotsNeeded}
-use Rattle.law.specs.Claims.{Settled}
+use Rattle.law.specs.Table.{Offer, verdict, after, Valid, IdPremise, Held, Settled, slotsNeeded}
 use Rattle.law.specs.Signature.{Slot, withSignature, event, withoutSignature}
-use Rattle.law.specs.Machine.{Machine, Faithful, Fresh, view, judged, runOn, lacksOn, HeldSetOn, RoomLawOn}
+use Rattle.law.specs.Machine.{Machine, view, judged, runOn, lacksOn, HeldSetOn, RoomLawOn, SignatureStoredOn}
+use Rattle.law.proofs.Law.{settled-count}
 use Rattle.law.proofs.Signature.{signed-laws}
+use Rattle.law.proofs.Machine.{Faithful}
+
+-- ---- lists
+
+no-entry : {A : Type 0} (xs : List A) → ((x : A) → x ∈ xs → ⊥) → xs ≡ []
+no-entry [] n = refl
+no-entry (x ∷ xs) n = absurd (n x (List·Memᴰ·head refl))
+
+-- the one entry of a list of one
+only : {A : Type 0} {x y : A} (xs ys : List A) → x ∷ [] ≡ xs ++ (y ∷ ys) → x ≡ y
+only [] ys e = cc
+only (z ∷ []) ys e = absurd (let q : _≡_ {A = ℕ} 0 1 = cc in omega arith)
+only (z ∷ w ∷ xs) ys e = absurd (let q : _≡_ {A = ℕ} 0 1 = cc in omega arith)
 
 -- ---- lists of one and of two regular events
 
@@ -76,7 +90,7 @@ module _ (E : Events) where
 
 module _ (E : Events) (Sig : Type 0) (M : Machine E Sig) where
   open Events E using (Event, idOf, classOf)
-  open Machine M using (State, Offering, answer, next, verdictOf, capacity, slots, judge)
+  open Machine M using (State, Offering, Fresh, answer, next, verdictOf, capacity, slots, judge)
 
   -- an offer of a regular event
   pub record OfRegular (o : Offering) (e : Event) : Type 0 where
@@ -92,11 +106,16 @@ module _ (E : Events) (Sig : Type 0) (M : Machine E Sig) where
 
   module _ (held : HeldSetOn E Sig M) (room : RoomLawOn E Sig M) where
     -- a list that needs no more slots than there are leaves the held set
-    settles : (b : State) (os : List Offering) → Fresh E Sig M b → IdPremise E (judged E Sig M os)
+    settles : (b : State) (os : List Offering) → Fresh b → IdPremise E (judged E Sig M os)
         → slotsNeeded E (judged E Sig M os) ≤ capacity b → Settled E (view E Sig M (runOn E Sig M b os)) (judged E Sig M os)
     settles b os f ids le = held b os f ids (not-T (lacksOn E Sig M b os) (λ t. omega (arith, room b os f ids .0 t)))
 
-    module _ (b : State) (f : Fresh E Sig M b) where
+    -- a fresh table holds nothing: what it holds would be a valid event of the empty list
+    empty : (b : State) → Fresh b → slots b ≡ []
+    unfolding runOn
+    empty b f = no-entry (slots b) (λ s m. List·Memᴰ·not-nil (settles b [] f (λ e g v. absurd (List·Memᴰ·not-nil v)) (omega arith) .held (s .0) .0 (Memᴰ·map (event E Sig) m) .0))
+
+    module _ (b : State) (f : Fresh b) where
       -- after one offer of a regular event that event alone is held
       one-held : (o : Offering) (e : Event) → OfRegular o e → 1 ≤ capacity b → Settled E (view E Sig M (next b o)) (some e ∷ [])
       unfolding runOn
@@ -117,7 +136,7 @@ module _ (E : Events) (Sig : Type 0) (M : Machine E Sig) where
       stores-nothing o e v le idle =
           let s = one-held o e v le in
           let m : Held E e (view E Sig M (next b o)) = s .held e .1 (List·Memᴰ·head refl, rw (v .kind) tt) in
-          List·Memᴰ·not-nil (rw (idle b o, f .empty) at m)
+          List·Memᴰ·not-nil (rw (idle b o, empty b f) at m)
 
       -- "one that stores the first offer and only acknowledges later ones"
       pub stores-first-only : (o p : Offering) (e g : Event) → OfRegular o e → OfRegular p g → idOf e ≢ idOf g → 2 ≤ capacity b
@@ -131,30 +150,47 @@ module _ (E : Events) (Sig : Type 0) (M : Machine E Sig) where
           ne (ap idOf (sym (same-event E (s .held g .0 k .0))))
 
       -- "a made-up held count": one that no offer changes, and any other than the slots needed
-      pub constant-count : (o : Offering) (e : Event) → OfRegular o e → 1 ≤ capacity b
+      pub constant-count : Laws E → (o : Offering) (e : Event) → OfRegular o e → 1 ≤ capacity b
           → ((b : State) (o : Offering) → length (slots (next b o)) ≡ length (slots b)) → ⊥
-      constant-count o e v le idle =
-          let c = one-held o e v le .count in
-          omega (arith, c, one-needed E e (v .kind), length-map (slots (next b o)) (event E Sig), idle b o, ap length (f .empty))
+      constant-count L o e v le idle =
+          let c = settled-count E L (view E Sig M (next b o)) (some e ∷ []) (one-ids E e) (one-held o e v le) in
+          omega (arith, c, one-needed E e (v .kind), length-map (slots (next b o)) (event E Sig), idle b o, ap length (empty b f))
 
-      pub made-up-count : (os : List Offering) → IdPremise E (judged E Sig M os) → slotsNeeded E (judged E Sig M os) ≤ capacity b
+      pub made-up-count : Laws E → (os : List Offering) → IdPremise E (judged E Sig M os) → slotsNeeded E (judged E Sig M os) ≤ capacity b
           → (n : ℕ) → n ≢ slotsNeeded E (judged E Sig M os) → length (slots (runOn E Sig M b os)) ≢ n
-      made-up-count os ids le n ne q =
-          ne (sym q ∙ sym (length-map (slots (runOn E Sig M b os)) (event E Sig)) ∙ settles b os f ids le .count)
+      made-up-count L os ids le n ne q =
+          ne (sym q ∙ sym (length-map (slots (runOn E Sig M b os)) (event E Sig)) ∙ settled-count E L (view E Sig M (runOn E Sig M b os)) (judged E Sig M os) ids (settles b os f ids le))
+
+      -- after an offer the table holds the event with the very signature that was offered
+      pub held-signature : SignatureStoredOn E Sig M → (o : Offering) (e : Event) (v : OfRegular o e) → 1 ≤ capacity b
+          → ((e, v .signature) ∈ slots (next b o) → ⊥) → ⊥
+      unfolding runOn
+      held-signature sigs o e v le other =
+          let m : Held E e (view E Sig M (next b o)) = one-held o e v le .held e .1 (List·Memᴰ·head refl, rw (v .kind) tt) in
+          let (s, k, q) = Memᴰ·of-map (event E Sig) (slots (next b o)) m in
+          let i = sigs b (o ∷ []) s f k in
+          let j : some s ≡ some (e, v .signature) = sym (i .brings) ∙ ap judge (sym (only (i .before) (i .later) (i .splits))) ∙ v .valid in
+          let same : s ≡ (e, v .signature) = cc in
+          other (Memᴰ·cast (sym same) k)
+
+      -- one that stores another signature than the offer's
+      pub other-signature : SignatureStoredOn E Sig M → (o : Offering) (e : Event) → OfRegular o e → 1 ≤ capacity b
+          → ((b : State) (o : Offering) (s : Slot E Sig) → judge o ≡ some s → s ∈ slots (next b o) → ⊥) → ⊥
+      other-signature sigs o e v le other = held-signature sigs o e v le (other b o (e, v .signature) (v .valid))
 
   -- "one verdict .. for all": the first offer of a regular event is stored, and the second is a duplicate
-  pub one-verdict : Faithful E Sig M → Laws E → (b : State) → Fresh E Sig M b → (o : Offering) (e : Event) → OfRegular o e → 1 ≤ capacity b
+  pub one-verdict : (Good : State → Type 0) → Faithful E Sig M Good → Laws E → (b : State) → Fresh b → (o : Offering) (e : Event) → OfRegular o e → 1 ≤ capacity b
       → ((b c : State) (o p : Offering) → verdictOf (answer b o) ≡ verdictOf (answer c p)) → ⊥
-  one-verdict F L b f o e v le same =
+  one-verdict Good F L b f o e v le same =
       let S : Events = withSignature E Sig in
       let x : Slot E Sig = (e, v .signature) in
       let first : verdictOf (answer b o) ≡ stored =
-      F .says b o (f .good) ∙ ap₂ (verdict S (capacity b)) (f .empty) (v .valid) ∙ fresh-stored S (capacity b) x le (v .kind) in
+      F .says b o (F .fresh b f) ∙ ap₂ (verdict S (capacity b)) (F .empty b f) (v .valid) ∙ fresh-stored S (capacity b) x le (v .kind) in
       let one : slots (next b o) ≡ x ∷ [] =
-      F .does b o (f .good) ∙ ap₂ (after S (capacity b)) (f .empty) (v .valid) ∙ fresh-table S (capacity b) x le (v .kind) in
+      F .does b o (F .fresh b f) ∙ ap₂ (after S (capacity b)) (F .empty b f) (v .valid) ∙ fresh-table S (capacity b) x le (v .kind) in
       let again = again-duplicate S (signed-laws E Sig L) (capacity (next b o)) x (v .kind) in
       let second : verdictOf (answer (next b o) o) ≡ duplicate =
-      F .says (next b o) o (F .good b o (f .good)) ∙ ap₂ (verdict S (capacity (next b o))) one (v .valid) ∙ again in
+      F .says (next b o) o (F .good b o (F .fresh b f)) ∙ ap₂ (verdict S (capacity (next b o))) one (v .valid) ∙ again in
       let clash : stored ≡ duplicate = sym first ∙ same b (next b o) o o ∙ second in
       let z : _≡_ {A = ℕ} 0 1 = cc in
       omega arith

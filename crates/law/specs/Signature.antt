@@ -1,11 +1,7 @@
 -- Slots: an event with the signature that was stored with it.
 -- 01: "Offers with one id and one text but other signatures are the same event": the tests look at the event alone.
-use mathlib.Core.Path.{_≡_}
 use mathlib.Core.Option.{none, some}
-use mathlib.Core.List.{List, [], _++_}
-use Prim.Native.Nat.{ℕ}
-use Rattle.law.specs.Lists.{_∈_}
-use Rattle.law.specs.Table.{Events, Offer, run}
+use Rattle.law.specs.Table.{Events, Offer}
 
 module _ (E : Events) (Sig : Type 0) where
   abbrev pub Slot : Type 0
@@ -30,8 +26,3 @@ module _ (E : Events) (Sig : Type 0) where
   abbrev pub withoutSignature : Offer withSignature → Offer E
   withoutSignature none = none
   withoutSignature (some s) = some (s .0)
-
-  -- 01: "the signature first stored stays"
-  abbrev pub SignatureStays : Type 0
-  SignatureStays = (N : ℕ) (os ps : List (Offer withSignature)) (e : E .Event) (s r : Sig) →
-      (e, s) ∈ run withSignature N [] os → (e, r) ∈ run withSignature N [] (os ++ ps) → r ≡ s

@@ -1,4 +1,4 @@
--- The table of a relay as the list of the events in its slots; what an offer does, and what a list of offers does and should leave.
+-- The table of a relay as the list of the events in its slots; what an offer does, and what a list of offers should leave.
 -- In the order of 01, "Kinds and keys" and "The table"; quotes are from 01 where nothing else is said.
 use mathlib.Core.Path.{_≡_}
 use mathlib.Core.Bool.{Bool, true, false, cond, not, _&&_}
@@ -8,7 +8,7 @@ use mathlib.Core.List.{List, [], _∷_}
 use Prim.Native.Nat.{ℕ, _+_}
 use lib.Dec.{T, leb}
 use lib.ListN.{length}
-use Rattle.law.specs.Lists.{_∈_, any, store, different, Pairwise, Once}
+use Rattle.law.specs.Lists.{_∈_, any, store, different, Once}
 
 -- ---- Kinds and keys
 
@@ -65,12 +65,6 @@ module _ (E : Events) where
   -- the held event h has the key of e
   abbrev pub hasKey : Event → Event → Bool
   hasKey e h = shareKey sameKey (classOf h) (classOf e)
-
-  -- "Sound: .. no ephemeral kind, no id or key held twice"
-  pub record Distinct (t : Table) : Type 0 where
-    pub lasting : (e : Event) → e ∈ t → T (not (isEphemeral (classOf e)))
-    pub ids : Once idOf t
-    pub keys : Pairwise (λ e h. T (hasKey e h) → ⊥) t
 
 -- ---- Verdicts of an offer
 
@@ -131,11 +125,6 @@ module _ (E : Events) where
 
   -- ---- Lists of offers
 
-  -- Demand 3: "the first made to a fresh table and each other to the table the last one left". A fresh table is []: "its C is 0"
-  unfoldable pub run : ℕ → Table E → List Offer → Table E
-  run N t [] = t
-  run N t (o ∷ os) = run N (after N t o) os
-
   -- e is a valid event of the list: "Valid is judged from what is offered, whatever the table holds."
   abbrev pub Valid : Event → List Offer → Type 0
   Valid e os = some e ∈ os
@@ -143,14 +132,6 @@ module _ (E : Events) where
   -- "The set held is the pairs of id and text in slots 0 to C-1."
   abbrev pub Held : Event → Table E → Type 0
   Held e t = e ∈ t
-
-  unfoldable pub verdicts : ℕ → Table E → List Offer → List Verdict
-  verdicts N t [] = []
-  verdicts N t (o ∷ os) = verdict N t o ∷ verdicts N (after N t o) os
-
-  -- some offer of the list lacks room
-  abbrev pub lacks : ℕ → Table E → List Offer → Bool
-  lacks N t os = any isNoRoom (verdicts N t os)
 
   -- "Two lists have the same valid events when each pair of id and text valid in one is valid in the other."
   abbrev pub SameValid : List Offer → List Offer → Type 0
@@ -186,10 +167,6 @@ module _ (E : Events) where
 
   -- ---- Demand 3
 
-  -- "none lacked room"
-  abbrev pub NoneLacks : ℕ → List Offer → Type 0
-  NoneLacks N os = T (not (lacks N [] os))
-
   -- "no two valid events of the list share an id with different serialised texts"
   abbrev pub IdPremise : List Offer → Type 0
   IdPremise os = (e f : Event) → Valid e os → Valid f os → idOf e ≡ idOf f → e ≡ f
@@ -207,3 +184,10 @@ module _ (E : Events) where
   -- "an equal set"
   abbrev pub SameHeld : Table E → Table E → Type 0
   SameHeld t u = (e : Event) → Held e t ↔ Held e u
+
+  -- the table t is what demand 3 gives for the valid events of os
+  pub record Settled (t : Table E) (os : List Offer) : Type 0 where
+    -- "an event is held exactly when it is a valid one of the list and either regular, or .."
+    pub held : (e : Event) → Held e t ↔ Wins e os
+    -- "Each is held once."
+    pub once : Once (λ (e : Event). e) t

@@ -53,10 +53,15 @@ group-of s at named ts n e = on (startAt s at) refl (sym (tree-open s within at 
         let (us, k, w, e₁) = bind-got (itemsAt (treeAt s within) s b (length s) i) _ q in
         same b us e₁ (filled p (walk-of (treeAt s within) s b (length s) i us k w))
 
-upTo-ended : (f : ℕ) (s : List ℕ) → upTo f s Ended ≡ []
+pub upTo-ended : (f : ℕ) (s : List ℕ) → upTo f s Ended ≡ []
 unfolding upTo
 upTo-ended zero s = refl
 upTo-ended (suc f) s = refl
+
+pub upTo-broken : (f : ℕ) (s : List ℕ) → upTo f s Broken ≡ []
+unfolding upTo
+upTo-broken zero s = refl
+upTo-broken (suc f) s = refl
 
 -- the elements that a walk over an array's items passes, where the fuel is enough
 pub walk-places : {s : List ℕ} {f i : ℕ} {ts : Items} {n : ℕ} (g : ℕ) → f ≤ g → Walk (treeAt s within) s false f i ts n → upTo g s (At i) ≡ placesOf ts

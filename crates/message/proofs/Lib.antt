@@ -1,13 +1,15 @@
 -- Walks and Elements have what a reader of lists and of parts needs of the tree.
-mod Pieces
+mod Scalars
 pub mod Walks
 pub mod Elements
 pub mod Found
 pub mod Reading
 mod Worded
 pub mod Order
-mod Ranks
+pub mod Ranks
 mod Edges
-mod Facts
+pub mod Facts
 mod Clean
 pub mod Passes
+pub mod Taken
+pub mod Checked

@@ -6,18 +6,19 @@ use mathlib.Core.Bool.{Bool, true, false, cond, not, _&&_, _||_, or-false}
 use Prim.Native.Nat.{ℕ, _+_, _-_, _<_, _≤_, min}
 use native.Mathlib.Decide.{decLe}
 use native.Mathlib.Omega.{arith}
-use borrow.Author.Tests.{le-leb, lt-leb}
-use lib.Dec.{leb}
+use borrow.Author.Tests.{le-leb, lt-leb, eq-eqb, ne-eqb, eqb-true, eqb-false}
+use lib.Dec.{eqb, leb}
 use lib.IntN.{ℤ, pos, negℤ}
 use lib.ListN.{length}
 use Rattle.utf8.specs.Utf8.{isUtf8}
 use Rattle.json.specs.Grammar.{isSpelling}
-use Rattle.json.specs.Tree.{Json, Got, none, got, endOf, depth, treeAt}
-use Rattle.json.specs.declared.Out.the-variants.{End, Bad}
-use Rattle.spell.specs.Spell.{refuses, isHexOf}
+use Rattle.json.specs.Tree.{Json, Got, none, got, depth, treeAt}
+use Rattle.spell.specs.Spell.{characterCount, refuses, isHexOf}
+use Rattle.wire.specs.Limits.{mostCharacters}
 use Rattle.numeral.specs.Whole.{isWithin}
 use Rattle.numeral.specs.declared.Whole.the-variants.{Value}
 use Rattle.rows.specs.Strings.{part, refusedIn}
+use Rattle.shape.specs.Rows.{outside}
 use Rattle.shape.proofs.Low.{low, Lowest as Lower, join as lower-join}
 use Rattle.message.specs.declared.Span.{Span}
 use Rattle.message.specs.declared.Body.{Body}
@@ -29,8 +30,8 @@ use Rattle.message.specs.declared.Listed.{Listed}
 use Rattle.message.specs.declared.Listed.the-variants as listed
 use Rattle.shape.specs.declared.Sort.{Sort}
 use Rattle.shape.specs.declared.Sort.the-variants.{Tags, Hexes, Smalls, Filter}
-use Rattle.message.specs.Lent.{lowest, bytesOf, isInside, isSpelled, string2, string4, string5, string7, onValue, valueAt, ownText, value2, value4, value5, wrongNumber, time6, small6, inList, inBound, body2, body4, body5, body6, body7, body8, event2, event4, event5, event7, eventRow, filter2, filter4, filter5, filter6, filter7, filter8, filterRow}
-use Rattle.shape.specs.Values.{fits, sort6, sort7, sort8, sortRow, valueRow}
+use Rattle.message.specs.Lent.{lowest, lowerRow, bytesOf, isInside, isSpelled, string2, string4, string5, string7, subscription8, onValue, valueAt, value2, value4, value5, wrongNumber, time6, small6, inList, inBound, body2, body4, body5, body6, body7, body8, event2, event4, event5, event7, eventRow, filter2, filter4, filter5, filter6, filter7, filter8, filterRow}
+use Rattle.shape.specs.Values.{ownText, fits, sort6, sort7, sort8, sortRow, gotRow, valueRow}
 use Rattle.message.specs.Steps.{rank, toldOf, rankOf, Lowest, ValueRank, ListRank}
 
 -- ---- joined by the least: row 2 here, the others as in a message
@@ -82,6 +83,43 @@ told-rank false false false false false false = refl
 pub told-is : {x : ℕ} {a b c d e f : Bool} → Lowest x a b c d e f → toldOf x ≡ lowest a b c d e f
 told-is {x} {a} {b} {c} {d} {e} {f} w = ap toldOf (w .is) ∙ told-rank a b c d e f
 
+-- ---- the lowest of rows that hold on either side is the lower of the two lowest
+rank-between : (a b c d e f : Bool) → (0 < rank a b c d e f) × (rank a b c d e f ≤ 9)
+unfolding rank
+rank-between true b c d e f = (omega arith, omega arith)
+rank-between false true c d e f = (omega arith, omega arith)
+rank-between false false true d e f = (omega arith, omega arith)
+rank-between false false false true e f = (omega arith, omega arith)
+rank-between false false false false true f = (omega arith, omega arith)
+rank-between false false false false false true = (omega arith, omega arith)
+rank-between false false false false false false = (omega arith, omega arith)
+
+lower-told : (m n : ℕ) → (0 < m) × (m ≤ 9) → (0 < n) × (n ≤ 9) → toldOf (min m n) ≡ lowerRow (toldOf m) (toldOf n)
+lower-told m n (m₁, m₉) (n₁, n₉) = go (eqb m 9) (eqb n 9) refl refl
+  where
+    go : (p q : Bool) → eqb m 9 ≡ p → eqb n 9 ≡ q → toldOf (min m n) ≡ lowerRow (cond p 0 m) (cond q 0 n)
+    go true q e f =
+        let z = eqb-true m 9 e in
+        let y : min m n ≡ n = omega arith in
+        rw (y, f)
+    go false true e f =
+        let z = eqb-true n 9 f in
+        let y : min m n ≡ m = omega arith in
+        rw (y, e, ne-eqb m 0 (λ o. omega arith))
+    go false false e f =
+        let k = eqb-false m 9 e in
+        let l = eqb-false n 9 f in
+        let h : eqb (min m n) 9 ≡ false = ne-eqb (min m n) 9 (λ o. omega arith) in
+        rw (h, ne-eqb m 0 (λ o. omega arith), ne-eqb n 0 (λ o. omega arith))
+
+pub lowest-lower : (a b c d e f a′ b′ c′ d′ e′ f′ : Bool)
+    → lowest (a || a′) (b || b′) (c || c′) (d || d′) (e || e′) (f || f′) ≡ lowerRow (lowest a b c d e f) (lowest a′ b′ c′ d′ e′ f′)
+lowest-lower a b c d e f a′ b′ c′ d′ e′ f′ =
+    let v : Lowest (rank a b c d e f) a b c d e f = record { is = refl } in
+    let w : Lowest (rank a′ b′ c′ d′ e′ f′) a′ b′ c′ d′ e′ f′ = record { is = refl } in
+    sym (told-is (join v w)) ∙ lower-told (rank a b c d e f) (rank a′ b′ c′ d′ e′ f′) (rank-between a b c d e f) (rank-between a′ b′ c′ d′ e′ f′)
+    ∙ ap (λ (x : ℕ). lowerRow x (toldOf (rank a′ b′ c′ d′ e′ f′))) (told-rank a b c d e f) ∙ ap (lowerRow (lowest a b c d e f)) (told-rank a′ b′ c′ d′ e′ f′)
+
 -- ---- a string part
 module _ (b : List ℕ) (p : Span) where
   pub inside-not : length b < p .start → false ≡ isInside b p
@@ -122,73 +160,65 @@ module _ (b : List ℕ) (p : Span) where
       unfolding rank string2 string4 string5 isSpelled
       string-fine q r = record { is = simp (i, rw e at u, rw e at q, rw e at r) }
 
-  -- and hex
+  -- one that breaks none of these rows; and one that does, whatever rows 7 and 8 say of it
+  string-clean : {x : ℕ} → StringRank x → x ≡ 9 → (string2 b p ≡ false) × (string4 b p ≡ false) × (isSpelled b p ≡ true)
+  unfolding rank string5
+  string-clean {x} w n = go (string2 b p) (string4 b p) (isSpelled b p) (sym n ∙ w .is)
+    where
+      go : (s t u : Bool) → _≡_ {A = ℕ} 9 (cond s 2 (cond t 4 (cond (not u) 5 9))) → (s ≡ false) × (t ≡ false) × (u ≡ true)
+      go true t u q = absurd (omega arith)
+      go false true u q = absurd (omega arith)
+      go false false true q = (refl, refl, refl)
+      go false false false q = absurd (omega arith)
+
+  pub string-early : (row7 row8 : Bool) {x : ℕ} → StringRank x → (x ≡ 9 → ⊥) → Lowest x (string2 b p) (string4 b p) (string5 b p) false row7 row8
+  unfolding rank
+  string-early row7 row8 {x} w n = record { is = go (string2 b p) (string4 b p) (string5 b p) (w .is) }
+    where
+      go : (s t u : Bool) → x ≡ cond s 2 (cond t 4 (cond u 5 9)) → x ≡ cond s 2 (cond t 4 (cond u 5 (cond row7 7 (cond row8 8 9))))
+      go true t u q = q
+      go false true u q = q
+      go false false true q = q
+      go false false false q = absurd (n q)
+
+  -- hex of k characters
   module _ (k : ℕ) where
     abbrev HexRank : ℕ → Type 0
     HexRank x = Lowest x (string2 b p) (string4 b p) (string5 b p) false (string7 k b p) false
 
-    pub hex-early : {x : ℕ} → StringRank x → (x ≡ 9 → ⊥) → HexRank x
-    unfolding rank
-    hex-early {x} w n = record { is = go (string2 b p) (string4 b p) (string5 b p) (w .is) }
-      where
-        go : (s t u : Bool) → x ≡ cond s 2 (cond t 4 (cond u 5 9)) → x ≡ cond s 2 (cond t 4 (cond u 5 (cond (string7 k b p) 7 9)))
-        go true t u q = q
-        go false true u q = q
-        go false false true q = q
-        go false false false q = absurd (n q)
-
     pub hex-late : {x : ℕ} (w : List ℕ) (h : Bool) → StringRank x → x ≡ 9 → w ≡ bytesOf b p → isHexOf k w ≡ h → HexRank (cond h 9 7)
-    unfolding rank string2 string4 string5 string7
-    hex-late {x} v h w n q e = record { is = rw (rw q at e) (go (isInside b p && not (isUtf8 (bytesOf b p))) (isSpelled b p) (refuses (bytesOf b p)) h (sym (w .is) ∙ n)) }
+    unfolding rank string5 string7
+    hex-late v h w n q e = let (c, d, i) = string-clean w n in record { is = rw (c, d, i, rw q at e) (go h) }
       where
-        go : (s t r h : Bool) → _≡_ {A = ℕ} (cond s 2 (cond (t && r) 4 (cond (not t) 5 9))) 9 → _≡_ {A = ℕ} (cond h 9 7) (cond s 2 (cond (t && r) 4 (cond (not t) 5 (cond (t && not h) 7 9))))
-        go true t r h q = absurd (omega arith)
-        go false true true h q = absurd (omega arith)
-        go false true false true q = refl
-        go false true false false q = refl
-        go false false r h q = absurd (omega arith)
+        go : (h : Bool) → _≡_ {A = ℕ} (cond h 9 7) (cond (not h) 7 9)
+        go true = refl
+        go false = refl
+
+  -- a subscription id
+  pub subscription-late : {x : ℕ} (h : Bool) → StringRank x → x ≡ 9 → outside 1 mostCharacters (characterCount (bytesOf b p)) ≡ h
+      → Lowest (cond h 8 9) (string2 b p) (string4 b p) (string5 b p) false false (subscription8 b p)
+  unfolding rank string5 subscription8
+  subscription-late h w n e = let (c, d, i) = string-clean w n in record { is = rw (c, d, i, e) }
 
 -- ---- the value at a place
-rank-row : (b c d e f : Bool) → rankOf (cond b 4 (cond c 5 (cond d 6 (cond e 7 (cond f 8 0))))) ≡ rank false b c d e f
+rank-row : (a b c d e f : Bool) → rankOf (lowest a b c d e f) ≡ rank a b c d e f
 unfolding rank
-rank-row true c d e f = refl
-rank-row false true d e f = refl
-rank-row false false true e f = refl
-rank-row false false false true f = refl
-rank-row false false false false true = refl
-rank-row false false false false false = refl
+rank-row true b c d e f = refl
+rank-row false true c d e f = refl
+rank-row false false true d e f = refl
+rank-row false false false true e f = refl
+rank-row false false false false true f = refl
+rank-row false false false false false true = refl
+rank-row false false false false false false = refl
 
-module _ (b : List ℕ) (at : ℕ) (k : Sort) where
-  pub value-bad : endOf (treeAt b depth at) ≡ Bad → ValueRank b at k 5
-  unfolding rank value2 value4 value5
-  value-bad e = record { is = go (treeAt b depth at) e }
-    where
-      go : (g : Got Json) → endOf g ≡ Bad
-          → 5 ≡ rank (ownText b at g) (onValue (refusedIn b) g) (not (onValue (fits b k) g)) (onValue (sort6 b k) g) (onValue (sort7 b k) g) (onValue (sort8 b k) g)
-      go none q = refl
-      go (got t n) q = absurd (let z : _≡_ {A = ℕ} 0 1 = cc in omega arith)
-
-  module _ (n : ℕ) (e : endOf (treeAt b depth at) ≡ End n) where
-    abbrev Read : Got Json → ℕ → Type 0
-    Read g x = x ≡ rank (ownText b at g) (onValue (refusedIn b) g) (not (onValue (fits b k) g)) (onValue (sort6 b k) g) (onValue (sort7 b k) g) (onValue (sort8 b k) g)
-
-    pub value-bytes : isUtf8 (part b at (n - at)) ≡ false → ValueRank b at k 2
-    unfolding rank value2 value4 value5
-    value-bytes u = record { is = go (treeAt b depth at) e }
-      where
-        go : (g : Got Json) → endOf g ≡ End n → Read g 2
-        go none q = absurd (let z : _≡_ {A = ℕ} 0 1 = cc in omega arith)
-        go (got t m) q = let y : m ≡ n = cc in rw (y, u)
-
-    pub value-rest : {x y : ℕ} → isUtf8 (part b at (n - at)) ≡ true → x ≡ valueRow b k (treeAt b depth at) → y ≡ rankOf x → ValueRank b at k y
-    unfolding value2 value4 value5 sortRow
-    value-rest {x} {y} u v w = record { is = go (treeAt b depth at) e v }
-      where
-        go : (g : Got Json) → endOf g ≡ End n → x ≡ valueRow b k g → Read g y
-        go none q v = absurd (let z : _≡_ {A = ℕ} 0 1 = cc in omega arith)
-        go (got t m) q v =
-            let z : m ≡ n = cc in
-            rw (z, u) (w ∙ ap rankOf v ∙ rank-row (refusedIn b t) (not (fits b k t)) (sort6 b k t) (sort7 b k t) (sort8 b k t))
+pub value-rank : (b : List ℕ) (at : ℕ) (k : Sort) {x y : ℕ} → x ≡ valueRow b at k → y ≡ rankOf x → ValueRank b at k y
+unfolding rank valueRow value2 value4 value5 sortRow
+value-rank b at k {x} {y} v w = record { is = w ∙ ap rankOf v ∙ go (treeAt b depth at) }
+  where
+    go : (g : Got Json) → rankOf (cond (ownText b at g) 2 (gotRow b k g))
+        ≡ rank (ownText b at g) (onValue (refusedIn b) g) (not (onValue (fits b k) g)) (onValue (sort6 b k) g) (onValue (sort7 b k) g) (onValue (sort8 b k) g)
+    go none = refl
+    go (got t n) = rank-row (not (isUtf8 (part b at (n - at)))) (refusedIn b t) (not (fits b k t)) (sort6 b k t) (sort7 b k t) (sort8 b k t)
 
 -- rows that no value of a sort breaks
 none-value : (g : Got Json) → onValue (λ t. false) g ≡ false

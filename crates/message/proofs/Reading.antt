@@ -22,6 +22,7 @@ use Rattle.shape.specs.Shape.{Word, event, req, close, other, wordOf, nameAt, O
 use Rattle.wire.specs.Limits.{mostCharacters}
 use Rattle.shape.specs.Rows.{row4, row5, row6, row7, row8, treeRow, rootRow, messageRow, outside, wrongSubscription}
 use Rattle.message.specs.declared.Element.the-variants.{At}
+use Rattle.message.specs.declared.Message.{Message}
 use Rattle.message.specs.declared.Message.the-variants as message
 use Rattle.message.specs.declared.Named.{Named}
 use Rattle.message.specs.declared.Named.the-variants as names
@@ -30,7 +31,7 @@ use Rattle.message.specs.Parts.{memberOf, spanOf, spanIn, membersOf, mem
 use Rattle.message.specs.Read.{firstOf as firstElement, secondPlace, partsOf, inRoot, readOf, rowOf, RowRead, idNamed, subscriptionNamed, namedIn, namedRoot, isEarly, namedOf}
 use Rattle.message.specs.Steps.{spanAt, openingOf, openingAt, elementPlace, wordPlace, secondFrom, partsAt, labelNamed, namedAt}
 use Rattle.message.proofs.Walks.{never, bind-got, deeper}
-use Rattle.message.proofs.Pieces.{scalar-string}
+use Rattle.message.proofs.Scalars.{scalar-string}
 use Rattle.message.proofs.Elements.{group-of, firstPlace, Listing, end, one, array-listing}
 use Rattle.message.proofs.Found.{span-is}
 
@@ -217,3 +218,7 @@ row-read s = go (eqb (messageRow s) 0) refl
     go : (b : Bool) → eqb (messageRow s) 0 ≡ b → rowOf (cond b (inRoot s (root s)) (message.Refused (messageRow s))) ≡ messageRow s
     go true e = let z = eqb-true (messageRow s) 0 e in on z (late-shaped s (ap isEarly z))
     go false e = refl
+
+-- an answer and its number
+pub with-row : (s : List ℕ) {r : Message} → r ≡ readOf s → (r ≡ readOf s) × (rowOf r ≡ messageRow s)
+with-row s e = (e, ap rowOf e ∙ row-read s)

@@ -1,20 +1,21 @@
 -- Parts lent by anybody, over the buffer b in which they lie. 01: "Parts of an event, filter or reply are tested by rows 2 and 4 to 8 (5 also
 -- if a part lies outside its buffer or is no RFC 8259 spelling)". Each row by itself, and then the lowest that holds, or 0.
-use Prim.Native.Nat.{ℕ, _+_, _-_}
+use Prim.Native.Nat.{ℕ, _+_, min}
 use mathlib.Core.List.{List}
 use mathlib.Core.Bool.{Bool, true, false, cond, not, _&&_, _||_}
-use lib.Dec.{leb}
+use lib.Dec.{eqb, leb}
 use lib.IntN.{ℤ, pos, negℤ}
 use lib.ListN.{length}
 use Rattle.utf8.specs.Utf8.{isUtf8}
 use Rattle.json.specs.Grammar.{isSpelling}
 use Rattle.json.specs.Tree.{Json, Got, none, got, depth, treeAt}
-use Rattle.spell.specs.Spell.{refuses, isHexOf}
-use Rattle.wire.specs.Limits.{widest, mostSmall, hexLength, sigLength, mostTags}
+use Rattle.spell.specs.Spell.{characterCount, refuses, isHexOf}
+use Rattle.wire.specs.Limits.{widest, mostSmall, hexLength, sigLength, mostTags, mostCharacters}
 use Rattle.numeral.specs.Whole.{isWithin}
 use Rattle.numeral.specs.declared.Whole.the-variants.{Value}
 use Rattle.rows.specs.Strings.{part, refusedIn}
 use Rattle.shape.specs.Shape.{anyItem, count, isString, isNumber, isArrayOf, isFilter}
+pub use Rattle.shape.specs.Values.{ownText}
 use Rattle.shape.specs.Rows.{onArray, onObject, outside, wrongSmall, wrongHex, wrongTag, wrongList, filterNumber, filterHex, filterCounts}
 use Rattle.message.specs.declared.Span.{Span}
 use Rattle.message.specs.declared.Body.{Body}
@@ -28,6 +29,10 @@ use Rattle.message.specs.declared.FilterParts.{FilterParts}
 -- the lowest row, and 0 where none holds
 abbrev pub lowest : Bool → Bool → Bool → Bool → Bool → Bool → ℕ
 lowest row2 row4 row5 row6 row7 row8 = cond row2 2 (cond row4 4 (cond row5 5 (cond row6 6 (cond row7 7 (cond row8 8 0)))))
+
+-- the lower of two rows, where 0 is none
+abbrev pub lowerRow : ℕ → ℕ → ℕ
+lowerRow r s = cond (eqb r 0) s (cond (eqb s 0) r (min r s))
 
 -- ---- a string part. One that lies outside b adds row 5 only, and so does one that is no spelling, unless it is not UTF-8
 abbrev pub bytesOf : List ℕ → Span → List ℕ
@@ -52,6 +57,20 @@ string5 b p = not (isSpelled b p)
 unfoldable pub string7 : ℕ → List ℕ → Span → Bool
 string7 k b p = isSpelled b p && not (isHexOf k (bytesOf b p))
 
+-- row 8 of a subscription id: "1 to 64 characters (code points)"
+unfoldable pub subscription8 : List ℕ → Span → Bool
+subscription8 b p = isSpelled b p && outside 1 mostCharacters (characterCount (bytesOf b p))
+
+-- a part by itself: any string, hex of k characters, a subscription id
+unfoldable pub stringRow : List ℕ → Span → ℕ
+stringRow b p = lowest (string2 b p) (string4 b p) (string5 b p) false false false
+
+unfoldable pub hexRow : ℕ → List ℕ → Span → ℕ
+hexRow k b p = lowest (string2 b p) (string4 b p) (string5 b p) false (string7 k b p) false
+
+unfoldable pub subscriptionRow : List ℕ → Span → ℕ
+subscriptionRow b p = lowest (string2 b p) (string4 b p) (string5 b p) false false (subscription8 b p)
+
 -- ---- a number
 unfoldable pub wrongNumber : ℤ → ℤ → ℤ → Bool
 wrongNumber low high z = not (isWithin (Value z) low high)
@@ -72,10 +91,6 @@ abbrev pub valueAt : List ℕ → ℕ → Got Json
 valueAt b at = treeAt b depth at
 
 -- its own text is not UTF-8
-abbrev pub ownText : List ℕ → ℕ → Got Json → Bool
-ownText b at none = false
-ownText b at (got t n) = not (isUtf8 (part b at (n - at)))
-
 unfoldable pub value2 : List ℕ → ℕ → Bool
 value2 b at = ownText b at (valueAt b at)
 

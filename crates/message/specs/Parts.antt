@@ -1,9 +1,10 @@
 -- 01, "Shape": the parts of an event and of a filter, as places in the text s, over the items of its object. On an object of another
 -- shape what is not there is empty, 0 or absent.
 use Prim.Native.Nat.{ℕ}
-use mathlib.Core.List.{List}
+use mathlib.Core.List.{List, [], _∷_, map}
 use mathlib.Core.Bool.{cond}
 use lib.IntN.{ℤ, pos}
+use lib.ListN.{length, getD}
 use Rattle.json.specs.Tree.{Json, word, num, str, arr, obj, Items, nil, item, Got, none, got, depth, treeAt}
 use Rattle.rows.specs.Strings.{part}
 use Rattle.numeral.specs.Whole.{wholeOf, answerOf}
@@ -18,6 +19,9 @@ use Rattle.message.specs.declared.Bound.the-variants as bound
 use Rattle.message.specs.declared.Listed.{Listed}
 use Rattle.message.specs.declared.Listed.the-variants as listed
 use Rattle.message.specs.declared.FilterParts.{FilterParts}
+use Rattle.message.specs.declared.Filters.{Filters}
+use Rattle.message.specs.declared.Element.the-variants.{At}
+use Rattle.message.specs.Lists.{elementsFrom}
 
 -- the member of a name: the place of its value, and the value
 pub data Member : Type 0 where
@@ -123,3 +127,24 @@ eventAt s at = eventOf s (membersAt s at)
 
 unfoldable pub filterAt : List ℕ → ℕ → FilterParts
 filterAt s at = filterOf s at (membersAt s at)
+
+-- ---- 01: "REQ: a string, then objects"; "1 to 4 filters". The filters from a place on, as values
+-- a filter that has nothing
+abbrev pub noFilter : FilterParts
+noFilter = record {
+  ids = listed.Absent;
+  authors = listed.Absent;
+  kinds = listed.Absent;
+  since = bound.Absent;
+  until = bound.Absent;
+  limit = bound.Absent;
+  conditions = listed.Absent;
+}
+
+-- the first four of some, and behind them filters that have nothing
+abbrev pub firstFour : List FilterParts → List FilterParts
+firstFour l = getD l 0 noFilter ∷ getD l 1 noFilter ∷ getD l 2 noFilter ∷ getD l 3 noFilter ∷ []
+
+-- all of them are counted
+unfoldable pub filtersAt : List ℕ → ℕ → Filters
+filtersAt s at = record { parts = firstFour (map (filterAt s) (elementsFrom s (At at))); n = length (elementsFrom s (At at)) }

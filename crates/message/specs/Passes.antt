@@ -1,13 +1,13 @@
 -- What was read from an accepted message passes the test of lent parts: proved in proofs/Passes.antt.
 use Prim.Native.Nat.{ℕ, _≤_}
 use mathlib.Core.Path.{_≡_}
-use mathlib.Core.List.{List, List·Memᴰ}
-use lib.ListN.{length}
+use mathlib.Core.List.{List, map, List·Memᴰ}
+use lib.ListN.{length, take}
 use Rattle.message.specs.declared.EventParts.{EventParts}
 use Rattle.message.specs.declared.ReqParts.{ReqParts}
 use Rattle.message.specs.declared.Element.the-variants.{At}
 use Rattle.message.specs.declared.Message.the-variants.{Event, Req}
-use Rattle.message.specs.Parts.{filterAt}
+use Rattle.message.specs.Parts.{filterAt, filtersAt}
 use Rattle.message.specs.Lists.{elementsFrom}
 use Rattle.message.specs.Read.{readOf}
 use Rattle.message.specs.Lent.{eventRow, filterRow}
@@ -24,3 +24,12 @@ FiltersPass = (s : List ℕ) (r : ReqParts) → readOf s ≡ Req r → (v : ℕ)
 
 abbrev pub FiltersCounted : Type 0
 FiltersCounted = (s : List ℕ) (r : ReqParts) → readOf s ≡ Req r → (1 ≤ length (filtersOf s r)) × (length (filtersOf s r) ≤ 4)
+
+-- as values they are all there
+pub record Taken (s : List ℕ) (r : ReqParts) : Type 0 where
+  pub some : 1 ≤ filtersAt s (r .filters) .n
+  pub few : filtersAt s (r .filters) .n ≤ 4
+  pub all : take (filtersAt s (r .filters) .n) (filtersAt s (r .filters) .parts) ≡ map (filterAt s) (filtersOf s r)
+
+abbrev pub FiltersTaken : Type 0
+FiltersTaken = (s : List ℕ) (r : ReqParts) → readOf s ≡ Req r → Taken s r

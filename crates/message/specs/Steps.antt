@@ -32,7 +32,8 @@ use Rattle.message.specs.declared.Named.{Named}
 use Rattle.message.specs.declared.Named.the-variants as names
 use Rattle.message.specs.declared.Opening.{Opening}
 use Rattle.message.specs.declared.Opening.the-variants as opening
-use Rattle.message.specs.Parts.{nowhere, spanOf, numberOf, eventAt}
+use Rattle.message.specs.declared.FilterParts.{FilterParts}
+use Rattle.message.specs.Parts.{nowhere, spanOf, numberOf, eventAt, filterAt, noFilter}
 use Rattle.message.specs.Lists.{firstOf, nextOf}
 use Rattle.message.specs.Read.{idNamed}
 use Rattle.message.specs.Lent.{valueAt, onValue, value2, value4, value5, inList}
@@ -154,6 +155,18 @@ partsAt s opening.Req j = message.Req (record { subscription = spanAt s j; filte
 partsAt s opening.Close j = message.Close (spanAt s j)
 partsAt s opening.Other j = message.Refused 5
 
+-- ---- the filters of a REQ, one element after the other
+abbrev pub followingOf : List ℕ → Element → Element
+followingOf s (element.At v) = nextOf s v
+followingOf s element.Ended = element.Ended
+followingOf s element.Broken = element.Broken
+
+abbrev pub filterIn : List ℕ → Element → FilterParts
+filterIn s (element.At v) = filterAt s v
+filterIn s element.Ended = noFilter
+filterIn s element.Broken = noFilter
+
+-- ---- what a refusal's reply names
 unfoldable pub labelNamed : List ℕ → Span → Named
 labelNamed s p = cond (outside 1 mostCharacters (characterCount (part s (p .start) (p .len)))) names.Nothing (names.Subscription p)
 

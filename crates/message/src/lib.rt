@@ -1,15 +1,21 @@
 // A client message read: its parts as places in the text, or the number of the row that refuses it. Parts of an event and of a filter
 // as values that other calls take, whoever made them.
 ghost use mathlib.Core.Path.{_≡_};
-ghost use mathlib.Core.Bool.{true, false};
+ghost use mathlib.Core.Bool.{true, false, cond};
 ghost use Prim.Native.Nat.{_-_, min};
+ghost use lib.Dec.{ltb};
+ghost use lib.ListN.{length};
 ghost use Rattle.json.specs.Grammar.{startAt};
-ghost use Rattle.rows.specs.Strings.{part, spelledAt};
-ghost use Rattle.message.specs.Parts.{valueOf, membersAt, eventAt, filterAt};
-ghost use Rattle.message.specs.Lists.{firstOf, nextOf};
-ghost use Rattle.message.specs.Read.{readOf, isEvent, idNamed, isEarly, namedOf};
-ghost use Rattle.message.specs.Lent.{isInside, string2, string4, string5, string7, wrongNumber, inBound, body2, body4, body5, body6, body7, body8, bodyRow, eventRow, filterRow};
-ghost use Rattle.message.specs.Steps.{kept, eventStep, filterStep, stepOf, noMembers, foundIn, leafAt, spanAt, numberAt, spanFound, numberFound, boundFound, placeFound, bodyFound, openingAt, elementPlace, wordPlace, secondFrom, isEventAt, partsAt, labelNamed, namedAt, toldOf, rankOf, Lowest, ValueRank, ListRank};
+ghost use Rattle.rows.specs.Strings.{spelledAt};
+ghost use Rattle.spell.specs.Spell.{characterCount};
+ghost use Rattle.wire.specs.Limits.{mostCharacters};
+ghost use Rattle.shape.specs.Rows.{messageRow, outside};
+ghost use Rattle.message.specs.declared.Element.the-variants.{At};
+ghost use Rattle.message.specs.Parts.{valueOf, membersAt, eventAt, filterAt, noFilter, filtersAt};
+ghost use Rattle.message.specs.Lists.{firstOf, nextOf, elementsFrom};
+ghost use Rattle.message.specs.Read.{readOf, rowOf, isEvent, idNamed, isEarly, namedOf};
+ghost use Rattle.message.specs.Lent.{lowerRow, bytesOf, isInside, string2, string4, string5, string7, subscription8, stringRow, hexRow, subscriptionRow, wrongNumber, inBound, body2, body4, body5, body6, body7, body8, bodyRow, eventRow, filterRow};
+ghost use Rattle.message.specs.Steps.{kept, eventStep, filterStep, stepOf, noMembers, foundIn, leafAt, spanAt, numberAt, spanFound, numberFound, boundFound, placeFound, bodyFound, openingAt, elementPlace, wordPlace, secondFrom, isEventAt, partsAt, followingOf, filterIn, labelNamed, namedAt, toldOf, rankOf, Lowest, ValueRank, ListRank};
 use json::Kind;
 use json::Next;
 use json::Out;
@@ -87,6 +93,12 @@ pub struct FilterParts {
     pub conditions: Listed,
 }
 
+// The filters of a REQ: how many there are, and the first four; behind them stand filters that have nothing.
+pub struct Filters {
+    pub parts: [FilterParts; 4],
+    pub n: usize,
+}
+
 // `filters` is the place of the first filter; the others follow it in the text.
 pub struct ReqParts {
     pub subscription: Span,
@@ -133,27 +145,13 @@ fn less(a: usize, b: usize) -> usize
     if a < b { 0 } else { a - b }
 }
 
-// The part of s of so many bytes from a place on, cut off where s ends.
-fn piece(s: &[u8], start: usize, len: usize) -> &[u8]
-    ensures { λ r. ⌜ now r ≡ part (now (s .entry)) start len ⌝ }
-{
-    let size = s.len();
-    if size < start {
-        return &s[size..];
-    }
-    if size - start < len {
-        return &s[start..];
-    }
-    &s[start..start + len]
-}
-
 // The string that begins at a place, between its quotes.
 fn spelled(s: &[u8], at: usize) -> &[u8]
     ensures { λ r. ⌜ now r ≡ spelledAt (now (s .entry)) at ⌝ }
 {
     match json::string(s, at) {
-        Out::End(n) => piece(s, at + 1, n - at - 2),
-        Out::Bad => piece(s, 0, 0),
+        Out::End(n) => wire::piece(s, at + 1, n - at - 2),
+        Out::Bad => wire::piece(s, 0, 0),
     }
 }
 
@@ -337,7 +335,7 @@ fn number_at(s: &[u8], v: usize) -> i64
 {
     match leaf(s, v) {
         Kind::Str(_) => 0,
-        Kind::Num(n) => value_of(numeral::read_whole(piece(s, v, less(n, v)))),
+        Kind::Num(n) => value_of(numeral::read_whole(wire::piece(s, v, less(n, v)))),
         Kind::Word(_) => 0,
         Kind::None => 0,
     }
@@ -446,8 +444,20 @@ pub fn first(s: &[u8], at: usize) -> Element
 {
     match json::begin(s, at) {
         Start::Leaf => Element::Broken,
-        Start::Empty(_, named) => { if named { Element::Broken } else { Element::Ended } }
-        Start::Many(i, named) => { if named { Element::Broken } else { Element::At(i) } }
+        Start::Empty(_, named) => {
+            if named {
+                Element::Broken
+            } else {
+                Element::Ended
+            }
+        }
+        Start::Many(i, named) => {
+            if named {
+                Element::Broken
+            } else {
+                Element::At(i)
+            }
+        }
     }
 }
 
@@ -530,6 +540,7 @@ fn parts(s: &[u8], x: Opening, j: usize) -> Message
 // A message read: its parts, or the lowest of rows 1 to 8 that holds of it.
 pub fn read(s: &[u8]) -> Message
     ensures { λ r. ⌜ r ≡ readOf (now (s .entry)) ⌝ }
+    ensures { λ r. ⌜ rowOf r ≡ messageRow (now (s .entry)) ⌝ }
 {
     let row = shape::message_row(s);
     if row != 0 {
@@ -539,6 +550,84 @@ pub fn read(s: &[u8]) -> Message
     parts(s, opening_at(s, i), second(s, i))
 }
 
+// How many elements stand from a place on.
+fn count_from(s: &[u8], at: usize) -> usize
+    ensures { λ r. ⌜ r ≡ length (elementsFrom (now (s .entry)) (At at)) ⌝ }
+{
+    let mut x = Element::At(at);
+    let mut k: usize = 0;
+    while k < s.len() {
+        match x {
+            Element::At(v) => {
+                x = next(s, v);
+            }
+            Element::Ended => {
+                return k;
+            }
+            Element::Broken => {
+                return k;
+            }
+        }
+        k += 1;
+    }
+    k
+}
+
+// The element after another.
+fn following(s: &[u8], x: Element) -> Element
+    ensures { λ r. ⌜ r ≡ followingOf (now (s .entry)) x ⌝ }
+{
+    match x {
+        Element::At(v) => next(s, v),
+        Element::Ended => Element::Ended,
+        Element::Broken => Element::Broken,
+    }
+}
+
+fn no_filter() -> FilterParts
+    ensures { λ r. ⌜ r ≡ noFilter ⌝ }
+{
+    FilterParts {
+        ids: Listed::Absent,
+        authors: Listed::Absent,
+        kinds: Listed::Absent,
+        since: Bound::Absent,
+        until: Bound::Absent,
+        limit: Bound::Absent,
+        conditions: Listed::Absent,
+    }
+}
+
+// The filter that is element k of n.
+fn filter_in(s: &[u8], k: usize, n: usize, x: Element) -> FilterParts
+    ensures { λ r. ⌜ r ≡ cond (ltb k n) (filterIn (now (s .entry)) x) noFilter ⌝ }
+{
+    if k < n {
+        return match x {
+            Element::At(v) => filter_at(s, v),
+            Element::Ended => no_filter(),
+            Element::Broken => no_filter(),
+        };
+    }
+    no_filter()
+}
+
+// The filters of a REQ, of which the first stands at a place.
+pub fn filters_at(s: &[u8], at: usize) -> Filters
+    ensures { λ r. ⌜ r ≡ filtersAt (now (s .entry)) at ⌝ }
+{
+    let n = count_from(s, at);
+    let x = next(s, at);
+    let y = following(s, x);
+    let z = following(s, y);
+    let p = filter_in(s, 0, n, Element::At(at));
+    let q = filter_in(s, 1, n, x);
+    let r = filter_in(s, 2, n, y);
+    let t = filter_in(s, 3, n, z);
+    let parts = [p, q, r, t];
+    Filters { parts, n }
+}
+
 // Whether an element is the string EVENT.
 fn is_event_at(s: &[u8], x: Element) -> bool
     ensures { λ r. ⌜ r ≡ isEventAt (now (s .entry)) x ⌝ }
@@ -546,7 +635,7 @@ fn is_event_at(s: &[u8], x: Element) -> bool
     match x {
         Element::At(v) => {
             let p = span_at(s, v);
-            spell::spells(piece(s, p.start, p.len), b"EVENT")
+            spell::spells(wire::piece(s, p.start, p.len), b"EVENT")
         }
         Element::Ended => false,
         Element::Broken => false,
@@ -573,24 +662,29 @@ fn early(row: u8) -> bool
 fn id_named(s: &[u8], p: Span) -> Named
     ensures { λ r. ⌜ r ≡ idNamed (now (s .entry)) p ⌝ }
 {
-    if spell::is_hex(piece(s, p.start, p.len), 64) {
+    if spell::is_hex(wire::piece(s, p.start, p.len), 64) {
         Named::Id(p)
     } else {
         Named::Nothing
     }
 }
 
+// Whether a subscription id has fewer or more characters than it may.
+fn miscounted(s: &[u8], p: Span) -> bool
+    ensures { λ r. ⌜ r ≡ outside 1 mostCharacters (characterCount (bytesOf (now (s .entry)) p)) ⌝ }
+{
+    let n = spell::characters(wire::piece(s, p.start, p.len));
+    n < 1 || CHARACTERS < n
+}
+
 fn label_named(s: &[u8], p: Span) -> Named
     ensures { λ r. ⌜ r ≡ labelNamed (now (s .entry)) p ⌝ }
 {
-    let n = spell::characters(piece(s, p.start, p.len));
-    if n < 1 {
-        return Named::Nothing;
+    if miscounted(s, p) {
+        Named::Nothing
+    } else {
+        Named::Subscription(p)
     }
-    if CHARACTERS < n {
-        return Named::Nothing;
-    }
-    Named::Subscription(p)
 }
 
 fn named_in(s: &[u8], x: Opening, j: usize) -> Named
@@ -657,7 +751,7 @@ fn string_rank(b: &[u8], p: Span) -> u8
     if !inside(b, p) {
         return 5;
     }
-    let w = piece(b, p.start, p.len);
+    let w = wire::piece(b, p.start, p.len);
     if !utf8::is_utf8(w) {
         return 2;
     }
@@ -678,11 +772,56 @@ fn hex_rank(b: &[u8], p: Span, k: usize) -> u8
     if row != FINE {
         return row;
     }
-    if spell::is_hex(piece(b, p.start, p.len), k) {
+    if spell::is_hex(wire::piece(b, p.start, p.len), k) {
         FINE
     } else {
         7
     }
+}
+
+// A string part that is a subscription id.
+fn subscription_rank(b: &[u8], p: Span) -> u8
+    ensures { λ r. ⌜ Lowest r (string2 (now (b .entry)) p) (string4 (now (b .entry)) p) (string5 (now (b .entry)) p) false false (subscription8 (now (b .entry)) p) ⌝ }
+{
+    let row = string_rank(b, p);
+    if row != FINE {
+        return row;
+    }
+    if miscounted(b, p) { 8 } else { FINE }
+}
+
+// The lowest of rows 2, 4 and 5 that holds of a string part, lent in b; 0 where none does.
+pub fn string_row(b: &[u8], p: Span) -> u8
+    ensures { λ r. ⌜ r ≡ stringRow (now (b .entry)) p ⌝ }
+{
+    told(string_rank(b, p))
+}
+
+// The same, and 7 where it is not k characters of lower-case hex.
+pub fn hex_row(b: &[u8], p: Span, k: usize) -> u8
+    ensures { λ r. ⌜ r ≡ hexRow k (now (b .entry)) p ⌝ }
+{
+    told(hex_rank(b, p, k))
+}
+
+// The same, and 8 where it is no subscription id of 1 to 64 characters.
+pub fn subscription_row(b: &[u8], p: Span) -> u8
+    ensures { λ r. ⌜ r ≡ subscriptionRow (now (b .entry)) p ⌝ }
+{
+    told(subscription_rank(b, p))
+}
+
+// The lower of two rows, where 0 is none.
+pub fn lower_row(r: u8, s: u8) -> u8
+    ensures { λ x. ⌜ x ≡ lowerRow r s ⌝ }
+{
+    if r == 0 {
+        return s;
+    }
+    if s == 0 {
+        return r;
+    }
+    least(r, s)
 }
 
 fn number_rank(z: i64, low: i64, high: i64) -> u8
@@ -708,15 +847,7 @@ fn bound_rank(x: Bound, low: i64, high: i64) -> u8
 fn value_rank(b: &[u8], at: usize, k: Sort) -> u8
     ensures { λ r. ⌜ ValueRank (now (b .entry)) at k r ⌝ }
 {
-    match json::value(b, at, DEPTH) {
-        Out::End(n) => {
-            if !utf8::is_utf8(piece(b, at, less(n, at))) {
-                return 2;
-            }
-            ranked(shape::value_row(b, at, k))
-        }
-        Out::Bad => 5,
-    }
+    ranked(shape::value_row(b, at, k))
 }
 
 fn list_rank(b: &[u8], x: Listed, k: Sort) -> u8

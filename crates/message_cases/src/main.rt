@@ -1,15 +1,16 @@
 // Client messages on standard input, one a line: the number of the row that refuses each, or 0 and the message spelled anew from its parts:
 // no white space, strings with the seven escapes, filter fields in the order of 01 and # conditions by their letter's byte.
+ghost use Prim.Native.Nat.{_≤_};
+ghost use lib.ListN.{length};
 use json::Next;
 use json::Out;
 use json::Start;
-use libc::STDIN_FILENO;
 use libc::STDOUT_FILENO;
 use message::Body;
 use message::Bound;
+use message::Element;
 use message::EventParts;
 use message::FilterParts;
-use message::Element;
 use message::Listed;
 use message::Message;
 use message::ReqParts;
@@ -356,78 +357,28 @@ fn respond(line: &[u8]) {
     let n = put_answer(out, line);
     write_line(out, n);
 }
-// A line that was read: the first n bytes of `line`, which is longer. One that fills it is too long.
-fn answer(line: &[u8], n: usize) {
-    if n < line.len() {
-        respond(&line[..n]);
-    } else {
-        io::write_all(STDOUT_FILENO, b"1\n");
-    }
-}
-
-// A byte more of standard input; how many bytes of the line are there now.
-fn push(line: &mut [u8], n: usize, b: u8) -> usize {
-    if b == b'\n' {
-        answer(line, n);
-        return 0;
-    }
-    if n < line.len() {
-        line[n] = b;
-        return n + 1;
-    }
-    n
-}
-
-fn feed(line: &mut [u8], n: usize, chunk: &[u8]) -> usize {
-    let mut k = n;
-    for i in 0..chunk.len() {
-        k = push(line, k, chunk[i]);
-    }
-    k
-}
-
-// Reads once; how many bytes of the line are there now, or that the input has ended.
-struct Turn {
-    more: bool,
-    n: usize,
-}
-
-fn read_once(line: &mut [u8], n: usize) -> Turn {
-    let mut chunk = io::large_buffer();
-    let got = libc::read(STDIN_FILENO, &mut chunk);
-    let k = io::count(got, &chunk);
-    if k == 0 {
-        return Turn { more: false, n };
-    }
-    let next = feed(line, n, &chunk[..k]);
-    Turn {
-        more: true,
-        n: next,
-    }
-}
-
-// A last line without its end counts if it is not empty.
-fn end(line: &[u8], n: usize) {
-    if 0 < n {
-        answer(line, n);
-    }
-}
-
-fn run(line: &mut [u8]) {
-    let mut n: usize = 0;
-    let mut turns: u64 = 0;
-    while turns < 0xffff_ffff_ffff {
-        let t = read_once(line, n);
-        n = t.n;
-        if !t.more {
-            end(line, n);
-            return;
-        }
-        turns += 1;
-    }
+// The line is the first n bytes of the buffer. Of a longer line the first 65,536 bytes are kept, which the same rows refuse.
+fn answer(line: &[u8], n: usize)
+    requires { ⌜ n ≤ length (now line) ⌝ }
+{
+    respond(&line[..n]);
 }
 
 fn main() {
     let mut line = io::large_buffer();
-    run(&mut line);
+    let mut chunk = io::large_buffer();
+    let mut r = lines::none();
+    let mut k: u64 = 0;
+    while k < 0xffff_ffff_ffff {
+        let l = lines::next(&mut line, &mut chunk, r);
+        if !l.some {
+            return;
+        }
+        answer(&line, l.n);
+        r = lines::Rest {
+            at: l.at,
+            end: l.end,
+        };
+        k += 1;
+    }
 }

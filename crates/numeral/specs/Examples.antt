@@ -2,6 +2,7 @@
 use mathlib.Core.Path.{_≡_, refl}
 use mathlib.Core.List.{[], _∷_}
 use lib.IntN.{pos, negsuc}
+use Rattle.wire.specs.Bytes.{those}
 use Rattle.numeral.specs.Decimal.{digitsIn, digits, decimal}
 use Rattle.numeral.specs.Whole.{malformed, whole, isDigit, allDigits, valueFrom, isNatural, naturalOf, negativeOf, wholeOf, isWithin, answerOf}
 use Rattle.numeral.specs.declared.Whole.the-variants.{Value, Large}
@@ -18,6 +19,19 @@ decimal-0 = refl
 decimal-widest : decimal (pos 9007199254740991) ≡ 57 ∷ 48 ∷ 48 ∷ 55 ∷ 49 ∷ 57 ∷ 57 ∷ 50 ∷ 53 ∷ 52 ∷ 55 ∷ 52 ∷ 48 ∷ 57 ∷ 57 ∷ 49 ∷ []
 unfolding decimal digits digitsIn
 decimal-widest = refl
+
+-- the digits, of 256 bytes, and their numbers
+digit-bytes : those isDigit 256 ≡ 48 ∷ 49 ∷ 50 ∷ 51 ∷ 52 ∷ 53 ∷ 54 ∷ 55 ∷ 56 ∷ 57 ∷ []
+unfolding isDigit
+digit-bytes = refl
+
+whole-digits : wholeOf (49 ∷ 48 ∷ 50 ∷ 51 ∷ 52 ∷ 53 ∷ 54 ∷ 55 ∷ 56 ∷ 57 ∷ []) ≡ whole (pos 1023456789)
+unfolding wholeOf naturalOf isNatural allDigits isDigit valueFrom
+whole-digits = refl
+
+whole-0 : wholeOf (48 ∷ []) ≡ whole (pos 0)
+unfolding wholeOf naturalOf isNatural valueFrom
+whole-0 = refl
 
 -- -7200, -0, 01, 1e3, - and nothing
 whole-minus : wholeOf (45 ∷ 55 ∷ 50 ∷ 48 ∷ 48 ∷ []) ≡ whole (negsuc 7199)
@@ -52,6 +66,10 @@ answer-least = refl
 answer-below : answerOf (whole (negsuc 9007199254740991)) ≡ Large
 unfolding answerOf isWithin
 answer-below = refl
+
+answer-most : answerOf (whole (pos 9007199254740991)) ≡ Value (pos 9007199254740991)
+unfolding answerOf isWithin
+answer-most = refl
 
 answer-above : answerOf (whole (pos 9007199254740992)) ≡ Large
 unfolding answerOf isWithin

@@ -1,6 +1,6 @@
 -- What a REQ's answer means: the claims of specs/Laws, "the answer".
 use mathlib.Core.Path.{_≡_, refl, sym, ap, ap₂, _∙_}
-use mathlib.Core.Bool.{Bool, true, false, cond}
+use mathlib.Core.Bool.{Bool, true, false, cond, _||_}
 use mathlib.Core.Logic.{_↔_, _⊎_, inl, inr, ⊎-elim, _≢_}
 use mathlib.Core.List.{List, [], _∷_, List·Memᴰ·head, List·Memᴰ·tail, List·Memᴰ·not-nil, List·Memᴰ·cases-cons, List·Memᴰ·append-cases, Memᴰ·append-left, Memᴰ·append-right}
 use Prim.Native.Nat.{ℕ, zero, suc, min, _+_, _≤_, _<_}
@@ -16,7 +16,7 @@ use Rattle.law.proofs.Lists.{any-yes, any-has, count-law}
 use Rattle.query.specs.Filter.{Filter}
 use Rattle.query.specs.Answer.{keep, among, from, newestFirst, cut, picked, pickedBySome, union}
 use Rattle.query.specs.Laws.{Orders, Distinct, NoneNewer, Descending, Match, Picked, PickedMeans, UnionMeans, UnionOnce, UnionNewest, UnionDescends, allPicked, UnionSize, UnionShort, MoreFilters, FilterOrder, KeepMeans, FromMeans}
-use Rattle.query.proofs.Sorting.{bool, clash, among-here, among-later, among-cases, keep-same, keep-length, from-among, Once, Sorted, sort-among, sort-sorted, sort-length, once-sort}
+use Rattle.query.proofs.Sorting.{bool, clash, among-here, among-later, among-cases, keep-among, keep-same, keep-length, from-among, Once, Sorted, sort-among, sort-sorted, sort-length, once-sort, sort-same}
 
 -- ---- tests and entries
 pub true-T : {b : Bool} → b ≡ true → T b
@@ -274,3 +274,24 @@ module _ (newer : ℕ → ℕ → Bool) where
       where
         moved : {fs gs : List Filter} → ((f : Filter) → f ∈ fs → f ∈ gs) → (s : ℕ) → T (pickedBySome newer fits held fs s) → T (pickedBySome newer fits held gs s)
         moved {fs} {gs} sub s t = let (f, i, k) = some-picks fs s .0 t in some-picks gs s .1 (f, sub f i, k)
+
+-- ---- two orders and two tests that agree on some slots give the same answer over them
+module _ (n n' : ℕ → ℕ → Bool) (f f' : Filter → ℕ → Bool) (held : List ℕ)
+    (order : (s t : ℕ) → among held s ≡ true → among held t ≡ true → n s t ≡ n' s t)
+    (test : (g : Filter) (s : ℕ) → among held s ≡ true → f g s ≡ f' g s) where
+  kept-same : (p q : ℕ → Bool) → ((s : ℕ) → among held s ≡ true → p s ≡ q s) → newestFirst n (keep p held) ≡ newestFirst n' (keep q held)
+  kept-same p q h =
+      ap (newestFirst n) (keep-same p q held h)
+      ∙ sort-same n n' (keep q held) (λ s t m o. order s t (keep-among q held s m) (keep-among q held t o))
+
+  picked-same : (g : Filter) → picked n f held g ≡ picked n' f' held g
+  unfolding picked
+  picked-same g = ap (cut (g .limit)) (kept-same (f g) (f' g) (test g))
+
+  some-same : (s : ℕ) (fs : List Filter) → pickedBySome n f held fs s ≡ pickedBySome n' f' held fs s
+  some-same s [] = refl
+  some-same s (g ∷ fs) = ap₂ (λ l r. among l s || r) (picked-same g) (some-same s fs)
+
+  pub union-same : (fs : List Filter) → union n f held fs ≡ union n' f' held fs
+  unfolding union
+  union-same fs = kept-same (pickedBySome n f held fs) (pickedBySome n' f' held fs) (λ s m. some-same s fs)

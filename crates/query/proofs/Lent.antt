@@ -8,15 +8,15 @@ use native.Mathlib.Omega.{arith}
 use native.Mathlib.Decide.{decLt}
 use borrow.Author.Tests.{eqb-true, eqb-false, ne-eqb, ltb-true, ltb-false}
 use lib.Dec.{eqb, ltb}
-use lib.ListN.{length}
+use lib.ListN.{take}
 use Rattle.wire.specs.Limits.{mostFilters}
 use Rattle.shape.specs.Rows.{outside}
-use Rattle.message.specs.Parts.{filterAt}
+use Rattle.message.specs.declared.FilterParts.{FilterParts}
 use Rattle.message.specs.Lent.{filterRow}
 use Rattle.law.specs.Lists.{_∈_}
-use Rattle.query.specs.Answer.{filterPlaces, isClosed, lower, lowestOf, filtersRow}
-use Rattle.query.specs.Laws.{RowHolds, of-filter, not-closed, miscounted, Lowest, LowestMeans, FiltersRowIs, AllPass, FiltersPass}
-use Rattle.query.proofs.Sorting.{bool, clash, or-cases, no-left, no-right}
+use Rattle.query.specs.Answer.{lower, lowestOf, filtersRow}
+use Rattle.query.specs.Laws.{RowHolds, of-filter, miscounted, Lowest, LowestMeans, FiltersRowIs, AllPass, FiltersPass}
+use Rattle.query.proofs.Sorting.{bool, or-cases, no-left, no-right}
 
 -- ---- the lower of two
 lower-one : (r s : ℕ) → (lower r s ≡ r) ⊎ (lower r s ≡ s)
@@ -70,83 +70,64 @@ lowest-means [] = record { holds = λ ne. absurd (ne refl); least = λ k m ne. a
 lowest-means (r ∷ rs) = alike (λ k. ⊎-elim List·Memᴰ·head List·Memᴰ·tail) (λ k m. List·Memᴰ·cases-cons m) (join r (lowestOf rs) (alone r) (lowest-means rs))
 
 -- ---- the row of lent filters
-module _ (m : List ℕ) (v : ℕ) where
-  abbrev rowAt : ℕ → ℕ
-  rowAt w = filterRow m (filterAt m w)
+module _ (m : List ℕ) (fs : List FilterParts) (n : ℕ) where
+  abbrev rows : List ℕ
+  rows = map (filterRow m) (take n fs)
 
-  abbrev counted : ℕ
-  counted = length (filterPlaces m v)
+  -- row 8 of their number
+  abbrev Miscounted : ℕ → Type 0
+  Miscounted k = (k ≡ 8) × ((n < 1) ⊎ (4 < n))
 
-  -- the array's own rows
-  abbrev Around : ℕ → Type 0
-  Around k = ((k ≡ 5) × (isClosed (length m) m v ≡ false)) ⊎ ((k ≡ 8) × ((counted < 1) ⊎ (4 < counted)))
-
-  around : (b c : Bool) → isClosed (length m) m v ≡ b → outside 1 mostFilters counted ≡ c → Lowest Around (cond b (cond c 8 0) 5)
-  around false c p q = record {
-    holds = λ ne. inl (refl, p);
-    least = λ k h ne. (λ z. absurd (omega arith), ⊎-elim (λ e. let z = e .0 in omega (arith, z)) (λ e. let z = e .0 in omega (arith, z)) h);
+  count-row : (c : Bool) → outside 1 mostFilters n ≡ c → Lowest Miscounted (cond c 8 0)
+  count-row true q = record {
+    holds = λ ne. (refl, ⊎-elim (λ e. inl (ltb-true n 1 e)) (λ e. inr (ltb-true 4 n e)) (or-cases (ltb n 1) (ltb 4 n) q));
+    least = λ k h ne. (λ z. absurd (omega arith), let z = h .0 in omega (arith, z));
   }
-  around true true p q = record {
-    holds = λ ne. inr (refl, ⊎-elim (λ e. inl (ltb-true counted 1 e)) (λ e. inr (ltb-true 4 counted e)) (or-cases (ltb counted 1) (ltb 4 counted) q));
-    least = λ k h ne. (λ z. absurd (omega arith), ⊎-elim (λ e. absurd (clash p (e .1))) (λ e. let z = e .0 in omega (arith, z)) h);
-  }
-  around true false p q = record {
+  count-row false q = record {
     holds = λ ne. absurd (ne refl);
-    least = λ k h ne. ⊎-elim (λ e. absurd (clash p (e .1))) (λ e. absurd (⊎-elim few many (e .1))) h;
+    least = λ k h ne. absurd (⊎-elim few many (h .1));
   }
     where
-      few : counted < 1 → ⊥
-      few l = let z = ltb-false counted 1 (no-left (ltb counted 1) (ltb 4 counted) q) in omega arith
+      few : n < 1 → ⊥
+      few l = let z = ltb-false n 1 (no-left (ltb n 1) (ltb 4 n) q) in omega arith
 
-      many : 4 < counted → ⊥
-      many l = let z = ltb-false 4 counted (no-right (ltb counted 1) (ltb 4 counted) q) in omega arith
+      many : 4 < n → ⊥
+      many l = let z = ltb-false 4 n (no-right (ltb n 1) (ltb 4 n) q) in omega arith
 
-  place-of : (k : ℕ) → k ∈ map rowAt (filterPlaces m v) → RowHolds m v k
-  place-of k h = let (w, i, e) = Memᴰ·of-map rowAt (filterPlaces m v) h in rw (← e) (of-filter i)
+  to-rows : (k : ℕ) → (k ∈ rows) ⊎ Miscounted k → RowHolds m fs n k
+  to-rows k (inl h) = let (p, i, e) = Memᴰ·of-map (filterRow m) (take n fs) h in rw (← e) (of-filter i)
+  to-rows k (inr (e, h)) = rw e (miscounted h)
 
-  to-rows : (k : ℕ) → (k ∈ map rowAt (filterPlaces m v)) ⊎ Around k → RowHolds m v k
-  to-rows k (inl h) = place-of k h
-  to-rows k (inr (inl (e, h))) = rw e (not-closed h)
-  to-rows k (inr (inr (e, h))) = rw e (miscounted h)
-
-  of-rows : (k : ℕ) → RowHolds m v k → (k ∈ map rowAt (filterPlaces m v)) ⊎ Around k
-  of-rows _ (of-filter i) = inl (Memᴰ·map rowAt i)
-  of-rows _ (not-closed h) = inr (inl (refl, h))
-  of-rows _ (miscounted h) = inr (inr (refl, h))
+  of-rows : (k : ℕ) → RowHolds m fs n k → (k ∈ rows) ⊎ Miscounted k
+  of-rows _ (of-filter i) = inl (Memᴰ·map (filterRow m) i)
+  of-rows _ (miscounted h) = inr (refl, h)
 
 pub filters-row-is : FiltersRowIs
 unfolding filtersRow
-filters-row-is m v =
-    alike (to-rows m v) (of-rows m v)
-    (join (lowestOf (map (rowAt m v) (filterPlaces m v))) _ (lowest-means (map (rowAt m v) (filterPlaces m v)))
-    (around m v (isClosed (length m) m v) (outside 1 mostFilters (length (filterPlaces m v))) refl refl))
+filters-row-is m fs n =
+    alike (to-rows m fs n) (of-rows m fs n)
+    (join (lowestOf (rows m fs n)) _ (lowest-means (rows m fs n)) (count-row m fs n (outside 1 mostFilters n) refl))
 
 pub filters-pass : FiltersPass
-filters-pass m v = (to, from)
+filters-pass m fs n = (to, from)
   where
-    never : filtersRow m v ≡ 0 → (k : ℕ) → RowHolds m v k → k ≡ 0
-    never e k h = ⊎-elim (eqb-true k 0) (λ q. absurd (filters-row-is m v .least k h (eqb-false k 0 q) .0 e)) (bool (eqb k 0))
+    never : filtersRow m fs n ≡ 0 → (k : ℕ) → RowHolds m fs n k → k ≡ 0
+    never e k h = ⊎-elim (eqb-true k 0) (λ q. absurd (filters-row-is m fs n .least k h (eqb-false k 0 q) .0 e)) (bool (eqb k 0))
 
-    to : filtersRow m v ≡ 0 → AllPass m v
-    to e = record {
-      each = λ w i. never e _ (of-filter i);
-      closed = ⊎-elim (λ q. q) (λ q. absurd (let z = never e 5 (not-closed q) in omega arith)) (bool (isClosed (length m) m v));
-      some = some (decLt (length (filterPlaces m v)) 1);
-      few = few (decLt 4 (length (filterPlaces m v)));
-    }
+    to : filtersRow m fs n ≡ 0 → AllPass m fs n
+    to e = record { each = λ p i. never e _ (of-filter i); some = some (decLt n 1); few = few (decLt 4 n) }
       where
-        some : Dec (length (filterPlaces m v) < 1) → 1 ≤ length (filterPlaces m v)
+        some : Dec (n < 1) → 1 ≤ n
         some (yes l) = absurd (let z = never e 8 (miscounted (inl l)) in omega arith)
-        some (no n) = omega arith
+        some (no l) = omega arith
 
-        few : Dec (4 < length (filterPlaces m v)) → length (filterPlaces m v) ≤ 4
+        few : Dec (4 < n) → n ≤ 4
         few (yes l) = absurd (let z = never e 8 (miscounted (inr l)) in omega arith)
-        few (no n) = omega arith
+        few (no l) = omega arith
 
-    none : {k : ℕ} → AllPass m v → RowHolds m v k → k ≡ 0
-    none a (of-filter {w = w} i) = a .each w i
-    none a (not-closed h) = absurd (clash (a .closed) h)
+    none : {k : ℕ} → AllPass m fs n → RowHolds m fs n k → k ≡ 0
+    none a (of-filter {p = p} i) = a .each p i
     none a (miscounted h) = absurd (let s = a .some in let f = a .few in ⊎-elim (λ l. omega arith) (λ l. omega arith) h)
 
-    from : AllPass m v → filtersRow m v ≡ 0
-    from a = ⊎-elim (eqb-true (filtersRow m v) 0) (λ q. none a (filters-row-is m v .holds (eqb-false (filtersRow m v) 0 q))) (bool (eqb (filtersRow m v) 0))
+    from : AllPass m fs n → filtersRow m fs n ≡ 0
+    from a = ⊎-elim (eqb-true (filtersRow m fs n) 0) (λ q. none a (filters-row-is m fs n .holds (eqb-false (filtersRow m fs n) 0 q))) (bool (eqb (filtersRow m fs n) 0))

@@ -12,7 +12,6 @@ use lib.ListN.{length, take, drop, length-append, length-drop}
 use lib.Seq.{take-at, drop-at}
 use Rattle.message.specs.declared.EventParts.{EventParts}
 use Rattle.message.specs.declared.FilterParts.{FilterParts}
-use Rattle.message.specs.Parts.{filterAt}
 use Rattle.message.specs.Lent.{lowest, body6, body8, event2, event4, event5, event7, eventRow, filter2, filter4, filter5, filter6, filter7, filter8, filterRow}
 use Rattle.event.specs.Lent.{said, eventOf}
 use Rattle.event.specs.Answer.{orElse, isLarge}
@@ -20,9 +19,9 @@ use Rattle.table.specs.Sound.{sound}
 use Rattle.query.specs.Match.{matchesSome}
 use Rattle.query.specs.declared.Matched.the-variants.{Matches, Differs}
 use Rattle.query.specs.declared.Matched.the-variants as matching
-use Rattle.query.specs.Answer.{answerList, filtersAt, filtersRow, matchedRow, matched, matchNumber, matchValue, listingRow, listed, listedRow, numberOf, valueOf}
+use Rattle.query.specs.Answer.{meant, filtersRow, answerTo, matchedRow, matched, matchNumber, matchValue, listingRow, listed, listedRow, numberOf, valueOf}
 use Rattle.query.specs.declared.Listing.the-variants.{Count, Refused}
-use Rattle.query.specs.Laws.{RowHolds, of-filter, not-closed, miscounted, Lowest, MatchedHolds, of-event, of-filters, too-large, MatchedRowIs, MatchedMeans, ListingHolds, of-lent, not-sound, too-short, ListingRowIs, ListingIs, ListingMeans}
+use Rattle.query.specs.Laws.{RowHolds, of-filter, miscounted, Lowest, MatchedHolds, of-event, of-filters, too-large, MatchedRowIs, MatchedMeans, ListingHolds, of-lent, not-sound, too-short, ListingRowIs, ListingIs, ListingMeans}
 use Rattle.query.proofs.Sorting.{bool, clash}
 use Rattle.query.proofs.Lent.{join, alike, alone, filters-row-is}
 
@@ -40,22 +39,21 @@ filter-small : (b : List ℕ) (p : FilterParts) → filterRow b p ≤ 8
 unfolding filterRow
 filter-small b p = lowest-small (filter2 b p) (filter4 b p) (filter5 b p) (filter6 b p) (filter7 b p) (filter8 b p)
 
-row-small : (m : List ℕ) (v r : ℕ) → RowHolds m v r → r ≤ 8
-row-small m v _ (of-filter {w = w} i) = filter-small m (filterAt m w)
-row-small m v _ (not-closed h) = omega arith
-row-small m v _ (miscounted h) = omega arith
+row-small : (m : List ℕ) (fs : List FilterParts) (n r : ℕ) → RowHolds m fs n r → r ≤ 8
+row-small m fs n _ (of-filter {p = p} i) = filter-small m p
+row-small m fs n _ (miscounted h) = omega arith
 
 event-small : (b : List ℕ) (p : EventParts) → eventRow b p ≤ 8
 unfolding eventRow
 event-small b p = lowest-small (event2 b p) (event4 b p) (event5 b p) (body6 (p .body)) (event7 b p) (body8 b (p .body))
 
--- the lowest row of some that are at most 8 is at most 8
-small : {P : ℕ → Type 0} (r : ℕ) → ((k : ℕ) → P k → k ≤ 8) → Lowest P r → r ≤ 8
-small r h p = ⊎-elim (λ e. let z = eqb-true r 0 e in omega arith) (λ e. h r (p .holds (eqb-false r 0 e))) (bool (eqb r 0))
+-- the lowest row of some that are at most n is at most n
+small : {P : ℕ → Type 0} (n r : ℕ) → ((k : ℕ) → P k → k ≤ n) → Lowest P r → r ≤ n
+small n r h p = ⊎-elim (λ e. let z = eqb-true r 0 e in omega arith) (λ e. h r (p .holds (eqb-false r 0 e))) (bool (eqb r 0))
 
--- a row of at most 8, or else one of more, is the lowest of both
-or-else : {P Q : ℕ → Type 0} (r s : ℕ) → ((k : ℕ) → P k → k ≤ 8) → ((k : ℕ) → Q k → 8 < k) → Lowest P r → Lowest Q s → Lowest (λ k. P k ⊎ Q k) (orElse r s)
-or-else {P} {Q} r s low high p q = go (eqb r 0) refl
+-- a row of at most n, or else one of more, is the lowest of both
+pub or-else : {P Q : ℕ → Type 0} (n r s : ℕ) → ((k : ℕ) → P k → k ≤ n) → ((k : ℕ) → Q k → n < k) → Lowest P r → Lowest Q s → Lowest (λ k. P k ⊎ Q k) (orElse r s)
+or-else {P} {Q} n r s low high p q = go (eqb r 0) refl
   where
     go : (b : Bool) → eqb r 0 ≡ b → Lowest (λ k. P k ⊎ Q k) (cond b s r)
     go true e = record {
@@ -64,37 +62,37 @@ or-else {P} {Q} r s low high p q = go (eqb r 0) refl
     }
     go false e = record {
       holds = λ ne. inl (p .holds ne);
-      least = λ k h ne. ⊎-elim (λ i. p .least k i ne) (λ i. (eqb-false r 0 e, let y = high k i in let z = small r low p in omega arith)) h;
+      least = λ k h ne. ⊎-elim (λ i. p .least k i ne) (λ i. (eqb-false r 0 e, let y = high k i in let z = small n r low p in omega arith)) h;
     }
 
 -- ---- matching
 pub matched-row-is : MatchedRowIs
 unfolding matchedRow
-matched-row-is b p m v =
+matched-row-is b p m fs n =
     alike to from
-    (or-else _ (cond (isLarge b (p .body)) 9 0) (λ k. ⊎-elim (λ e. let z = event-small b p in omega (arith, e)) (row-small m v k)) (λ k h. let z = h .0 in omega (arith, z))
-    (join (eventRow b p) (filtersRow m v) (alone (eventRow b p)) (filters-row-is m v))
+    (or-else 8 _ (cond (isLarge b (p .body)) 9 0) (λ k. ⊎-elim (λ e. let z = event-small b p in omega (arith, e)) (row-small m fs n k)) (λ k h. let z = h .0 in omega (arith, z))
+    (join (eventRow b p) (filtersRow m fs n) (alone (eventRow b p)) (filters-row-is m fs n))
     (large (isLarge b (p .body)) refl))
   where
     large : (x : Bool) → isLarge b (p .body) ≡ x → Lowest (λ k. (k ≡ 9) × (isLarge b (p .body) ≡ true)) (cond x 9 0)
     large true e = record { holds = λ ne. (refl, e); least = λ k h ne. (λ z. absurd (omega arith), let z = h .0 in omega (arith, z)) }
     large false e = record { holds = λ ne. absurd (ne refl); least = λ k h ne. absurd (clash (h .1) e) }
 
-    to : (k : ℕ) → ((k ≡ eventRow b p) ⊎ RowHolds m v k) ⊎ ((k ≡ 9) × (isLarge b (p .body) ≡ true)) → MatchedHolds b p m v k
+    to : (k : ℕ) → ((k ≡ eventRow b p) ⊎ RowHolds m fs n k) ⊎ ((k ≡ 9) × (isLarge b (p .body) ≡ true)) → MatchedHolds b p m fs n k
     to k (inl (inl e)) = rw e of-event
     to k (inl (inr h)) = of-filters h
     to k (inr (e, h)) = rw e (too-large h)
 
-    from : (k : ℕ) → MatchedHolds b p m v k → ((k ≡ eventRow b p) ⊎ RowHolds m v k) ⊎ ((k ≡ 9) × (isLarge b (p .body) ≡ true))
+    from : (k : ℕ) → MatchedHolds b p m fs n k → ((k ≡ eventRow b p) ⊎ RowHolds m fs n k) ⊎ ((k ≡ 9) × (isLarge b (p .body) ≡ true))
     from _ of-event = inl (inl refl)
     from k (of-filters h) = inl (inr h)
     from _ (too-large h) = inr (refl, h)
 
 pub matched-means : MatchedMeans
 unfolding matched
-matched-means b p m v =
-    let (n, a) = go (matchedRow b p m v) (bool (eqb (matchedRow b p m v) 0)) (matchesSome (filtersAt m v) (said b (p .id)) (eventOf b (p .body))) in
-    record { number = n; value = a }
+matched-means b p m fs n =
+    let (k, a) = go (matchedRow b p m fs n) (bool (eqb (matchedRow b p m fs n) 0)) (matchesSome (meant m fs n) (said b (p .id)) (eventOf b (p .body))) in
+    record { number = k; value = a }
   where
     go : (r : ℕ) → (eqb r 0 ≡ true) ⊎ (eqb r 0 ≡ false) → (x : Bool)
         → (matchNumber (cond (eqb r 0) (cond x Matches Differs) (matching.Refused r)) ≡ r) × (T (matchValue (cond (eqb r 0) (cond x Matches Differs) (matching.Refused r))) ↔ ((r ≡ 0) × T x))
@@ -103,9 +101,9 @@ matched-means b p m v =
     go r (inr e) x = rw e (refl, (λ t. absurd t, λ h. absurd (eqb-false r 0 e (h .0))))
 
 -- ---- the answer
-module _ (b m : List ℕ) (v : ℕ) (row : List ℕ) where
+module _ (b m : List ℕ) (fs : List FilterParts) (n : ℕ) (row : List ℕ) where
   abbrev slots : List ℕ
-  slots = answerList b (filtersAt m v)
+  slots = answerTo b m fs n
 
   -- rows 11 and 13
   abbrev Later : ℕ → Type 0
@@ -125,50 +123,50 @@ module _ (b m : List ℕ) (v : ℕ) (row : List ℕ) where
     least = λ k h ne. ⊎-elim (λ q. absurd (clash e (q .1))) (λ q. absurd (clash (lt-ltb (length row) (length slots) (q .1)) f)) h;
   }
 
-  to-listing : (k : ℕ) → RowHolds m v k ⊎ Later k → ListingHolds b m v row k
+  to-listing : (k : ℕ) → RowHolds m fs n k ⊎ Later k → ListingHolds b m fs n row k
   to-listing k (inl h) = of-lent h
   to-listing k (inr (inl (e, h))) = rw e (not-sound h)
   to-listing k (inr (inr (e, h))) = rw e (too-short h)
 
-  of-listing : (k : ℕ) → ListingHolds b m v row k → RowHolds m v k ⊎ Later k
+  of-listing : (k : ℕ) → ListingHolds b m fs n row k → RowHolds m fs n k ⊎ Later k
   of-listing k (of-lent h) = inl h
   of-listing _ (not-sound h) = inr (inl (refl, h))
   of-listing _ (too-short h) = inr (inr (refl, h))
 
-  listing-row : Lowest (ListingHolds b m v row) (listingRow b m v row)
+  listing-row : Lowest (ListingHolds b m fs n row) (listingRow b m fs n row)
   unfolding listingRow
   listing-row =
       alike to-listing of-listing
-      (or-else (filtersRow m v) _ (row-small m v) (λ k. ⊎-elim (λ q. let z = q .0 in omega (arith, z)) (λ q. let z = q .0 in omega (arith, z)))
-      (filters-row-is m v) (later (sound b) (ltb (length row) (length slots)) refl refl))
+      (or-else 8 (filtersRow m fs n) _ (row-small m fs n) (λ k. ⊎-elim (λ q. let z = q .0 in omega (arith, z)) (λ q. let z = q .0 in omega (arith, z)))
+      (filters-row-is m fs n) (later (sound b) (ltb (length row) (length slots)) refl refl))
 
-  long-enough : listingRow b m v row ≡ 0 → length slots ≤ length row
+  long-enough : listingRow b m fs n row ≡ 0 → length slots ≤ length row
   long-enough e = on (decLt (length row) (length slots))
     where
       on : Dec (length row < length slots) → length slots ≤ length row
       on (yes h) = absurd (listing-row .least 13 (too-short h) (λ z. absurd (omega arith)) .0 e)
-      on (no n) = omega arith
+      on (no l) = omega arith
 
-  taken : listingRow b m v row ≡ 0 → listedRow b m v row ≡ slots ++ drop (length slots) row
+  taken : listingRow b m fs n row ≡ 0 → listedRow b m fs n row ≡ slots ++ drop (length slots) row
   unfolding listedRow
-  taken e = rw (eq-eqb (listingRow b m v row) 0 e)
+  taken e = rw (eq-eqb (listingRow b m fs n row) 0 e)
 
-  left : listingRow b m v row ≢ 0 → listedRow b m v row ≡ row
+  left : listingRow b m fs n row ≢ 0 → listedRow b m fs n row ≡ row
   unfolding listedRow
-  left ne = rw (ne-eqb (listingRow b m v row) 0 ne)
+  left ne = rw (ne-eqb (listingRow b m fs n row) 0 ne)
 
-  is-count : listingRow b m v row ≡ 0 → listed b m v row ≡ Count (length slots)
+  is-count : listingRow b m fs n row ≡ 0 → listed b m fs n row ≡ Count (length slots)
   unfolding listed
-  is-count e = rw (eq-eqb (listingRow b m v row) 0 e)
+  is-count e = rw (eq-eqb (listingRow b m fs n row) 0 e)
 
-  is-refused : listingRow b m v row ≢ 0 → listed b m v row ≡ Refused (listingRow b m v row)
+  is-refused : listingRow b m fs n row ≢ 0 → listed b m fs n row ≡ Refused (listingRow b m fs n row)
   unfolding listed
-  is-refused ne = rw (ne-eqb (listingRow b m v row) 0 ne)
+  is-refused ne = rw (ne-eqb (listingRow b m fs n row) 0 ne)
 
-  zero-or : (listingRow b m v row ≡ 0) ⊎ (listingRow b m v row ≢ 0)
-  zero-or = ⊎-elim (λ e. inl (eqb-true (listingRow b m v row) 0 e)) (λ e. inr (eqb-false (listingRow b m v row) 0 e)) (bool (eqb (listingRow b m v row) 0))
+  zero-or : (listingRow b m fs n row ≡ 0) ⊎ (listingRow b m fs n row ≢ 0)
+  zero-or = ⊎-elim (λ e. inl (eqb-true (listingRow b m fs n row) 0 e)) (λ e. inr (eqb-false (listingRow b m fs n row) 0 e)) (bool (eqb (listingRow b m fs n row) 0))
 
-  listing-is : ListingIs b m v row
+  listing-is : ListingIs b m fs n row
   listing-is = record {
     number = ⊎-elim (λ e. ap numberOf (is-count e) ∙ sym e) (λ ne. ap numberOf (is-refused ne)) zero-or;
     count = λ e. ap valueOf (is-count e);
@@ -179,7 +177,7 @@ module _ (b m : List ℕ) (v : ℕ) (row : List ℕ) where
   }
 
 pub listing-row-is : ListingRowIs
-listing-row-is b m v row = listing-row b m v row
+listing-row-is b m fs n row = listing-row b m fs n row
 
 pub listing-means : ListingMeans
-listing-means b m v row = listing-is b m v row
+listing-means b m fs n row = listing-is b m fs n row

@@ -1,55 +1,74 @@
--- The filters that were read from an accepted REQ pass the test of lent filters: message/proofs/Passes has each filter and their number;
--- here, that the array is closed after them.
-use mathlib.Core.Path.{_≡_, refl, sym, ap, _∙_}
+-- The filters that were read from an accepted REQ: they are all the elements of its array after the subscription id, and lent as parts they
+-- pass the test of lent filters (message/proofs/Passes has each filter and their number).
+use mathlib.Core.Path.{_≡_, refl, sym, ap, ap₂, _∙_}
 use mathlib.Core.Bool.{Bool, true, false, cond, false≢true}
-use mathlib.Core.List.{List}
-use Prim.Native.Nat.{ℕ, zero, suc, _≤_, _<_}
+use mathlib.Core.List.{List, [], _∷_, map, Memᴰ·of-map}
+use Prim.Native.Nat.{ℕ, suc, _≤_, _<_}
 use native.Mathlib.Omega.{arith}
-use lib.ListN.{length}
+use lib.Dec.{ltb}
+use lib.ListN.{length, take, length-take, length-map}
 use Rattle.json.specs.Grammar.{wsAt}
-use Rattle.json.specs.Tree.{Json, str, Items, nil, item, got, treeAt, root}
-use Rattle.rows.specs.Strings.{part}
+use Rattle.json.specs.Tree.{Json, word, num, str, arr, obj, Items, nil, item, got, treeAt, root}
 use Rattle.rows.specs.Rows.{row1, row2, row3}
-use Rattle.spell.specs.Spell.{decode}
-use Rattle.shape.specs.Shape.{Word, event, req, close, other, wordOf, countItems}
+use Rattle.shape.specs.Shape.{Word, event, req, close, other, opened, countItems, count}
 use Rattle.shape.specs.Rows.{row4, row5, row6, row7, row8, treeRow, rootRow, messageRow, wrongRequest, wrongSubscription}
+use Rattle.message.specs.declared.FilterParts.{FilterParts}
+use Rattle.message.specs.declared.Element.the-variants.{At}
 use Rattle.message.specs.declared.ReqParts.{ReqParts}
 use Rattle.message.specs.declared.Message.the-variants as message
-use Rattle.message.specs.Lists.{within}
+use Rattle.message.specs.Parts as parts
+use Rattle.message.specs.Parts.{membersOf, membersGot, membersAt, filterAt}
+use Rattle.message.specs.Lent.{filterRow}
+use Rattle.message.specs.Lists.{within, elementsFrom, placesOf}
 use Rattle.message.specs.Read.{partsOf, inRoot, readOf, rowOf}
-use Rattle.message.proofs.Walks.{Walk, last, more}
-use Rattle.message.proofs.Elements.{Group, filled, group-of, walk-first}
-use Rattle.message.proofs.Reading.{Shaped, shaped, late-shaped, Begun, begun, begun-of, row-read}
+use Rattle.message.proofs.Walks.{Walk, last, more, deeper}
+use Rattle.message.proofs.Elements.{Group, filled, group-of, walk-first, walk-places, Listing, end, one, array-listing}
+use Rattle.message.proofs.Reading.{row-read}
 use Rattle.message.proofs.Passes as passes
-use Rattle.query.specs.Answer.{isClosed}
-use Rattle.query.specs.Laws.{ReadPasses}
+use Rattle.law.specs.Lists.{_∈_}
+use Rattle.table.specs.Sound.{sound}
+use Rattle.query.specs.Filter.{filterOf}
+use Rattle.query.specs.Answer.{answerList, filterPlaces, partsAt, filtersAt, meant, filtersRow, listingRow}
+use Rattle.query.specs.Laws.{filtersOf, AllFilters, TextFilters, ReadPasses, ReadListing}
 use Rattle.query.proofs.Sorting.{no-left, no-right}
 use Rattle.query.proofs.Lent.{filters-pass}
 
--- a walk over items ends where the array is closed
-walk-closed : {s : List ℕ} {f i : ℕ} {ts : Items} {n : ℕ} (g : ℕ) → f ≤ g → Walk (treeAt s within) s false f i ts n → isClosed g s i ≡ true
-unfolding isClosed
-walk-closed zero l (last h w q) = absurd (omega arith)
-walk-closed zero l (more h w q r) = absurd (omega arith)
-walk-closed (suc g) l (last {i = i} {v = v} h w q) = let z : i ≡ v = cc in rw (z, w, q)
-walk-closed (suc g) l (more {i = i} {v = v} h w q r) = let z : i ≡ v = cc in rw (z, w, q) (walk-closed g (omega arith) r)
-
--- the same from the third element of an array on
+-- ---- the elements of an array from its third on are the items there
 module _ {s : List ℕ} {n : ℕ} where
-  first-closed : {f i q w : ℕ} {u : Json} {us : Items} → f ≤ length s → Walk (treeAt s within) s false f i (item q w u us) n → isClosed (length s) s w ≡ true
-  first-closed {i = i} {w = w} l r =
+  first-places : {f i q w : ℕ} {u : Json} {us : Items} → f ≤ length s → Walk (treeAt s within) s false f i (item q w u us) n
+      → elementsFrom s (At w) ≡ placesOf (item q w u us)
+  unfolding elementsFrom
+  first-places {i = i} {w = w} l r =
       let z = walk-first r in
       let e : i ≡ w = cc in
-      rw e at (walk-closed (length s) l r)
+      rw e at (walk-places (length s) l r)
 
-  second-closed : {f i p v q w : ℕ} {t u : Json} {us : Items} → f ≤ length s → Walk (treeAt s within) s false f i (item p v t (item q w u us)) n → isClosed (length s) s w ≡ true
-  second-closed l (more h w q r) = first-closed (omega arith) r
+  second-places : {f i p v q w : ℕ} {t u : Json} {us : Items} → f ≤ length s → Walk (treeAt s within) s false f i (item p v t (item q w u us)) n
+      → elementsFrom s (At w) ≡ placesOf (item q w u us)
+  second-places l (more h w q r) = first-places (omega arith) r
 
-  third-closed : {f i p v q w k x : ℕ} {t u y : Json} {us : Items} → f ≤ length s → Walk (treeAt s within) s false f i (item p v t (item q w u (item k x y us))) n → isClosed (length s) s x ≡ true
-  third-closed l (more h w q r) = second-closed (omega arith) r
+  third-walk : {f i p v q w k x : ℕ} {t u y : Json} {us : Items} → f ≤ length s → Walk (treeAt s within) s false f i (item p v t (item q w u (item k x y us))) n
+      → elementsFrom s (At x) ≡ placesOf (item k x y us)
+  third-walk l (more h w q r) = second-places (omega arith) r
 
-  filters-closed : {at p v q w k x : ℕ} {t u y : Json} {us : Items} → Group s at false (item p v t (item q w u (item k x y us))) n → isClosed (length s) s x ≡ true
-  filters-closed (filled h w) = third-closed (omega arith) w
+  third-places : {at p v q w k x : ℕ} {t u y : Json} {us : Items} → Group s at false (item p v t (item q w u (item k x y us))) n
+      → elementsFrom s (At x) ≡ placesOf (item k x y us)
+  third-places (filled h w) = third-walk (omega arith) w
+
+-- an element's parts, found at its place, are those of its object in the tree
+listing-filters : (s : List ℕ) {ts : Items} → Listing s ts → map (filterOf s) (map (filterAt s) (placesOf ts)) ≡ filtersOf s ts
+unfolding filtersOf filterAt membersAt
+listing-filters s end = refl
+listing-filters s (one {v = v} {m = m} {t = t} e q l) =
+    ap₂ _∷_ (ap (λ g. filterOf s (parts.filterOf s v (membersGot g))) (deeper s within v t m e)) (listing-filters s l)
+
+rest-listing : {s : List ℕ} {p v q w : ℕ} {t u : Json} {ts : Items} → Listing s (item p v t (item q w u ts)) → Listing s ts
+rest-listing (one e f (one g h l)) = l
+
+filters-count : (s : List ℕ) (ts : Items) → length (filtersOf s ts) ≡ count ts
+unfolding filtersOf countItems
+filters-count s nil = refl
+filters-count s (item p v t ts) = ap suc (filters-count s ts)
 
 -- ---- the message
 zero-row : (b : Bool) (k x : ℕ) → 0 < k → cond b k x ≡ 0 → (b ≡ false) × (x ≡ 0)
@@ -70,35 +89,68 @@ counts-pass s t n r e =
     let (z₇, q₇) = zero-row (row7 s t) 7 _ (omega arith) q₆ in
     zero-row (row8 s t) 8 _ (omega arith) q₇ .0
 
+opened-rest : (s : List ℕ) (p v : ℕ) (t : Json) (ts : Items) → opened s (arr (item p v t ts)) .rest ≡ ts
+opened-rest s p v (word a n) ts = refl
+opened-rest s p v (num a n) ts = refl
+opened-rest s p v (str a n) ts = refl
+opened-rest s p v (arr us) ts = refl
+opened-rest s p v (obj us) ts = refl
+
 module _ (s : List ℕ) (r : ReqParts) where
   -- a REQ has a third element, and it is the first filter
   on-word : (x : Word) {at p v q w n : ℕ} {t u : Json} (us : Items) → Group s at false (item p v t (item q w u us)) n → partsOf s x (item q w u us) ≡ message.Req r
-      → wrongRequest s x (item q w u us) ≡ false → isClosed (length s) s (r .filters) ≡ true
+      → wrongRequest s x (item q w u us) ≡ false → filterPlaces s (r .filters) ≡ placesOf us
   unfolding countItems
   on-word req {u = u} nil g e c = absurd (false≢true (sym (no-right (wrongSubscription s u) true c)))
-  on-word req (item k x y us) g e c = let z : r .filters ≡ x = cc in rw z (filters-closed g)
+  on-word req (item k x y us) g e c = let z : r .filters ≡ x = cc in rw z (third-places g)
   on-word event us g e c = absurd (let z : _≡_ {A = ℕ} 0 1 = cc in omega arith)
   on-word close us g e c = absurd (let z : _≡_ {A = ℕ} 0 1 = cc in omega arith)
   on-word other us g e c = absurd (let z : _≡_ {A = ℕ} 0 1 = cc in omega arith)
 
-  read-closed : readOf s ≡ message.Req r → isClosed (length s) s (r .filters) ≡ true
-  unfolding readOf row8
-  read-closed e = on (late-shaped s (rw row))
-    where
-      row : messageRow s ≡ 0
-      row = sym (row-read s) ∙ ap rowOf e
+  module _ (e : readOf s ≡ message.Req r) {p v q w n : ℕ} {t u : Json} {ts : Items} (tree : root s ≡ got (arr (item p v t (item q w u ts))) n) where
+    row-0 : messageRow s ≡ 0
+    row-0 = sym (row-read s) ∙ ap rowOf e
 
-      parts : inRoot s (root s) ≡ message.Req r
-      parts = rw row at e
+    group : Group s (wsAt s 0) false (item p v t (item q w u ts)) n
+    group = group-of s (wsAt s 0) false (item p v t (item q w u ts)) n tree
 
-      begins : {t : Json} {n : ℕ} → root s ≡ got t n → row8 s t ≡ false → Begun t → isClosed (length s) s (r .filters) ≡ true
-      begins {n = n} q c (begun {p = p} {v = v} {a = a} {n = m} {q = i} {w = w} {u = u} {us = us}) =
-          on-word (wordOf (decode (part s a m))) us (group-of s (wsAt s 0) false (item p v (str a m) (item i w u us)) n q) (rw q at parts) (no-left _ _ c)
+    all-places : filterPlaces s (r .filters) ≡ placesOf ts
+    unfolding readOf row8
+    all-places =
+        let rest = opened-rest s p v t (item q w u ts) in
+        let is : inRoot s (root s) ≡ message.Req r = rw row-0 at e in
+        let x = opened s (arr (item p v t (item q w u ts))) .first in
+        let y = opened s (arr (item p v t (item q w u ts))) .rest in
+        let c : wrongRequest s x y ≡ false = no-left (wrongRequest s x y) _ (counts-pass s (arr (item p v t (item q w u ts))) n tree row-0) in
+        on-word x ts group (rw (tree, rest) at is) (rw rest at c)
 
-      on : Shaped s → isClosed (length s) s (r .filters) ≡ true
-      on (shaped {t = t} {n = n} q h) = begins q (counts-pass s t n q row) (begun-of s t h)
+    all-meant : filtersAt s (r .filters) ≡ filtersOf s ts
+    unfolding filtersAt
+    all-meant = ap (λ l. map (filterOf s) (map (filterAt s) l)) all-places ∙ listing-filters s (rest-listing (array-listing group .1))
+
+pub all-filters : AllFilters
+all-filters m r e p v q w n t u ts tree = let z = all-meant m r e tree in (z, ap length z ∙ filters-count m ts)
+
+-- ---- lent as parts
+pub text-filters : TextFilters
+unfolding meant filtersAt
+text-filters m v fs n e = ap (map (filterOf m)) e
+
+-- n parts are lent
+parts-counted : (m : List ℕ) (v : ℕ) (fs : List FilterParts) (n : ℕ) → n ≤ length fs → take n fs ≡ partsAt m v → n ≡ length (filterPlaces m v)
+parts-counted m v fs n l e = omega (arith, length-take n fs, ap length e, length-map (filterPlaces m v) (filterAt m))
 
 pub read-passes : ReadPasses
-read-passes m r e =
+read-passes m r e fs n l q =
     let (a, b) = passes.filters-counted m r e in
-    filters-pass m (r .filters) .1 (record { each = passes.filters-pass m r e; closed = read-closed m r e; some = a; few = b })
+    let z = parts-counted m (r .filters) fs n l q in
+    filters-pass m fs n .1 (record { each = each; some = omega arith; few = omega arith })
+  where
+    each : (p : FilterParts) → p ∈ take n fs → filterRow m p ≡ 0
+    each p i = let (v, j, f) = Memᴰ·of-map (filterAt m) (filterPlaces m (r .filters)) (rw q at i) in rw (← f) (passes.filters-pass m r e v j)
+
+pub read-listing : ReadListing
+unfolding listingRow
+read-listing b m r e fs n l q row =
+    let z = ap (answerList b) (text-filters m (r .filters) fs n q) in
+    (z, rw (read-passes m r e fs n l q, text-filters m (r .filters) fs n q))

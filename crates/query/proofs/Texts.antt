@@ -23,7 +23,7 @@ use Rattle.message.specs.Parts.{membersAt, filterAt}
 use Rattle.message.specs.Lent.{wrongNumber, value2, value4, value5, filter2, filter4, filter5, filter6, filter7, filter8, filterRow}
 use Rattle.event.specs.Lent.{stringsOf}
 use Rattle.query.specs.Filter.{filterOf}
-use Rattle.query.specs.Answer.{filtersAt, isClosed, lowestOf, filtersRow}
+use Rattle.query.specs.Answer.{partsAt, filtersAt, lowestOf, filtersRow}
 use Rattle.query.specs.Laws.{everything}
 
 -- a text of ASCII characters
@@ -59,7 +59,15 @@ pub one-filter : filtersAt (text "{\"until\":7,\"authors\":[\"b\"],\"ids\":[\"a\
 unfolding classOf run past oneAt tokenAt wordAt literalAt digitsAt intAt fracAt expAt numberAt hexAt escapedAt charAt charsUpTo charsAt stringAt scalarAt itemsAt treeAt isDigit allDigits valueFrom isNatural naturalOf negativeOf wholeOf answerOf charOf charsFrom bytesOf joined decode spell.any sameBytes spelledAt nameAt nextOf upTo elementsFrom parts.filterOf membersAt filterAt stringsOf filterOf filtersAt parts.memberOf isWithin isCondition spell.unicodeOf spell.isPair spell.fourAt spell.four spell.hexVal spell.utf8Of
 one-filter = refl
 
--- 0 of them; 5 of {} with no bracket after it, and of no filter; 8 of {} five times
-pub rows : (filtersRow two 0 ≡ 0) × (filtersRow (text "{}") 0 ≡ 5) × (filtersRow (text "[]") 1 ≡ 5) × (filtersRow (text "{},{},{},{},{}]") 0 ≡ 8)
-unfolding classOf run past oneAt tokenAt wordAt literalAt digitsAt intAt fracAt expAt numberAt hexAt escapedAt charAt charsUpTo charsAt stringAt scalarAt itemsAt treeAt isUtf8 utf8From leadOf isDigit allDigits valueFrom isNatural naturalOf negativeOf wholeOf answerOf isWithin charOf charsFrom bytesOf joined decode spell.any isRefused refuses sameBytes spelledAt refusedIn anyItem allItems countItems nameAt noneTwice isFilter isCondition filterCounts nextOf upTo elementsFrom parts.memberOf parts.filterOf membersAt filterAt wrongNumber value2 value4 value5 filter2 filter4 filter5 filter6 filter7 filter8 filterRow isClosed lowestOf filtersRow filterMember wrongSmall filterNumber wrongTime filterHex wrongList filterCount
-rows = (refl, refl, refl, refl)
+-- ---- lent as parts: 0 of these two; 8 of none and of {} five times, though six are lent; a number's row is lower
+abbrev lent : List ℕ → ℕ → ℕ
+lent m n = filtersRow m (partsAt m 0) n
+
+pub rows :
+    (lent two 2 ≡ 0)
+    × (lent two 0 ≡ 8)
+    × (lent (text "{},{},{},{},{},{}]") 5 ≡ 8)
+    × (lent (text "{},{},{\"limit\":-0},{},{}]") 5 ≡ 6)
+    × (lent (text "{},{},{\"limit\":-0},{},{}]") 2 ≡ 0)
+unfolding classOf run past oneAt tokenAt wordAt literalAt digitsAt intAt fracAt expAt numberAt hexAt escapedAt charAt charsUpTo charsAt stringAt scalarAt itemsAt treeAt isUtf8 utf8From leadOf isDigit allDigits valueFrom isNatural naturalOf negativeOf wholeOf answerOf isWithin charOf charsFrom bytesOf joined decode spell.any isRefused refuses sameBytes spelledAt refusedIn anyItem allItems countItems nameAt noneTwice isFilter isCondition filterCounts nextOf upTo elementsFrom parts.memberOf parts.filterOf membersAt filterAt wrongNumber value2 value4 value5 filter2 filter4 filter5 filter6 filter7 filter8 filterRow lowestOf filtersRow filterMember wrongSmall filterNumber wrongTime filterHex wrongList filterCount
+rows = (refl, refl, refl, refl, refl)

@@ -2,15 +2,17 @@
 -- prove them.
 -- Quotes are from 01, "Filters and replies", where nothing else is said.
 use mathlib.Core.Path.{_≡_}
-use mathlib.Core.Bool.{Bool, true, false}
+use mathlib.Core.Bool.{Bool, true, false, cond}
 use mathlib.Core.Logic.{_↔_, _⊎_, _≢_}
 use mathlib.Core.Option.{none, some}
 use mathlib.Core.List.{List, [], _∷_, _++_}
 use Prim.Native.Nat.{ℕ, min, _≤_, _<_}
-use lib.Dec.{T, eqb}
+use lib.Dec.{T, eqb, ltb}
 use lib.IntN.{ℤ, pos}
 use lib.Signed.{_≤ℤ_}
 use lib.ListN.{length, take, drop}
+use Rattle.json.specs.Tree.{Json, arr, Items, nil, item, got, root}
+use Rattle.shape.specs.Shape.{count}
 use Rattle.text.specs.Event.{Tag, Event}
 use Rattle.text.specs.Read.{read, readText}
 use Rattle.message.specs.declared.Bound.{Bound}
@@ -18,7 +20,9 @@ use Rattle.message.specs.declared.Bound.the-variants.{Absent, Number}
 use Rattle.message.specs.declared.EventParts.{EventParts}
 use Rattle.message.specs.declared.ReqParts.{ReqParts}
 use Rattle.message.specs.declared.Message.the-variants.{Req}
-use Rattle.message.specs.Parts.{filterAt}
+use Rattle.message.specs.declared.FilterParts.{FilterParts}
+use Rattle.message.specs.Parts as parts
+use Rattle.message.specs.Parts.{membersOf}
 use Rattle.message.specs.Lent.{eventRow, filterRow}
 use Rattle.message.specs.Read.{readOf}
 use Rattle.event.specs.Lent.{natural, said, eventOf}
@@ -28,9 +32,9 @@ use Rattle.law.specs.Event.{earlier, lower}
 use Rattle.table.specs.Layout.{tableSize, capacityOf, countOf, slotAt, idIn, textIn}
 use Rattle.table.specs.Events.{timeOfText}
 use Rattle.table.specs.Sound.{sound}
-use Rattle.query.specs.Filter.{Condition, Filter}
+use Rattle.query.specs.Filter.{Condition, Filter, filterOf}
 use Rattle.query.specs.Match.{isMember, sameNumber, kindListed, sinceHolds, untilHolds, conditionHolds, matches, matchesSome}
-use Rattle.query.specs.Answer.{keep, from, picked, union, newerSlot, matchesSlot, answerList, filterPlaces, filtersAt, isClosed, lowestOf, filtersRow, matchedRow, matched, matchNumber, matchValue, listingRow, listed, listedRow, numberOf, valueOf}
+use Rattle.query.specs.Answer.{keep, from, picked, union, newerSlot, matchesSlot, answerList, partsAt, filtersAt, meant, lowestOf, filtersRow, answerTo, matchedRow, matched, matchNumber, matchValue, listingRow, listed, listedRow, numberOf, valueOf}
 
 -- ---- matching
 -- "exact membership"
@@ -226,12 +230,27 @@ AnswerMeans = (b : List ℕ) (fs : List Filter) → AnswerIs b fs
 abbrev pub LimitZero : Type 0
 LimitZero = (b : List ℕ) (f : Filter) → answerList b (limited f (Number (pos 0)) ∷ []) ≡ []
 
+-- ---- the filters of a REQ
+-- what some elements of a message's array mean as filters, one each
+unfoldable pub filtersOf : List ℕ → Items → List Filter
+filtersOf m nil = []
+filtersOf m (item p v t ts) = filterOf m (parts.filterOf m v (membersOf t)) ∷ filtersOf m ts
+
+-- a REQ is answered by all its filters, in their order: those after the first word and the subscription id, as many as there are
+abbrev pub AllFilters : Type 0
+AllFilters = (m : List ℕ) (r : ReqParts) → readOf m ≡ Req r →
+    (p v q w n : ℕ) (first subscription : Json) (ts : Items) → root m ≡ got (arr (item p v first (item q w subscription ts))) n →
+    (filtersAt m (r .filters) ≡ filtersOf m ts) × (length (filtersAt m (r .filters)) ≡ count ts)
+
+-- lent parts that are those of the text mean what the text means
+abbrev pub TextFilters : Type 0
+TextFilters = (m : List ℕ) (v : ℕ) (fs : List FilterParts) (n : ℕ) → take n fs ≡ partsAt m v → meant m fs n ≡ filtersAt m v
+
 -- ---- lent filters
--- the row r holds of the filters lent at v
-pub data RowHolds (m : List ℕ) (v : ℕ) : ℕ → Type 0 where
-  of-filter : {w : ℕ} → w ∈ filterPlaces m v → RowHolds m v (filterRow m (filterAt m w))
-  not-closed : isClosed (length m) m v ≡ false → RowHolds m v 5
-  miscounted : (length (filterPlaces m v) < 1) ⊎ (4 < length (filterPlaces m v)) → RowHolds m v 8
+-- the row r holds of the first n of fs
+pub data RowHolds (m : List ℕ) (fs : List FilterParts) (n : ℕ) : ℕ → Type 0 where
+  of-filter : {p : FilterParts} → p ∈ take n fs → RowHolds m fs n (filterRow m p)
+  miscounted : (n < 1) ⊎ (4 < n) → RowHolds m fs n 8
 
 -- 01, "Numbers the relay answers with": "Where several hold, the lowest number is given"; 0 where none does
 pub record Lowest (Row : ℕ → Type 0) (r : ℕ) : Type 0 where
@@ -242,64 +261,72 @@ abbrev pub LowestMeans : Type 0
 LowestMeans = (rs : List ℕ) → Lowest (λ r. r ∈ rs) (lowestOf rs)
 
 abbrev pub FiltersRowIs : Type 0
-FiltersRowIs = (m : List ℕ) (v : ℕ) → Lowest (RowHolds m v) (filtersRow m v)
+FiltersRowIs = (m : List ℕ) (fs : List FilterParts) (n : ℕ) → Lowest (RowHolds m fs n) (filtersRow m fs n)
 
 -- "1 to 4 filters"
-pub record AllPass (m : List ℕ) (v : ℕ) : Type 0 where
-  pub each : (w : ℕ) → w ∈ filterPlaces m v → filterRow m (filterAt m w) ≡ 0
-  pub closed : isClosed (length m) m v ≡ true
-  pub some : 1 ≤ length (filterPlaces m v)
-  pub few : length (filterPlaces m v) ≤ 4
+pub record AllPass (m : List ℕ) (fs : List FilterParts) (n : ℕ) : Type 0 where
+  pub each : (p : FilterParts) → p ∈ take n fs → filterRow m p ≡ 0
+  pub some : 1 ≤ n
+  pub few : n ≤ 4
 
 abbrev pub FiltersPass : Type 0
-FiltersPass = (m : List ℕ) (v : ℕ) → (filtersRow m v ≡ 0) ↔ AllPass m v
+FiltersPass = (m : List ℕ) (fs : List FilterParts) (n : ℕ) → (filtersRow m fs n ≡ 0) ↔ AllPass m fs n
 
--- what was read from an accepted REQ passes, so the program's own call is never refused by rows 2 and 4 to 8
+-- what was read from an accepted REQ passes as lent parts, so the program's own call is never refused by rows 2 and 4 to 8
 abbrev pub ReadPasses : Type 0
-ReadPasses = (m : List ℕ) (r : ReqParts) → readOf m ≡ Req r → filtersRow m (r .filters) ≡ 0
+ReadPasses = (m : List ℕ) (r : ReqParts) → readOf m ≡ Req r →
+    (fs : List FilterParts) (n : ℕ) → n ≤ length fs → take n fs ≡ partsAt m (r .filters) → filtersRow m fs n ≡ 0
 
 -- ---- what is answered
 -- "Parts of an event, filter .. are tested by rows 2 and 4 to 8 .., an event by 9 too"
-pub data MatchedHolds (b : List ℕ) (p : EventParts) (m : List ℕ) (v : ℕ) : ℕ → Type 0 where
-  of-event : MatchedHolds b p m v (eventRow b p)
-  of-filters : {r : ℕ} → RowHolds m v r → MatchedHolds b p m v r
-  too-large : isLarge b (p .body) ≡ true → MatchedHolds b p m v 9
+pub data MatchedHolds (b : List ℕ) (p : EventParts) (m : List ℕ) (fs : List FilterParts) (n : ℕ) : ℕ → Type 0 where
+  of-event : MatchedHolds b p m fs n (eventRow b p)
+  of-filters : {r : ℕ} → RowHolds m fs n r → MatchedHolds b p m fs n r
+  too-large : isLarge b (p .body) ≡ true → MatchedHolds b p m fs n 9
 
 abbrev pub MatchedRowIs : Type 0
-MatchedRowIs = (b : List ℕ) (p : EventParts) (m : List ℕ) (v : ℕ) → Lowest (MatchedHolds b p m v) (matchedRow b p m v)
+MatchedRowIs = (b : List ℕ) (p : EventParts) (m : List ℕ) (fs : List FilterParts) (n : ℕ) → Lowest (MatchedHolds b p m fs n) (matchedRow b p m fs n)
 
 -- "matches an event against filters": the answer is yes where no row holds and some filter matches, and it is no value of a refusal
-pub record MatchedIs (b : List ℕ) (p : EventParts) (m : List ℕ) (v : ℕ) : Type 0 where
-  pub number : matchNumber (matched b p m v) ≡ matchedRow b p m v
-  pub value : T (matchValue (matched b p m v)) ↔ ((matchedRow b p m v ≡ 0) × T (matchesSome (filtersAt m v) (said b (p .id)) (eventOf b (p .body))))
+pub record MatchedIs (b : List ℕ) (p : EventParts) (m : List ℕ) (fs : List FilterParts) (n : ℕ) : Type 0 where
+  pub number : matchNumber (matched b p m fs n) ≡ matchedRow b p m fs n
+  pub value : T (matchValue (matched b p m fs n)) ↔ ((matchedRow b p m fs n ≡ 0) × T (matchesSome (meant m fs n) (said b (p .id)) (eventOf b (p .body))))
 
 abbrev pub MatchedMeans : Type 0
-MatchedMeans = (b : List ℕ) (p : EventParts) (m : List ℕ) (v : ℕ) → MatchedIs b p m v
+MatchedMeans = (b : List ℕ) (p : EventParts) (m : List ℕ) (fs : List FilterParts) (n : ℕ) → MatchedIs b p m fs n
 
 -- row 11, "table not sound"; row 13, "lent output .. too short"
-pub data ListingHolds (b m : List ℕ) (v : ℕ) (row : List ℕ) : ℕ → Type 0 where
-  of-lent : {r : ℕ} → RowHolds m v r → ListingHolds b m v row r
-  not-sound : sound b ≡ false → ListingHolds b m v row 11
-  too-short : length row < length (answerList b (filtersAt m v)) → ListingHolds b m v row 13
+pub data ListingHolds (b m : List ℕ) (fs : List FilterParts) (n : ℕ) (row : List ℕ) : ℕ → Type 0 where
+  of-lent : {r : ℕ} → RowHolds m fs n r → ListingHolds b m fs n row r
+  not-sound : sound b ≡ false → ListingHolds b m fs n row 11
+  too-short : length row < length (answerTo b m fs n) → ListingHolds b m fs n row 13
 
 abbrev pub ListingRowIs : Type 0
-ListingRowIs = (b m : List ℕ) (v : ℕ) (row : List ℕ) → Lowest (ListingHolds b m v row) (listingRow b m v row)
+ListingRowIs = (b m : List ℕ) (fs : List FilterParts) (n : ℕ) (row : List ℕ) → Lowest (ListingHolds b m fs n row) (listingRow b m fs n row)
 
 -- "It is written to a lent row of 16-bit numbers, and its length is the count answered." "Output is written from its start, and its rest
 -- stays. A refusal carries its number and no other value .., and every lent buffer stays as found."
-pub record ListingIs (b m : List ℕ) (v : ℕ) (row : List ℕ) : Type 0 where
-  pub number : numberOf (listed b m v row) ≡ listingRow b m v row
-  pub count : listingRow b m v row ≡ 0 → valueOf (listed b m v row) ≡ length (answerList b (filtersAt m v))
-  pub written : listingRow b m v row ≡ 0 → take (length (answerList b (filtersAt m v))) (listedRow b m v row) ≡ answerList b (filtersAt m v)
-  pub rest : listingRow b m v row ≡ 0 → drop (length (answerList b (filtersAt m v))) (listedRow b m v row) ≡ drop (length (answerList b (filtersAt m v))) row
-  pub as-long : length (listedRow b m v row) ≡ length row
-  pub refused : listingRow b m v row ≢ 0 → (listedRow b m v row ≡ row) × (valueOf (listed b m v row) ≡ 0)
+pub record ListingIs (b m : List ℕ) (fs : List FilterParts) (n : ℕ) (row : List ℕ) : Type 0 where
+  pub number : numberOf (listed b m fs n row) ≡ listingRow b m fs n row
+  pub count : listingRow b m fs n row ≡ 0 → valueOf (listed b m fs n row) ≡ length (answerTo b m fs n)
+  pub written : listingRow b m fs n row ≡ 0 → take (length (answerTo b m fs n)) (listedRow b m fs n row) ≡ answerTo b m fs n
+  pub rest : listingRow b m fs n row ≡ 0 → drop (length (answerTo b m fs n)) (listedRow b m fs n row) ≡ drop (length (answerTo b m fs n)) row
+  pub as-long : length (listedRow b m fs n row) ≡ length row
+  pub refused : listingRow b m fs n row ≢ 0 → (listedRow b m fs n row ≡ row) × (valueOf (listed b m fs n row) ≡ 0)
 
 abbrev pub ListingMeans : Type 0
-ListingMeans = (b m : List ℕ) (v : ℕ) (row : List ℕ) → ListingIs b m v row
+ListingMeans = (b m : List ℕ) (fs : List FilterParts) (n : ℕ) (row : List ℕ) → ListingIs b m fs n row
+
+-- of the filters of an accepted REQ, lent as parts: 11, 13, or the answer to the filters of its text
+abbrev pub ReadListing : Type 0
+ReadListing = (b m : List ℕ) (r : ReqParts) → readOf m ≡ Req r →
+    (fs : List FilterParts) (n : ℕ) → n ≤ length fs → take n fs ≡ partsAt m (r .filters) → (row : List ℕ) →
+    (answerTo b m fs n ≡ answerList b (filtersAt m (r .filters)))
+    × (listingRow b m fs n row ≡ cond (sound b) (cond (ltb (length row) (length (answerList b (filtersAt m (r .filters))))) 13 0) 11)
 
 -- 01, "The table": "Bytes after slot N-1 are never read": whatever they are, a REQ's answer is the same
 abbrev pub ListingNeverRead : Type 0
 ListingNeverRead = (b t : List ℕ) → length b ≡ tableSize (capacityOf b) →
     (sound b ≡ true → (fs : List Filter) → answerList (b ++ t) fs ≡ answerList b fs)
-    × ((m : List ℕ) (v : ℕ) (row : List ℕ) → (listed (b ++ t) m v row ≡ listed b m v row) × (listedRow (b ++ t) m v row ≡ listedRow b m v row))
+    × ((m : List ℕ) (fs : List FilterParts) (n : ℕ) (row : List ℕ) →
+    (listed (b ++ t) m fs n row ≡ listed b m fs n row) × (listedRow (b ++ t) m fs n row ≡ listedRow b m fs n row))

@@ -33,16 +33,16 @@ use Rattle.text.specs.Read as reading
 use Rattle.text.specs.Read.{read, readText, opened, standsAt, fieldsAt, pairAt, closedAt, pubkeyAt, timeAt, runOf, kindAt, bodyFrom}
 use Rattle.text.specs.Kinds as kinds
 use Rattle.law.specs.Table.{regular, stored, verdict, after}
-use Rattle.table.specs.Events.{SignedEvent, Signature, tableEvents, signedEvents, inSlot, ofHeld, classOfEvent, classOfText, view}
+use Rattle.table.specs.Events.{SignedEvent, signedEvents, inSlot, ofHeld, classOfEvent, classOfText, view}
 use Rattle.table.specs.Offer.{asMessage, unhex, heldOf, partsOf, offeredOf, judge, messageOfferRow, answer, next}
 use Rattle.table.specs.Offer as offer
-use Rattle.law.specs.Machine.{Fresh}
 use Rattle.table.specs.Layout.{tableSize, capacityOf, countOf, slotAt, idIn, sigIn, textIn}
 use Rattle.table.specs.Sound.{sound}
-use Rattle.table.specs.Relay.{relay}
+use Rattle.table.specs.Relay.{Fresh}
 use Rattle.table.specs.declared.Offered.the-variants.{Stored}
 use Rattle.table.proofs.Rows.{rows-in-order}
-use Rattle.table.proofs.Formatted.{formatted-fresh, formatted-capacity}
+use Rattle.table.proofs.Formatted.{just-formatted, formatted-capacity}
+use Rattle.table.proofs.Good.{fresh-good, fresh-view}
 use Rattle.table.proofs.Faithful.{faithful}
 use Rattle.table.proofs.Stored.{length-view}
 use Rattle.table.proofs.Shown.{view-at}
@@ -131,8 +131,8 @@ first-view : after signedEvents 8 [] (some note) ≡ note ∷ []
 unfolding after
 first-view = rw first-verdict
 
-fresh : Fresh tableEvents Signature relay freshTable
-fresh = formatted-fresh programSlots (replicate (tableSize programSlots) 0) row-0 .0
+fresh : Fresh freshTable
+fresh = just-formatted programSlots (replicate (tableSize programSlots) 0) row-0
 
 capacity : capacityOf freshTable ≡ 8
 capacity = formatted-capacity programSlots (replicate (tableSize programSlots) 0) row-0
@@ -142,13 +142,13 @@ table = next freshTable (asMessage sent)
 
 table-view : view table ≡ note ∷ []
 table-view =
-    faithful .does freshTable (asMessage sent) (fresh .good)
-    ∙ ap (λ (t : List SignedEvent). after signedEvents (capacityOf freshTable) t (judge (asMessage sent))) (fresh .empty)
+    faithful .does freshTable (asMessage sent) (fresh-good freshTable fresh)
+    ∙ ap (λ (t : List SignedEvent). after signedEvents (capacityOf freshTable) t (judge (asMessage sent))) (fresh-view freshTable fresh)
     ∙ ap₂ (λ N j. after signedEvents N [] j) capacity judged
     ∙ first-view
 
 table-sound : sound table ≡ true
-table-sound = faithful .good freshTable (asMessage sent) (fresh .good) .is-sound
+table-sound = faithful .good freshTable (asMessage sent) (fresh-good freshTable fresh) .is-sound
 
 table-count : countOf table ≡ 1
 table-count = sym (length-view table) ∙ ap length table-view
@@ -156,8 +156,8 @@ table-count = sym (length-view table) ∙ ap length table-view
 says-stored : answer freshTable (asMessage sent) ≡ Stored
 unfolding partsOf
 says-stored =
-    rows-in-order .0 freshTable (asMessage sent) .judged (rw valid) (fresh .good .is-sound)
-    ∙ ap (λ (t : List SignedEvent). offer.answerOf 0 (verdict signedEvents (capacityOf freshTable) t (some (ofHeld (offeredOf (asMessage sent)))))) (fresh .empty)
+    rows-in-order .0 freshTable (asMessage sent) .judged (rw valid) (fresh-good freshTable fresh .is-sound)
+    ∙ ap (λ (t : List SignedEvent). offer.answerOf 0 (verdict signedEvents (capacityOf freshTable) t (some (ofHeld (offeredOf (asMessage sent)))))) (fresh-view freshTable fresh)
     ∙ ap (λ N. offer.answerOf 0 (verdict signedEvents N [] (some (ofHeld (offeredOf (asMessage sent)))))) capacity
     ∙ ap (λ x. offer.answerOf 0 (verdict signedEvents 8 [] (some x))) (rw reads held-is)
     ∙ ap (offer.answerOf 0) first-verdict

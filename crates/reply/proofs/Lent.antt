@@ -13,7 +13,7 @@ use Rattle.wire.specs.Limits.{hexLength}
 use Rattle.message.specs.declared.Span.{Span}
 use Rattle.message.specs.declared.EventParts.{EventParts}
 use Rattle.message.specs.Lent.{lowest, string2, string4, string5, string7, event2, event4, event5, event7, body6, body8}
-use Rattle.event.specs.Answer.{orElse, isLarge, serialised, serialisedRow, numberOf, valueOf}
+use Rattle.event.specs.Answer.{orElse, isLarge, answered, serialised, serialisedRow, numberOf, valueOf}
 use Rattle.event.specs.declared.Written.the-variants as sent
 use Rattle.table.specs.Layout.{capacityOf}
 use Rattle.table.specs.Events.{ofHeld, view}
@@ -28,9 +28,36 @@ use Rattle.query.proofs.Sorting.{bool, clash, or-cases, or-right}
 use Rattle.query.proofs.Lent.{alike}
 use Rattle.reply.specs.declared.ReplyParts.{ReplyParts}
 use Rattle.reply.specs.declared.ReplyParts.the-variants as parts
-use Rattle.reply.specs.Lent.{subscription8, partsRow, replyRow, replied, repliedOut}
-use Rattle.reply.specs.Laws.{lentText, ok-id, ok-reason, event-subscription, eose-subscription, closed-subscription, closed-reason, notice-reason, of-event, of-eose, of-closed, EventHolds, event-utf8, event-string, event-shape, event-number, event-hex, event-count, event-large, PartsHold, not-utf8, not-allowed, not-spelled, not-hex, miscounted, in-event, PartsRowIs, PartsPass, ReplyHolds, of-parts, too-short, ReplyRowIs, PartsFirst, ShortOutput, ReplyFits, RepliedIs, RepliedMeans, SerialisedNumber, OfferedNumber}
+use Rattle.reply.specs.Lent.{subscription8, partsRow, shortRow, outputAfter, replyRow, replied, repliedOut}
+use Rattle.reply.specs.Laws.{lentText, ok-id, ok-reason, event-subscription, eose-subscription, closed-subscription, closed-reason, notice-reason, of-event, of-eose, of-closed, EventHolds, event-utf8, event-string, event-shape, event-number, event-hex, event-count, event-large, PartsHold, not-utf8, not-allowed, not-spelled, not-hex, miscounted, in-event, PartsRowIs, PartsPass, ReplyHolds, of-parts, too-short, ReplyRowIs, PartsFirst, ShortOutput, ReplyFits, WritesOr, RepliedMeans, SerialisedNumber, OfferedNumber}
 use Rattle.reply.proofs.Which.{verdict-rows}
+
+pub zero-or : (r : ℕ) → (r ≡ 0) ⊎ (r ≢ 0)
+zero-or r = ⊎-elim (λ e. inl (eqb-true r 0 e)) (λ e. inr (eqb-false r 0 e)) (bool (eqb r 0))
+
+-- ---- a text is written that fits where no row refuses it
+pub writes-or : (row : ℕ) (t out : List ℕ) → (row ≡ 0 → length t ≤ length out) → WritesOr row t out (answered row (length t)) (outputAfter row t out)
+writes-or row t out fits = record {
+  number = ⊎-elim (λ e. ap numberOf (is-wrote e) ∙ sym e) (λ ne. ap numberOf (is-refused ne)) (zero-or row);
+  wrote = is-wrote;
+  value = λ e. ap valueOf (is-wrote e);
+  begins = λ e. ap (take (length t)) (taken e) ∙ take-at t (drop (length t) out) (length t) refl;
+  rest = λ e. ap (drop (length t)) (taken e) ∙ drop-at t (drop (length t) out) (length t) refl;
+  as-long = ⊎-elim (λ e. ap length (taken e) ∙ (let h = fits e in simp (length-append, length-drop) (omega arith))) (λ ne. ap length (left ne)) (zero-or row);
+  refused = λ ne. (is-refused ne, ap valueOf (is-refused ne), left ne);
+}
+  where
+    taken : row ≡ 0 → outputAfter row t out ≡ t ++ drop (length t) out
+    taken e = rw (eq-eqb row 0 e)
+
+    left : row ≢ 0 → outputAfter row t out ≡ out
+    left ne = rw (ne-eqb row 0 ne)
+
+    is-wrote : row ≡ 0 → answered row (length t) ≡ sent.Wrote (length t)
+    is-wrote e = rw (eq-eqb row 0 e)
+
+    is-refused : row ≢ 0 → answered row (length t) ≡ sent.Refused row
+    is-refused ne = rw (ne-eqb row 0 ne)
 
 -- ---- the lowest of rows that are tested one after the other
 -- the lowest of rows that are all above m
@@ -257,16 +284,13 @@ event-holds b p _ (event-hex h) = (omega arith, omega arith)
 event-holds b p _ (event-count h) = (omega arith, omega arith)
 event-holds b p _ (event-large h) = (omega arith, omega arith)
 
-parts-hold : (b : List ℕ) (q : ReplyParts) (k : ℕ) → PartsHold b q k → (2 ≤ k) × (k ≤ 9)
+pub parts-hold : (b : List ℕ) (q : ReplyParts) (k : ℕ) → PartsHold b q k → (2 ≤ k) × (k ≤ 9)
 parts-hold b q _ (not-utf8 s h) = (omega arith, omega arith)
 parts-hold b q _ (not-allowed s h) = (omega arith, omega arith)
 parts-hold b q _ (not-spelled s h) = (omega arith, omega arith)
 parts-hold b _ _ (not-hex h) = (omega arith, omega arith)
 parts-hold b q _ (miscounted s h) = (omega arith, omega arith)
 parts-hold b _ k (in-event {p = p} h) = event-holds b p k h
-
-zero-or : (r : ℕ) → (r ≡ 0) ⊎ (r ≢ 0)
-zero-or r = ⊎-elim (λ e. inl (eqb-true r 0 e)) (λ e. inr (eqb-false r 0 e)) (bool (eqb r 0))
 
 pub parts-pass : PartsPass
 parts-pass b q = (to, from)
@@ -346,36 +370,6 @@ module _ (b : List ℕ) (q : ReplyParts) (out : List ℕ) where
           least k (of-parts h) nz = absurd (parts-pass b q .0 e k h)
           least _ (too-short l) nz = let w = short-row e l in (λ z. absurd (omega arith), omega arith)
 
-  -- ---- what is answered, and the output
-  taken : replyRow b q out ≡ 0 → repliedOut b q out ≡ text ++ drop (length text) out
-  unfolding repliedOut
-  taken e = rw (eq-eqb (replyRow b q out) 0 e)
-
-  left : replyRow b q out ≢ 0 → repliedOut b q out ≡ out
-  unfolding repliedOut
-  left ne = rw (ne-eqb (replyRow b q out) 0 ne)
-
-  is-wrote : replyRow b q out ≡ 0 → replied b q out ≡ sent.Wrote (length text)
-  unfolding replied
-  is-wrote e = rw (eq-eqb (replyRow b q out) 0 e)
-
-  is-refused : replyRow b q out ≢ 0 → replied b q out ≡ sent.Refused (replyRow b q out)
-  unfolding replied
-  is-refused ne = rw (ne-eqb (replyRow b q out) 0 ne)
-
-  replied-is : RepliedIs b q out
-  replied-is = record {
-    number = ⊎-elim (λ e. ap numberOf (is-wrote e) ∙ sym e) (λ ne. ap numberOf (is-refused ne)) (zero-or (replyRow b q out));
-    wrote = is-wrote;
-    value = λ e. ap valueOf (is-wrote e);
-    begins = λ e. ap (take (length text)) (taken e) ∙ take-at text (drop (length text) out) (length text) refl;
-    rest = λ e. ap (drop (length text)) (taken e) ∙ drop-at text (drop (length text) out) (length text) refl;
-    as-long =
-        ⊎-elim (λ e. ap length (taken e) ∙ (let h = is-0 e .1 in simp (length-append, length-drop) (omega arith))) (λ ne. ap length (left ne))
-        (zero-or (replyRow b q out));
-    refused = λ ne. (is-refused ne, ap valueOf (is-refused ne), left ne);
-  }
-
 pub reply-row-is : ReplyRowIs
 reply-row-is b q out = reply-row b q out
 
@@ -389,7 +383,8 @@ pub reply-fits : ReplyFits
 reply-fits b q out = (is-0 b q out, λ (e, l). fits-row b q out e l)
 
 pub replied-means : RepliedMeans
-replied-means b q out = replied-is b q out
+unfolding replied repliedOut
+replied-means b q out = writes-or (replyRow b q out) (lentText b q) out (λ e. is-0 b q out e .1)
 
 -- ---- other answers
 pub serialised-number : SerialisedNumber

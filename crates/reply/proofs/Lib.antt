@@ -1,6 +1,7 @@
 -- Starred: the starred cases of 01. Example: the program's output on 01's four lines. Accepted: an EVENT is stored and given back to a REQ.
 -- Which, Shown: which replies a message gets. Lines, Plain: the program's lines. Kept: its table stays sound, and demand 3 holds of it.
--- Lent: a reply given as parts. Worked: replies by computation.
+-- Lent: a reply given as parts. Worked: replies by computation. Respond, Streamed: one message answered at once, or a reply at a time.
+-- Feed: the program as a state that bytes are fed to. Sizes, Enough: how long replies are, and an output that is never too short.
 pub mod Starred
 pub mod Example
 pub mod Plain
@@ -11,3 +12,8 @@ pub mod Worked
 pub mod Kept
 pub mod Accepted
 pub mod Lent
+pub mod Respond
+pub mod Streamed
+pub mod Feed
+pub mod Sizes
+pub mod Enough

@@ -8,7 +8,7 @@ use Rattle.law.specs.Lists.{any}
 use Rattle.table.specs.Layout.{tableSize}
 use Rattle.table.proofs.Formatted.{formatted-capacity, formatted-view, formatted-length}
 use Rattle.reply.specs.Replies.{Reply, replyText}
-use Rattle.reply.specs.Program.{push, repliesTo, tableAfter, lines, written, outputFrom, programSlots, freshTable, output}
+use Rattle.reply.specs.Program.{push, repliesTo, tableAfter, lines, replyLine, written, outputFrom, programSlots, freshTable, output}
 use Rattle.reply.specs.Laws.{isNewline, Plain, LineEnds, LastLine, NoLine, Fresh, tableFrom, repliesFrom, GoesOn, OutputGoesOn, OutputIs, OutputLines}
 use Rattle.reply.proofs.Example.{row-0, fresh-sound}
 use Rattle.reply.proofs.Plain.{reply-plain}
@@ -89,11 +89,11 @@ unfolding output
 output-goes-on s rest = goes-on freshTable s rest
 
 -- ---- the replies
-written-append : (rs qs : List Reply) → written (rs ++ qs) ≡ written rs ++ written qs
+pub written-append : (rs qs : List Reply) → written (rs ++ qs) ≡ written rs ++ written qs
 unfolding written
 written-append [] qs = refl
 written-append (r ∷ rs) qs =
-    ap (λ w. replyText r ++ (0x0a ∷ w)) (written-append rs qs) ∙ sym (append-assoc (replyText r) (0x0a ∷ written rs) (written qs))
+    ap (replyLine r ++_) (written-append rs qs) ∙ sym (append-assoc (replyLine r) (written rs) (written qs))
 
 replies-written : (b : List ℕ) (ms : List (List ℕ)) → outputFrom b ms ≡ written (repliesFrom b ms)
 unfolding outputFrom written
@@ -108,7 +108,8 @@ output-is input = replies-written freshTable (lines input)
 lines-written : (rs : List Reply) → lines (written rs) ≡ map replyText rs
 unfolding written
 lines-written [] = no-line
-lines-written (r ∷ rs) = line-ends (replyText r) (written rs) (reply-plain r) ∙ ap (replyText r ∷_) (lines-written rs)
+lines-written (r ∷ rs) =
+    ap lines (append-assoc (replyText r) (0x0a ∷ []) (written rs)) ∙ line-ends (replyText r) (written rs) (reply-plain r) ∙ ap (replyText r ∷_) (lines-written rs)
 
 pub output-lines : OutputLines
 output-lines input = ap lines (output-is input) ∙ lines-written (repliesFrom freshTable (lines input))

@@ -1,22 +1,25 @@
 -- An accepted REQ over a sound table: an EVENT for each slot number, then EOSE. Its numbers are of held slots, and each held text reads.
-use mathlib.Core.Path.{_≡_, refl, ap, _∙_}
-use mathlib.Core.Bool.{Bool, true, false, cond, false≢true}
+use mathlib.Core.Path.{_≡_, refl, sym, ap}
+use mathlib.Core.Bool.{Bool, true, false, cond}
 use mathlib.Core.Logic.{⊎-elim}
-use mathlib.Core.List.{List, [], _∷_, List·Memᴰ·head, List·Memᴰ·tail, List·Memᴰ·not-nil, List·Memᴰ·cases-cons}
-use Prim.Native.Nat.{ℕ, zero, suc, _+_, _*_, _<_}
+use mathlib.Core.List.{List, [], _∷_, List·Memᴰ·head, List·Memᴰ·tail, List·Memᴰ·not-nil, List·Memᴰ·cases-cons, Memᴰ·cast}
+use Prim.Native.Nat.{ℕ, zero, suc, _+_, _<_}
 use native.Mathlib.Omega.{arith}
 use lib.Dec.{leb}
-use lib.ListN.{length, getD, take, drop}
-use lib.Seq.{drop-drop}
+use lib.ListN.{length, drop}
 use Rattle.wire.specs.Limits.{mostText}
-use Rattle.text.specs.Event.{Event, all}
-use Rattle.text.specs.Read.{Read, tooLarge, wrongShape, read, readText}
+use Rattle.text.specs.Event.{Event}
+use Rattle.text.specs.Read.{read, readText}
 use Rattle.text.proofs.Pieces.{both}
 use Rattle.event.specs.Lent.{said}
 use Rattle.law.specs.Lists.{_∈_}
-use Rattle.law.proofs.Cells.{length-cells, cell-at}
+use Rattle.law.proofs.Cells.{length-cells}
 use Rattle.table.specs.Layout.{headerSize, slotSize, countOf, slotAt, textIn, lengthIn, heldSlots}
-use Rattle.table.specs.Sound.{hasHeader, capacityFits, slotsFit, countFits, othersAsAbove, isRead, textReads, slotSound, slotsSound, sound}
+use Rattle.table.specs.Sound.{textReads, slotSound, slotsSound, sound}
+use Rattle.table.proofs.Lists.{all-has}
+use Rattle.table.proofs.Bytes.{clauses}
+use Rattle.table.proofs.Shown.{entry-in, slot-entry}
+use Rattle.table.proofs.Tellable.{read-of}
 use Rattle.query.specs.Answer.{keep, from, insert, newestFirst, union, answerList, filtersAt}
 use Rattle.reply.specs.Replies.{Reply}
 use Rattle.reply.specs.Program.{eventsOf, requestReplies, repliesTo, tableAfter}
@@ -60,32 +63,17 @@ pub answers-held : AnswersHeld
 unfolding answerList union
 answers-held b fs k m = let h = from-in 0 (countOf b) k (keep-in _ _ k (newest-in _ _ k m)) in omega arith
 
--- ---- a held slot's text reads
-all-at : (p : List ℕ → Bool) (l : List (List ℕ)) (i : ℕ) → all p l ≡ true → i < length l → p (getD l i []) ≡ true
-unfolding all
-all-at p [] i e h = absurd (omega arith)
-all-at p (x ∷ l) zero e h = both (p x) (all p l) e .0
-all-at p (x ∷ l) (suc i) e h = all-at p l i (both (p x) (all p l) e .1) (omega arith)
+-- ---- a held slot is sound, so its text reads
+pub slot-sound : (b : List ℕ) (k : ℕ) → sound b ≡ true → k < countOf b → slotSound (slotAt b k) ≡ true
+unfolding slotsSound
+slot-sound b k s h =
+    all-has slotSound (heldSlots b) (clauses b s .slots)
+    (Memᴰ·cast (sym (slot-entry b k h)) (entry-in (heldSlots b) k [] (omega (arith, length-cells slotSize (countOf b) (drop headerSize b)))))
 
-slots-of : (b : List ℕ) → sound b ≡ true → slotsSound b ≡ true
-unfolding sound
-slots-of b s =
-    both (slotsSound b) _ (both (othersAsAbove b) _ (both (countFits b) _ (both (slotsFit b) _ (both (capacityFits b) _ (both (hasHeader b) _ s .1) .1) .1) .1) .1) .0
-
-held-is : (b : List ℕ) (k : ℕ) → k < countOf b → getD (heldSlots b) k [] ≡ slotAt b k
-held-is b k h = cell-at slotSize (countOf b) k (drop headerSize b) h ∙ ap (take slotSize) (drop-drop (k * slotSize) headerSize b)
-
-read-some : (r : Read) → isRead r ≡ true → (e : Event) × (r ≡ read e)
-read-some tooLarge h = absurd (false≢true h)
-read-some wrongShape h = absurd (false≢true h)
-read-some (read e) h = (e, refl)
-
-slot-reads : (b : List ℕ) (k : ℕ) → sound b ≡ true → k < countOf b → (e : Event) × (readText (textIn (slotAt b k)) ≡ read e)
-unfolding slotsSound slotSound textReads
+pub slot-reads : (b : List ℕ) (k : ℕ) → sound b ≡ true → k < countOf b → (e : Event) × (readText (textIn (slotAt b k)) ≡ read e)
+unfolding slotSound textReads
 slot-reads b k s h =
-    let l = length-cells slotSize (countOf b) (drop headerSize b) in
-    let z = rw (held-is b k h) at (all-at slotSound (heldSlots b) k (slots-of b s) (omega (arith, l))) in
-    read-some (readText (textIn (slotAt b k))) (both (leb (lengthIn (slotAt b k)) mostText) _ (both (textReads (slotAt b k)) _ z .0) .1)
+    read-of (readText (textIn (slotAt b k))) (both (leb (lengthIn (slotAt b k)) mostText) _ (both (textReads (slotAt b k)) _ (slot-sound b k s h) .0) .1)
 
 -- ---- the replies
 shows : (b sub : List ℕ) → sound b ≡ true → (ks : List ℕ) → ((k : ℕ) → k ∈ ks → k < countOf b) → Shows b sub ks (eventsOf b sub ks)

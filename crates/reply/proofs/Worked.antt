@@ -18,8 +18,8 @@ use Rattle.spell.specs.Spell as spell
 use Rattle.spell.specs.Spell.{charOf, charsFrom, bytesOf, joined, decode, isRefused, refuses, points, characterCount, isHexOf}
 use Rattle.rows.specs.Strings.{spelledAt, refusedIn}
 use Rattle.shape.specs.Shape as word
-use Rattle.shape.specs.Shape.{anyItem, allItems, countItems, nameAt, noneTwice, isFilter, wordOf, isEvent, eventMember, once}
-use Rattle.shape.specs.Rows.{row6, row7, row8, filterCounts, wrongSubscription, treeRow, messageRow, eventNumber, wrongTime, wrongSmall}
+use Rattle.shape.specs.Shape.{anyItem, allItems, countItems, nameAt, noneTwice, filterMember, isFilter, isCondition, wordOf, isEvent, eventMember, once}
+use Rattle.shape.specs.Rows.{row6, row7, row8, filterCount, filterNumber, filterHex, filterCounts, wrongList, wrongHex, wrongSubscription, treeRow, messageRow, eventNumber, wrongTime, wrongSmall}
 use Rattle.message.specs.Parts.{memberOf}
 use Rattle.message.specs.declared.Span.{Span}
 use Rattle.message.specs.Lent.{bytesOf as bytes}
@@ -27,7 +27,7 @@ use Rattle.message.specs.Read.{readOf, namedOf}
 use Rattle.event.specs.Lent.{said}
 use Rattle.reply.specs.Ascii.{ascii}
 use Rattle.reply.specs.Replies.{ok, event, eose, closed, notice, objectText, replyText, reasonOf}
-use Rattle.reply.specs.Program.{refusal, repliesTo}
+use Rattle.reply.specs.Program.{refusal, repliesTo, lines}
 use Rattle.reply.specs.Laws.{wordIn, idField}
 use Rattle.reply.proofs.Which.{late-event}
 
@@ -55,6 +55,26 @@ pub without-filter :
     × ((b : List ℕ) → repliesTo b (ascii "[\"CLOSE\",\"\"]") ≡ notice (reasonOf 8) ∷ [])
 unfolding classOf run past oneAt tokenAt wordAt literalAt digitsAt intAt fracAt expAt numberAt hexAt escapedAt charAt charsUpTo charsAt stringAt scalarAt itemsAt treeAt isUtf8 utf8From leadOf charOf charsFrom bytesOf joined decode isRefused spell.any refuses sameBytes points characterCount spelledAt refusedIn anyItem countItems nameAt noneTwice isFilter wordOf allItems row6 row7 row8 filterCounts wrongSubscription treeRow messageRow readOf namedOf repliesTo refusal spell.shortOf spell.unicodeOf spell.isPair spell.fourAt spell.four spell.hexVal spell.utf8Of
 without-filter = ((λ b. refl), (λ b. refl), (λ b. refl))
+
+-- the lowest row over the whole message, also past a bound; hex of the wrong length; names and shapes; what is no JSON text
+pub more-refused :
+    ((b : List ℕ) → repliesTo b (ascii "[\"REQ\",\"s\",{\"limit\":-0}]") ≡ closed (ascii "s") (reasonOf 6) ∷ [])
+    × ((b : List ℕ) → repliesTo b (ascii "[\"REQ\",\"\",{\"limit\":-0}]") ≡ notice (reasonOf 6) ∷ [])
+    × ((b : List ℕ) → repliesTo b (ascii "[\"REQ\",\"s\",{},{},{},{},{\"limit\":-0}]") ≡ closed (ascii "s") (reasonOf 6) ∷ [])
+    × ((b : List ℕ) → repliesTo b (ascii "[\"REQ\",\"s\",{\"kinds\":[]}]") ≡ closed (ascii "s") (reasonOf 8) ∷ [])
+    × ((b : List ℕ) → repliesTo b (ascii "[\"REQ\",\"s\",{\"ids\":[\"\"]}]") ≡ closed (ascii "s") (reasonOf 7) ∷ [])
+    × ((b : List ℕ) → repliesTo b (ascii "[\"REQ\",\"s\",{\"#ee\":[\"x\"]}]") ≡ notice (reasonOf 5) ∷ [])
+    × ((b : List ℕ) → repliesTo b (ascii "[\"CLOSE\",\"s\",\"t\"]") ≡ notice (reasonOf 5) ∷ [])
+    × ((b : List ℕ) → repliesTo b (ascii "[\"REQ\",{}]") ≡ notice (reasonOf 5) ∷ [])
+    × ((b : List ℕ) → repliesTo b (0xef ∷ 0xbb ∷ 0xbf ∷ ascii "[]") ≡ notice (reasonOf 3) ∷ [])
+    × ((b : List ℕ) → repliesTo b (ascii "\r") ≡ notice (reasonOf 3) ∷ [])
+unfolding classOf run past oneAt tokenAt wordAt literalAt digitsAt intAt fracAt expAt numberAt hexAt escapedAt charAt charsUpTo charsAt stringAt scalarAt itemsAt treeAt isUtf8 utf8From leadOf charOf charsFrom bytesOf joined decode isRefused spell.any refuses sameBytes points characterCount spelledAt refusedIn anyItem countItems nameAt noneTwice isFilter wordOf allItems row6 row7 row8 filterCounts wrongSubscription treeRow messageRow readOf namedOf repliesTo refusal spell.shortOf spell.unicodeOf spell.isPair spell.fourAt spell.four spell.hexVal spell.utf8Of filterMember isCondition filterCount filterNumber filterHex wrongList wrongHex wrongTime wrongSmall wholeOf answerOf isWithin isNatural allDigits isDigit valueFrom naturalOf negativeOf isHexOf isHex spell.all
+more-refused = ((λ b. refl), (λ b. refl), (λ b. refl), (λ b. refl), (λ b. refl), (λ b. refl), (λ b. refl), (λ b. refl), (λ b. refl), (λ b. refl))
+
+-- 0D stays in the line; empty lines are messages
+pub lines-cut : (lines (ascii "a\r\nb") ≡ ascii "a\r" ∷ ascii "b" ∷ []) × (lines (ascii "\n\n") ≡ [] ∷ [] ∷ [])
+unfolding lines
+lines-cut = (refl, refl)
 
 abbrev wrongKind : List ℕ → List ℕ
 wrongKind id = ascii "[\"EVENT\",{\"id\":\"" ++ (id ++ ascii "\",\"kind\":1e3,\"pubkey\":\"\",\"created_at\":0,\"tags\":[],\"content\":\"\",\"sig\":\"\"}]")

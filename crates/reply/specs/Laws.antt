@@ -25,11 +25,11 @@ use Rattle.message.specs.declared.Message.the-variants as message
 use Rattle.message.specs.declared.Named.the-variants as names
 use Rattle.event.specs.Lent.{said, textOf}
 use Rattle.event.specs.Answer.{hexOf, isLarge, serialised, serialisedRow, numberOf, valueOf}
+use Rattle.event.specs.declared.Written.{Written}
 use Rattle.event.specs.declared.Written.the-variants as sent
 use Rattle.law.specs.Lists.{_∈_, any}
 use Rattle.table.specs.Layout.{tableSize, capacityOf, countOf, slotAt, idIn, sigIn, textIn}
-use Rattle.law.specs.Table.{Offer, IdPremise}
-use Rattle.law.specs.Claims.{Settled}
+use Rattle.law.specs.Table.{Offer, IdPremise, Settled}
 use Rattle.law.specs.Signature as signature
 use Rattle.law.specs.Machine.{judged, runOn, NoneLacksOn}
 use Rattle.table.specs.Events.{Signature, tableEvents, view}
@@ -289,19 +289,19 @@ ShortOutput = (b : List ℕ) (q : ReplyParts) (out : List ℕ) → (replyRow b q
 abbrev pub ReplyFits : Type 0
 ReplyFits = (b : List ℕ) (q : ReplyParts) (out : List ℕ) → (replyRow b q out ≡ 0) ↔ ((partsRow b q ≡ 0) × (length (lentText b q) ≤ length out))
 
--- "Output is written from its start, and its rest stays. A refusal carries its number and no other value .., and every lent buffer stays as
--- found."
-pub record RepliedIs (b : List ℕ) (q : ReplyParts) (out : List ℕ) : Type 0 where
-  pub number : numberOf (replied b q out) ≡ replyRow b q out
-  pub wrote : replyRow b q out ≡ 0 → replied b q out ≡ sent.Wrote (length (lentText b q))
-  pub value : replyRow b q out ≡ 0 → valueOf (replied b q out) ≡ length (lentText b q)
-  pub begins : replyRow b q out ≡ 0 → take (length (lentText b q)) (repliedOut b q out) ≡ lentText b q
-  pub rest : replyRow b q out ≡ 0 → drop (length (lentText b q)) (repliedOut b q out) ≡ drop (length (lentText b q)) out
-  pub as-long : length (repliedOut b q out) ≡ length out
-  pub refused : replyRow b q out ≢ 0 → (replied b q out ≡ sent.Refused (replyRow b q out)) × (valueOf (replied b q out) ≡ 0) × (repliedOut b q out ≡ out)
+-- what a call answers, and the output o afterwards, that row r refuses or that writes the text t: "Output is written from its start, and its
+-- rest stays. A refusal carries its number and no other value .., and every lent buffer stays as found."
+pub record WritesOr (row : ℕ) (t out : List ℕ) (w : Written) (o : List ℕ) : Type 0 where
+  pub number : numberOf w ≡ row
+  pub wrote : row ≡ 0 → w ≡ sent.Wrote (length t)
+  pub value : row ≡ 0 → valueOf w ≡ length t
+  pub begins : row ≡ 0 → take (length t) o ≡ t
+  pub rest : row ≡ 0 → drop (length t) o ≡ drop (length t) out
+  pub as-long : length o ≡ length out
+  pub refused : row ≢ 0 → (w ≡ sent.Refused row) × (valueOf w ≡ 0) × (o ≡ out)
 
 abbrev pub RepliedMeans : Type 0
-RepliedMeans = (b : List ℕ) (q : ReplyParts) (out : List ℕ) → RepliedIs b q out
+RepliedMeans = (b : List ℕ) (q : ReplyParts) (out : List ℕ) → WritesOr (replyRow b q out) (lentText b q) out (replied b q out) (repliedOut b q out)
 
 -- ---- the number and value of other answers: "A refusal carries its number and no other value"
 abbrev pub SerialisedNumber : Type 0

@@ -65,12 +65,20 @@ partsRow b (parts.Eose s) = eoseRow b s
 partsRow b (parts.Closed s r) = closedRow b s r
 partsRow b (parts.Notice r) = noticeRow b r
 
--- ---- written: the answer, and the output afterwards
+-- ---- a text t that is to be written to a lent output: row 13, "lent output .. too short"
+abbrev pub shortRow : List ℕ → List ℕ → ℕ
+shortRow t out = cond (ltb (length out) (length t)) 13 0
+
+-- "Output is written from its start, and its rest stays"; where a row refuses "every lent buffer stays as found"
+abbrev pub outputAfter : (row : ℕ) → List ℕ → List ℕ → List ℕ
+outputAfter row t out = cond (eqb row 0) (t ++ drop (length t) out) out
+
+-- ---- the reply written: the answer, and the output afterwards
 unfoldable pub replyRow : List ℕ → ReplyParts → List ℕ → ℕ
-replyRow b p out = orElse (partsRow b p) (cond (ltb (length out) (length (replyText (replyOf b p)))) 13 0)
+replyRow b p out = orElse (partsRow b p) (shortRow (replyText (replyOf b p)) out)
 
 unfoldable pub replied : List ℕ → ReplyParts → List ℕ → Written
 replied b p out = answered (replyRow b p out) (length (replyText (replyOf b p)))
 
 unfoldable pub repliedOut : List ℕ → ReplyParts → List ℕ → List ℕ
-repliedOut b p out = cond (eqb (replyRow b p out) 0) (replyText (replyOf b p) ++ drop (length (replyText (replyOf b p))) out) out
+repliedOut b p out = outputAfter (replyRow b p out) (replyText (replyOf b p)) out

@@ -3,6 +3,9 @@ pub mod Ascii
 pub mod Replies
 pub mod Lent
 pub mod Program
+pub mod Respond
+pub mod Feed
 pub mod Starred
 pub mod Names
 pub mod Laws
+pub mod Answering

@@ -28,8 +28,12 @@ refusalNaming m (names.Id p) reason = ok (said m p) false reason
 refusalNaming m (names.Subscription p) reason = closed (said m p) reason
 refusalNaming m names.Nothing reason = notice reason
 
+-- the reason why row r refuses the message m: the row's text
+abbrev pub reasonFor : List ℕ → ℕ → List ℕ
+reasonFor m r = reasonOf r
+
 unfoldable pub refusal : List ℕ → ℕ → Reply
-refusal m r = cond (leb r 5) (notice (reasonOf r)) (refusalNaming m (namedOf m) (reasonOf r))
+refusal m r = cond (leb r 5) (notice (reasonFor m r)) (refusalNaming m (namedOf m) (reasonFor m r))
 
 -- ---- an EVENT message: the verdict on the event, whose id is i
 abbrev pub offerReply : List ℕ → List ℕ → Offered → Reply
@@ -84,9 +88,12 @@ lines [] = []
 lines (x ∷ s) = cond (eqb x 0x0a) ([] ∷ lines s) (push x (lines s))
 
 -- "The program ends each reply with 0A."
+abbrev pub replyLine : Reply → List ℕ
+replyLine r = replyText r ++ (0x0a ∷ [])
+
 unfoldable pub written : List Reply → List ℕ
 written [] = []
-written (r ∷ rs) = replyText r ++ (0x0a ∷ written rs)
+written (r ∷ rs) = replyLine r ++ written rs
 
 unfoldable pub outputFrom : List ℕ → List (List ℕ) → List ℕ
 outputFrom b [] = []

@@ -2,7 +2,6 @@
 -- definitions". The statement is `AllHold starred`; proofs/Starred has it.
 use mathlib.Core.Path.{_≡_}
 use mathlib.Core.Bool.{true, false}
-use mathlib.Core.Option.{none}
 use mathlib.Core.List.{List, [], _∷_, _++_}
 use Prim.Native.Nat.{ℕ}
 use lib.Dec.{T}
@@ -10,13 +9,15 @@ use lib.IntN.{ℤ, pos, negsuc}
 use lib.ListN.{length, replicate}
 use Rattle.text.specs.Event.{Tag, Event, serialise}
 use Rattle.text.specs.Read.{Read, tooLarge, read, readText}
-use Rattle.text.specs.Kinds.{classOf, keyOf}
+use Rattle.text.specs.Kinds.{Key, addressable, classOf, keyOf}
 use Rattle.text.specs.declared.Class.{Class}
 use Rattle.text.specs.declared.Class.the-variants.{Regular, Replaceable, Ephemeral, Addressable}
-use Rattle.message.specs.declared.Bound.{Bound}
-use Rattle.message.specs.declared.Bound.the-variants.{Absent, Number}
+use Rattle.message.specs.declared.Body.{Body}
+use Rattle.message.specs.Parts.{filterAt}
+use Rattle.event.specs.Lent.{eventOf}
+use Rattle.event.specs.Answer.{textRow}
 use Rattle.event.specs.Order.{isNewer}
-use Rattle.query.specs.Filter.{Filter}
+use Rattle.query.specs.Filter.{Filter, filterOf}
 use Rattle.query.specs.Match.{matches}
 use Rattle.query.specs.Answer.{answerList}
 use Rattle.reply.specs.Ascii.{ascii}
@@ -32,10 +33,16 @@ pub data Case : Type 0 where
   -- the first of two events, by time and id, is newer, and the second is not
   newer : (time : ℤ) (id : List ℕ) (time′ : ℤ) (id′ : List ℕ) → Case
   class : ℕ → Class → Case
-  oneKey : Event → Event → Case
-  -- alone it is answered with no slot, whatever the table
-  answersNothing : Filter → Case
-  shutsOut : Filter → Event → Case
+  key : Event → Key → Case
+  -- the lent parts spell the event, and its text is given this number
+  lent : List ℕ → Body → Event → ℕ → Case
+  -- the text of a filter: alone it is answered with no slot, whatever the table; it does not match the event
+  answersNothing : List ℕ → Case
+  shutsOut : List ℕ → Event → Case
+
+-- the filter whose text begins the buffer
+abbrev pub filterIn : List ℕ → Filter
+filterIn t = filterOf t (filterAt t 0)
 
 abbrev pub Holds : Case → Type 0
 Holds (serialises e t n) = (serialise e ≡ t) × (length (serialise e) ≡ n)
@@ -44,9 +51,10 @@ Holds (taken e) = readText (serialise e) ≡ read e
 Holds (refusedBy9 e) = readText (serialise e) ≡ tooLarge
 Holds (newer s i t j) = (isNewer s i t j ≡ true) × (isNewer t j s i ≡ false)
 Holds (class k c) = classOf k ≡ c
-Holds (oneKey e f) = keyOf e ≡ keyOf f
-Holds (answersNothing f) = (b : List ℕ) → answerList b (f ∷ []) ≡ []
-Holds (shutsOut f e) = (id : List ℕ) → matches f id e ≡ false
+Holds (key e k) = keyOf e ≡ k
+Holds (lent b p e r) = (eventOf b p ≡ e) × (textRow b p ≡ r)
+Holds (answersNothing t) = (b : List ℕ) → answerList b (filterIn t ∷ []) ≡ []
+Holds (shutsOut t e) = (id : List ℕ) → matches (filterIn t) id e ≡ false
 
 abbrev pub AllHold : List Case → Type 0
 AllHold [] = Unit {0}
@@ -63,11 +71,18 @@ dated time kind tags content = record { pubkey = A; time = time; kind = kind; ta
 abbrev pub lastByte : ℕ → List ℕ
 lastByte x = replicate 31 0 ++ (x ∷ [])
 
-abbrev pub limitOnly : Bound → Filter
-limitOnly n = record { ids = none; authors = none; kinds = none; since = Absent; until = Absent; limit = n; conditions = [] }
+-- a buffer that begins with A and an empty array of tags, with n times `x` behind, and the parts in it
+abbrev pub lentIn : ℕ → List ℕ
+lentIn n = A ++ (ascii "[]," ++ replicate n 120)
 
-abbrev pub sinceOnly : Bound → Filter
-sinceOnly s = record { ids = none; authors = none; kinds = none; since = s; until = Absent; limit = Absent; conditions = [] }
+abbrev pub lentParts : ℕ → Body
+lentParts n = record {
+  pubkey = record { start = 0; len = 64 };
+  «created_at» = pos 0;
+  kind = pos 0;
+  tags = 64;
+  content = record { start = 67; len = n };
+}
 
 abbrev pub starred : List Case
 starred =
@@ -78,6 +93,8 @@ starred =
     ∷ bytes (dated (pos 0) 0 [] []) 80
     ∷ taken (dated (pos 0) 0 [] (replicate 4016 120))
     ∷ refusedBy9 (dated (pos 0) 0 [] (replicate 4017 120))
+    ∷ lent (lentIn 4016) (lentParts 4016) (dated (pos 0) 0 [] (replicate 4016 120)) 0
+    ∷ lent (lentIn 4017) (lentParts 4017) (dated (pos 0) 0 [] (replicate 4017 120)) 9
     ∷ newer (pos 0) (lastByte 2) (negsuc 0) (lastByte 1)
     ∷ newer (pos 7) (lastByte 1) (pos 7) (lastByte 2)
     ∷ class 44 Regular
@@ -88,8 +105,9 @@ starred =
     ∷ class 20000 Ephemeral
     ∷ class 30000 Addressable
     ∷ class 40000 Regular
-    ∷ oneKey (dated (pos 0) 30000 ((ascii "d" ∷ []) ∷ []) []) (dated (pos 0) 30000 [] [])
-    ∷ oneKey (dated (pos 0) 30000 ((ascii "d" ∷ [] ∷ []) ∷ []) []) (dated (pos 0) 30000 [] [])
-    ∷ answersNothing (limitOnly (Number (pos 0)))
-    ∷ shutsOut (sinceOnly (Number (pos 0))) (dated (negsuc 0) 1 [] [])
+    ∷ key (dated (pos 0) 30000 ((ascii "d" ∷ []) ∷ []) []) (addressable 30000 A [])
+    ∷ key (dated (pos 0) 30000 ((ascii "d" ∷ [] ∷ []) ∷ []) []) (addressable 30000 A [])
+    ∷ key (dated (pos 0) 30000 [] []) (addressable 30000 A [])
+    ∷ answersNothing (ascii "{\"limit\":0}")
+    ∷ shutsOut (ascii "{\"since\":0}") (dated (negsuc 0) 1 [] [])
     ∷ []

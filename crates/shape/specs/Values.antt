@@ -1,10 +1,11 @@
--- Rows 4 to 8 of a value by itself, where the tags of an event, a list of a filter or a filter must stand: the lowest that holds, 0 where none
--- does, 5 where there is no value.
-use Prim.Native.Nat.{ℕ}
+-- A value by itself, where the tags of an event, a list of a filter or a filter must stand. 01: "Parts of an event, filter or reply are tested by
+-- rows 2 and 4 to 8": the lowest that holds, 0 where none does, 5 where there is no value.
+use Prim.Native.Nat.{ℕ, _-_}
 use mathlib.Core.List.{List}
 use mathlib.Core.Bool.{Bool, true, false, cond, not, _||_}
-use Rattle.json.specs.Tree.{Json, Got, none, got}
-use Rattle.rows.specs.Strings.{refusedIn}
+use Rattle.utf8.specs.Utf8.{isUtf8}
+use Rattle.json.specs.Tree.{Json, Got, none, got, depth, treeAt}
+use Rattle.rows.specs.Strings.{part, refusedIn}
 use Rattle.shape.specs.Shape.{anyItem, count, isString, isNumber, isArrayOf, isFilter}
 use Rattle.wire.specs.Limits.{hexLength, mostTags}
 use Rattle.shape.specs.Rows.{onArray, onObject, outside, wrongSmall, wrongHex, wrongTag, wrongList, filterNumber, filterHex, filterCounts}
@@ -36,12 +37,21 @@ sort8 s Hexes t = wrongList t
 sort8 s Smalls t = wrongList t
 sort8 s Filter t = onObject (filterCounts s) t
 
+-- row 2: the value's own text, and the white space after it, is not UTF-8
+abbrev pub ownText : List ℕ → ℕ → Got Json → Bool
+ownText s at none = false
+ownText s at (got t n) = not (isUtf8 (part s at (n - at)))
+
 unfoldable pub sortRow : List ℕ → Sort → Json → ℕ
 sortRow s k t = cond (refusedIn s t) 4 (cond (not (fits s k t)) 5 (cond (sort6 s k t) 6 (cond (sort7 s k t) 7 (cond (sort8 s k t) 8 0))))
 
-abbrev pub valueRow : List ℕ → Sort → Got Json → ℕ
-valueRow s k none = 5
-valueRow s k (got t n) = sortRow s k t
+abbrev pub gotRow : List ℕ → Sort → Got Json → ℕ
+gotRow s k none = 5
+gotRow s k (got t n) = sortRow s k t
+
+-- of the value at a place
+unfoldable pub valueRow : List ℕ → ℕ → Sort → ℕ
+valueRow s at k = cond (ownText s at (treeAt s depth at)) 2 (gotRow s k (treeAt s depth at))
 
 -- the form by which the walk goes
 unfoldable pub formOf : Sort → ℕ

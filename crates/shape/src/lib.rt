@@ -4,7 +4,7 @@ ghost use mathlib.Core.Path.{_≡_};
 ghost use Prim.Native.Nat.{_<_, _+_, _-_, _^_, min};
 ghost use lib.IntN.{pos, negℤ};
 ghost use Rattle.json.specs.Grammar.{within, scalarAt, startAt};
-ghost use Rattle.json.specs.Tree.{onLeaf, depth, treeAt};
+ghost use Rattle.json.specs.Tree.{onLeaf, treeAt};
 ghost use Rattle.spell.specs.Spell.{decode};
 ghost use Rattle.wire.specs.Limits.{widest, mostSmall};
 ghost use Rattle.rows.specs.Strings.{part, spelledAt};
@@ -741,12 +741,18 @@ fn sort_form(k: Sort) -> u8
     }
 }
 
-// The lowest of rows 4 to 8 that holds of the value at a place, where a sort must stand; 0 where none does, 5 where there is no value.
+// The lowest of rows 2 and 4 to 8 that holds of the value at a place, where a sort must stand; 0 where none does, 5 where there is no value.
 pub fn value_row(s: &[u8], at: usize, k: Sort) -> u8
-    ensures { λ r. ⌜ r ≡ valueRow (now (s .entry)) k (treeAt (now (s .entry)) depth at) ⌝ }
+    ensures { λ r. ⌜ r ≡ valueRow (now (s .entry)) at k ⌝ }
 {
     match judge(s, at, DEPTH, sort_form(k)) {
-        Judged::Ends(_, row) => told(row),
+        Judged::Ends(n, row) => {
+            if utf8::is_utf8(cut(s, at, n)) {
+                told(row)
+            } else {
+                2
+            }
+        }
         Judged::Wrong => SHAPE,
     }
 }

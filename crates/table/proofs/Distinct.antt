@@ -1,6 +1,6 @@
 -- What a sound table holds is distinct in the sense of the law: no ephemeral kind, no id and no key twice; and back.
 use mathlib.Core.Path.{_≡_, refl, sym, ap, _∙_}
-use mathlib.Core.Bool.{Bool, true, false, cond, _&&_, false≢true}
+use mathlib.Core.Bool.{Bool, true, false, cond, not, _&&_, false≢true}
 use mathlib.Core.Logic.{_↔_, _≢_}
 use mathlib.Core.List.{List, Memᴰ·of-map}
 use Prim.Native.Nat.{ℕ, _≤_}
@@ -12,13 +12,15 @@ use Rattle.text.specs.Kinds.{Key, sameKey, keyOf, classOf, isReplaceable, isEph
 use Rattle.text.specs.declared.Class.the-variants.{Regular, Replaceable, Ephemeral, Addressable}
 use Rattle.text.proofs.Pieces.{both}
 use Rattle.text.proofs.Keys.{same-key}
-use Rattle.law.specs.Table.{Laws, Distinct, hasId, hasKey}
+use Rattle.law.specs.Lists.{_∈_}
+use Rattle.law.specs.Table.{Laws, hasId, hasKey}
 use Rattle.law.specs.Table as law
 use Rattle.law.proofs.Order.{laws}
 use Rattle.law.proofs.Signature.{signed-laws}
+use Rattle.law.proofs.Sound.{Distinct}
 use Rattle.table.specs.Layout.{kindIn, textIn, heldSlots, dIn, dPlace}
 use Rattle.wire.specs.Field.{fieldAt, unsigned}
-use Rattle.table.specs.Events.{Signature, tableEvents, signedEvents, inSlot, classFor, classOfEvent, classIn, classOfText, timeOfText, view}
+use Rattle.table.specs.Events.{SignedEvent, Signature, tableEvents, signedEvents, inSlot, classFor, classOfEvent, classIn, classOfText, timeOfText, view}
 use Rattle.table.specs.Sound.{agreesWith, agreesIn, fieldsAgree, isLasting, textReads, zeroAfterText, slotSound, slotsSound, noIdTwice, noKeyTwice}
 use Rattle.table.proofs.Lists.{is-true, all-has, pairwise-as, twice-apart, apart-twice}
 
@@ -33,7 +35,7 @@ pub signed-event-laws : Laws signedEvents
 signed-event-laws = signed-laws tableEvents Signature event-laws
 
 -- ---- a kind that the law calls ephemeral is one of 20000 to 29999
-not-both : (k : ℕ) → isEphemeral k ≡ true → isReplaceable k ≡ false
+pub not-both : (k : ℕ) → isEphemeral k ≡ true → isReplaceable k ≡ false
 not-both k e =
     let h = both (leb 20000 k) (leb k 29999) e in
     let low : 20000 ≤ k = leb-true 20000 k (h .0) in
@@ -69,10 +71,14 @@ slot-lasts s e =
 
 -- ---- ids and keys
 module _ (b : List ℕ) where
+  pub distinct-lasting : slotsSound b ≡ true → (x : SignedEvent) → x ∈ view b → T (not (law.isEphemeral (signedEvents .classOf x)))
+  unfolding view slotsSound
+  distinct-lasting s x m = let (c, n, q) = Memᴰ·of-map inSlot (heldSlots b) m in rw (← q, slot-lasts c (all-has slotSound (heldSlots b) s n)) tt
+
   pub distinct : slotsSound b ≡ true → noIdTwice b ≡ true → noKeyTwice b ≡ true → Distinct signedEvents (view b)
-  unfolding view slotsSound noIdTwice noKeyTwice
+  unfolding noIdTwice noKeyTwice
   distinct s i k = record {
-    lasting = λ e m. let (c, n, q) = Memᴰ·of-map inSlot (heldSlots b) m in rw (← q, slot-lasts c (all-has slotSound (heldSlots b) s n)) tt;
+    lasting = distinct-lasting s;
     ids = pairwise-as (λ x y. T (hasId signedEvents x y) → ⊥) (λ x y. x .0 .id ≢ y .0 .id)
         (λ x y ne q. ne (event-laws .id-eq (y .0 .id) (x .0 .id) .1 (sym q))) (view b) (twice-apart (hasId signedEvents) (view b) i);
     keys = twice-apart (hasKey signedEvents) (view b) k;

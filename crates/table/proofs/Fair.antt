@@ -1,10 +1,9 @@
 -- That specs/Relay's `Tells` is neither too narrow nor empty: parts that rows 2 to 10 let pass, and that have the id, text and signature of s,
--- tell s; and of every good table there is a list of offers that tells all it holds and nothing else, so exchanges exist.
+-- tell s; and of what a list of offers leaves there are offers that tell all of it and nothing else, so exchanges exist.
 use mathlib.Core.Bool.{Bool, true, false, cond}
 use mathlib.Core.Path.{_≡_, refl, sym, ap, _∙_}
-use mathlib.Core.Logic.{⊎-elim}
 use mathlib.Core.Option.{none, some}
-use mathlib.Core.List.{List, [], _∷_, List·Memᴰ·head, List·Memᴰ·tail, List·Memᴰ·not-nil, List·Memᴰ·cases-cons}
+use mathlib.Core.List.{List, [], _∷_}
 use Prim.Native.Nat.{ℕ, zero, suc, _+_, _-_, _*_, _/_, _%_, _<_}
 use native.Mathlib.Omega.{arith}
 use borrow.Author.Tests.{lt-ltb, le-ltb, le-leb, lt-leb, not-false}
@@ -28,14 +27,17 @@ use Rattle.event.specs.Lent.{said, natural, eventOf, textOf}
 use Rattle.event.specs.Answer.{hexDigit, hexOf, hasId, offeredRow}
 use Rattle.event.proofs.Decoded.{or-neither}
 use Rattle.event.proofs.Fit.{and-fails}
-use Rattle.law.specs.Lists.{_∈_}
-use Rattle.table.specs.Events.{SignedEvent, ofHeld, view}
-use Rattle.table.specs.Offer.{Offering, asParts, isValid, judge, heldOf, unhex}
-use Rattle.table.specs.Relay.{Spells, Tells, AsParts, Good}
-use Rattle.table.specs.Claims.{ToldExactly}
+use Rattle.law.specs.Machine.{runOn}
+use Rattle.law.proofs.Machine.{good-run, exchanges-on}
+use Rattle.table.specs.Events.{SignedEvent, Signature, tableEvents, ofHeld}
+use Rattle.table.specs.Offer.{asParts, isValid, judge, heldOf, unhex}
+use Rattle.table.specs.Relay.{Spells, Tells, relay}
+use Rattle.table.specs.Claims.{ToldExactly, Tellable, Exchanges}
 use Rattle.table.proofs.Valid.{rows, clean, id-hashed, valid-read, parts-pass}
 use Rattle.table.proofs.Passes.{passes}
-use Rattle.table.proofs.Tellable.{tellable}
+use Rattle.table.proofs.Tellable as held
+use Rattle.table.proofs.Good.{Good}
+use Rattle.table.proofs.Faithful.{faithful}
 
 -- ---- lower-case hex is the hex of the bytes that it stands for
 digit-again : (x : ℕ) → HexDigit x → (hexVal x < 16) × (hexDigit (hexVal x) ≡ x)
@@ -119,25 +121,13 @@ judged-tells b p s e = go (isValid (asParts b p)) refl e
     go true v z = let y : ofHeld (heldOf b p) ≡ s = cc in rw y at (tells-own b p (parts-pass (asParts b p) v))
     go false v z = absurd (let y : _≡_ {A = ℕ} 0 1 = cc in omega arith)
 
+-- ---- what a list of offers leaves in a fresh table
 pub told-exactly : ToldExactly
-told-exactly b c p s g m = (λ t. passes b (asParts c p) s g m t, judged-tells c p s)
+told-exactly b os s f m c p =
+    (λ t. passes (runOn tableEvents Signature relay b os) (asParts c p) s (good-run tableEvents Signature relay Good faithful b os f) m t, judged-tells c p s)
 
--- ---- all that is held, told
-pub record TellsAll (xs : List SignedEvent) (os : List Offering) : Type 0 where
-  pub each : (s : SignedEvent) → s ∈ xs → (o : Offering) × (o ∈ os) × AsParts o s
-  pub no-other : (o : Offering) → o ∈ os → (s : SignedEvent) × (s ∈ xs) × AsParts o s
+pub tellable : Tellable
+tellable b os s f m = held.tellable (runOn tableEvents Signature relay b os) s (good-run tableEvents Signature relay Good faithful b os f) m
 
-tells-list : (xs : List SignedEvent) → ((s : SignedEvent) → s ∈ xs → (o : Offering) × AsParts o s) → (os : List Offering) × TellsAll xs os
-tells-list [] f = ([], record { each = λ s m. absurd (List·Memᴰ·not-nil m); no-other = λ o m. absurd (List·Memᴰ·not-nil m) })
-tells-list (x ∷ xs) f =
-    let (o, t) = f x (List·Memᴰ·head refl) in
-    let (os, r) = tells-list xs (λ s m. f s (List·Memᴰ·tail m)) in (
-      o ∷ os,
-      record {
-        each = λ s m. ⊎-elim (λ z. (o, List·Memᴰ·head refl, rw z t)) (λ k. let (a, b, c) = r .each s k in (a, List·Memᴰ·tail b, c)) (List·Memᴰ·cases-cons m);
-        no-other = λ a m. ⊎-elim (λ z. (x, List·Memᴰ·head refl, rw z t)) (λ k. let (s, b, c) = r .no-other a k in (s, List·Memᴰ·tail b, c)) (List·Memᴰ·cases-cons m);
-      },
-    )
-
-pub told-all : (b : List ℕ) → Good b → (os : List Offering) × TellsAll (view b) os
-told-all b g = tells-list (view b) (λ s m. tellable b s g m)
+pub exchanges : Exchanges
+exchanges = exchanges-on tableEvents Signature relay Good faithful held.tellable

@@ -13,14 +13,14 @@ use Rattle.text.specs.Kinds.{keyOf, isEphemeral}
 use Rattle.law.specs.Lists.{_∈_, any}
 use Rattle.law.specs.Table.{Verdict, refused, wasEphemeral, duplicate, older, stored, noRoom, firstOf, hasId, hasKeyNewer, lacksSlot, verdict, after}
 use Rattle.law.specs.Table as law
-use Rattle.law.specs.Machine.{Faithful}
+use Rattle.law.proofs.Machine.{Faithful}
 use Rattle.law.proofs.Lists.{either, store-from}
 use Rattle.law.proofs.Sound.{after-stored, after-other, distinct-after}
 use Rattle.table.specs.Layout.{Fits, tableSize, capacityOf, slotBytes}
 use Rattle.table.specs.Events.{SignedEvent, Signature, tableEvents, signedEvents, ofHeld, classOfEvent, classOfText, view}
 use Rattle.table.specs.Sound.{sound}
 use Rattle.table.specs.Offer.{Offering, rowOf, isValid, offeredOf, judge, answerOf, verdictOn, answer, isStored, slotFor, countAfter, storedIn, next}
-use Rattle.table.specs.Relay.{Good, verdictOf, relay}
+use Rattle.table.specs.Relay.{verdictOf, relay}
 use Rattle.table.specs.Claims.{Unchanged, OtherBytes, BytesAfter}
 use Rattle.table.specs.declared.Offered.{Offered}
 use Rattle.table.specs.declared.Offered.the-variants.{Ephemeral, Duplicate, Older, Stored, Refused}
@@ -29,6 +29,7 @@ use Rattle.table.proofs.Distinct.{class-lasts, signed-event-laws, disti
 use Rattle.table.proofs.Bytes.{Clauses, clauses, written-after, written-byte}
 use Rattle.table.proofs.Slots.{slot-length, slot-sound}
 use Rattle.table.proofs.Stored.{length-view, shares, HasSlot, stored-length, stored-capacity, After, after-store, stored-sound}
+use Rattle.table.proofs.Good.{Good, fresh-good, fresh-view}
 use Rattle.table.proofs.Valid.{valid-fits, valid-hashed, valid-read, refused-row}
 
 -- ---- verdicts
@@ -205,8 +206,8 @@ module _ (b : List ℕ) (o : Offering) (g : Good b) where
       go false e =
           sym (after-other signedEvents (capacityOf b) (view b) (judge o) (ap law.isStored (sym says) ∙ stored-as (answer b o) ∙ e))
 
-pub faithful : Faithful tableEvents Signature relay
-faithful = record { good = good; keeps = keeps; says = says; does = does }
+pub faithful : Faithful tableEvents Signature relay Good
+faithful = record { fresh = fresh-good; empty = fresh-view; good = good; keeps = keeps; says = says; does = does }
 
 pub unchanged : Unchanged
 unfolding next

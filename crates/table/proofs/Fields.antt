@@ -3,15 +3,16 @@ use mathlib.Core.Path.{_≡_, refl, sym, ap, ap₂, _∙_}
 use mathlib.Core.Bool.{true}
 use mathlib.Core.List.{List, [], _∷_, _++_}
 use Prim.Native.Nat.{ℕ, zero, suc, _+_, _≤_, _<_, _^_}
+use native.Mathlib.Omega.{arith}
 use lib.Dec.{eqb, lit<}
 use lib.ListN.{length, take, drop, getD, replicate, take-append-drop}
 use lib.Seq.{take-at, drop-at, drop-drop}
-use borrow.Author.Tests.{ltb-true, eqb-true}
+use borrow.Author.Tests.{ltb-true, eqb-true, eq-eqb}
 use Rattle.wire.specs.Field.{le, leBytes, fieldAt}
 use Rattle.wire.proofs.Fields.{le-leBytes, length-leBytes, field-bytes}
 use Rattle.rows.specs.Strings.{part}
 use Rattle.text.specs.Event.{all}
-use Rattle.text.proofs.Pieces.{both}
+use Rattle.text.proofs.Pieces.{both, and-true}
 use Rattle.table.specs.Layout.{isByte}
 use Rattle.table.specs.Sound.{isZero}
 
@@ -57,3 +58,14 @@ zero-zeros [] h = refl
 zero-zeros (x ∷ l) h =
     let b = both (eqb 0 x) (isZero l) h in
     ap₂ _∷_ (sym (eqb-true 0 x (b .0))) (zero-zeros l (b .1))
+
+pub zero-at : (l : List ℕ) (j : ℕ) → isZero l ≡ true → getD l j 0 ≡ 0
+unfolding all
+zero-at [] j h = refl
+zero-at (x ∷ l) zero h = sym (eqb-true 0 x (both (eqb 0 x) (isZero l) h .0))
+zero-at (x ∷ l) (suc j) h = zero-at l j (both (eqb 0 x) (isZero l) h .1)
+
+pub zero-from : (l : List ℕ) → ((j : ℕ) → j < length l → getD l j 0 ≡ 0) → isZero l ≡ true
+unfolding all
+zero-from [] h = refl
+zero-from (x ∷ l) h = and-true (eqb 0 x) (isZero l) (eq-eqb 0 x (sym (h 0 (omega arith)))) (zero-from l (λ j k. h (suc j) (omega arith)))

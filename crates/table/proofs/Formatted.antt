@@ -2,7 +2,7 @@
 use mathlib.Core.Path.{_≡_, refl, sym, ap, _∙_}
 use mathlib.Core.Bool.{Bool, true, false, cond}
 use mathlib.Core.Logic.{_⊎_, inl, inr}
-use mathlib.Core.List.{List, [], _++_, append-assoc, List·Memᴰ·not-nil}
+use mathlib.Core.List.{List, [], _++_, append-assoc}
 use Prim.Native.Nat.{ℕ, _-_, _*_, _≤_, _<_}
 use native.Mathlib.Omega.{arith}
 use lib.Dec.{leb, ltb}
@@ -14,11 +14,11 @@ use Rattle.wire.specs.Field.{leBytes}
 use Rattle.wire.proofs.Fields.{length-leBytes}
 use Rattle.text.specs.Event.{all}
 use Rattle.text.proofs.Pieces.{both}
-use Rattle.law.specs.Lists.{_∈_}
 use Rattle.table.specs.Layout.{headerSize, slotSize, tableSize, capacityOf, countOf, slotSizeOf, firstSlotOf, headerBytes, laterSlots}
-use Rattle.table.specs.Events.{SignedEvent, view}
+use Rattle.table.specs.Events.{view}
 use Rattle.table.specs.Sound.{isCapacity, hasHeader, capacityFits, slotsFit, countFits, othersAsAbove, slotsSound, noneTwice, noIdTwice, noKeyTwice, laterZero, sound}
 use Rattle.table.specs.Format.{formatRow, formatted}
+use Rattle.table.specs.Relay.{Fresh}
 use Rattle.table.specs.Claims.{FormattedFresh, FormatRows}
 use Rattle.table.proofs.Fields.{piece, field, after-field, zeros-zero}
 
@@ -132,20 +132,13 @@ formatted-rest N b r =
 
 pub formatted-fresh : FormattedFresh
 formatted-fresh N b r = (
-  record {
-    good = record {
-      is-sound = formatted-sound N b r;
-      hashed = λ s m. absurd (none s m);
-      sig-length = λ s m. absurd (none s m);
-      sig-bytes = λ s m. absurd (none s m);
-    };
-    empty = formatted-view N b r;
-  },
+  formatted-sound N b r,
+  formatted-view N b r,
   formatted-capacity N b r,
   formatted-count N b r,
   formatted-length N b r,
   formatted-rest N b r,
 )
-  where
-    none : (s : SignedEvent) → s ∈ view (formatted N b) → ⊥
-    none s m = List·Memᴰ·not-nil (rw (formatted-view N b r) at m)
+
+pub just-formatted : (N : ℕ) (b : List ℕ) → formatRow N b ≡ 0 → Fresh (formatted N b)
+just-formatted N b r = record { capacity = N; buffer = b; passes = r; is = refl }

@@ -1,10 +1,11 @@
--- Laws of lists: a test that all entries pass, and no entry twice.
-use mathlib.Core.Path.{_≡_, refl, ap, _∙_}
+-- Laws of lists: a test that all entries pass, entries by their places, and no entry twice.
+use mathlib.Core.Path.{_≡_, refl, sym, ap, _∙_}
 use mathlib.Core.Bool.{Bool, true, false, not}
 use mathlib.Core.List.{List, [], _∷_, _++_, List·Memᴰ·head, List·Memᴰ·tail}
-use Prim.Native.Nat.{ℕ, zero, suc}
+use Prim.Native.Nat.{ℕ, zero, suc, _<_}
+use native.Mathlib.Omega.{arith}
 use lib.Dec.{T, not-T}
-use lib.ListN.{set}
+use lib.ListN.{length, getD, set}
 use Rattle.text.specs.Event.{all}
 use Rattle.text.proofs.Pieces.{both, and-true}
 use Rattle.law.specs.Lists.{_∈_, any, Pairwise}
@@ -53,6 +54,37 @@ module _ {A : Type 0} (p : A → Bool) where
   unfolding all
   all-has (y ∷ ys) e (List·Memᴰ·head q) = ap p q ∙ both (p y) (all p ys) e .0
   all-has (y ∷ ys) e (List·Memᴰ·tail m) = all-has ys (both (p y) (all p ys) e .1) m
+
+-- ---- entries by their places
+pub entry-in : {A : Type 0} (l : List A) (k : ℕ) (d : A) → k < length l → getD l k d ∈ l
+entry-in [] k d h = absurd (omega arith)
+entry-in (x ∷ l) zero d h = List·Memᴰ·head refl
+entry-in (x ∷ l) (suc k) d h = List·Memᴰ·tail (entry-in l k d (omega arith))
+
+entry-of : {A : Type 0} {x : A} {l : List A} (d : A) → x ∈ l → (k : ℕ) × (k < length l) × (getD l k d ≡ x)
+entry-of d (List·Memᴰ·head q) = (zero, omega arith, sym q)
+entry-of d (List·Memᴰ·tail m) = let (k, h, q) = entry-of d m in (suc k, omega arith, q)
+
+module _ {A : Type 0} (d : A) where
+  pub all-from : (p : A → Bool) (xs : List A) → ((k : ℕ) → k < length xs → p (getD xs k d) ≡ true) → all p xs ≡ true
+  unfolding all
+  all-from p [] h = refl
+  all-from p (x ∷ xs) h = and-true (p x) (all p xs) (h 0 (omega arith)) (all-from p xs (λ k l. h (suc k) (omega arith)))
+
+  module _ (R : A → A → Type 0) where
+    pub pairwise-from : (xs : List A) → ((j k : ℕ) → j < k → k < length xs → R (getD xs j d) (getD xs k d)) → Pairwise R xs
+    pairwise-from [] h = tt
+    pairwise-from (x ∷ xs) h = (
+      λ y m. let (k, l, q) = entry-of d m in rw q at (h zero (suc k) (omega arith) (omega arith)),
+      pairwise-from xs (λ j k l n. h (suc j) (suc k) (omega arith) (omega arith)),
+    )
+
+    pub pairwise-at : (xs : List A) → Pairwise R xs → (j k : ℕ) → j < k → k < length xs → R (getD xs j d) (getD xs k d)
+    pairwise-at [] o j k l h = absurd (omega arith)
+    pairwise-at (x ∷ xs) o zero zero l h = absurd (omega arith)
+    pairwise-at (x ∷ xs) o zero (suc k) l h = o .0 (getD xs k d) (entry-in xs k d (omega arith))
+    pairwise-at (x ∷ xs) o (suc j) zero l h = absurd (omega arith)
+    pairwise-at (x ∷ xs) o (suc j) (suc k) l h = pairwise-at xs (o .1) j k (omega arith) (omega arith)
 
 -- ---- no entry twice
 module _ {A : Type 0} where

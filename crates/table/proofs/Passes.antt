@@ -29,11 +29,12 @@ use Rattle.event.specs.Lent.{said, eventOf, textOf}
 use Rattle.event.specs.Answer.{isLarge, hexOf, hasId, offeredRow}
 use Rattle.event.proofs.Answers.{hex-length}
 use Rattle.event.proofs.Fit.{hex-same}
-use Rattle.law.specs.Machine.{Passes}
+use Rattle.law.proofs.Machine.{Passes}
 use Rattle.table.specs.Layout.{isByte}
 use Rattle.table.specs.Events.{SignedEvent, Signature, tableEvents, ofHeld}
 use Rattle.table.specs.Offer.{asMessage, asParts, judge, heldOf}
 use Rattle.table.specs.Relay.{Tells, relay}
+use Rattle.table.proofs.Good.{Good}
 use Rattle.table.proofs.Hex.{unhex-hex, hex-is, digest-length, digest-bytes}
 use Rattle.table.proofs.Again.{hex-string, again2, again4, again5, again7, tags-pass}
 
@@ -119,6 +120,6 @@ module _ (b : List ℕ) (p : EventParts) (s : SignedEvent) (hashed : s .0 .id �
   unfolding judge
   judged-again = rw (eq-eqb (offeredRow b p) 0 offered-again, held-again)
 
-pub passes : Passes tableEvents Signature relay
+pub passes : Passes tableEvents Signature relay Good
 passes b (asMessage m) s g h t = absurd t
 passes b (asParts c p) s g h t = judged-again c p s (g .hashed s h) (g .sig-length s h) (g .sig-bytes s h) t

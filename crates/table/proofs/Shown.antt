@@ -1,8 +1,8 @@
 -- What is shown is what is held, and nothing behind the last slot is read.
 use mathlib.Core.Path.{_≡_, refl, sym, ap, _∙_}
 use mathlib.Core.Bool.{Bool, true, false, cond}
-use mathlib.Core.List.{List, [], _∷_, _++_, List·Memᴰ·head, List·Memᴰ·tail, Memᴰ·map, Memᴰ·cast}
-use Prim.Native.Nat.{ℕ, zero, suc, _+_, _*_, _≤_, _<_}
+use mathlib.Core.List.{List, [], _++_, Memᴰ·map, Memᴰ·cast}
+use Prim.Native.Nat.{ℕ, _+_, _*_, _≤_, _<_}
 use native.Mathlib.Omega.{arith}
 use lib.Dec.{eqb, ltb}
 use lib.ListN.{length, getD, take, drop, length-drop, List·getD-map}
@@ -17,16 +17,11 @@ use Rattle.table.specs.Events.{inSlot, view}
 use Rattle.table.specs.Sound.{slotSound, slotsSound, sound}
 use Rattle.table.specs.Format.{shownRow, shown}
 use Rattle.table.specs.Claims.{ShownHeld, ShownInside, ShownRows, HeldCount, ViewAt, ShownNeverRead}
-use Rattle.table.proofs.Lists.{all-has}
+use Rattle.table.proofs.Lists.{all-has, entry-in}
 use Rattle.table.proofs.Slots.{sound-text-length, part-length, length-at, text-at}
 use Rattle.table.proofs.Bytes.{clauses}
 use Rattle.table.proofs.Stored.{length-view}
 use Rattle.table.proofs.Unread.{count-append, sound-append}
-
-pub entry-in : {A : Type 0} (l : List A) (k : ℕ) (d : A) → k < length l → getD l k d ∈ l
-entry-in [] k d h = absurd (omega arith)
-entry-in (x ∷ l) zero d h = List·Memᴰ·head refl
-entry-in (x ∷ l) (suc k) d h = List·Memᴰ·tail (entry-in l k d (omega arith))
 
 -- slot k as an entry of the held slots
 pub slot-entry : (b : List ℕ) (k : ℕ) → k < countOf b → getD (heldSlots b) k [] ≡ slotAt b k

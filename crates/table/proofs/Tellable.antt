@@ -34,12 +34,14 @@ use Rattle.message.specs.Lent.{isInside}
 use Rattle.event.specs.Answer.{hexOf}
 use Rattle.event.proofs.Answers.{hex-length}
 use Rattle.law.specs.Lists.{_∈_}
+use Rattle.law.proofs.Machine.{Tellable}
 use Rattle.table.specs.Layout.{isByte, heldSlots}
-use Rattle.table.specs.Events.{SignedEvent, inSlot, ofHeld, view}
+use Rattle.table.specs.Events.{SignedEvent, Signature, tableEvents, inSlot, ofHeld, view}
 use Rattle.table.specs.Sound.{slotSound, slotsSound, sound}
 use Rattle.table.specs.Offer.{asParts}
-use Rattle.table.specs.Relay.{Spells, SpellsTags, Tells}
-use Rattle.table.specs.Claims.{Tellable, Offerable}
+use Rattle.table.specs.Relay.{Spells, SpellsTags, Tells, relay}
+use Rattle.table.specs.Claims.{Offerable}
+use Rattle.table.proofs.Good.{Good}
 use Rattle.table.proofs.Slots.{sound-event}
 use Rattle.table.proofs.Bytes.{clauses}
 use Rattle.table.proofs.Hex.{hex-is, digest-length, digest-bytes}
@@ -199,7 +201,7 @@ tells-text s e r h l k =
     let x : all isByte i ≡ true = rw h (digest-bytes (s .0 .text)) in
     told s e (read-same (s .0 .text) e r) n (hex-is i x) m (hex-is (s .1) k) r
 
-pub tellable : Tellable
+pub tellable : Tellable tableEvents Signature relay Good
 tellable b s g m =
     let (e, r) = held-read b s (g .is-sound) m in
     (asParts (toldIn s) (toldParts s e), tells-text s e r (g .hashed s m) (g .sig-length s m) (g .sig-bytes s m))

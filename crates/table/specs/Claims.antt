@@ -5,17 +5,18 @@ use mathlib.Core.Bool.{true, false}
 use mathlib.Core.Logic.{_↔_, _⊎_, _≢_}
 use mathlib.Core.Option.{some}
 use mathlib.Core.List.{List, [], _++_}
-use Prim.Native.Nat.{ℕ, _+_, _<_, _≤_}
+use Prim.Native.Nat.{ℕ, _+_, _*_, _<_, _≤_}
 use lib.ListN.{length, getD, drop}
 use Rattle.wire.specs.Limits.{mostText, mostSlots}
 use Rattle.wire.specs.Escape.{escape}
+use Rattle.wire.specs.Field.{unsigned}
 use Rattle.rows.specs.Rows.{textRow}
 use Rattle.rows.specs.Strings.{part}
 use Rattle.digest.specs.Digest.{digest}
 use Rattle.shape.specs.Rows.{messageRow}
 use Rattle.text.specs.Event.{Event, serialise, isFit, all}
-use Rattle.text.specs.Read.{read, readText}
-use Rattle.text.specs.Kinds.{replaceable, addressable, classOf, dOf}
+use Rattle.text.specs.Read.{read, readText, IsTextOf}
+use Rattle.text.specs.Kinds.{replaceable, addressable, classOf, dOf, keyOf, hasKey}
 use Rattle.text.specs.declared.Class.the-variants.{Regular, Replaceable, Ephemeral, Addressable}
 use Rattle.message.specs.Read.{readOf}
 use Rattle.message.specs.declared.EventParts.{EventParts}
@@ -24,20 +25,21 @@ use Rattle.event.specs.Lent.{said, textOf}
 use Rattle.event.specs.Answer.{hexOf, offeredRow}
 use Rattle.law.specs.Lists.{_∈_}
 use Rattle.law.specs.Table.{ephemeral, regular, keyed, verdict}
-use Rattle.law.specs.Machine.{Fresh}
-use Rattle.table.specs.Layout.{Held, Fits, slotSize, tableSize, slotPlace, countPlace, capacityOf, countOf, slotAt, isByte, dIn, textIn, noSpan, slotBytes, textPlace, lengthIn}
+use Rattle.law.specs.Machine.{runOn, ExchangesOn}
+use Rattle.table.specs.Layout.{Held, Fits, slotSize, tableSize, slotPlace, countPlace, capacityOf, countOf, slotSizeOf, firstSlotOf, slotAt, isByte, idIn, timeIn, kindIn, lengthIn, dIn, textPlace, textIn, noSpan, dPlace, slotBytes}
 use Rattle.table.specs.Events.{SignedEvent, Signature, classOfText, timeOfText, tableEvents, signedEvents, inSlot, ofHeld, view}
 use Rattle.table.specs.Sound.{slotSound, sound}
 use Rattle.table.specs.Offer.{Offering, asMessage, asParts, isEvent, messageOfferRow, rowOf, isValid, isStored, judge, answerOf, answer, offeredOf, slotFor, next}
 use Rattle.table.specs.Format.{formatRow, formatted, shownRow, shown}
-use Rattle.table.specs.Relay.{relay, Tells, AsParts, Good}
+use Rattle.table.specs.Relay.{relay, Fresh, Tells, AsParts}
 use Rattle.table.specs.declared.Offered.the-variants.{Refused}
 
 -- ---- formatting
--- "A fresh table is one just formatted, with any capacity and buffer that rows 13 and 14 let pass; its C is 0." Bytes after it stay
+-- "A fresh table is one just formatted ..; its C is 0." It is sound and has the capacity asked for, and bytes after it stay
 abbrev pub FormattedFresh : Type 0
 FormattedFresh = (N : ℕ) (b : List ℕ) → formatRow N b ≡ 0 →
-    Fresh tableEvents Signature relay (formatted N b)
+    (sound (formatted N b) ≡ true)
+    × (view (formatted N b) ≡ [])
     × (capacityOf (formatted N b) ≡ N)
     × (countOf (formatted N b) ≡ 0)
     × (length (formatted N b) ≡ length b)
@@ -105,14 +107,48 @@ pub record OfText (e : Event) : Type 0 where
 abbrev pub TextSays : Type 0
 TextSays = (e : Event) → isFit e ≡ true → length (serialise e) ≤ mostText → OfText e
 
--- ---- slots
--- a sound table, byte for byte: a held slot is what an event within the limits writes, "no ephemeral kind", "later slots are zero"
-pub record SoundBytes (b : List ℕ) : Type 0 where
-  pub held : (k : ℕ) → k < countOf b → (h : Held) × Fits h × (classOf (h .event .kind) ≢ Ephemeral) × (slotAt b k ≡ slotBytes h)
-  pub later : (i : ℕ) → slotPlace (countOf b) ≤ i → i < tableSize (capacityOf b) → getD b i 0 ≡ 0
+-- ---- soundness
+-- "held texts are serialisations of events that agree with their slot fields": the slot s holds the event e
+pub record Holds (s : List ℕ) (e : Event) : Type 0 where
+  pub inside : lengthIn s ≤ 4096
+  pub text : IsTextOf (textIn s) e
+  -- "created_at 8, two's complement"
+  pub time : timeIn s ≡ unsigned (e .time)
+  pub kind : kindIn s ≡ e .kind
+  pub d-offset : dIn s .at ≡ dPlace e .at
+  pub d-length : dIn s .len ≡ dPlace e .len
 
-abbrev pub SoundIs : Type 0
-SoundIs = (b : List ℕ) → sound b ≡ true → all isByte b ≡ true → SoundBytes b
+-- "Sound: ..", clause by clause
+pub record SoundClauses (b : List ℕ) : Type 0 where
+  -- "the buffer has at least 16 bytes"
+  pub header : 16 ≤ length b
+  -- "N is 1 to 64"
+  pub capacity : (1 ≤ capacityOf b) × (capacityOf b ≤ 64)
+  -- "and its slots fit the buffer"
+  pub fit : 16 + capacityOf b * 4208 ≤ length b
+  -- "C is at most N"
+  pub count : countOf b ≤ capacityOf b
+  -- "the other header numbers as above": "slot size 4,208, offset of the first slot 16"
+  pub size : slotSizeOf b ≡ 4208
+  pub first : firstSlotOf b ≡ 16
+  pub held : (k : ℕ) → k < countOf b → (e : Event) × Holds (slotAt b k) e
+  -- "no ephemeral kind"
+  pub lasting : (k : ℕ) → k < countOf b → classOf (kindIn (slotAt b k)) ≢ Ephemeral
+  -- "no id .. held twice"
+  pub ids : (j k : ℕ) → j < k → k < countOf b → idIn (slotAt b j) ≢ idIn (slotAt b k)
+  -- "no .. key held twice"
+  pub keys : (j k : ℕ) (e f : Event) → j < k → k < countOf b → Holds (slotAt b j) e → Holds (slotAt b k) f → hasKey (keyOf e) ≡ true →
+      keyOf e ≢ keyOf f
+  -- "zeros where said": "text 4,096, zero after its end", and "later slots are zero"
+  pub rest : (k i : ℕ) → k < countOf b → 112 + lengthIn (slotAt b k) ≤ i → i < 4208 → getD (slotAt b k) i 0 ≡ 0
+  pub later : (i : ℕ) → 16 + countOf b * 4208 ≤ i → i < 16 + capacityOf b * 4208 → getD b i 0 ≡ 0
+
+abbrev pub SoundExactly : Type 0
+SoundExactly = (b : List ℕ) → (sound b ≡ true) ↔ SoundClauses b
+
+-- a held slot is, byte for byte, what an event within the limits writes
+abbrev pub SlotWritten : Type 0
+SlotWritten = (b : List ℕ) (k : ℕ) → sound b ≡ true → all isByte b ≡ true → k < countOf b → (h : Held) × Fits h × (slotAt b k ≡ slotBytes h)
 
 -- "d offset 2 and d length 2, of d's escaped bytes in the text (both 0 unless addressable with a non-empty d)": in a sound slot s of the event e
 pub record DPlaced (s : List ℕ) (e : Event) : Type 0 where
@@ -150,13 +186,19 @@ abbrev pub ShownNeverRead : Type 0
 ShownNeverRead = (b t : List ℕ) (k : ℕ) → length b ≡ tableSize (capacityOf b) → (shownRow (b ++ t) k ≡ shownRow b k) × (shown (b ++ t) k ≡ shown b k)
 
 -- ---- parts
--- what a relay holds can be told: parts of it exist
+-- what a relay holds after a list of offers can be told: parts of it exist
 abbrev pub Tellable : Type 0
-Tellable = (b : List ℕ) (s : SignedEvent) → Good b → s ∈ view b → (o : Offering) × AsParts o s
+Tellable = (b : List ℕ) (os : List Offering) (s : SignedEvent) → Fresh b → s ∈ view (runOn tableEvents Signature relay b os) →
+    (o : Offering) × AsParts o s
 
 -- and parts that are judged to be what is held are just those that tell it
 abbrev pub ToldExactly : Type 0
-ToldExactly = (b c : List ℕ) (p : EventParts) (s : SignedEvent) → Good b → s ∈ view b → Tells c p s ↔ (judge (asParts c p) ≡ some s)
+ToldExactly = (b : List ℕ) (os : List Offering) (s : SignedEvent) → Fresh b → s ∈ view (runOn tableEvents Signature relay b os) →
+    (c : List ℕ) (p : EventParts) → Tells c p s ↔ (judge (asParts c p) ≡ some s)
+
+-- "Then each list goes on with offers, as parts, of what the other relay holds": whatever the histories, such offers exist
+abbrev pub Exchanges : Type 0
+Exchanges = ExchangesOn tableEvents Signature relay
 
 -- every event within the limits, with any 64 bytes as its signature, can be offered as parts and is then valid: no relay may refuse
 -- everything. Of messages: reply/proofs/Accepted has one that is valid

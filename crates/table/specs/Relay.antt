@@ -1,29 +1,26 @@
 -- Demand 3 at the table's bytes. Law/Machine has its claims for a relay in any form; here the relay is a table in a buffer, with the
 -- answers and the bytes of specs/Offer. Quotes are from 01.
 use mathlib.Core.Path.{_≡_}
-use mathlib.Core.Bool.{Bool, true, false, cond}
+use mathlib.Core.Bool.{true, false, cond}
 use mathlib.Core.List.{List}
 use Prim.Native.Nat.{ℕ}
 use lib.Dec.{eqb}
 use lib.IntN.{pos}
-use lib.ListN.{length}
 use Rattle.utf8.specs.Utf8.{isUtf8}
 use Rattle.json.specs.Grammar.{isSpelling}
-use Rattle.digest.specs.Digest.{digest}
-use Rattle.text.specs.Event.{Tag, Event, all}
+use Rattle.text.specs.Event.{Tag, Event}
 use Rattle.text.specs.Read.{read, readText}
 use Rattle.message.specs.declared.Span.{Span}
 use Rattle.message.specs.declared.EventParts.{EventParts}
 use Rattle.message.specs.Lent.{bytesOf, isInside, isTags, value2, value5}
 use Rattle.event.specs.Lent.{said, tagsAt}
 use Rattle.event.specs.Answer.{hexOf}
-use Rattle.law.specs.Lists.{_∈_}
 use Rattle.law.specs.Table.{Verdict, refused, wasEphemeral, duplicate, older, stored, noRoom}
 use Rattle.law.specs.Machine.{Machine, Demand3On}
-use Rattle.table.specs.Layout.{capacityOf, isByte}
+use Rattle.table.specs.Layout.{capacityOf}
 use Rattle.table.specs.Events.{SignedEvent, Signature, tableEvents, view}
-use Rattle.table.specs.Sound.{sound}
 use Rattle.table.specs.Offer.{Offering, asMessage, asParts, judge, answer, next}
+use Rattle.table.specs.Format.{formatRow, formatted}
 use Rattle.table.specs.declared.Offered.{Offered}
 use Rattle.table.specs.declared.Offered.the-variants.{Ephemeral, Duplicate, Older, Stored, Refused}
 
@@ -58,12 +55,12 @@ AsParts (asMessage m) s = ⊥
 AsParts (asParts b p) s = Tells b p s
 
 -- ---- the relay
--- what lists of offers keep of a table: it is sound, and what it holds was valid when it was stored
-pub record Good (b : List ℕ) : Type 0 where
-  pub is-sound : sound b ≡ true
-  pub hashed : (s : SignedEvent) → s ∈ view b → s .0 .id ≡ digest (s .0 .text)
-  pub sig-length : (s : SignedEvent) → s ∈ view b → length (s .1) ≡ 64
-  pub sig-bytes : (s : SignedEvent) → s ∈ view b → all isByte (s .1) ≡ true
+-- "A fresh table is one just formatted, with any capacity and buffer that rows 13 and 14 let pass"
+pub record Fresh (b : List ℕ) : Type 0 where
+  pub capacity : ℕ
+  pub buffer : List ℕ
+  pub passes : formatRow capacity buffer ≡ 0
+  pub is : b ≡ formatted capacity buffer
 
 -- "An offer lacks room when its answer is 12."
 abbrev pub verdictOf : Offered → Verdict
@@ -78,6 +75,7 @@ relay = record {
   State = List ℕ;
   Offering = Offering;
   Answer = Offered;
+  Fresh = Fresh;
   answer = answer;
   next = next;
   verdictOf = verdictOf;
@@ -85,7 +83,6 @@ relay = record {
   slots = view;
   judge = judge;
   AsParts = AsParts;
-  Good = Good;
 }
 
 -- demand 3, whole: proofs/Demand3

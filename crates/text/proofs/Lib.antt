@@ -11,7 +11,10 @@ pub mod Keys
 pub mod Cases
 -- A law for each way out of the code.
 pub mod Ways
+pub mod Blocks
+pub mod Windows
 pub mod Fields
 pub mod Named
 pub mod Texts
+pub mod Whole
 pub mod Places

@@ -1,22 +1,29 @@
--- The places that a text is answered with hold what they are named for: pubkey, tags, content and d.
+-- The places that a text is answered with hold what they are named for: pubkey, tags, content and d. The strings stand there escaped,
+-- so that a part of the text can be copied to where the event is written again.
 use mathlib.Core.Path.{_≡_, refl, sym, ap, _∙_}
-use mathlib.Core.Bool.{Bool, true, false, cond, false≢true}
+use mathlib.Core.Bool.{Bool, true, false, cond, _&&_, _||_, false≢true}
 use mathlib.Core.List.{List, [], _∷_, _++_, append-assoc}
 use Prim.Native.Nat.{ℕ, zero, suc, _+_, _-_, _≤_, min}
 use native.Mathlib.Omega.{arith}
 use lib.ListN.{length, take, drop, length-append, length-take, length-drop}
 use lib.Seq.{drop-drop, take-append-seam}
-use borrow.Author.Tests.{eqb-true}
+use lib.Dec.{eqb, leb}
+use borrow.Author.Tests.{ne-eqb, eqb-true, leb-true}
+use Rattle.wire.specs.Bytes.{part, isHex}
 use Rattle.wire.specs.Escape.{letterOf, escOne, escape}
 use Rattle.numeral.specs.Decimal.{digits, decimal}
-use Rattle.wire.specs.Limits.{hexLength}
-use Rattle.text.specs.Event.{Tag, Event, quoted, membersText, tagText, tagsText, opening, closing, comma, bracket, serialise}
-use Rattle.text.specs.Read.{IsTextOf}
+use Rattle.wire.specs.Limits.{mostText, hexLength}
+use Rattle.text.specs.Event.{Tag, Event, quoted, membersText, tagText, tagsText, opening, closing, comma, bracket, serialise, all, isPubkey}
+use Rattle.text.specs.Read.{Read, tooLarge, wrongShape, read, readText, IsTextOf}
 use Rattle.text.specs.Kinds.{isNamedD, second, dOf}
-use Rattle.text.specs.Answer.{Span, spanOf, dSpan, tagsPlace, contentPlace, textOf}
-use Rattle.text.proofs.Pieces.{Spelt, left, right, tail, all-of}
+use Rattle.text.specs.Answer.{Span, spanOf, dSpan, tagsPlace, contentPlace, textOf, answerOf}
+use Rattle.text.specs.declared.Text.{Text}
+use Rattle.text.specs.declared.TextAnswer.the-variants as answer
+use Rattle.wire.proofs.Escapes.{plain}
+use Rattle.text.proofs.Pieces.{both, Spelt, left, right, tail, all-of}
 use Rattle.text.proofs.Limits.{limits-of}
 use Rattle.text.proofs.Rows.{pubkey-length}
+use Rattle.text.proofs.RoundTrip.{read-same, fit-length}
 use Rattle.text.proofs.Named.{after, members-begin}
 
 -- ---- d among the tags
@@ -92,6 +99,47 @@ spelt-take {s} {at} {p} {n} a = ap (take (length p)) (a .is) ∙ take-append-sea
 amid : (t p q r : List ℕ) (at : ℕ) → t ≡ p ++ (q ++ r) → length p ≡ at → Spelt t at q (at + length q)
 amid t p q r at e l = let z : 0 + length p ≡ at = omega arith in rw z at (left q r (right p (q ++ r) (all-of t (p ++ (q ++ r)) e)))
 
+pub part-amid : (t p q r : List ℕ) (i k : ℕ) → t ≡ p ++ (q ++ r) → length p ≡ i → length q ≡ k → part t i k ≡ q
+part-amid t p q r i k e l m = rw (← m) (spelt-take (amid t p q r i e l))
+
+-- ---- hex has no escapes
+letter-none : (b : ℕ) → 0x30 ≤ b → (b ≡ 0x5c → ⊥) → letterOf b ≡ 0
+unfolding letterOf
+letter-none b h n =
+    rw (
+      ne-eqb b 0x0a (λ e. omega arith),
+      ne-eqb b 0x22 (λ e. omega arith),
+      ne-eqb b 0x5c n,
+      ne-eqb b 0x0d (λ e. omega arith),
+      ne-eqb b 0x09 (λ e. omega arith),
+      ne-eqb b 0x08 (λ e. omega arith),
+      ne-eqb b 0x0c (λ e. omega arith),
+    )
+
+pub escape-none : (b : ℕ) → 0x30 ≤ b → (b ≡ 0x5c → ⊥) → escOne b ≡ b ∷ []
+escape-none b h n = plain b 0 (sym (letter-none b h n)) refl
+
+hex-byte : (b : ℕ) → isHex b ≡ true → escOne b ≡ b ∷ []
+unfolding isHex
+hex-byte b e = go (leb 0x30 b && leb b 0x39) refl e
+  where
+    go : (d : Bool) → (leb 0x30 b && leb b 0x39) ≡ d → (d || (leb 0x61 b && leb b 0x66)) ≡ true → escOne b ≡ b ∷ []
+    go true q e =
+        let (l, m) = both (leb 0x30 b) (leb b 0x39) q in
+        let u = leb-true 0x30 b l in
+        let v = leb-true b 0x39 m in
+        escape-none b u (λ z. omega arith)
+    go false q e = let u = leb-true 0x61 b (both (leb 0x61 b) (leb b 0x66) e .0) in escape-none b (omega arith) (λ z. omega arith)
+
+pub escape-key : (l : List ℕ) → all isHex l ≡ true → escape l ≡ l
+unfolding escape all
+escape-key [] h = refl
+escape-key (x ∷ l) h = let (p, q) = both (isHex x) (all isHex l) h in rw (hex-byte x p, escape-key l q)
+
+pub quoted-length : (v : List ℕ) → length (quoted v) ≡ length (escape v) + 2
+unfolding quoted
+quoted-length v = simp length-append (omega arith)
+
 -- [0,"PUBKEY",TIME,KIND,
 abbrev front : Event → List ℕ
 front e = opening ++ (e .pubkey ++ (closing ++ (decimal (e .time) ++ (comma ++ (digits (e .kind) ++ comma)))))
@@ -134,6 +182,31 @@ module _ (t : List ℕ) (e : Event) (a : IsTextOf t e) where
   unfolding tagsText
   d-stands = named-stands t (tagsPlace e + 1) (e .tags) (tagsPlace e + length (tagsText (e .tags))) (tail tags-spelt)
 
+  -- with their quotes; the pubkey is its own spelling
+  pub key-itself : escape (e .pubkey) ≡ e .pubkey
+  unfolding isPubkey
+  key-itself = escape-key (e .pubkey) (both (eqb (length (e .pubkey)) hexLength) _ (limits-of e (a .fit) .pubkey) .1)
+
+  pub key-part : part t 3 66 ≡ quoted (e .pubkey)
+  unfolding serialise quoted
+  key-part =
+      let h = hex in
+      let k : List ℕ = 34 ∷ (e .pubkey ++ (34 ∷ [])) in
+      let r : List ℕ = 44 ∷ (decimal (e .time) ++ (comma ++ (digits (e .kind) ++ (comma ++ (tagsText (e .tags) ++ (comma ++ (quoted (e .content) ++ bracket))))))) in
+      let z : serialise e ≡ (91 ∷ 48 ∷ 44 ∷ []) ++ (k ++ r) = simp append-assoc in
+      part-amid t (91 ∷ 48 ∷ 44 ∷ []) k r 3 66 (sym (a .same) ∙ z) refl (simp length-append (omega arith)) ∙ ap (λ (v : List ℕ). 34 ∷ (v ++ (34 ∷ []))) (sym key-itself)
+
+  pub tags-part : part t (textOf e .tags) (textOf e .content - 2 - textOf e .tags) ≡ tagsText (e .tags)
+  tags-part = let z : textOf e .content - 2 - textOf e .tags ≡ length (tagsText (e .tags)) = omega arith in rw z tags-stand
+
+  pub content-part : part t (textOf e .content - 1) (textOf e .«content_len» + 2) ≡ quoted (e .content)
+  unfolding serialise
+  content-part =
+      let h = hex in
+      let p : List ℕ = front e ++ (tagsText (e .tags) ++ comma) in
+      let z : serialise e ≡ p ++ (quoted (e .content) ++ bracket) = simp append-assoc in
+      part-amid t p (quoted (e .content)) bracket (textOf e .content - 1) (textOf e .«content_len» + 2) (sym (a .same) ∙ z) (simp length-append (omega arith)) (quoted-length (e .content))
+
   -- d lies in the text
   pub d-inside : textOf e .d + textOf e .«d_len» ≤ length t
   d-inside =
@@ -145,3 +218,20 @@ module _ (t : List ℕ) (e : Event) (a : IsTextOf t e) where
       inside : (i k n : ℕ) → min k (n - i) ≡ k → (k ≡ 0 → i ≡ 0) → i + k ≤ n
       inside i zero n l z = let y = z refl in omega arith
       inside i (suc k) n l z = omega arith
+
+-- ---- the answer to a text that was read, and that its parts can be taken
+pub read-told : (r : Read) (x : Text) → answer.Read x ≡ answerOf r → (e : Event) × (r ≡ read e) × (x ≡ textOf e)
+read-told tooLarge x q = absurd (let z : _≡_ {A = ℕ} 0 1 = cc in omega arith)
+read-told wrongShape x q = absurd (let z : _≡_ {A = ℕ} 0 1 = cc in omega arith)
+read-told (read e) x q = (e, refl, cc)
+
+pub record Bounds (t : List ℕ) (x : Text) : Type 0 where
+  pub between : x .tags + 2 ≤ x .content
+  pub ends : x .content + x .«content_len» + 2 ≡ length t
+  pub small : length t ≤ mostText
+
+pub bounds : (t : List ℕ) (x : Text) → answer.Read x ≡ answerOf (readText t) → Bounds t x
+bounds t x w =
+    let (e, r, q) = read-told (readText t) x w in
+    let a = read-same t e r in
+    rw q (record { between = omega arith; ends = omega (arith, fit-length e (a .fit), ap length (a .same)); small = a .small })

@@ -1,14 +1,15 @@
 -- A string: what is read is what was written, and the other way round. The seven escapes by a view, an eighth case for all other bytes.
 use mathlib.Core.Path.{_≡_, refl, sym, ap, _∙_}
-use mathlib.Core.Bool.{Bool, true, false, cond, _&&_}
+use mathlib.Core.Bool.{Bool, true, false, cond, _&&_, false≢true}
 use mathlib.Core.List.{List, [], _∷_, _++_, append-assoc}
 use Prim.Native.Nat.{ℕ, suc, _+_, _<_, _≤_}
 use native.Mathlib.Omega.{arith}
 use lib.Dec.{eqb, lit≤}
-use lib.ListN.{length, getD, drop, length-append}
+use lib.ListN.{length, getD, take, drop, length-append, take-append-drop}
 use borrow.Author.Tests.{lt-ltb, le-leb, eq-eqb, ne-eqb, eqb-true, eqb-false}
 use Rattle.utf8.specs.Utf8.{isUtf8, utf8From, leadOf, next}
 use Rattle.utf8.specs.declared.Want.{Want}
+use Rattle.utf8.proofs.Laws.{bad}
 use Rattle.wire.specs.Escape.{letterOf, escOne, escape}
 use Rattle.text.specs.Event.{quoted, isPlainByte, all, isString}
 use Rattle.text.specs.declared.Move.the-variants.{Go, Stop, Refuse}
@@ -223,6 +224,27 @@ from-escape (b ∷ v) w h = one-utf8 (escape v) b (letterOf b) (seven b) w h ∙
 pub utf8-escape : (v : List ℕ) → isUtf8 (escape v) ≡ isUtf8 v
 unfolding isUtf8
 utf8-escape v = from-escape v Want.Lead lead-high
+
+-- ---- in a text that is UTF-8 each string is
+-- a low byte stands only where a character may begin
+low-lead : (w : Want) (x : ℕ) (l : List ℕ) → High w → x < 128 → utf8From w (x ∷ l) ≡ true → (w ≡ Want.Lead) × (utf8From Want.Lead l ≡ true)
+unfolding utf8From leadOf
+low-lead Want.Lead x l h k e = (refl, rw (le-leb x 127 (omega arith)) at e)
+low-lead (Want.Tail lo hi m) x l (tail-high h) k e = absurd (false≢true (sym (bad l) ∙ (rw (lt-ltb x lo (omega arith)) at e)))
+low-lead Want.Bad x l h k e = absurd (false≢true (sym (bad l) ∙ e))
+
+cut : (p : List ℕ) (x : ℕ) (l : List ℕ) (w : Want) → High w → x < 128 → utf8From w (p ++ (x ∷ l)) ≡ true → (utf8From w p ≡ true) × (utf8From Want.Lead l ≡ true)
+unfolding utf8From
+cut [] x l w h k e = let (z, u) = low-lead w x l h k e in (rw z, u)
+cut (y ∷ p) x l w h k e = cut p x l (next w y) (next-high w y h) k e
+
+pub body-utf8 : (s : List ℕ) (at : ℕ) (v : List ℕ) (n : ℕ) → isUtf8 s ≡ true → getD s at 0 ≡ 34 → bodyFrom false (at + 1) (drop (at + 1) s) ≡ got v n → isUtf8 v ≡ true
+unfolding isUtf8
+body-utf8 s at v n u q e =
+    let z : take at s ++ (34 ∷ drop (at + 1) s) ≡ s = ap (_++_ (take at s)) (sym (byte-at s at 34 (omega arith) q .is)) ∙ take-append-drop at s in
+    let a = cut (take at s) 34 (drop (at + 1) s) Want.Lead lead-high (omega arith) (rw z u) .1 in
+    let b : drop (at + 1) s ≡ escape v ++ (34 ∷ drop n s) = body-spelt s (at + 1) v n e .is ∙ append-assoc (escape v) (34 ∷ []) (drop n s) in
+    sym (from-escape v Want.Lead lead-high) ∙ cut (escape v) 34 (drop n s) Want.Lead lead-high (omega arith) (rw b at a) .0
 
 -- ---- the whole string, with its quotes
 abbrev String : List ℕ → ℕ → List ℕ → ℕ → Type 0

@@ -1,5 +1,5 @@
 -- A way out at a time: the rest after the kind, and the whole text. The places are functions of the event, by the lengths of its pieces.
-use mathlib.Core.Path.{_≡_, refl, sym, ap}
+use mathlib.Core.Path.{_≡_, refl, sym, ap, _∙_}
 use mathlib.Core.Bool.{Bool, true, false, cond, _&&_, false≢true}
 use mathlib.Core.List.{List, [], _∷_}
 use Prim.Native.Nat.{ℕ, _+_, _-_, _<_, _≤_}
@@ -12,8 +12,8 @@ use Rattle.wire.specs.Escape.{escape}
 use Rattle.numeral.specs.Decimal.{digits, decimal}
 use Rattle.wire.specs.Limits.{mostText}
 use Rattle.text.specs.Event.{Tag, quoted, tagsText, opening, closing, comma, isPubkey}
-use Rattle.text.specs.Read.{Got, none, got, bind, standsAt, closedAt, pairAt, stringAt, tagsAt, timeAt, kindAt, pubkeyAt, fieldsAt, opened, readText}
-use Rattle.text.specs.Answer.{dSpan, answerOf}
+use Rattle.text.specs.Read.{Got, none, got, bind, standsAt, closedAt, pairAt, stringAt, tagsAt, timeAt, kindAt, pubkeyAt, fieldsAt, opened, Read, tooLarge, wrongShape, read, readText}
+use Rattle.text.specs.Answer.{dSpan, answerOf, numberOf, rowOf}
 use Rattle.text.specs.Parts.{endOf, timeIn, kindIn, isGot, opens, taggedOf, restAt, restOf}
 use Rattle.text.specs.declared.Out.the-variants.{End, Bad}
 use Rattle.text.specs.declared.Time.the-variants as time
@@ -21,6 +21,7 @@ use Rattle.text.specs.declared.Kind.the-variants as kind
 use Rattle.text.specs.declared.Found.the-variants as found
 use Rattle.text.specs.declared.Tagged.the-variants as tagged
 use Rattle.text.specs.declared.Rest.the-variants as rest
+use Rattle.text.specs.declared.TextAnswer.{TextAnswer}
 use Rattle.text.specs.declared.TextAnswer.the-variants as answer
 use Rattle.text.proofs.Strings.{string-exact}
 use Rattle.text.proofs.Lists.{tags-exact}
@@ -163,19 +164,30 @@ rest-told l at (got x n) c cl d dl e = go (eqb n l) refl e
     go true q e = record { it = x; is = ap (got x) (eqb-true n l q); content = cc; content-len = cc; place = cc; size = cc }
     go false q e = absurd (let z : _≡_ {A = ℕ} 0 1 = cc in omega arith)
 
--- ---- the whole text
+-- ---- the whole text: the answer, and its number
+number-is : (r : Read) → numberOf (answerOf r) ≡ rowOf r
+number-is tooLarge = refl
+number-is wrongShape = refl
+number-is (read e) = refl
+
 module _ (t : List ℕ) where
-  pub text-large : mostText < length t → answer.TooLarge ≡ answerOf (readText t)
+  abbrev Answers : TextAnswer → Type 0
+  Answers x = (x ≡ answerOf (readText t)) × (numberOf x ≡ rowOf (readText t))
+
+  told : {x : TextAnswer} → x ≡ answerOf (readText t) → Answers x
+  told e = (e, ap numberOf e ∙ number-is (readText t))
+
+  pub text-large : mostText < length t → Answers answer.TooLarge
   unfolding readText
-  text-large h = rw (lt-leb (length t) mostText h)
+  text-large h = let e : answer.TooLarge ≡ answerOf (readText t) = rw (lt-leb (length t) mostText h) in told e
 
   module _ (h : length t ≤ mostText) where
     abbrev Wrong : Type 0
-    Wrong = answer.WrongShape ≡ answerOf (readText t)
+    Wrong = Answers answer.WrongShape
 
     wrong : opened t ≡ none → Wrong
     unfolding readText
-    wrong e = rw (le-leb (length t) mostText h, e)
+    wrong e = let w : answer.WrongShape ≡ answerOf (readText t) = rw (le-leb (length t) mostText h, e) in told w
 
     pub text-opening : opens t ≡ false → Wrong
     unfolding opens opened fieldsAt
@@ -238,18 +250,20 @@ module _ (t : List ℕ) where
               long : (x : List Tag × List ℕ) (n : ℕ) (f : Bool) → eqb n (length t) ≡ f → restAt t b ≡ got x n
                   → rest.Bad ≡ cond f (rest.Is (b + length (tagsText (x .0)) + 2) (length (escape (x .1))) (dSpan (b + 1) (x .0) .at) (dSpan (b + 1) (x .0) .len)) rest.Bad → Wrong
               long x n true ef r q = absurd (let z : _≡_ {A = ℕ} 0 1 = cc in omega arith)
-              long x n false ef r q = rw (le-leb (length t) mostText h, fields-got x n r, ef)
+              long x n false ef r q = let w : answer.WrongShape ≡ answerOf (readText t) = rw (le-leb (length t) mostText h, fields-got x n r, ef) in told w
 
               go : (g : Got (List Tag × List ℕ)) → restAt t b ≡ g → rest.Bad ≡ restOf (length t) b g → Wrong
               go none r q = wrong (fields-none r)
               go (got x n) r q = long x n (eqb n (length t)) refl r q
 
           pub text-read : (c cl d dl : ℕ) → rest.Is c cl d dl ≡ restOf (length t) b (restAt t b)
-              → answer.Read (record { time = z; kind = k; tags = b; content = c; «content_len» = cl; d = d; «d_len» = dl }) ≡ answerOf (readText t)
+              → Answers (answer.Read (record { time = z; kind = k; tags = b; content = c; «content_len» = cl; d = d; «d_len» = dl }))
           unfolding readText
           text-read c cl d dl q =
               let r = rest-told (length t) b (restAt t b) c cl d dl q in
               let za = time-closed t .same 70 z a zs .is .end in
               let kb = kind-closed t .same a k b ks .is .end in
               let p : 72 + length (decimal z) + length (digits k) ≡ b = omega (arith, za, kb, length-append (decimal z) comma, length-append (digits k) comma) in
-              rw (le-leb (length t) mostText h, fields-got (r .it) (length t) (r .is), eq-eqb (length t) (length t) refl, p, r .content, r .content-len, r .place, r .size)
+              let e : answer.Read (record { time = z; kind = k; tags = b; content = c; «content_len» = cl; d = d; «d_len» = dl }) ≡ answerOf (readText t) =
+              rw (le-leb (length t) mostText h, fields-got (r .it) (length t) (r .is), eq-eqb (length t) (length t) refl, p, r .content, r .content-len, r .place, r .size) in
+              told e

@@ -1,6 +1,6 @@
 -- A turn or a way out of the code at a time: bytes, strings, lists, numbers, kinds.
 use mathlib.Core.Path.{_≡_, refl, sym, ap, _∙_}
-use mathlib.Core.Bool.{Bool, true, false, cond, _&&_, _||_}
+use mathlib.Core.Bool.{Bool, true, false, cond, not, _&&_, _||_, false≢true}
 use mathlib.Core.List.{List, [], _∷_, _++_, append-assoc}
 use Prim.Native.Nat.{ℕ, zero, suc, _+_, _-_, _<_, _≤_}
 use native.Mathlib.Numerals.{add-one, sub-one}
@@ -9,7 +9,7 @@ use native.Mathlib.Omega.{arith}
 use lib.Dec.{eqb, ltb, leb}
 use lib.ListN.{length, getD, take, drop, length-append, drop-of-length-le, List·getD-eq-default}
 use lib.Seq.{drop-cons, take-at}
-use borrow.Author.Tests.{lt-ltb, le-ltb, le-leb, lt-leb, eq-eqb, ne-eqb, eqb-true, ltb-true}
+use borrow.Author.Tests.{lt-ltb, le-ltb, le-leb, lt-leb, eq-eqb, ne-eqb, eqb-true, ltb-true, not-true, not-false}
 use Rattle.utf8.specs.Utf8.{isUtf8}
 use Rattle.wire.specs.Escape.{letterOf, escape}
 use Rattle.wire.specs.Limits.{mostStrings}
@@ -17,12 +17,12 @@ use Rattle.wire.specs.Bytes.{isHex}
 use Rattle.text.specs.Event.{isPlainByte, all}
 use Rattle.text.specs.Read.{Got, none, got, standsAt, isRaw, byteOf, moveOf, saidOf, push, bodyFrom, checked, stringAt, cons, follow, membersAt, tagAt, runOf}
 use Rattle.text.specs.Kinds.{isEphemeral, isAddressable, classOf}
-use Rattle.text.specs.Parts.{endOf, noZero}
+use Rattle.text.specs.Parts.{endOf, isLetter, noZero}
 use Rattle.text.specs.declared.Class.the-variants.{Regular, Replaceable, Ephemeral, Addressable}
 use Rattle.text.specs.declared.Out.the-variants.{End, Bad}
 use Rattle.text.specs.declared.Move.the-variants.{Go, Stop, Refuse}
 use Rattle.text.proofs.Pieces.{both, spelt-inside}
-use Rattle.text.proofs.Strings.{body-spelt, utf8-escape}
+use Rattle.text.proofs.Strings.{body-spelt, body-utf8}
 
 pub ruleset tests = (lt-ltb, le-ltb, le-leb, lt-leb, eq-eqb, ne-eqb)
 
@@ -98,6 +98,22 @@ raw-high x h p q =
       ne-eqb x 12 (λ e. omega arith),
     )
 
+-- ---- a letter after a backslash
+pub letter-is : (c : ℕ) → (eqb c 110 || (eqb c 34 || (eqb c 92 || (eqb c 114 || (eqb c 116 || (eqb c 98 || eqb c 102)))))) ≡ isLetter c
+unfolding byteOf
+letter-is c = go (eqb c 110) (eqb c 34) (eqb c 92) (eqb c 114) (eqb c 116) (eqb c 98) (eqb c 102)
+  where
+    go : (n q s r t b f : Bool) → (n || (q || (s || (r || (t || (b || f))))))
+        ≡ not (eqb (cond n 0x0a (cond q 0x22 (cond s 0x5c (cond r 0x0d (cond t 0x09 (cond b 0x08 (cond f 0x0c 0))))))) 0)
+    go true q s r t b f = refl
+    go false true s r t b f = refl
+    go false false true r t b f = refl
+    go false false false true t b f = refl
+    go false false false false true b f = refl
+    go false false false false false true f = refl
+    go false false false false false false true = refl
+    go false false false false false false false = refl
+
 -- ---- a string's body
 end-push : (p : List ℕ) (g : Got (List ℕ)) → endOf (push p g) ≡ endOf g
 end-push p none = refl
@@ -123,28 +139,31 @@ module _ (e : Bool) (s : List ℕ) (i : ℕ) where
 
 -- by the bytes themselves: a backslash and its letter, the closing quote, a control, and a byte that stands as it is
 module _ (s : List ℕ) (i : ℕ) (h : i < length s) where
-  module _ (e : getD s i 0 ≡ 92) {u c : ℕ} (l : c ≡ getD s (i + 1) 0) (k : u ≡ byteOf c) where
+  module _ (e : getD s i 0 ≡ 92) {c : ℕ} {t : Bool} (l : c ≡ getD s (i + 1) 0) (k : t ≡ isLetter c) where
     slashed : endOf (bodyFrom false i (drop i s)) ≡ endOf (bodyFrom true (i + 1) (drop (i + 1) s))
     slashed = body-go false s i h true (rw e)
 
-    pub body-pair : (u ≡ 0 → ⊥) → endOf (bodyFrom false i (drop i s)) ≡ endOf (bodyFrom false (i + 2) (drop (i + 2) s))
+    pub body-pair : t ≡ true → endOf (bodyFrom false i (drop i s)) ≡ endOf (bodyFrom false (i + 2) (drop (i + 2) s))
     unfolding byteOf
     body-pair z = go (decLe (length s) (i + 1))
       where
+        is : isLetter (getD s (i + 1) 0) ≡ true
+        is = sym (ap isLetter l) ∙ sym k ∙ z
+
         go : Dec (length s ≤ i + 1) → endOf (bodyFrom false i (drop i s)) ≡ endOf (bodyFrom false (i + 2) (drop (i + 2) s))
-        go (yes m) = absurd (z (k ∙ rw (l, List·getD-eq-default s 0 m)))
+        go (yes m) = absurd (false≢true (rw (List·getD-eq-default s 0 m) at is))
         go (no m) =
             let two : i + 1 + 1 ≡ i + 2 = omega arith in
-            let d : eqb (byteOf (getD s (i + 1) 0)) 0 ≡ false = ne-eqb _ 0 (λ q. z (k ∙ ap byteOf l ∙ q)) in
+            let d = not-true (eqb (byteOf (getD s (i + 1) 0)) 0) is in
             slashed ∙ body-go true s (i + 1) (omega arith) false (rw d) ∙ ap (λ (j : ℕ). endOf (bodyFrom false j (drop j s))) two
 
-    pub body-unknown : u ≡ 0 → endOf (bodyFrom false i (drop i s)) ≡ Bad
+    pub body-unknown : t ≡ false → endOf (bodyFrom false i (drop i s)) ≡ Bad
     body-unknown z = go (decLe (length s) (i + 1))
       where
         go : Dec (length s ≤ i + 1) → endOf (bodyFrom false i (drop i s)) ≡ Bad
         go (yes m) = slashed ∙ body-over true s (i + 1) m
         go (no m) =
-            let d : eqb (byteOf (getD s (i + 1) 0)) 0 ≡ true = eq-eqb _ 0 (sym (ap byteOf l) ∙ sym k ∙ z) in
+            let d = not-false (eqb (byteOf (getD s (i + 1) 0)) 0) (sym (ap isLetter l) ∙ sym k ∙ z) in
             slashed ∙ body-refuse true s (i + 1) (omega arith) (rw d)
 
   module _ (e : getD s i 0 ≡ 92 → ⊥) where
@@ -176,41 +195,13 @@ module _ (s : List ℕ) (at : ℕ) where
   unfolding stringAt
   string-other h = rw (ne-eqb (getD s at 0) 34 h)
 
-  module _ (h : getD s at 0 ≡ 34) where
-    pub string-none : endOf (bodyFrom false (at + 1) (drop (at + 1) s)) ≡ Bad → Bad ≡ endOf (stringAt s at)
-    unfolding stringAt
-    string-none q = rw (eq-eqb (getD s at 0) 34 h) (go (bodyFrom false (at + 1) (drop (at + 1) s)) q)
-      where
-        go : (g : Got (List ℕ)) → endOf g ≡ Bad → Bad ≡ endOf (checked g)
-        go none q = refl
-        go (got v n) q = absurd (let z : _≡_ {A = ℕ} 0 1 = cc in omega arith)
-
-    -- UTF-8 is asked of the bytes as they are spelt
-    module _ (n : ℕ) (u : Bool) (q : endOf (bodyFrom false (at + 1) (drop (at + 1) s)) ≡ End n) (w : u ≡ isUtf8 (take (n - 1 - (at + 1)) (drop (at + 1) s))) where
-      string-told : cond u (End n) Bad ≡ endOf (stringAt s at)
-      unfolding stringAt
-      string-told = rw (eq-eqb (getD s at 0) 34 h) (go (bodyFrom false (at + 1) (drop (at + 1) s)) refl q)
-        where
-          ends : (t : Bool) (v : List ℕ) (m : ℕ) → cond t (End m) Bad ≡ endOf (cond t (got v m) none)
-          ends true v m = refl
-          ends false v m = refl
-
-          go : (g : Got (List ℕ)) → bodyFrom false (at + 1) (drop (at + 1) s) ≡ g → endOf g ≡ End n → cond u (End n) Bad ≡ endOf (checked g)
-          go none e r = absurd (let z : _≡_ {A = ℕ} 0 1 = cc in omega arith)
-          go (got v m) e r =
-              let z : m ≡ n = cc in
-              let a = body-spelt s (at + 1) v m e in
-              let l : length (escape v) ≡ n - 1 - (at + 1) = omega (arith, a .end, length-append (escape v) (34 ∷ [])) in
-              let b : take (n - 1 - (at + 1)) (drop (at + 1) s) ≡ escape v =
-              rw (a .is, append-assoc) (take-at (escape v) ((34 ∷ []) ++ drop m s) (n - 1 - (at + 1)) l) in
-              let x : u ≡ isUtf8 v = w ∙ ap isUtf8 b ∙ utf8-escape v in
-              rw (← z, x) (ends (isUtf8 v) v m)
-
-      pub string-yes : u ≡ true → End n ≡ endOf (stringAt s at)
-      string-yes t = rw t at string-told
-
-      pub string-no : u ≡ false → Bad ≡ endOf (stringAt s at)
-      string-no t = rw t at string-told
+  pub string-is : getD s at 0 ≡ 34 → isUtf8 s ≡ true → endOf (bodyFrom false (at + 1) (drop (at + 1) s)) ≡ endOf (stringAt s at)
+  unfolding stringAt
+  string-is h u = rw (eq-eqb (getD s at 0) 34 h) (go (bodyFrom false (at + 1) (drop (at + 1) s)) refl)
+    where
+      go : (g : Got (List ℕ)) → bodyFrom false (at + 1) (drop (at + 1) s) ≡ g → endOf g ≡ endOf (checked g)
+      go none e = refl
+      go (got v n) e = rw (body-utf8 s at v n u h e)
 
 -- ---- members of a list
 module _ {A : Type 0} (one : ℕ → Got A) (s : List ℕ) where
@@ -288,32 +279,16 @@ module _ {A : Type 0} (one : ℕ → Got A) (s : List ℕ) (k at : ℕ) where
     turn-wrong f g = let x = end-got (one at) n q in ap endOf (members-wrong one s k at n (x .it) h (x .is) b e f g)
 
 -- ---- hex
-module _ (x : ℕ) where
-  pub hex-under : x < 48 → false ≡ isHex x
-  unfolding isHex
-  hex-under h = rw (lt-leb 48 x h, lt-leb 97 x (omega arith))
-
-  pub hex-between : 57 < x → x < 97 → false ≡ isHex x
-  unfolding isHex
-  hex-between h l = rw (le-leb 48 x (omega arith), lt-leb x 57 h, lt-leb 97 x l)
-
-  pub hex-letter : 97 ≤ x → leb x 102 ≡ isHex x
-  unfolding isHex
-  hex-letter h = rw (le-leb 48 x (omega arith), lt-leb x 57 (omega arith), le-leb 97 x h)
-
 module _ (p : List ℕ) (i : ℕ) where
-  pub hex-over : length p ≤ i → all isHex (drop i p) ≡ true
+  pub hex-over : (a : Bool) → length p ≤ i → (a && all isHex (drop i p)) ≡ a
   unfolding all
-  hex-over h = rw (drop-of-length-le p {i = i} h)
+  hex-over true h = rw (drop-of-length-le p {i = i} h)
+  hex-over false h = refl
 
-  module _ (h : i < length p) where
-    pub hex-bad : isHex (getD p i 0) ≡ false → all isHex (drop i p) ≡ false
-    unfolding all
-    hex-bad e = rw (drop-cons p i 0, all, e)
-
-    pub hex-good : isHex (getD p i 0) ≡ true → all isHex (drop i p) ≡ all isHex (drop (i + 1) p)
-    unfolding all
-    hex-good e = rw (drop-cons p i 0, all, e, add-one)
+  pub hex-more : (a b : Bool) → i < length p → b ≡ isHex (getD p i 0) → (a && all isHex (drop i p)) ≡ ((a && b) && all isHex (drop (i + 1) p))
+  unfolding all
+  hex-more true b h e = rw (drop-cons p i 0, all, add-one, e)
+  hex-more false b h e = refl
 
 -- ---- the next comma: m is its place
 module _ {m : ℕ} (s : List ℕ) (i : ℕ) (inv : m ≡ i + length (runOf (drop i s))) where

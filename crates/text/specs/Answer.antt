@@ -56,3 +56,9 @@ abbrev pub numberOf : TextAnswer → ℕ
 numberOf (answer.Read x) = 0
 numberOf answer.TooLarge = 9
 numberOf answer.WrongShape = 5
+
+-- and of what reading gives: "refused by 9 if over 4,096 bytes, else by 5"
+abbrev pub rowOf : Read → ℕ
+rowOf tooLarge = 9
+rowOf wrongShape = 5
+rowOf (read e) = 0

@@ -1,6 +1,8 @@
--- The text that is hashed, its reader, kinds and keys. Parts is what private functions hand on.
+-- The text that is hashed, its reader, kinds and keys. Parts is what private functions hand on; Examples are worked tables.
 pub mod Event
 pub mod Read
 pub mod Kinds
 pub mod Answer
 pub mod Parts
+pub mod Examples
+pub mod Windows

@@ -1,13 +1,14 @@
 -- What the private functions hand on.
-use mathlib.Core.Bool.{Bool, true, false, cond, _&&_}
+use mathlib.Core.Bool.{Bool, true, false, cond, not, _&&_}
 use mathlib.Core.List.{List, [], _∷_}
-use Prim.Native.Nat.{ℕ, _+_}
+use mathlib.Core.Path.{_≡_}
+use Prim.Native.Nat.{ℕ, _+_, _<_, _≤_}
 use lib.Dec.{eqb, ltb}
 use lib.IntN.{ℤ}
-use lib.ListN.{length}
+use lib.ListN.{length, getD, drop}
 use Rattle.wire.specs.Escape.{escape}
 use Rattle.text.specs.Event.{Tag, closing, comma, bracket, opening, tagsText}
-use Rattle.text.specs.Read.{Got, none, got, standsAt, closedAt, pairAt, pubkeyAt, tagsAt, stringAt}
+use Rattle.text.specs.Read.{Got, none, got, byteOf, isRaw, bodyFrom, standsAt, closedAt, pairAt, pubkeyAt, tagsAt, stringAt}
 use Rattle.text.specs.Kinds.{isNamedD, second}
 use Rattle.text.specs.Answer.{Span, spanOf, dSpan}
 use Rattle.text.specs.declared.Out.{Out}
@@ -26,6 +27,22 @@ use Rattle.text.specs.declared.Rest.the-variants as rest
 abbrev pub endOf : {A : Type 0} → Got A → Out
 endOf none = out.Bad
 endOf (got x n) = out.End n
+
+-- a letter that stands for a byte after a backslash
+abbrev pub isLetter : ℕ → Bool
+isLetter c = not (eqb (byteOf c) 0)
+
+-- ---- bytes of a string that stand as they are
+-- the string goes on from i as it does from r
+pub record Passes (s : List ℕ) (i r : ℕ) : Type 0 where
+  pub from : i ≤ r
+  pub within : r ≤ length s
+  pub same : endOf (bodyFrom false i (drop i s)) ≡ endOf (bodyFrom false r (drop r s))
+
+-- n bytes of the 32 from i on, each of which stands as it is
+pub record Raws (s : List ℕ) (i n : ℕ) : Type 0 where
+  pub few : n ≤ 32
+  pub all : (j : ℕ) → j < n → isRaw (getD s (i + j) 0) ≡ true
 
 abbrev pub timeIn : Got ℤ → Time
 timeIn none = time.Not

@@ -1,16 +1,18 @@
 // The text that is hashed, read back, and the class of a kind.
 ghost use mathlib.Core.Path.{_≡_};
-ghost use mathlib.Core.Bool.{true, false};
+ghost use mathlib.Core.Bool.{true, false, cond};
 ghost use mathlib.Core.List.{[]};
 ghost use Prim.Native.Nat.{ℕ, _+_, _<_, _≤_};
 ghost use lib.ListN.{length, getD, drop};
 ghost use Rattle.wire.specs.Escape.{escape};
 ghost use Rattle.wire.specs.Bytes.{isHex};
+ghost use Rattle.utf8.specs.Utf8.{isUtf8};
 ghost use Rattle.text.specs.Event.{Tag, comma, isPubkey};
-ghost use Rattle.text.specs.Read.{got, standsAt, closedAt, byteOf, bodyFrom, stringAt, tagAt, tagsAt, runOf, timeAt, kindAt, readText};
+ghost use Rattle.text.specs.Read.{got, standsAt, closedAt, isRaw, bodyFrom, stringAt, tagAt, tagsAt, runOf, timeAt, kindAt, readText};
 ghost use Rattle.text.specs.Kinds.{classOf, isNamedD, second};
-ghost use Rattle.text.specs.Answer.{spanOf, answerOf};
-ghost use Rattle.text.specs.Parts.{endOf, timeIn, kindIn, opens, noZero, foundOf, lookOf, taggedOf, restAt, restOf};
+ghost use Rattle.text.specs.Answer.{spanOf, answerOf, numberOf, rowOf};
+ghost use Rattle.text.specs.Windows.{wantsTail, isNarrow, isWrong};
+ghost use Rattle.text.specs.Parts.{endOf, isLetter, Passes, Raws, timeIn, kindIn, opens, noZero, foundOf, lookOf, taggedOf, restAt, restOf};
 
 // 01, "Kinds and keys".
 pub enum Class {
@@ -141,34 +143,82 @@ fn stands(s: &[u8], at: usize, w: &[u8]) -> bool
     true
 }
 
-// The byte that a letter after a backslash stands for, and 0 for no such letter.
-fn unescaped(c: u8) -> u8
-    ensures { λ r. ⌜ r ≡ byteOf c ⌝ }
+// Whether a letter after a backslash stands for a byte.
+fn is_letter(c: u8) -> bool
+    ensures { λ r. ⌜ r ≡ isLetter c ⌝ }
 {
-    match c {
-        b'n' => b'\n',
-        b'"' => b'"',
-        b'\\' => b'\\',
-        b'r' => b'\r',
-        b't' => b'\t',
-        b'b' => 0x08,
-        b'f' => 0x0c,
-        _ => 0,
-    }
+    (c == b'n')
+        | ((c == b'"')
+            | ((c == b'\\') | ((c == b'r') | ((c == b't') | ((c == b'b') | (c == b'f'))))))
 }
 
-// The place after the closing quote of a string whose opening quote stands before `at`.
+// Whether a byte of a string stands as it is.
+fn is_raw(x: u8) -> bool
+    ensures { λ r. ⌜ r ≡ isRaw x ⌝ }
+{
+    (0x20 <= x) & (x != b'"') & (x != b'\\')
+}
+
+fn lesser(a: u8, b: u8) -> u8
+    ensures { λ r. ⌜ r ≤ a ⌝ }
+    ensures { λ r. ⌜ r ≤ b ⌝ }
+{
+    if a < b { a } else { b }
+}
+
+// The place in a block where the bytes that stand as they are end at the latest: at k, unless the byte there is one.
+fn end_at(k: u8, raw: bool) -> u8
+    ensures { λ r. ⌜ r ≡ cond raw 32 k ⌝ }
+{
+    if raw { 32 } else { k }
+}
+
+// How many bytes of the 32 at i stand as they are, up to the first that does not. All are tested, with no way out of the loop, so that it is
+// compiled to vector code.
+fn raw_run(s: &[u8], i: usize) -> usize
+    requires { ⌜ i + 32 ≤ length (now s) ⌝ }
+    ensures { λ r. ⌜ Raws (now (s .entry)) i r ⌝ }
+{
+    let mut n: u8 = 32;
+    let mut k = 0;
+    while k < 32 {
+        n = lesser(n, end_at(k as u8, is_raw(s[i + k])));
+        k += 1;
+    }
+    n as usize
+}
+
+// Past bytes that stand as they are, 32 at a time.
+fn past_raw(s: &[u8], at: usize) -> usize
+    requires { ⌜ at ≤ length (now s) ⌝ }
+    ensures { λ r. ⌜ Passes (now (s .entry)) at r ⌝ }
+{
+    let mut i = at;
+    while 32 <= s.len() - i {
+        let n = raw_run(s, i);
+        if n < 32 {
+            return i + n;
+        }
+        i += 32;
+    }
+    i
+}
+
+// The place after the closing quote of a string whose opening quote stands before `at`. Bytes go one at a time until 16 in a row stood as they
+// are: short strings, and escapes close to each other, are faster so.
 fn body_end(s: &[u8], at: usize) -> Out
     ensures { λ r. ⌜ r ≡ endOf (bodyFrom false at (drop at (now (s .entry)))) ⌝ }
 {
     let mut i = at;
+    let mut run: usize = 0;
     while i < s.len() {
         let x = s[i];
         if x == b'\\' {
-            if unescaped(byte(s, i + 1)) == 0 {
+            if !is_letter(byte(s, i + 1)) {
                 return Out::Bad;
             }
             i += 2;
+            run = 0;
             continue;
         }
         if x == b'"' {
@@ -178,32 +228,97 @@ fn body_end(s: &[u8], at: usize) -> Out
             return Out::Bad;
         }
         i += 1;
+        run += 1;
+        if run == 16 {
+            i = past_raw(s, i);
+            run = 0;
+        }
     }
     Out::Bad
 }
 
-// A string with its quotes.
+// Whether no byte is above 7F, with no way out of the loop.
+fn is_ascii(s: &[u8]) -> bool
+    ensures { λ r. ⌜ (r ≡ true → isUtf8 (now (s .entry)) ≡ true) ⌝ }
+{
+    let mut high = false;
+    let mut i = 0;
+    while i < s.len() {
+        high = high | (0x7f < s[i]);
+        i += 1;
+    }
+    !high
+}
+
+// Whether a tail of UTF-8 has to come after c, b and a.
+fn wants_tail(c: u8, b: u8, a: u8) -> bool
+    ensures { λ r. ⌜ r ≡ wantsTail c b a ⌝ }
+{
+    (0xc2 <= a) | (0xe0 <= b) | (0xf0 <= c)
+}
+
+// Whether x is a tail that may not come after the first octet a.
+fn is_narrow(a: u8, x: u8) -> bool
+    ensures { λ r. ⌜ r ≡ isNarrow a x ⌝ }
+{
+    ((a == 0xe0) & (x < 0xa0))
+        | (((a == 0xed) & (0x9f < x)) | (((a == 0xf0) & (x < 0x90)) | ((a == 0xf4) & (0x8f < x))))
+}
+
+// Whether x may not come after c, b and a.
+fn is_wrong(c: u8, b: u8, a: u8, x: u8) -> bool
+    ensures { λ r. ⌜ r ≡ isWrong c b a x ⌝ }
+{
+    let w = wants_tail(c, b, a);
+    (w & ((x < 0x80) | (0xbf < x)))
+        | (!w & (((0x80 <= x) & (x <= 0xc1)) | (0xf5 <= x)))
+        | is_narrow(a, x)
+}
+
+// Whether the bytes are UTF-8, each by the three before it, with no way out of the loop.
+fn is_utf8(s: &[u8]) -> bool
+    ensures { λ r. ⌜ r ≡ isUtf8 (now (s .entry)) ⌝ }
+{
+    let mut c: u8 = 0;
+    let mut b: u8 = 0;
+    let mut a: u8 = 0;
+    let mut wrong = false;
+    let mut i = 0;
+    while i < s.len() {
+        let x = s[i];
+        wrong = wrong | is_wrong(c, b, a, x);
+        c = b;
+        b = a;
+        a = x;
+        i += 1;
+    }
+    !(wrong | wants_tail(c, b, a))
+}
+
+// The same, sooner for ASCII.
+fn is_text(s: &[u8]) -> bool
+    ensures { λ r. ⌜ r ≡ isUtf8 (now (s .entry)) ⌝ }
+{
+    if is_ascii(s) {
+        return true;
+    }
+    is_utf8(s)
+}
+
+// A string with its quotes. In a text that is UTF-8 each string is.
 fn string_end(s: &[u8], at: usize) -> Out
+    requires { ⌜ isUtf8 (now s) ≡ true ⌝ }
     ensures { λ r. ⌜ r ≡ endOf (stringAt (now (s .entry)) at) ⌝ }
 {
     if byte(s, at) != b'"' {
         return Out::Bad;
     }
-    let a = at + 1;
-    match body_end(s, a) {
-        Out::End(n) => {
-            let e = n - 1;
-            if utf8::is_utf8(&s[a..e]) {
-                return Out::End(n);
-            }
-            Out::Bad
-        }
-        Out::Bad => Out::Bad,
-    }
+    body_end(s, at + 1)
 }
 
 // 1 to 16 strings between brackets.
 fn tag_end(s: &[u8], at: usize) -> Out
+    requires { ⌜ isUtf8 (now s) ≡ true ⌝ }
     ensures { λ r. ⌜ r ≡ endOf (tagAt (now (s .entry)) at) ⌝ }
 {
     if byte(s, at) != b'[' {
@@ -280,6 +395,7 @@ fn with_d(n: usize, d: Found) -> Tagged
 
 // Up to 64 tags between brackets, and d.
 fn tags_end(s: &[u8], at: usize) -> Tagged
+    requires { ⌜ isUtf8 (now s) ≡ true ⌝ }
     ensures { λ r. ⌜ r ≡ taggedOf Found.Not (at + 1) (tagsAt (now (s .entry)) at) ⌝ }
 {
     if byte(s, at) != b'[' {
@@ -364,32 +480,23 @@ fn kind_at(s: &[u8], at: usize) -> Kind
 fn is_hex_digit(x: u8) -> bool
     ensures { λ r. ⌜ r ≡ isHex x ⌝ }
 {
-    if x < b'0' {
-        return false;
-    }
-    if x <= b'9' {
-        return true;
-    }
-    if x < b'a' {
-        return false;
-    }
-    x <= b'f'
+    ((b'0' <= x) & (x <= b'9')) | ((b'a' <= x) & (x <= b'f'))
 }
 
+// With no way out of the loop.
 fn is_pubkey(p: &[u8]) -> bool
     ensures { λ r. ⌜ r ≡ isPubkey (now (p .entry)) ⌝ }
 {
     if p.len() != 64 {
         return false;
     }
+    let mut hex = true;
     let mut i = 0;
     while i < p.len() {
-        if !is_hex_digit(p[i]) {
-            return false;
-        }
+        hex = hex & is_hex_digit(p[i]);
         i += 1;
     }
-    true
+    hex
 }
 
 // [0,"PUBKEY",
@@ -410,6 +517,7 @@ fn is_opened(t: &[u8]) -> bool
 
 // TAGS,"CONTENT"] to the end of the text.
 fn rest_at(t: &[u8], at: usize) -> Rest
+    requires { ⌜ isUtf8 (now t) ≡ true ⌝ }
     ensures { λ r. ⌜ r ≡ restOf (length (now (t .entry))) at (restAt (now (t .entry)) at) ⌝ }
 {
     match tags_end(t, at) {
@@ -437,11 +545,15 @@ fn rest_at(t: &[u8], at: usize) -> Rest
 // A text read back alone.
 pub fn read_text(t: &[u8]) -> TextAnswer
     ensures { λ r. ⌜ r ≡ answerOf (readText (now (t .entry))) ⌝ }
+    ensures { λ r. ⌜ numberOf r ≡ rowOf (readText (now (t .entry))) ⌝ }
 {
     if MOST_TEXT < t.len() {
         return TextAnswer::TooLarge;
     }
     if !is_opened(t) {
+        return TextAnswer::WrongShape;
+    }
+    if !is_text(t) {
         return TextAnswer::WrongShape;
     }
     match time_at(t, 70) {

@@ -1,5 +1,5 @@
 use borrow.Author.Needs.{needs}
-use Rattle.capi.proofs.Laws.{body-back, wrote-is}
+use Rattle.capi.proofs.Laws.{body-back, said-length}
 use Rattle.capi.proofs.plavdrosa_serialise.Statement.{statement}
 use Rattle.capi.proofs.plavdrosa_serialise.Tie as tie
 
@@ -8,17 +8,17 @@ returns c =
     let e = c .before .before .before .before .before in
     let b = e .before .before in
     let a = b .before .before .before in
-    wrote-is _ _ _ (body-back _ _ _ _ _ _ _ (a .fits .created-at) (a .fits .kind) (b .body-from .ensures)) (e .serialise .ensures .0) (e .serialise .ensures .1) (c .before .n .given .1)
+    said-length _ _ _ (body-back _ _ _ _ _ _ _ (a .fits .created-at) (a .fits .kind) (b .body-from .ensures)) (e .serialise .ensures .0) (e .serialise .ensures .1) _ (c .before .n .given .1)
 
 returns-2 : tie.Need-returns-2
 returns-2 c =
     let e = c .before .before .before .before .before in
     let b = e .before .before in
     let a = b .before .before .before in
-    wrote-is _ _ _ (body-back _ _ _ _ _ _ _ (a .fits .created-at) (a .fits .kind) (b .body-from .ensures)) (e .serialise .ensures .0) (e .serialise .ensures .1) (c .before .r .given .1)
+    said-length _ _ _ (body-back _ _ _ _ _ _ _ (a .fits .created-at) (a .fits .kind) (b .body-from .ensures)) (e .serialise .ensures .0) (e .serialise .ensures .1) _ (c .before .r .given .1)
 
 pub plavdrosa-serialise-spec : {M : Type 1} → statement M
 plavdrosa-serialise-spec =
     tie.close
     (tie.spec (λ c κs. search needs) (λ c κs. search needs) (λ c. search needs) (λ c. search needs) (λ c. search needs)
-    (λ c. search needs) returns (λ c. search needs) returns-2)
+    returns (λ c. search needs) returns-2)

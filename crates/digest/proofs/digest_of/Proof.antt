@@ -10,6 +10,7 @@ use Rattle.digest.specs.declared.Answer.the-variants.{Done, TooLong}
 use Rattle.digest.specs.declared.Updated.{Updated}
 use Rattle.digest.specs.State.{most, stateAfter, stateOf, updated, finished, digested}
 use Rattle.digest.specs.Pieces.{update-stands, update-refused, finish-stands, digest-done, digest-refused}
+use Rattle.digest.proofs.Laws.{digests}
 use Rattle.digest.proofs.digest_of.Statement.{statement}
 use Rattle.digest.proofs.digest_of.Tie as tie
 
@@ -31,13 +32,14 @@ taken d (no h) e =
 returns : tie.Need-returns
 returns c =
     let u = c .before .before in
-    sym (refused _ (decLe _ _) (rw (← u .before .new .ensures, ← u .update .ensures) (c .enum-told .given .1)))
+    digests _ (sym (refused _ (decLe _ _) (rw (← u .before .new .ensures, ← u .update .ensures .0) (c .enum-told .given .1))))
 
 returns-2 : tie.Need-returns-2
 returns-2 c =
     let u = c .before .before .before .before .before in
-    rw (c .before .finish .ensures, u .update .ensures, u .before .new .ensures)
-    (sym (taken _ (decLe _ _) (rw (← u .before .new .ensures, ← u .update .ensures) (c .before .before .before .enum-told2 .given .1))))
+    digests _
+    (rw (c .before .finish .ensures .0, u .update .ensures .0, u .before .new .ensures)
+    (sym (taken _ (decLe _ _) (rw (← u .before .new .ensures, ← u .update .ensures .0) (c .before .before .before .enum-told2 .given .1)))))
 
 pub digest-of-spec : {M : Type 1} → statement M
 digest-of-spec =

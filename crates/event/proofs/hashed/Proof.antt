@@ -8,7 +8,7 @@ returns : tie.Need-returns
 returns c = text-large _ (c .if1 .taken)
 
 returns-2 : tie.Need-returns-2
-returns-2 c = text-hashed _ (c .before .before .if1 .left) (c .before .digest-of .ensures)
+returns-2 c = text-hashed _ (c .before .before .if1 .left) (c .before .digest-of .ensures .0)
 
 pub hashed-spec : {M : Type 1} → statement M
 hashed-spec =

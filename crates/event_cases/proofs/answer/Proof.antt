@@ -1,6 +1,6 @@
-use native.Mathlib.Omega.{arith}
 use mathlib.Core.Path.{sym}
 use lib.Seq.{length-take-le}
+use native.Mathlib.Omega.{arith}
 use borrow.Author.Needs.{needs}
 use Rattle.event_cases.proofs.answer.Statement.{statement}
 use Rattle.event_cases.proofs.answer.Tie as tie
@@ -11,5 +11,4 @@ slice-aggregate-respond c = sym (length-take-le _ _ (omega arith))
 pub answer-spec : {M : Type 1} → statement M
 answer-spec =
     tie.close
-    (tie.spec slice-aggregate-respond (λ c κs. search needs) (λ c. search needs) (λ c κs. search needs)
-    (λ c. search needs) (λ c. search needs))
+    (tie.spec slice-aggregate-respond (λ c κs. search needs) (λ c. search needs))

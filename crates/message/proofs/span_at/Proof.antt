@@ -4,7 +4,7 @@ use mathlib.Core.Path.{sym, _∙_}
 use native.Mathlib.Omega.{arith}
 use Rattle.json.proofs.Spelled.{string-parts}
 use Rattle.message.specs.Steps.{spanAt}
-use Rattle.message.proofs.Pieces.{leaf-string}
+use Rattle.message.proofs.Scalars.{leaf-string}
 use Rattle.message.proofs.span_at.Statement.{statement}
 use Rattle.message.proofs.span_at.Tie as tie
 

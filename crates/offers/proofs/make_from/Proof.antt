@@ -13,18 +13,18 @@ returns : tie.Need-returns
 returns c =
     let c2 = c .before .before in
     let c5 = c2 .before .before .before in
-    from-event _ (c5 .before .before .read .ensures) (c5 .p .given .1) (c2 .make-slot .ensures)
+    from-event _ (c5 .before .before .read .ensures .0) (c5 .p .given .1) (c2 .make-slot .ensures)
 
 returns-2 : tie.Need-returns-2
-returns-2 c = from-req _ (c .before .before .read .ensures) (c .enum-told .given .1)
+returns-2 c = from-req _ (c .before .before .read .ensures .0) (c .enum-told .given .1)
 
 returns-3 : tie.Need-returns-3
-returns-3 c = from-close _ (c .before .before .read .ensures) (c .enum-told2 .given .1)
+returns-3 c = from-close _ (c .before .before .read .ensures .0) (c .enum-told2 .given .1)
 
 returns-4 : tie.Need-returns-4
 returns-4 c =
     let c2 = c .before .before in
-    from-refused _ (c2 .before .before .read .ensures) (c2 .row .given .1) (c .refused-row .ensures)
+    from-refused _ (c2 .before .before .read .ensures .0) (c2 .row .given .1) (c .refused-row .ensures)
 
 pub make-from-spec : {M : Type 1} → statement M
 make-from-spec =

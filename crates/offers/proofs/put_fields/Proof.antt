@@ -12,17 +12,17 @@ returns c =
     let c2 = c .before .before in
     let c5 = c2 .before .before .before in
     let c7 = c5 .before .before in
-    λ e r. rw (same-read (c5 .t .given .1) (read-answers e (c7 .before .piece .ensures) (c7 .read-text .ensures) r)) at (c2 .put-head .ensures)
+    λ e r. rw (same-read (c5 .t .given .1) (read-answers e (c7 .before .piece .ensures) (c7 .read-text .ensures .0) r)) at (c2 .put-head .ensures)
 
 returns-2 : tie.Need-returns-2
 returns-2 c =
     let c2 = c .before .before in
-    λ e r. absurd (not-large (c .enum-told .given .1) (read-answers e (c2 .before .piece .ensures) (c2 .read-text .ensures) r))
+    λ e r. absurd (not-large (c .enum-told .given .1) (read-answers e (c2 .before .piece .ensures) (c2 .read-text .ensures .0) r))
 
 returns-3 : tie.Need-returns-3
 returns-3 c =
     let c2 = c .before .before in
-    λ e r. absurd (not-wrong (c .enum-told2 .given .1) (read-answers e (c2 .before .piece .ensures) (c2 .read-text .ensures) r))
+    λ e r. absurd (not-wrong (c .enum-told2 .given .1) (read-answers e (c2 .before .piece .ensures) (c2 .read-text .ensures .0) r))
 
 pub put-fields-spec : {M : Type 1} → statement M
 put-fields-spec =

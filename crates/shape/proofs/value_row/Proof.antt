@@ -1,14 +1,30 @@
 use mathlib.Core.Path.{sym, _∙_}
 use borrow.Author.Needs.{needs}
-use Rattle.shape.proofs.Values.{value-ends, value-wrong}
+use Rattle.shape.proofs.Values.{value-told, value-bytes, value-wrong}
 use Rattle.shape.proofs.value_row.Statement.{statement}
 use Rattle.shape.proofs.value_row.Tie as tie
+
+returns : tie.Need-returns
+returns c =
+    let u = c .before .before in
+    let n = u .before .before .before in
+    let j = n .before .before in
+    c .told .ensures ∙ value-told _ _ _ (j .before .sort-form .ensures) (sym (n .n .given .1) ∙ j .judge .ensures) (u .before .cut .ensures) (sym (u .is-utf8 .ensures) ∙ c .before .if1 .taken)
+
+returns-2 : tie.Need-returns-2
+returns-2 c =
+    let u = c .before in
+    let n = u .before .before .before in
+    let j = n .before .before in
+    value-bytes _ _ _ (j .before .sort-form .ensures) (sym (n .n .given .1) ∙ j .judge .ensures) (u .before .cut .ensures) (sym (u .is-utf8 .ensures) ∙ c .if1 .left)
+
+returns-3 : tie.Need-returns-3
+returns-3 c =
+    let j = c .before .before in
+    value-wrong _ _ _ (j .before .sort-form .ensures) (sym (c .enum-told .given .1) ∙ j .judge .ensures)
 
 pub value-row-spec : {M : Type 1} → statement M
 value-row-spec =
     tie.close
-    (tie.spec (λ c κs. search needs) (λ c κs. search needs) (λ c. search needs) (λ c κs. search needs) (λ c. search needs)
-    (λ c. let d = c .before .before .before .before in
-    c .told .ensures ∙ value-ends _ _ (d .before .sort-form .ensures) _ (sym (c .before .before .row .given .1) ∙ d .judge .ensures))
-    (λ c. let d = c .before .before in
-    value-wrong _ _ (d .before .sort-form .ensures) _ (sym (c .enum-told .given .1) ∙ d .judge .ensures)))
+    (tie.spec (λ c κs. search needs) (λ c κs. search needs) (λ c. search needs) (λ c κs. search needs) (λ c κs. search needs) (λ c κs. search needs) (λ c. search needs)
+    returns returns-2 returns-3)

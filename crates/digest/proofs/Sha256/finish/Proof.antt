@@ -5,11 +5,12 @@ use mathlib.Core.Path.{sym, _∙_}
 use lib.Seq.{length-take-le}
 use Rattle.digest.specs.State.{waiting}
 use Rattle.digest.specs.Pieces.{finish-done, finish-refused}
+use Rattle.digest.proofs.Laws.{finishes}
 use Rattle.digest.proofs.Sha256.finish.Statement.{statement}
 use Rattle.digest.proofs.Sha256.finish.Tie as tie
 
 returns : tie.Need-returns
-returns c = sym (finish-refused _ (omega arith))
+returns c = finishes _ (sym (finish-refused _ (omega arith)))
 
 slice-aggregate-absorb : tie.Need-slice-aggregate-absorb
 slice-aggregate-absorb c = sym (length-take-le (c .before .padding-len .result) (c .before .before .pad .result) (omega arith))
@@ -23,8 +24,8 @@ returns-2 : tie.Need-returns-2
 unfolding waiting
 returns-2 c =
     let d = c .before .before .before in
-    sym (finish-done _ (omega arith)
-    ∙ rw (c .split .ensures, c .before .absorb .ensures, d .padding-len .ensures, d .before .pad .ensures))
+    finishes _ (sym (finish-done _ (omega arith)
+    ∙ rw (c .split .ensures, c .before .absorb .ensures, d .padding-len .ensures, d .before .pad .ensures)))
 
 pub finish-spec : {M : Type 1} → statement M
 finish-spec =

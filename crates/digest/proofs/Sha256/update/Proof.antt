@@ -9,15 +9,15 @@ use lib.ListN.{length, take, length-map}
 use Rattle.digest.specs.Digest.{blocks}
 use Rattle.digest.specs.State.{waiting, stateAfter}
 use Rattle.digest.specs.Pieces.{update-done, update-refused}
-use Rattle.digest.proofs.Laws.{length-message}
+use Rattle.digest.proofs.Laws.{length-message, updates}
 use Rattle.digest.proofs.Sha256.update.Statement.{statement}
 use Rattle.digest.proofs.Sha256.update.Tie as tie
 
 returns : tie.Need-returns
-returns c = sym (update-refused _ _ (omega arith))
+returns c = updates _ _ (sym (update-refused _ _ (omega arith)))
 
 returns-2 : tie.Need-returns-2
-returns-2 c = sym (update-refused _ _ (omega arith))
+returns-2 c = updates _ _ (sym (update-refused _ _ (omega arith)))
 
 returns-3 : tie.Need-returns-3
 unfolding waiting stateAfter
@@ -30,7 +30,7 @@ returns-3 c =
     let k = simp length-map at (g .0 .1 .1 .1 .0 .1 .0 .1) in
     let m = length-message (s .block) d n (omega arith) in
     let e : 64 * blocks (take n (s .block) ++ d) ≡ (n + length d) - (n + length d) % 64 = omega (arith, m) in
-    sym (update-done s d (omega arith) ∙ rw e (simp (c .window .ensures, c .before .absorb .ensures)))
+    updates s d (sym (update-done s d (omega arith) ∙ rw e (simp (c .window .ensures, c .before .absorb .ensures))))
 
 pub update-spec : {M : Type 1} → statement M
 update-spec =

@@ -1,0 +1,10 @@
+use borrow.Author.Needs.{needs}
+use mathlib.Core.Path.{_∙_}
+use Rattle.message.specs.Lent.{subscriptionRow}
+use Rattle.message.proofs.Ranks.{told-is}
+use Rattle.message.proofs.subscription_row.Statement.{statement}
+use Rattle.message.proofs.subscription_row.Tie as tie
+
+pub subscription-row-spec : {M : Type 1} → statement M
+unfolding subscriptionRow
+subscription-row-spec = tie.close (tie.spec (λ c κs. search needs) (λ c κs. search needs) (λ c. c .told .ensures ∙ told-is (c .before .subscription-rank .ensures)))

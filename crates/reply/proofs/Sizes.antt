@@ -1,0 +1,183 @@
+-- How long replies are: an EVENT of a held slot, what a refusal names, a row's reason.
+use mathlib.Core.Path.{_≡_, refl, sym, ap, _∙_}
+use mathlib.Core.Bool.{Bool, true, false, cond, not, _&&_, _||_, false≢true}
+use mathlib.Core.List.{List, [], _∷_, _++_, Memᴰ·cast}
+use Prim.Native.Nat.{ℕ, zero, suc, _+_, _*_, _/_, _%_, _≤_, _<_}
+use native.Mathlib.Omega.{arith}
+use borrow.Author.Tests.{eqb-true, ne-eqb, leb-true, le-leb, lt-leb, ltb-true, ltb-false, not-false}
+use lib.Dec.{eqb, leb, ltb}
+use lib.ListN.{length, getD, take, drop, length-append, length-take, length-drop}
+use Rattle.wire.specs.Bytes.{isHex}
+use Rattle.wire.specs.Limits.{mostText, hexLength}
+use Rattle.wire.specs.Escape.{letterOf, escOne, escape}
+use Rattle.wire.proofs.Escapes.{esc-two}
+use Rattle.utf8.specs.Utf8.{isUtf8}
+use Rattle.utf8.specs.Abnf.{Octets, none, utf8-1, utf8-2, utf8-3-e0, utf8-3-e1, utf8-3-ed, utf8-3-ee, utf8-4-f0, utf8-4-f1, utf8-4-f4}
+use Rattle.utf8.proofs.Abnf.{as-in-abnf}
+use Rattle.json.specs.Grammar.{isSpelling}
+use Rattle.rows.specs.Strings.{part}
+use Rattle.spell.specs.Spell as spell
+use Rattle.spell.specs.Spell.{decode, refuses, points, characterCount, isHexOf}
+use Rattle.spell.proofs.Laws.{hex-escape}
+use Rattle.text.specs.Event.{Event, quoted, serialise, isPlainByte, isString, all}
+use Rattle.text.specs.Read.{read, readText}
+use Rattle.text.proofs.Pieces.{both}
+use Rattle.text.proofs.Limits.{limits-of}
+use Rattle.text.proofs.Rows.{pubkey-length}
+use Rattle.text.proofs.RoundTrip.{read-same}
+use Rattle.event.specs.Answer.{hexDigit, hexOf}
+use Rattle.event.proofs.Answers.{hex-length}
+use Rattle.event.proofs.Decoded.{decoded-string}
+use Rattle.table.specs.Layout.{slotSize, slotPlace, countOf, slotAt, idIn, sigIn, lengthIn, textIn}
+use Rattle.table.specs.Sound.{textReads, slotSound, sound}
+use Rattle.table.proofs.Bytes.{clauses}
+use Rattle.table.proofs.Passes.{pubkey-hex}
+use Rattle.reply.specs.Ascii.{ascii}
+use Rattle.reply.specs.Replies.{event, objectText, replyText, reasons, reasonOf}
+use Rattle.reply.specs.Respond.{slotText, slotLine}
+use Rattle.reply.proofs.Shown.{slot-sound}
+use Rattle.reply.proofs.Streamed.{slot-text-is}
+
+-- ---- quotes, hex
+pub quoted-length : (v : List ℕ) → length (quoted v) ≡ length (escape v) + 2
+unfolding quoted
+quoted-length v = simp length-append (omega arith)
+
+letter-none : (b : ℕ) → 48 ≤ b → (b ≡ 92 → ⊥) → letterOf b ≡ 0
+unfolding letterOf
+letter-none b h n =
+    rw (ne-eqb b 0x0a (λ e. omega arith), ne-eqb b 0x22 (λ e. omega arith), ne-eqb b 0x5c n, ne-eqb b 0x0d (λ e. omega arith), ne-eqb b 0x09 (λ e. omega arith), ne-eqb b 0x08 (λ e. omega arith), ne-eqb b 0x0c (λ e. omega arith))
+    refl
+
+itself : (b : ℕ) → 48 ≤ b → (b ≡ 92 → ⊥) → escOne b ≡ b ∷ []
+unfolding escOne
+itself b h n = rw (letter-none b h n) refl
+
+digit-itself : (d : ℕ) → escOne (hexDigit d) ≡ hexDigit d ∷ []
+digit-itself d = go (ltb d 10) refl
+  where
+    go : (t : Bool) → ltb d 10 ≡ t → escOne (cond t (48 + d) (87 + d)) ≡ cond t (48 + d) (87 + d) ∷ []
+    go true e = let h = ltb-true d 10 e in itself (48 + d) (omega arith) (λ q. omega arith)
+    go false e = let h = ltb-false d 10 e in itself (87 + d) (omega arith) (λ q. omega arith)
+
+-- hex of any numbers has no escapes
+pub escape-hex : (l : List ℕ) → escape (hexOf l) ≡ hexOf l
+unfolding escape hexOf
+escape-hex [] = refl
+escape-hex (x ∷ l) = rw (digit-itself (x / 16), digit-itself (x % 16), escape-hex l) refl
+
+hex-quoted : (l : List ℕ) (n : ℕ) → length l ≡ n → length (quoted (hexOf l)) ≡ n + n + 2
+hex-quoted l n q = omega (arith, quoted-length (hexOf l), ap length (escape-hex l), hex-length l)
+
+-- ---- an EVENT is 266 bytes longer than its text and the escaped subscription id
+event-length : (sub i s : List ℕ) (e : Event) → length (quoted i) ≡ 66 → length (e .pubkey) ≡ 64 → length (quoted (e .pubkey)) ≡ 66 → length (quoted s) ≡ 130
+    → length (replyText (event sub i e s)) ≡ length (serialise e) + length (quoted sub) + 264
+unfolding replyText objectText serialise
+event-length sub i s e a b c d = simp length-append (omega arith)
+
+part-length : (s : List ℕ) (i k : ℕ) → i + k ≤ length s → length (part s i k) ≡ k
+part-length s i k h = omega (arith, length-take k (drop i s), length-drop i s)
+
+module _ (b : List ℕ) (k : ℕ) (s : sound b ≡ true) (h : k < countOf b) where
+  slot-size : length (slotAt b k) ≡ 4208
+  slot-size = let c = clauses b s in part-length b (slotPlace k) slotSize (omega (arith, c .count, c .fit))
+
+  pub text-small : lengthIn (slotAt b k) ≤ 4096
+  unfolding slotSound textReads
+  text-small = leb-true (lengthIn (slotAt b k)) mostText (both (leb (lengthIn (slotAt b k)) mostText) _ (both (textReads (slotAt b k)) _ (slot-sound b k s h) .0) .0)
+
+  text-length : length (textIn (slotAt b k)) ≡ lengthIn (slotAt b k)
+  unfolding textIn
+  text-length = part-length (slotAt b k) 112 (lengthIn (slotAt b k)) (omega (arith, slot-size, text-small))
+
+  pub slot-length : (sub : List ℕ) → length (slotText b sub k) ≡ lengthIn (slotAt b k) + length (escape sub) + 266
+  unfolding idIn sigIn
+  slot-length sub =
+      let (e, r, t, l) = slot-text-is b sub k s h in
+      let a = read-same (textIn (slotAt b k)) e r in
+      let key = limits-of e (a .fit) .pubkey in
+      let z = slot-size in
+      let i = hex-quoted (idIn (slotAt b k)) 32 (part-length (slotAt b k) 0 32 (omega arith)) in
+      let g = hex-quoted (sigIn (slotAt b k)) 64 (part-length (slotAt b k) 32 64 (omega arith)) in
+      let n = pubkey-length (e .pubkey) key in
+      let q : length (quoted (e .pubkey)) ≡ 66 = omega (arith, quoted-length (e .pubkey), ap length (hex-escape (e .pubkey) (pubkey-hex (e .pubkey) key))) in
+      ap length t
+      ∙ event-length sub (hexOf (idIn (slotAt b k))) (hexOf (sigIn (slotAt b k))) e i n q g
+      ∙ omega (arith, quoted-length sub, ap length (a .same), text-length)
+
+  pub line-length : (sub : List ℕ) → length (slotLine b sub k) ≡ lengthIn (slotAt b k) + length (escape sub) + 267
+  line-length sub =
+      let (e, r, t, l) = slot-text-is b sub k s h in
+      ap length l ∙ length-append (slotText b sub k) (0x0a ∷ []) ∙ omega (arith, slot-length sub)
+
+-- ---- a string of at most 64 characters has at most 256 bytes when escaped
+module _ (x : ℕ) (t : List ℕ) where
+  high-byte : 0x80 ≤ x → length (escape (x ∷ t)) ≡ suc (length (escape t))
+  unfolding escape
+  high-byte h = ap (λ l. length (l ++ escape t)) (itself x (omega arith) (λ e. omega arith))
+
+  low-byte : length (escape (x ∷ t)) ≤ 2 + length (escape t)
+  unfolding escape
+  low-byte = omega (arith, length-append (escOne x) (escape t), esc-two x)
+
+  low-point : x ≤ 0x7f → points (x ∷ t) ≡ suc (points t)
+  unfolding points
+  low-point h = rw (lt-leb 0x80 x (omega arith))
+
+  lead-point : 0xc0 ≤ x → points (x ∷ t) ≡ suc (points t)
+  unfolding points
+  lead-point h = rw (le-leb 0x80 x (omega arith), lt-leb x 0xbf (omega arith))
+
+  tail-point : 0x80 ≤ x → x ≤ 0xbf → points (x ∷ t) ≡ points t
+  unfolding points
+  tail-point h k = rw (le-leb 0x80 x h, le-leb x 0xbf k)
+
+-- a lead, and what is added by the tails behind it
+abbrev Short : List ℕ → Type 0
+Short s = length (escape s) ≤ 4 * points s
+
+two : (a b : ℕ) (s : List ℕ) → 0xc0 ≤ a → 0x80 ≤ b → b ≤ 0xbf → Short s → Short (a ∷ b ∷ s)
+two a b s h l m i = omega (arith, high-byte a (b ∷ s) (omega arith), high-byte b s l, lead-point a (b ∷ s) h, tail-point b s l m)
+
+three : (a b c : ℕ) (s : List ℕ) → 0xc0 ≤ a → 0x80 ≤ b → b ≤ 0xbf → 0x80 ≤ c → c ≤ 0xbf → Short s → Short (a ∷ b ∷ c ∷ s)
+three a b c s h l m n o i =
+    omega (arith, high-byte a (b ∷ c ∷ s) (omega arith), high-byte b (c ∷ s) l, high-byte c s n, lead-point a (b ∷ c ∷ s) h, tail-point b (c ∷ s) l m, tail-point c s n o)
+
+four : (a b c d : ℕ) (s : List ℕ) → 0xc0 ≤ a → 0x80 ≤ b → b ≤ 0xbf → 0x80 ≤ c → c ≤ 0xbf → 0x80 ≤ d → d ≤ 0xbf → Short s → Short (a ∷ b ∷ c ∷ d ∷ s)
+four a b c d s h l m n o p q i =
+    omega (arith, high-byte a (b ∷ c ∷ d ∷ s) (omega arith), high-byte b (c ∷ d ∷ s) l, high-byte c (d ∷ s) n, high-byte d s p, lead-point a (b ∷ c ∷ d ∷ s) h, tail-point b (c ∷ d ∷ s) l m, tail-point c (d ∷ s) n o, tail-point d s p q)
+
+octets-short : {s : List ℕ} → Octets s → Short s
+unfolding escape points
+octets-short none = omega arith
+octets-short (utf8-1 {a = a} {s = s} r o) = omega (arith, low-byte a s, low-point a s (r .high), octets-short o)
+octets-short (utf8-2 {a = a} {b = b} {s = s} r p o) = let h = r .low in two a b s (omega arith) (p .low) (p .high) (octets-short o)
+octets-short (utf8-3-e0 {b = b} {c = c} {s = s} r p o) = let h = r .low in three 0xe0 b c s (omega arith) (omega arith) (r .high) (p .low) (p .high) (octets-short o)
+octets-short (utf8-3-e1 {a = a} {b = b} {c = c} {s = s} r p q o) = let h = r .low in three a b c s (omega arith) (p .low) (p .high) (q .low) (q .high) (octets-short o)
+octets-short (utf8-3-ed {b = b} {c = c} {s = s} r p o) = let h = r .high in three 0xed b c s (omega arith) (r .low) (omega arith) (p .low) (p .high) (octets-short o)
+octets-short (utf8-3-ee {a = a} {b = b} {c = c} {s = s} r p q o) = let h = r .low in three a b c s (omega arith) (p .low) (p .high) (q .low) (q .high) (octets-short o)
+octets-short (utf8-4-f0 {b = b} {c = c} {d = d} {s = s} r p q o) = let h = r .low in four 0xf0 b c d s (omega arith) (omega arith) (r .high) (p .low) (p .high) (q .low) (q .high) (octets-short o)
+octets-short (utf8-4-f1 {a = a} {b = b} {c = c} {d = d} {s = s} r p q t o) = let h = r .low in four a b c d s (omega arith) (p .low) (p .high) (q .low) (q .high) (t .low) (t .high) (octets-short o)
+octets-short (utf8-4-f4 {b = b} {c = c} {d = d} {s = s} r p q o) = let h = r .high in four 0xf4 b c d s (omega arith) (r .low) (omega arith) (p .low) (p .high) (q .low) (q .high) (octets-short o)
+
+pub spelled-short : (l : List ℕ) → isUtf8 l ≡ true → isSpelling l ≡ true → refuses l ≡ false → length (escape (decode l)) ≤ 4 * characterCount l
+unfolding isString characterCount
+spelled-short l u s r = octets-short (as-in-abnf (decode l) .0 (both (all isPlainByte (decode l)) _ (decoded-string l u s r) .1))
+
+-- 64 characters of hex
+pub hex-short : (l : List ℕ) → isHexOf hexLength l ≡ true → length (quoted (decode l)) ≡ 66
+unfolding isHexOf
+hex-short l h =
+    let (n, a) = both (eqb (length (decode l)) hexLength) _ h in
+    omega (arith, quoted-length (decode l), ap length (hex-escape (decode l) a), eqb-true (length (decode l)) hexLength n)
+
+-- ---- a reason has at most 27 bytes
+entry-short : (ls : List (List ℕ)) (r : ℕ) → all (λ l. leb (length (quoted l)) 29) ls ≡ true → length (quoted (getD ls r [])) ≤ 29
+unfolding all quoted escape
+entry-short [] r h = omega arith
+entry-short (l ∷ ls) zero h = leb-true (length (quoted l)) 29 (both (leb (length (quoted l)) 29) _ h .0)
+entry-short (l ∷ ls) (suc r) h = entry-short ls r (both (leb (length (quoted l)) 29) _ h .1)
+
+pub reason-short : (r : ℕ) → length (quoted (reasonOf r)) ≤ 29
+unfolding reasonOf all quoted escape escOne letterOf
+reason-short r = entry-short reasons r refl
