@@ -8,7 +8,7 @@ use native.Mathlib.Omega.{arith}
 use lib.Dec.{eqb, leb}
 use lib.ListN.{length}
 use borrow.Author.Tests.{eqb-true, eq-eqb, ne-eqb}
-use Rattle.wire.specs.Limits.{mostText, mostStrings, mostTags}
+use Rattle.wire.specs.Limits.{mostStrings, mostTags}
 use Rattle.utf8.specs.Utf8.{isUtf8}
 use Rattle.wire.specs.Escape.{escape}
 use Rattle.wire.specs.Field.{fieldAt}
@@ -25,11 +25,10 @@ use Rattle.text.proofs.Strings.{escape-once}
 use Rattle.text.proofs.Places.{pubkey-stands}
 use Rattle.text.proofs.RoundTrip.{read-same}
 use Rattle.law.specs.Table.{shareKey, hasId, hasKey}
-use Rattle.table.specs.Layout.{kindIn, lengthIn, textIn, idIn, heldSlots, countOf}
+use Rattle.table.specs.Layout.{kindIn, textIn, idIn, heldSlots, countOf}
 use Rattle.table.specs.Events.{signedEvents, inSlot, classFor, classIn, classOfEvent, classOfText, view}
-use Rattle.table.specs.Sound.{textReads, slotSound, slotsSound, noneTwice, noIdTwice, noKeyTwice}
-use Rattle.table.proofs.Slots.{sound-kind}
-use Rattle.table.proofs.Tellable.{read-of}
+use Rattle.table.specs.Sound.{slotSound, slotsSound, noneTwice, noIdTwice, noKeyTwice}
+use Rattle.table.proofs.Slots.{sound-event, sound-kind}
 use Rattle.table.proofs.DPlaces.{d-place}
 use Rattle.slots.specs.Slots.{hasKeyIn, pubkeyIn, dBytesIn, sameIdIn, sameKeyIn, clash, from}
 use Rattle.slots.proofs.Pairs.{none-map, none-or, none-as}
@@ -73,14 +72,10 @@ pub record Slot (s : List ℕ) (e : Event) : Type 0 where
   pub d-there : classOf (e .kind) ≡ Addressable → dBytesIn s ≡ escape (dOf (e .tags))
   pub plain : all isPlainByte (dOf (e .tags)) ≡ true
 
-pub read-in : (s : List ℕ) → slotSound s ≡ true → (e : Event) × (readText (textIn s) ≡ read e)
-unfolding slotSound textReads
-read-in s ok = read-of (readText (textIn s)) (both (leb (lengthIn s) mostText) _ (both (textReads s) _ ok .0) .1)
-
 pub slot-of : (s : List ℕ) → slotSound s ≡ true → (e : Event) × Slot s e
 unfolding classOfText classOfEvent keyOf pubkeyIn dBytesIn isTags
 slot-of s ok =
-    let (e, r) = read-in s ok in
+    let (e, r) = sound-event s ok in
     let t = read-same (textIn s) e r in
     let p = d-place s e ok r in (
       e,
@@ -93,6 +88,10 @@ slot-of s ok =
         plain = d-plain (e .tags) (both (leb (length (e .tags)) mostTags) (all isTag (e .tags)) (limits-of e (t .fit) .tags) .1);
       },
     )
+
+-- pubkey and d's bytes are those of slot s
+abbrev alike : List ℕ → List ℕ → Bool
+alike s t = sameBytes (pubkeyIn t) (pubkeyIn s) && sameBytes (dBytesIn t) (dBytesIn s)
 
 -- ---- keys of different kinds differ
 key-apart : (c d : Class) (e f : Event) → eqb (e .kind) (f .kind) ≡ false → shareKey sameKey (classFor c (keyIn c e)) (classFor d (keyIn d f)) ≡ false
@@ -130,12 +129,12 @@ key-same s t ok on =
     let (e, a) = slot-of s ok in
     let (f, b) = slot-of t on in
     ap₂ (shareKey sameKey) (b .class) (a .class) ∙ go e f a b (eqb (f .kind) (e .kind)) refl
-    ∙ sym (ap₂ (λ j k. eqb j k && (hasKeyIn (classOf j) && (sameBytes (pubkeyIn t) (pubkeyIn s) && sameBytes (dBytesIn t) (dBytesIn s)))) (b .kind) (a .kind))
+    ∙ sym (ap₂ (λ j k. eqb j k && (hasKeyIn (classOf j) && alike s t)) (b .kind) (a .kind))
   where
     go : (e f : Event) → Slot s e → Slot t f → (x : Bool) → eqb (f .kind) (e .kind) ≡ x
         → shareKey sameKey (classFor (classOf (f .kind)) (keyIn (classOf (f .kind)) f)) (classFor (classOf (e .kind)) (keyIn (classOf (e .kind)) e))
-        ≡ (eqb (f .kind) (e .kind) && (hasKeyIn (classOf (f .kind)) && (sameBytes (pubkeyIn t) (pubkeyIn s) && sameBytes (dBytesIn t) (dBytesIn s))))
-    go e f a b false h = key-apart (classOf (f .kind)) (classOf (e .kind)) f e h ∙ sym (ap (_&& (hasKeyIn (classOf (f .kind)) && (sameBytes (pubkeyIn t) (pubkeyIn s) && sameBytes (dBytesIn t) (dBytesIn s)))) h)
+        ≡ (eqb (f .kind) (e .kind) && (hasKeyIn (classOf (f .kind)) && alike s t))
+    go e f a b false h = key-apart (classOf (f .kind)) (classOf (e .kind)) f e h ∙ sym (ap (_&& (hasKeyIn (classOf (f .kind)) && alike s t)) h)
     go e f a b true h =
         let c = ap classOf (eqb-true (f .kind) (e .kind) h) in
         ap (λ d. shareKey sameKey (classFor (classOf (f .kind)) (keyIn (classOf (f .kind)) f)) (classFor d (keyIn d e))) (sym c)
@@ -156,23 +155,23 @@ apart-is b ok =
 module _ (s t : List ℕ) {j k : ℕ} (a : k ≡ fieldAt t 104 2) (b : j ≡ fieldAt s 104 2) where
   pub other-kinds : (k ≡ j → ⊥) → false ≡ sameKeyIn s t
   unfolding sameKeyIn kindIn
-  other-kinds n = sym (ap (_&& (hasKeyIn (classOf (kindIn t)) && (sameBytes (pubkeyIn t) (pubkeyIn s) && sameBytes (dBytesIn t) (dBytesIn s)))) (ne-eqb (fieldAt t 104 2) (fieldAt s 104 2) (λ e. n (a ∙ e ∙ sym b))))
+  other-kinds n = sym (ap (_&& (hasKeyIn (classOf (kindIn t)) && alike s t)) (ne-eqb (fieldAt t 104 2) (fieldAt s 104 2) (λ e. n (a ∙ e ∙ sym b))))
 
   module _ (e : k ≡ j) {x : Bool} (c : x ≡ hasKeyIn (classOf k)) where
     kinds : eqb (fieldAt t 104 2) (fieldAt s 104 2) ≡ true
     kinds = eq-eqb (fieldAt t 104 2) (fieldAt s 104 2) (sym a ∙ e ∙ b)
 
-    by-key : sameKeyIn s t ≡ (x && (sameBytes (pubkeyIn t) (pubkeyIn s) && sameBytes (dBytesIn t) (dBytesIn s)))
+    by-key : sameKeyIn s t ≡ (x && alike s t)
     unfolding sameKeyIn kindIn
-    by-key = ap (_&& (hasKeyIn (classOf (fieldAt t 104 2)) && (sameBytes (pubkeyIn t) (pubkeyIn s) && sameBytes (dBytesIn t) (dBytesIn s)))) kinds
-        ∙ ap (_&& (sameBytes (pubkeyIn t) (pubkeyIn s) && sameBytes (dBytesIn t) (dBytesIn s))) (ap (λ n. hasKeyIn (classOf n)) (sym a) ∙ sym c)
+    by-key = ap (_&& (hasKeyIn (classOf (fieldAt t 104 2)) && alike s t)) kinds
+        ∙ ap (_&& alike s t) (ap (λ n. hasKeyIn (classOf n)) (sym a) ∙ sym c)
 
     pub no-key : x ≡ false → false ≡ sameKeyIn s t
-    no-key f = sym (by-key ∙ ap (_&& (sameBytes (pubkeyIn t) (pubkeyIn s) && sameBytes (dBytesIn t) (dBytesIn s))) f)
+    no-key f = sym (by-key ∙ ap (_&& alike s t) f)
 
     module _ (f : x ≡ true) {y : Bool} (g : y ≡ sameBytes (pubkeyIn t) (pubkeyIn s)) where
       pub other-pubkey : y ≡ false → false ≡ sameKeyIn s t
-      other-pubkey h = sym (by-key ∙ ap (_&& (sameBytes (pubkeyIn t) (pubkeyIn s) && sameBytes (dBytesIn t) (dBytesIn s))) f ∙ ap (_&& sameBytes (dBytesIn t) (dBytesIn s)) (sym g ∙ h))
+      other-pubkey h = sym (by-key ∙ ap (_&& alike s t) f ∙ ap (_&& sameBytes (dBytesIn t) (dBytesIn s)) (sym g ∙ h))
 
       pub d-decides : {z : Bool} → y ≡ true → z ≡ sameBytes (dBytesIn t) (dBytesIn s) → z ≡ sameKeyIn s t
-      d-decides h k = k ∙ sym (by-key ∙ ap (_&& (sameBytes (pubkeyIn t) (pubkeyIn s) && sameBytes (dBytesIn t) (dBytesIn s))) f ∙ ap (_&& sameBytes (dBytesIn t) (dBytesIn s)) (sym g ∙ h))
+      d-decides h k = k ∙ sym (by-key ∙ ap (_&& alike s t) f ∙ ap (_&& sameBytes (dBytesIn t) (dBytesIn s)) (sym g ∙ h))

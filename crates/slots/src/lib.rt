@@ -190,7 +190,10 @@ pub fn same_key(s: &[u8], t: &[u8]) -> bool
     if !keyed(k as u16) {
         return false;
     }
-    if !same(wire::piece(text_of(t), 4, 64), wire::piece(text_of(s), 4, 64)) {
+    if !same(
+        wire::piece(text_of(t), 4, 64),
+        wire::piece(text_of(s), 4, 64),
+    ) {
         return false;
     }
     same(d_of(t), d_of(s))

@@ -9,10 +9,11 @@ use lib.IntN.{pos}
 use Rattle.wire.specs.Put.{put}
 use Rattle.wire.specs.Field.{leBytes}
 use Rattle.rows.specs.Rows.{textRow}
-pub use Rattle.spell.specs.Spell.{unhex}
+unfoldable pub use Rattle.spell.specs.Spell.{unhex}
 use Rattle.shape.specs.Rows.{messageRow}
 use Rattle.message.specs.Parts.{nowhere}
-pub use Rattle.message.specs.Read.{isEventWord, isEvent}
+pub use Rattle.message.specs.Read.{isEventWord}
+unfoldable pub use Rattle.message.specs.Read.{isEvent}
 use Rattle.message.specs.Read.{readOf}
 use Rattle.message.specs.declared.EventParts.{EventParts}
 use Rattle.message.specs.declared.Message.{Message}

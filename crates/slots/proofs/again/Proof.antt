@@ -25,19 +25,36 @@ returns-2 c =
 
 returns-3 : tie.Need-returns-3 Inv-loop μ-loop
 returns-3 c =
-    let l = c .before .before .before .before .before .loop in
-    sym (any-met _ (l .j) _ _ (l .inv .2) (c .before .before .before .before .loop-test .taken) (clash-key _ _ (sym (c .before .before .before .same-id-at .ensures) ∙ c .before .before .if2 .left) (sym (c .before .same-key-at .ensures) ∙ c .if3 .taken)))
+    let c1 = c .before in
+    let c1 = c1 in
+    let c2 = c1 .before in
+    let c3 = c2 .before in
+    let c4 = c3 .before in
+    let c5 = c4 .before in
+    let l = c5 .loop in
+    sym
+    (any-met _ (l .j) _ _ (l .inv .2) (c4 .loop-test .taken) (clash-key _ _ (sym (c3 .same-id-at .ensures) ∙ c2 .if2 .left) (sym (c1 .same-key-at .ensures) ∙ c .if3 .taken)))
 
 loop-again : tie.Need-loop-again Inv-loop μ-loop
 loop-again c =
-    let l = c .before .before .before .before .before .loop in
-    (search needs, search needs, any-more _ (l .j) _ _ (l .inv .2) (c .before .before .before .before .loop-test .taken) (clash-none _ _ (sym (c .before .before .before .same-id-at .ensures) ∙ c .before .before .if2 .left) (sym (c .before .same-key-at .ensures) ∙ c .if3 .left)))
+    let c1 = c .before in
+    let c1 = c1 in
+    let c2 = c1 .before in
+    let c3 = c2 .before in
+    let c4 = c3 .before in
+    let c5 = c4 .before in
+    let l = c5 .loop in
+    (search needs, search needs, any-more _ (l .j) _ _ (l .inv .2) (c4 .loop-test .taken) (clash-none _ _ (sym (c3 .same-id-at .ensures) ∙ c2 .if2 .left) (sym (c1 .same-key-at .ensures) ∙ c .if3 .left)))
 
 returns-4 : tie.Need-returns-4 Inv-loop μ-loop
 returns-4 c = let l = c .before .loop in sym (any-end _ (l .j) _ _ (l .inv .2) (c .loop-test .left))
 
 returns : tie.Need-returns Inv-loop μ-loop
-returns c = let a = c .before .before .before .before .before in none-alike (a .args .i) (a .pre .0) (a .pre .1 .1) (c .before .maybe .ensures (not-true _ (c .if1 .taken)))
+returns c =
+    let c1 = c .before in
+    let c5 = c1 .before .before .before .before in
+    let a = c5 in
+    none-alike (a .args .i) (a .pre .0) (a .pre .1 .1) (c1 .maybe .ensures (not-true _ (c .if1 .taken)))
 
 maybe-requires : tie.Need-maybe-requires Inv-loop μ-loop
 maybe-requires c κs = let p = c .before .before .before .pre in (p .0 .ids-long, p .0 .keys-long, p .1 .0, p .1 .1)
@@ -45,4 +62,5 @@ maybe-requires c κs = let p = c .before .before .before .pre in (p .0 .ids-long
 pub again-spec : {M : Type 1} → statement M
 again-spec =
     tie.close
-    (tie.spec Inv-loop μ-loop maybe-requires returns (search needs) (λ c. (search needs, search needs, refl)) (λ c κs. search needs) returns-2 (λ c κs. search needs) returns-3 (search needs) (search needs) loop-again returns-4)
+    (tie.spec Inv-loop μ-loop maybe-requires returns (search needs) (λ c. (search needs, search needs, refl)) (λ c κs. search needs) returns-2
+    (λ c κs. search needs) returns-3 (search needs) (search needs) loop-again returns-4)

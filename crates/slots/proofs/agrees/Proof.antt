@@ -9,18 +9,44 @@ use Rattle.slots.proofs.agrees.Tie as tie
 
 returns : tie.Need-returns
 returns c =
-    let u : c .before .to-unsigned .result ≡ unsigned (c .before .before .before .before .before .args .t .time) = bits-back (c .before .before .before .before .before .args .t .time) (c .before .before .struct-told .given .0 .1) (c .before .to-unsigned .ensures) in
-    other-time _ _ (c .before .before .before .le-at .ensures .is) u (c .if1 .taken)
+    let c1 = c .before in
+    let c1 = c1 in
+    let c2 = c1 .before in
+    let c3 = c2 .before in
+    let c5 = c3 .before .before in
+    let u : c1 .to-unsigned .result ≡ unsigned (c5 .args .t .time) = bits-back (c5 .args .t .time) (c2 .struct-told .given .0 .1) (c1 .to-unsigned .ensures) in
+    other-time _ _ (c3 .le-at .ensures .is) u (c .if1 .taken)
 
 returns-2 : tie.Need-returns-2
 returns-2 c =
-    let u : c .before .before .before .before .to-unsigned .result ≡ unsigned (c .before .before .before .before .before .before .before .before .args .t .time) = bits-back (c .before .before .before .before .before .before .before .before .args .t .time) (c .before .before .before .before .before .struct-told .given .0 .1) (c .before .before .before .before .to-unsigned .ensures) in
-    other-kind _ _ (c .before .before .before .before .before .before .le-at .ensures .is) u (c .before .before .before .if1 .left) (c .before .before .le-at2 .ensures .is) (c .if2 .taken)
+    let c2 = c .before .before in
+    let c2 = c2 in
+    let c3 = c2 .before in
+    let c4 = c3 .before in
+    let c5 = c4 .before in
+    let c6 = c5 .before in
+    let c8 = c6 .before .before in
+    let u : c4 .to-unsigned .result ≡ unsigned (c8 .args .t .time) = bits-back (c8 .args .t .time) (c5 .struct-told .given .0 .1) (c4 .to-unsigned .ensures) in
+    other-kind _ _ (c6 .le-at .ensures .is) u (c3 .if1 .left) (c2 .le-at2 .ensures .is) (c .if2 .taken)
 
 returns-3 : tie.Need-returns-3
 returns-3 c =
-    let u : c .before .before .before .before .before .before .before .to-unsigned .result ≡ unsigned (c .before .before .before .before .before .before .before .before .before .before .before .args .t .time) = bits-back (c .before .before .before .before .before .before .before .before .before .before .before .args .t .time) (c .before .before .before .before .before .before .before .before .struct-told .given .0 .1) (c .before .before .before .before .before .before .before .to-unsigned .ensures) in
-    by-d _ _ (c .before .before .before .before .before .before .before .before .before .le-at .ensures .is) u (c .before .before .before .before .before .before .if1 .left) (c .before .before .before .before .before .le-at2 .ensures .is) (c .before .before .before .if2 .left) (c .before .before .le-at3 .ensures .is) (c .before .le-at4 .ensures .is) (c .d-agrees .ensures)
+    let c1 = c .before in
+    let c1 = c1 in
+    let c2 = c1 .before in
+    let c3 = c2 .before in
+    let c5 = c3 .before .before in
+    let c6 = c5 .before in
+    let c7 = c6 .before in
+    let c8 = c7 .before in
+    let c9 = c8 .before in
+    let c11 = c9 .before .before in
+    let u : c7 .to-unsigned .result ≡ unsigned (c11 .args .t .time) = bits-back (c11 .args .t .time) (c8 .struct-told .given .0 .1) (c7 .to-unsigned .ensures) in
+    by-d _ _ (c9 .le-at .ensures .is) u (c6 .if1 .left) (c5 .le-at2 .ensures .is) (c3 .if2 .left) (c2 .le-at3 .ensures .is)
+    (c1 .le-at4 .ensures .is) (c .d-agrees .ensures)
 
 pub agrees-spec : {M : Type 1} → statement M
-agrees-spec = tie.close (tie.spec (λ c κs. search needs) (λ c κs. search needs) returns (λ c κs. search needs) (search needs) returns-2 (λ c κs. search needs) (λ c κs. search needs) (λ c κs. search needs) returns-3)
+agrees-spec =
+    tie.close
+    (tie.spec (λ c κs. search needs) (λ c κs. search needs) returns (λ c κs. search needs) (search needs) returns-2 (λ c κs. search needs)
+    (λ c κs. search needs) (λ c κs. search needs) returns-3)

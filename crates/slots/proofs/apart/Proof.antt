@@ -17,10 +17,20 @@ abbrev μ-loop : tie.MeasureT-loop
 μ-loop table c ids keys i₀ i = c - i
 
 returns : tie.Need-returns Inv-loop μ-loop
-returns c = let l = c .before .before .before .before .before .loop in sym (none-bad _ (l .i) _ clash (l .inv .2) (c .before .before .before .before .loop-test .taken) (sym (c .before .again .ensures) ∙ c .if1 .taken))
+returns c =
+    let c1 = c .before in
+    let c4 = c1 .before .before .before in
+    let c5 = c4 .before in
+    let l = c5 .loop in
+    sym (none-bad _ (l .i) _ clash (l .inv .2) (c4 .loop-test .taken) (sym (c1 .again .ensures) ∙ c .if1 .taken))
 
 loop-again : tie.Need-loop-again Inv-loop μ-loop
-loop-again c = let l = c .before .before .before .before .before .loop in (search needs, l .inv .1, none-more _ (l .i) _ clash (l .inv .2) (c .before .before .before .before .loop-test .taken) (sym (c .before .again .ensures) ∙ c .if1 .left))
+loop-again c =
+    let c1 = c .before in
+    let c4 = c1 .before .before .before in
+    let c5 = c4 .before in
+    let l = c5 .loop in
+    (search needs, l .inv .1, none-more _ (l .i) _ clash (l .inv .2) (c4 .loop-test .taken) (sym (c1 .again .ensures) ∙ c .if1 .left))
 
 returns-2 : tie.Need-returns-2 Inv-loop μ-loop
 returns-2 c = let l = c .before .loop in sym (none-end _ (l .i) _ clash (l .inv .2) (c .loop-test .left))
@@ -28,4 +38,6 @@ returns-2 c = let l = c .before .loop in sym (none-end _ (l .i) _ clash (l .inv 
 pub apart-spec : {M : Type 1} → statement M
 apart-spec =
     tie.close
-    (tie.spec Inv-loop μ-loop (search needs) (search needs) (λ c κs. search needs) (λ c. (search needs, c .before .before .mark .ensures, simp sub-zero)) (search needs) (search needs) (λ c κs. search needs) returns (search needs) (search needs) loop-again returns-2)
+    (tie.spec Inv-loop μ-loop (search needs) (search needs) (λ c κs. search needs)
+    (λ c. (search needs, c .before .before .mark .ensures, simp sub-zero)) (search needs) (search needs) (λ c κs. search needs) returns
+    (search needs) (search needs) loop-again returns-2)

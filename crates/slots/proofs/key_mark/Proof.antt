@@ -14,4 +14,6 @@ returns c =
     (c .last2 .ensures ∙ ap lastOf (c .before .piece .ensures ∙ ap (λ t. part t 4 64) (c .before .before .text-of .ensures)))
 
 pub key-mark-spec : {M : Type 1} → statement M
-key-mark-spec = tie.close (tie.spec (λ c κs. search needs) (λ c κs. search needs) (λ c κs. search needs) (λ c κs. search needs) (λ c κs. search needs) returns)
+key-mark-spec =
+    tie.close
+    (tie.spec (λ c κs. search needs) (λ c κs. search needs) (λ c κs. search needs) (λ c κs. search needs) (λ c κs. search needs) returns)

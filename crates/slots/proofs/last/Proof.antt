@@ -19,4 +19,7 @@ unfolding lastOf
 returns-2 c = c .le-at2 .ensures .is
 
 pub last-spec : {M : Type 1} → statement M
-last-spec = tie.close (tie.spec (λ c κs. search needs) (λ c. omega (arith, c .le-at .ensures .small)) returns (search needs) (λ c κs. search needs) (λ c. omega (arith, c .le-at2 .ensures .small)) returns-2)
+last-spec =
+    tie.close
+    (tie.spec (λ c κs. search needs) (λ c. omega (arith, c .le-at .ensures .small)) returns (search needs) (λ c κs. search needs)
+    (λ c. omega (arith, c .le-at2 .ensures .small)) returns-2)

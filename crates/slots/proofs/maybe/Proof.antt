@@ -17,7 +17,9 @@ abbrev μ-loop : tie.MeasureT-loop
 μ-loop ids keys c i m k hit₀ j₀ hit j = c - j
 
 loop-again : tie.Need-loop-again Inv-loop μ-loop
-loop-again c = (search needs, search needs, search needs, search needs, unlike-more (c .before .before .before .loop .hit) (c .before .before .before .loop .inv .4))
+loop-again c =
+    let c3 = c .before .before .before in
+    (search needs, search needs, search needs, search needs, unlike-more (c3 .loop .hit) (c3 .loop .inv .4))
 
 returns : tie.Need-returns Inv-loop μ-loop
 returns c =

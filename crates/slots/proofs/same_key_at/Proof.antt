@@ -7,10 +7,16 @@ use Rattle.slots.proofs.same_key_at.Statement.{statement}
 use Rattle.slots.proofs.same_key_at.Tie as tie
 
 returns : tie.Need-returns
-returns c = let a = c .before .before .before .before .before .before in keys-differ (a .pre .0) (a .args .i) (a .args .j) (omega arith) (omega arith) (c .if1 .taken)
+returns c =
+    let c6 = c .before .before .before .before .before .before in
+    let a = c6 in
+    keys-differ (a .pre .0) (a .args .i) (a .args .j) (omega arith) (omega arith) (c .if1 .taken)
 
 returns-2 : tie.Need-returns-2
 returns-2 c = c .same-key .ensures ∙ ap₂ sameKeyIn (c .before .before .slot .ensures) (c .before .slot2 .ensures)
 
 pub same-key-at-spec : {M : Type 1} → statement M
-same-key-at-spec = tie.close (tie.spec (search needs) (search needs) (search needs) (search needs) returns (λ c κs. search needs) (λ c κs. search needs) (λ c κs. search needs) returns-2)
+same-key-at-spec =
+    tie.close
+    (tie.spec (search needs) (search needs) (search needs) (search needs) returns (λ c κs. search needs) (λ c κs. search needs)
+    (λ c κs. search needs) returns-2)

@@ -13,4 +13,7 @@ returns-2 : tie.Need-returns-2
 returns-2 c = let a = c .before .before .before .before .args in part-none (a .table .now) (slotPlace (a .k)) slotSize (omega arith)
 
 pub slot-spec : {M : Type 1} → statement M
-slot-spec = tie.close (tie.spec (search needs) returns (search needs) (search needs) returns-2 (λ c. omega arith) (λ c. omega arith) (λ c κs. search needs) (λ c. c .piece .ensures))
+slot-spec =
+    tie.close
+    (tie.spec (search needs) returns (search needs) (search needs) returns-2 (λ c. omega arith) (λ c. omega arith) (λ c κs. search needs)
+    (λ c. c .piece .ensures))

@@ -1,0 +1,94 @@
+-- The verdict over the bytes of the held slots: ids, keys and times compared there are those of the events held.
+use mathlib.Core.Path.{_≡_, refl, sym, ap, ap₂, _∙_}
+use mathlib.Core.Bool.{Bool, true, _&&_}
+use mathlib.Core.List.{List, []}
+use Prim.Native.Nat.{ℕ}
+use lib.Dec.{eqb, ltb}
+use lib.ListN.{getD, drop}
+use borrow.Author.Tests.{eqb-true, eq-eqb}
+use Rattle.wire.specs.Bytes.{sameBytes}
+use Rattle.wire.specs.Field.{signed}
+use Rattle.wire.proofs.Bytes.{same-equal, equal-same}
+use Rattle.text.specs.Event.{all}
+use Rattle.text.specs.Kinds.{classOf}
+use Rattle.text.proofs.Pieces.{both, and-true}
+use Rattle.law.specs.Lists.{any, find}
+use Rattle.law.specs.Table.{hasId, hasKey, hasKeyNewer}
+use Rattle.law.proofs.Cells.{length-cells}
+use Rattle.event.specs.Order.{isNewer, newer-is}
+use Rattle.table.specs.Layout.{headerSize, slotSize, countOf, timeIn, kindIn, idIn, textIn, heldSlots}
+use Rattle.table.specs.Events.{signedEvents, inSlot, timeOfText, view}
+use Rattle.table.specs.Events as events
+use Rattle.table.specs.Sound.{slotSound, slotsSound, noneTwice, noKeyTwice, sound}
+use Rattle.table.proofs.Bytes.{clauses}
+use Rattle.table.proofs.Slots.{sound-signed, sound-event}
+use Rattle.table.proofs.Stored.{length-view}
+use Rattle.slots.specs.Slots.{hasKeyIn, pubkeyIn, dBytesIn, sameIdIn, sameKeyIn, from}
+use Rattle.slots.proofs.Pairs.{any-map, any-as, none-map, none-as}
+use Rattle.slots.proofs.Keys.{key-same}
+use Rattle.offers.specs.Slot.{newerIn, slotOf}
+use Rattle.offers.proofs.First.{find-map, find-as, find-any, first-decides}
+
+-- ---- keys of three slots
+tied : (s x y : List ℕ) → sameKeyIn s x ≡ true → sameKeyIn s y ≡ true → sameKeyIn x y ≡ true
+unfolding sameKeyIn
+tied s x y e f =
+    let (a, b, c, d) = parts x e in
+    let (i, j, k, l) = parts y f in
+    and-true (eqb (kindIn y) (kindIn x)) _ (eq-eqb (kindIn y) (kindIn x) (i ∙ sym a))
+    (and-true (hasKeyIn (classOf (kindIn y))) _ j
+    (and-true (sameBytes (pubkeyIn y) (pubkeyIn x)) (sameBytes (dBytesIn y) (dBytesIn x)) (equal-same (pubkeyIn y) (pubkeyIn x) (k ∙ sym c)) (equal-same (dBytesIn y) (dBytesIn x) (l ∙ sym d))))
+  where
+    parts : (t : List ℕ) → sameKeyIn s t ≡ true → (kindIn t ≡ kindIn s) × (hasKeyIn (classOf (kindIn t)) ≡ true) × (pubkeyIn t ≡ pubkeyIn s) × (dBytesIn t ≡ dBytesIn s)
+    parts t h =
+        let a = both (eqb (kindIn t) (kindIn s)) (hasKeyIn (classOf (kindIn t)) && (sameBytes (pubkeyIn t) (pubkeyIn s) && sameBytes (dBytesIn t) (dBytesIn s))) h in
+        let b = both (hasKeyIn (classOf (kindIn t))) (sameBytes (pubkeyIn t) (pubkeyIn s) && sameBytes (dBytesIn t) (dBytesIn s)) (a .1) in
+        let c = both (sameBytes (pubkeyIn t) (pubkeyIn s)) (sameBytes (dBytesIn t) (dBytesIn s)) (b .1) in
+        (eqb-true (kindIn t) (kindIn s) (a .0), b .0, same-equal (pubkeyIn t) (pubkeyIn s) (c .0), same-equal (dBytesIn t) (dBytesIn s) (c .1))
+
+-- ---- times
+time-of : (s : List ℕ) → slotSound s ≡ true → timeOfText (textIn s) ≡ signed (timeIn s)
+unfolding timeOfText
+time-of s ok = let (e, r) = sound-event s ok in ap events.timeIn r ∙ sym (sound-signed s ok e r)
+
+newer-same : (t s : List ℕ) → slotSound t ≡ true → slotSound s ≡ true → signedEvents .newer (inSlot t) (inSlot s) ≡ newerIn t s
+unfolding newerIn
+newer-same t s p q =
+    newer-is timeOfText (inSlot t .0) (inSlot s .0) ∙ ap₂ (λ x y. isNewer x (idIn t) y (idIn s)) (time-of t p) (time-of s q)
+
+-- ---- a sound table b, and the slot s that an offer would fill
+module _ (b s : List ℕ) (g : sound b ≡ true) where
+  slots-ok : all slotSound (heldSlots b) ≡ true
+  unfolding slotsSound
+  slots-ok = clauses b g .slots
+
+  pub ids : any (hasId signedEvents (inSlot s)) (view b) ≡ any (sameIdIn s) (from b 0 (countOf b))
+  unfolding view from sameIdIn
+  ids = any-map inSlot (hasId signedEvents (inSlot s)) (heldSlots b)
+
+  module _ (ok : slotSound s ≡ true) where
+    pub slot-is : slotOf b s ≡ find (sameKeyIn s) (from b 0 (countOf b))
+    unfolding slotOf view from
+    slot-is =
+        find-map inSlot (hasKey signedEvents (inSlot s)) (heldSlots b)
+        ∙ find-as slotSound (λ t. hasKey signedEvents (inSlot s) (inSlot t)) (sameKeyIn s) (λ t q. key-same s t ok q) (heldSlots b) slots-ok
+
+    pub keys : any (hasKey signedEvents (inSlot s)) (view b) ≡ ltb (slotOf b s) (countOf b)
+    unfolding slotOf
+    keys = find-any (hasKey signedEvents (inSlot s)) (view b) ∙ ap (ltb (find (hasKey signedEvents (inSlot s)) (view b))) (length-view b)
+
+    no-key-twice : noneTwice sameKeyIn (heldSlots b) ≡ true
+    unfolding noKeyTwice view
+    no-key-twice =
+        sym (none-as slotSound (λ x y. hasKey signedEvents (inSlot x) (inSlot y)) sameKeyIn key-same (heldSlots b) slots-ok)
+        ∙ sym (none-map inSlot (hasKey signedEvents) (heldSlots b))
+        ∙ clauses b g .keys
+
+    pub newers : any (hasKeyNewer signedEvents (inSlot s)) (view b) ≡ (ltb (slotOf b s) (countOf b) && newerIn (getD (heldSlots b) (slotOf b s) []) s)
+    unfolding view from
+    newers =
+        any-map inSlot (hasKeyNewer signedEvents (inSlot s)) (heldSlots b)
+        ∙ any-as slotSound (λ t. hasKeyNewer signedEvents (inSlot s) (inSlot t)) (λ t. sameKeyIn s t && newerIn t s)
+        (λ t q. ap₂ _&&_ (key-same s t ok q) (newer-same t s q ok)) (heldSlots b) slots-ok
+        ∙ first-decides (sameKeyIn s) (λ t. newerIn t s) sameKeyIn [] (tied s) (heldSlots b) no-key-twice
+        ∙ ap₂ (λ k n. ltb k n && newerIn (getD (heldSlots b) k []) s) (sym slot-is) (length-cells slotSize (countOf b) (drop headerSize b))

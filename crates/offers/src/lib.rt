@@ -1,0 +1,329 @@
+// Offers to a table (01, "The table"), as a message and as parts: the rows and the verdict, and the one slot and the count that a store
+// writes. The definitions are table/specs/Offer; what the code goes by on the way stands in specs/.
+ghost use mathlib.Core.Path.{_≡_};
+ghost use mathlib.Core.Bool.{true, cond, _||_};
+ghost use Prim.Native.Nat.{ℕ, _≤_};
+ghost use lib.Dec.{leb};
+ghost use lib.ListN.{length, replicate};
+ghost use Rattle.wire.specs.Limits.{mostSlots, sigLength};
+ghost use Rattle.wire.specs.Bytes.{part};
+ghost use Rattle.wire.specs.Put.{Puts};
+ghost use Rattle.spell.specs.Spell.{unhex};
+ghost use Rattle.text.specs.Event.{Event};
+ghost use Rattle.text.specs.Read.{read, readText};
+ghost use Rattle.text.specs.Answer.{textOf};
+ghost use Rattle.text.specs.Kinds.{isEphemeral, classOf};
+ghost use Rattle.message.specs.Read.{isEvent};
+ghost use Rattle.event.specs.Lent.{said};
+ghost use Rattle.event.specs.Answer.{offeredRow};
+ghost use Rattle.law.specs.Lists.{any, find};
+ghost use Rattle.table.specs.Layout.{slotSize, textPlace, capacityOf, slotBytes};
+ghost use Rattle.table.specs.Sound.{sound};
+ghost use Rattle.table.specs.Offer.{asMessage, asParts, partsOf, messageOfferRow, heldOf, answer, numberOf, isStored, next};
+ghost use Rattle.slots.specs.Slots.{sameIdIn, sameKeyIn, from};
+ghost use Rattle.offers.specs.Row.{offerRow};
+ghost use Rattle.offers.specs.Slot.{newerIn, New, answerFor, offeredTo, HasRoom, storedFor, offeredNext, countFrom, ifAddressable, numbersOf, headOf};
+
+// 01: "Header, 16 bytes"; "slot size 4,208"; the slot's text after the other fields.
+const HEADER: usize = 16;
+
+const SLOT: usize = 4208;
+
+const TEXT: usize = 112;
+
+// ---- the slot that an event given as parts would fill
+// The bytes of up to 128 hex digits that a part spells.
+fn put_spelled(out: &mut [u8], at: usize, b: &[u8], p: message::Span) -> usize
+    requires { ⌜ length (said (now b) p) ≤ sigLength ⌝ }
+    ensures { λ r. ⌜ Puts (now (out .entry)) at (unhex (said (now (b .entry)) p)) r (now (out .exit)) ⌝ }
+{
+    let mut hex = [0u8; 128];
+    let n = spell::put_decoded(&mut hex, 0, wire::piece(b, p.start, p.len));
+    spell::put_unhex(out, at, &hex[..n])
+}
+
+// A number of d's place: 0 unless the kind is addressable.
+fn d_if(kind: u16, x: usize) -> usize
+    ensures { λ r. ⌜ r ≡ ifAddressable (classOf kind) x ⌝ }
+{
+    match text::class_of(kind) {
+        text::Class::Addressable => x,
+        text::Class::Ephemeral => 0,
+        text::Class::Regular => 0,
+        text::Class::Replaceable => 0,
+    }
+}
+
+// The numbers of a slot, by what was read from its text of n bytes.
+fn put_numbers(out: &mut [u8], at: usize, n: usize, t: text::Text) -> usize
+    ensures { λ r. ⌜ Puts (now (out .entry)) at (numbersOf t n) r (now (out .exit)) ⌝ }
+{
+    let a = wire::put_le(out, at, 8, wire::to_unsigned(t.time));
+    let b = wire::put_le(out, a, 2, t.kind as u64);
+    let c = wire::put_le(out, b, 2, n as u64);
+    let d = wire::put_le(out, c, 2, d_if(t.kind, t.d) as u64);
+    wire::put_le(out, d, 2, d_if(t.kind, t.d_len) as u64)
+}
+
+// Id, signature and numbers, before the text.
+fn put_head(out: &mut [u8], b: &[u8], p: message::EventParts, n: usize, t: text::Text) -> usize
+    requires { ⌜ length (said (now b) (p .id)) ≤ sigLength ⌝ }
+    requires { ⌜ length (said (now b) (p .sig)) ≤ sigLength ⌝ }
+    ensures { λ r. ⌜ Puts (now (out .entry)) 0 (headOf (now (b .entry)) p n t) r (now (out .exit)) ⌝ }
+{
+    let id = p.id;
+    let sig = p.sig;
+    let a = put_spelled(out, 0, b, id);
+    let c = put_spelled(out, a, b, sig);
+    put_numbers(out, c, n, t)
+}
+
+// The head of a slot in which the text, of n bytes, is written: its numbers are read back from there.
+fn put_fields(out: &mut [u8], b: &[u8], p: message::EventParts, n: usize) -> usize
+    requires { ⌜ length (said (now b) (p .id)) ≤ sigLength ⌝ }
+    requires { ⌜ length (said (now b) (p .sig)) ≤ sigLength ⌝ }
+    ensures { λ r. ⌜ ((e : Event) → readText (part (now (out .entry)) textPlace n) ≡ read e → Puts (now (out .entry)) 0 (headOf (now (b .entry)) p n (textOf e)) r (now (out .exit))) ⌝ }
+{
+    match text::read_text(wire::piece(out, TEXT, n)) {
+        text::TextAnswer::Read(t) => put_head(out, b, p, n, t),
+        text::TextAnswer::TooLarge => 0,
+        text::TextAnswer::WrongShape => 0,
+    }
+}
+
+// The whole slot, in bytes that are zero; or the lowest of rows 2 and 4 to 10 that refuses the parts. The slot's own place for the text is
+// lent on, so the text is serialised once and hashed once.
+fn make_slot(out: &mut [u8], b: &[u8], p: message::EventParts) -> u8
+    requires { ⌜ now out ≡ replicate slotSize 0 ⌝ }
+    ensures { λ r. ⌜ r ≡ offeredRow (now (b .entry)) p ⌝ }
+    ensures { λ r. ⌜ (r ≡ 0 → now (out .exit) ≡ slotBytes (heldOf (now (b .entry)) p)) ⌝ }
+{
+    match event::offered_text(b, p, &mut out[TEXT..SLOT]) {
+        event::Written::Wrote(n) => {
+            put_fields(out, b, p, n);
+            0
+        }
+        event::Written::Refused(row) => row,
+    }
+}
+
+// The row of a message that the reader refused: "gives 5 also if it isn't an EVENT", after rows 1 to 4.
+fn refused_row(m: &[u8], row: u8) -> u8
+    ensures { λ r. ⌜ r ≡ cond (leb row 4 || isEvent (now (m .entry))) row 5 ⌝ }
+{
+    if row <= 4 {
+        return row;
+    }
+    if message::is_event(m) {
+        return row;
+    }
+    5
+}
+
+// The slot that the event of a message would fill, in bytes that are zero; or the lowest of rows 1 to 10.
+fn make_from(out: &mut [u8], m: &[u8]) -> u8
+    requires { ⌜ now out ≡ replicate slotSize 0 ⌝ }
+    ensures { λ r. ⌜ r ≡ messageOfferRow (now (m .entry)) ⌝ }
+    ensures { λ r. ⌜ (r ≡ 0 → now (out .exit) ≡ slotBytes (heldOf (now (m .entry)) (partsOf (now (m .entry))))) ⌝ }
+{
+    match message::read(m) {
+        message::Message::Event(p) => make_slot(out, m, p),
+        message::Message::Req(_) => 5,
+        message::Message::Close(_) => 5,
+        message::Message::Refused(row) => refused_row(m, row),
+    }
+}
+
+// ---- the verdict
+fn is_ephemeral(kind: u64) -> bool
+    ensures { λ r. ⌜ r ≡ isEphemeral kind ⌝ }
+{
+    if kind < 20000 {
+        return false;
+    }
+    kind <= 29999
+}
+
+// Whether one of slots 0 to c-1 has the id of the slot `new`.
+fn id_held(table: &[u8], c: usize, new: &[u8]) -> bool
+    ensures { λ r. ⌜ r ≡ any (sameIdIn (now (new .entry))) (from (now (table .entry)) 0 c) ⌝ }
+{
+    let mut k = 0;
+    while k < c {
+        if slots::same_id(new, slots::slot(table, k)) {
+            return true;
+        }
+        k += 1;
+    }
+    false
+}
+
+// Whether c slots are all that the table has.
+fn is_full(table: &[u8], c: usize) -> bool
+    ensures { λ r. ⌜ r ≡ leb (capacityOf (now (table .entry))) c ⌝ }
+{
+    wire::le_at(table, 0, 4) as usize <= c
+}
+
+// The first of slots 0 to c-1 that has the key of the slot `new`, or c.
+fn find_key(table: &[u8], c: usize, new: &[u8]) -> usize
+    ensures { λ r. ⌜ r ≡ find (sameKeyIn (now (new .entry))) (from (now (table .entry)) 0 c) ⌝ }
+{
+    let mut k = 0;
+    while k < c {
+        if slots::same_key(new, slots::slot(table, k)) {
+            return k;
+        }
+        k += 1;
+    }
+    k
+}
+
+// Whether the event of slot s is newer than that of slot t: "created_at compares as a signed number".
+fn newer_than(s: &[u8], t: &[u8]) -> bool
+    ensures { λ r. ⌜ r ≡ newerIn (now (s .entry)) (now (t .entry)) ⌝ }
+{
+    let a = wire::to_signed(wire::le_at(s, 96, 8));
+    let b = wire::to_signed(wire::le_at(t, 96, 8));
+    event::newer(a, wire::piece(s, 0, 32), b, wire::piece(t, 0, 32))
+}
+
+// "Verdicts of an offer .. first that applies", and row 12 where a new slot is needed and all are in use.
+fn verdict(table: &[u8], new: &[u8]) -> table::Offered
+    requires { ⌜ sound (now table) ≡ true ⌝ }
+    requires { ⌜ New (now new) ⌝ }
+    ensures { λ r. ⌜ r ≡ answerFor (now (table .entry)) (now (new .entry)) ⌝ }
+{
+    if is_ephemeral(wire::le_at(new, 104, 2)) {
+        return table::Offered::Ephemeral;
+    }
+    let c = wire::le_at(table, 4, 4) as usize;
+    let held = id_held(table, c, new);
+    let full = is_full(table, c);
+    if held {
+        return table::Offered::Duplicate;
+    }
+    let k = find_key(table, c, new);
+    if k < c {
+        if newer_than(slots::slot(table, k), new) {
+            return table::Offered::Older;
+        }
+        return table::Offered::Stored;
+    }
+    if full {
+        return table::Offered::Refused(12);
+    }
+    table::Offered::Stored
+}
+
+// Row 11, then the verdict, on an event that would fill the slot `new`.
+fn judge(table: &[u8], new: &[u8]) -> table::Offered
+    requires { ⌜ New (now new) ⌝ }
+    ensures { λ r. ⌜ r ≡ offeredTo (now (table .entry)) (now (new .entry)) ⌝ }
+{
+    if !slots::sound(table) {
+        return table::Offered::Refused(11);
+    }
+    verdict(table, new)
+}
+
+// ---- the store
+fn is_stored(a: table::Offered) -> bool
+    ensures { λ r. ⌜ r ≡ isStored a ⌝ }
+{
+    match a {
+        table::Offered::Stored => true,
+        table::Offered::Ephemeral => false,
+        table::Offered::Duplicate => false,
+        table::Offered::Older => false,
+        table::Offered::Refused(_) => false,
+    }
+}
+
+// The slot writer: the slot's part of the table is lent to it.
+fn write_slot(slot: &mut [u8], new: &[u8])
+    requires { ⌜ (length (now slot) ≡ slotSize) × (length (now new) ≡ slotSize) ⌝ }
+    ensures { λ _. ⌜ now (slot .exit) ≡ now (new .entry) ⌝ }
+{
+    wire::put(slot, 0, new);
+}
+
+// The count once slot k is filled.
+fn count_after(c: usize, k: usize) -> usize
+    requires { ⌜ c ≤ mostSlots ⌝ }
+    ensures { λ r. ⌜ r ≡ countFrom c k ⌝ }
+{
+    if k < c {
+        return c;
+    }
+    c + 1
+}
+
+// "stored, over the slot with its key, else in slot C. A store writes only the bytes of the one slot it fills, and the count."
+fn store(table: &mut [u8], new: &[u8])
+    requires { ⌜ New (now new) ⌝ }
+    requires { ⌜ HasRoom (now table) (now new) ⌝ }
+    ensures { λ _. ⌜ now (table .exit) ≡ storedFor (now (table .entry)) (now (new .entry)) ⌝ }
+{
+    let c = wire::le_at(table, 4, 4) as usize;
+    let k = find_key(table, c, new);
+    let a = HEADER + k * SLOT;
+    let e = a + SLOT;
+    write_slot(&mut table[a..e], new);
+    wire::put_le(table, 4, 4, count_after(c, k) as u64);
+}
+
+fn offer_slot(table: &mut [u8], new: &[u8]) -> table::Offered
+    requires { ⌜ New (now new) ⌝ }
+    ensures { λ r. ⌜ r ≡ offeredTo (now (table .entry)) (now (new .entry)) ⌝ }
+    ensures { λ _. ⌜ now (table .exit) ≡ offeredNext (now (table .entry)) (now (new .entry)) ⌝ }
+{
+    let a = judge(table, new);
+    if !is_stored(a) {
+        return a;
+    }
+    store(table, new);
+    a
+}
+
+// ---- the calls
+// An event offered as parts: rows 2 and 4 to 10, then 11, then the verdict.
+pub fn offer_parts(table: &mut [u8], b: &[u8], p: message::EventParts) -> table::Offered
+    ensures { λ r. ⌜ r ≡ answer (now (table .entry)) (asParts (now (b .entry)) p) ⌝ }
+    ensures { λ r. ⌜ numberOf r ≡ offerRow (now (table .entry)) (asParts (now (b .entry)) p) ⌝ }
+    ensures { λ _. ⌜ now (table .exit) ≡ next (now (table .entry)) (asParts (now (b .entry)) p) ⌝ }
+{
+    let mut new = [0u8; SLOT];
+    let row = make_slot(&mut new, b, p);
+    if row != 0 {
+        return table::Offered::Refused(row);
+    }
+    offer_slot(table, &new)
+}
+
+// A message offered: rows 1 to 10, then 11, then the verdict.
+pub fn offer_message(table: &mut [u8], m: &[u8]) -> table::Offered
+    ensures { λ r. ⌜ r ≡ answer (now (table .entry)) (asMessage (now (m .entry))) ⌝ }
+    ensures { λ r. ⌜ numberOf r ≡ offerRow (now (table .entry)) (asMessage (now (m .entry))) ⌝ }
+    ensures { λ _. ⌜ now (table .exit) ≡ next (now (table .entry)) (asMessage (now (m .entry))) ⌝ }
+{
+    let mut new = [0u8; SLOT];
+    let row = make_from(&mut new, m);
+    if row != 0 {
+        return table::Offered::Refused(row);
+    }
+    offer_slot(table, &new)
+}
+
+// What the same offer would be answered; the table is only read.
+pub fn judge_message(table: &[u8], m: &[u8]) -> table::Offered
+    ensures { λ r. ⌜ r ≡ answer (now (table .entry)) (asMessage (now (m .entry))) ⌝ }
+    ensures { λ r. ⌜ numberOf r ≡ offerRow (now (table .entry)) (asMessage (now (m .entry))) ⌝ }
+{
+    let mut new = [0u8; SLOT];
+    let row = make_from(&mut new, m);
+    if row != 0 {
+        return table::Offered::Refused(row);
+    }
+    judge(table, &new)
+}
