@@ -187,7 +187,9 @@ module _ (s : List ℕ) (ok : slotSound s ≡ true) where
 
   pub sound-lasting : isEphemeral (kindIn s) ≡ false
   unfolding isLasting
-  sound-lasting = not-true (isEphemeral (kindIn s)) (both (isLasting s) (zeroAfterText s) (both (fieldsAgree s) (isLasting s && zeroAfterText s) rest-sound .1) .0)
+  sound-lasting =
+      not-true (isEphemeral (kindIn s))
+      (both (isLasting s) (zeroAfterText s) (both (fieldsAgree s) (isLasting s && zeroAfterText s) rest-sound .1) .0)
 
   pub sound-rest : isZero (restIn s) ≡ true
   unfolding zeroAfterText
