@@ -1,13 +1,12 @@
 -- How long replies are: an EVENT of a held slot, what a refusal names, a row's reason.
-use mathlib.Core.Path.{_≡_, refl, sym, ap, _∙_}
-use mathlib.Core.Bool.{Bool, true, false, cond, not, _&&_, _||_, false≢true}
-use mathlib.Core.List.{List, [], _∷_, _++_, Memᴰ·cast}
+use mathlib.Core.Path.{_≡_, refl, ap, _∙_}
+use mathlib.Core.Bool.{Bool, true, false, cond}
+use mathlib.Core.List.{List, [], _∷_, _++_}
 use Prim.Native.Nat.{ℕ, zero, suc, _+_, _*_, _/_, _%_, _≤_, _<_}
 use native.Mathlib.Omega.{arith}
-use borrow.Author.Tests.{eqb-true, ne-eqb, leb-true, le-leb, lt-leb, ltb-true, ltb-false, not-false}
+use borrow.Author.Tests.{eqb-true, ne-eqb, leb-true, le-leb, lt-leb, ltb-true, ltb-false}
 use lib.Dec.{eqb, leb, ltb}
-use lib.ListN.{length, getD, take, drop, length-append, length-take, length-drop}
-use Rattle.wire.specs.Bytes.{isHex}
+use lib.ListN.{length, getD, drop, length-append, length-take, length-drop}
 use Rattle.wire.specs.Limits.{mostText, hexLength}
 use Rattle.wire.specs.Escape.{letterOf, escOne, escape}
 use Rattle.wire.proofs.Escapes.{esc-two}
@@ -16,11 +15,9 @@ use Rattle.utf8.specs.Abnf.{Octets, none, utf8-1, utf8-2, utf8-3-e0, utf8-3-e1,
 use Rattle.utf8.proofs.Abnf.{as-in-abnf}
 use Rattle.json.specs.Grammar.{isSpelling}
 use Rattle.rows.specs.Strings.{part}
-use Rattle.spell.specs.Spell as spell
 use Rattle.spell.specs.Spell.{decode, refuses, points, characterCount, isHexOf}
 use Rattle.spell.proofs.Laws.{hex-escape}
 use Rattle.text.specs.Event.{Event, quoted, serialise, isPlainByte, isString, all}
-use Rattle.text.specs.Read.{read, readText}
 use Rattle.text.proofs.Pieces.{both}
 use Rattle.text.proofs.Limits.{limits-of}
 use Rattle.text.proofs.Rows.{pubkey-length}
@@ -32,7 +29,6 @@ use Rattle.table.specs.Layout.{slotSize, slotPlace, countOf, slotAt, idIn, sigI
 use Rattle.table.specs.Sound.{textReads, slotSound, sound}
 use Rattle.table.proofs.Bytes.{clauses}
 use Rattle.table.proofs.Passes.{pubkey-hex}
-use Rattle.reply.specs.Ascii.{ascii}
 use Rattle.reply.specs.Replies.{event, objectText, replyText, reasons, reasonOf}
 use Rattle.reply.specs.Respond.{slotText, slotLine}
 use Rattle.reply.proofs.Shown.{slot-sound}

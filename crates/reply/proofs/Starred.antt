@@ -1,6 +1,6 @@
 -- The starred cases of 01 hold: one statement.
 use mathlib.Core.Path.{_≡_, refl, sym, ap, _∙_}
-use mathlib.Core.Bool.{Bool, true, false, cond, _||_}
+use mathlib.Core.Bool.{Bool, true, false, cond}
 use mathlib.Core.Option.{none}
 use mathlib.Core.List.{List, [], _∷_, _++_}
 use Prim.Native.Nat.{ℕ, zero, suc, _+_}
@@ -8,7 +8,7 @@ use native.Mathlib.Omega.{arith}
 use borrow.Author.Tests.{le-leb, not-false}
 use lib.Dec.{ltb}
 use lib.IntN.{pos, negsuc}
-use lib.ListN.{length, take, replicate, length-append, length-replicate}
+use lib.ListN.{length, replicate, length-append, length-replicate}
 use lib.Seq.{take-all}
 use Rattle.wire.specs.Bytes.{sameBytes, isHex}
 use Rattle.wire.specs.Escape.{letterOf, escOne, escape}
@@ -41,7 +41,7 @@ use Rattle.table.proofs.Strings.{escape-spelling}
 use Rattle.table.proofs.Refused.{not-refused}
 use Rattle.query.specs.Filter.{Filter, filterOf}
 use Rattle.query.specs.Match.{matches}
-use Rattle.query.specs.Answer.{keep, among, newestFirst, picked, union, answerList, newerSlot, matchesSlot}
+use Rattle.query.specs.Answer.{keep, among, newestFirst, picked, union, answerList}
 use Rattle.reply.specs.Ascii.{ascii}
 use Rattle.reply.specs.Starred.{AllHold, A, dated, lentIn, lentParts, filterIn, starred}
 

@@ -1,6 +1,6 @@
 -- What specs/Respond and Feed mean: proved in proofs/Respond, Streamed, Feed and Enough, each under its own name in small letters.
 use mathlib.Core.Path.{_≡_}
-use mathlib.Core.Bool.{Bool, true, false, cond}
+use mathlib.Core.Bool.{true, false, cond}
 use mathlib.Core.Logic.{_↔_, _≢_}
 use mathlib.Core.List.{List, [], _∷_, _++_}
 use Prim.Native.Nat.{ℕ, _*_, _+_, _≤_, _<_}
@@ -18,7 +18,7 @@ use Rattle.table.specs.Layout.{capacityOf, countOf, slotAt, idIn, sigIn, textIn
 use Rattle.table.specs.Sound.{sound}
 use Rattle.query.specs.Answer.{answerList, filtersAt}
 use Rattle.query.specs.Laws.{Lowest}
-use Rattle.reply.specs.Replies.{Reply, event, eose, replyText}
+use Rattle.reply.specs.Replies.{event, eose, replyText}
 use Rattle.reply.specs.declared.ReplyParts.the-variants as parts
 use Rattle.reply.specs.Program.{repliesTo, tableAfter, replyLine, output}
 use Rattle.reply.specs.Laws.{PartsHold, WritesOr}
