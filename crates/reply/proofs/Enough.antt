@@ -192,7 +192,15 @@ unfolding joined
 slots-short b sub s l [] h = omega arith
 slots-short b sub s l (k ∷ ks) h =
     let i = h k (List·Memᴰ·head refl) in
-    omega (arith, length-append (slotLine b sub k) (joined (slotLines b sub ks)), line-length b k s i sub, text-small b k s i, quoted-length sub, l, slots-short b sub s l ks (λ j m. h j (List·Memᴰ·tail m)))
+    omega (
+      arith,
+      length-append (slotLine b sub k) (joined (slotLines b sub ks)),
+      line-length b k s i sub,
+      text-small b k s i,
+      quoted-length sub,
+      l,
+      slots-short b sub s l ks (λ j m. h j (List·Memᴰ·tail m)),
+    )
 
 one-written : (r : Reply) → length (written (r ∷ [])) ≡ length (replyLine r)
 unfolding written
@@ -237,7 +245,9 @@ module _ (b m : List ℕ) where
   response-short = go (readOf m) refl
     where
       go : (x : Message) → readOf m ≡ x → length (response b m) ≤ enoughFor (capacityOf b)
-      go (message.Event p) e = one-short (offerReply m (said m (p .id)) (answer b (asMessage m))) (rw e) (offer-short m (said m (p .id)) (answer b (asMessage m)) (rw (names-id m p e) at (named-short m)))
+      go (message.Event p) e =
+          let a = answer b (asMessage m) in
+          one-short (offerReply m (said m (p .id)) a) (rw e) (offer-short m (said m (p .id)) a (rw (names-id m p e) at (named-short m)))
       go (message.Req r) e = request-short r e
       go (message.Close p) e = close-short p e
       go (message.Refused r) e = one-short (refusal m r) (rw e) (refusal-short m r)

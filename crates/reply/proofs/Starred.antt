@@ -61,7 +61,8 @@ limit-read : filterIn (ascii "{\"limit\":0}") .limit ≡ Number (pos 0)
 unfolding json.classOf run past oneAt tokenAt wordAt literalAt digitsAt intAt fracAt expAt numberAt hexAt escapedAt charAt charsUpTo charsAt stringAt scalarAt itemsAt treeAt isDigit allDigits valueFrom isNatural naturalOf negativeOf wholeOf answerOf charOf charsFrom bytesOfChar joined decode spell.any sameBytes spelledAt nameAt parts.filterOf membersAt filterAt stringsOf filterOf parts.memberOf isWithin isCondition
 limit-read = refl
 
-since-read : filterIn (ascii "{\"since\":0}") ≡ record { ids = none; authors = none; kinds = none; since = Number (pos 0); until = Absent; limit = Absent; conditions = [] }
+since-read : filterIn (ascii "{\"since\":0}")
+    ≡ record { ids = none; authors = none; kinds = none; since = Number (pos 0); until = Absent; limit = Absent; conditions = [] }
 unfolding json.classOf run past oneAt tokenAt wordAt literalAt digitsAt intAt fracAt expAt numberAt hexAt escapedAt charAt charsUpTo charsAt stringAt scalarAt itemsAt treeAt isDigit allDigits valueFrom isNatural naturalOf negativeOf wholeOf answerOf charOf charsFrom bytesOfChar joined decode spell.any sameBytes spelledAt nameAt parts.filterOf membersAt filterAt stringsOf filterOf parts.memberOf isWithin isCondition
 since-read = refl
 
@@ -133,5 +134,22 @@ module _ (n : ℕ) where
 
 pub starred-hold : AllHold starred
 unfolding letterOf escOne escape digitsIn digits decimal quoted membersText tagText tagsText serialise classOf dOf keyOf isLower isNewer matches
-starred-hold =
-    ((refl, refl), (xs-length 0, (xs-cases .1, (xs-cases .2, ((event-is 4016, lent-row 4016), ((event-is 4017, lent-row 4017), ((refl, refl), ((refl, refl), (refl, (refl, (refl, (refl, (refl, (refl, (refl, (refl, (refl, (refl, (refl, (nothing _ limit-read, (shut-out, tt)))))))))))))))))))))
+starred-hold = (
+  (refl, refl),
+  (
+    xs-length 0,
+    (
+      xs-cases .1,
+      (
+        xs-cases .2,
+        (
+          (event-is 4016, lent-row 4016),
+          (
+            (event-is 4017, lent-row 4017),
+            ((refl, refl), ((refl, refl), (refl, (refl, (refl, (refl, (refl, (refl, (refl, (refl, (refl, (refl, (refl, (nothing _ limit-read, (shut-out, tt))))))))))))))),
+          ),
+        ),
+      ),
+    ),
+  ),
+)

@@ -98,8 +98,10 @@ pub record SentIs (b ks m : List ℕ) (s : Span) (out : List ℕ) : Type 0 where
   pub number : sentNumber (sentEvents b ks m s out) ≡ eventsRow b ks m s out
   pub bytes : eventsRow b ks m s out ≡ 0 → sentBytes (sentEvents b ks m s out) ≡ length (fittingText b (said m s) ks out)
   pub begins : eventsRow b ks m s out ≡ 0 →
-      take (sentBytes (sentEvents b ks m s out)) (sentEventsOut b ks m s out) ≡ joined (slotLines b (said m s) (take (sentSlots (sentEvents b ks m s out)) ks))
-  pub rest : eventsRow b ks m s out ≡ 0 → drop (sentBytes (sentEvents b ks m s out)) (sentEventsOut b ks m s out) ≡ drop (sentBytes (sentEvents b ks m s out)) out
+      take (sentBytes (sentEvents b ks m s out)) (sentEventsOut b ks m s out)
+      ≡ joined (slotLines b (said m s) (take (sentSlots (sentEvents b ks m s out)) ks))
+  pub rest : eventsRow b ks m s out ≡ 0 →
+      drop (sentBytes (sentEvents b ks m s out)) (sentEventsOut b ks m s out) ≡ drop (sentBytes (sentEvents b ks m s out)) out
   -- some slot is served where there is one, so calls for the slots that are left come to an end
   pub progress : eventsRow b ks m s out ≡ 0 → ks ≢ [] → 1 ≤ sentSlots (sentEvents b ks m s out)
   pub as-long : length (sentEventsOut b ks m s out) ≡ length out
