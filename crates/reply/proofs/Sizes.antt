@@ -29,9 +29,9 @@ use Rattle.table.specs.Layout.{slotSize, slotPlace, countOf, slotAt, idIn, sigI
 use Rattle.table.specs.Sound.{textReads, slotSound, sound}
 use Rattle.table.proofs.Bytes.{clauses}
 use Rattle.table.proofs.Passes.{pubkey-hex}
+use Rattle.query.proofs.Tables.{slot-sound}
 use Rattle.reply.specs.Replies.{event, objectText, replyText, reasons, reasonOf}
 use Rattle.reply.specs.Respond.{slotText, slotLine}
-use Rattle.reply.proofs.Shown.{slot-sound}
 use Rattle.reply.proofs.Streamed.{slot-text-is}
 
 -- ---- quotes, hex
@@ -88,7 +88,7 @@ module _ (b : List ℕ) (k : ℕ) (s : sound b ≡ true) (h : k < countOf b) whe
 
   pub text-small : lengthIn (slotAt b k) ≤ 4096
   unfolding slotSound textReads
-  text-small = leb-true (lengthIn (slotAt b k)) mostText (both (leb (lengthIn (slotAt b k)) mostText) _ (both (textReads (slotAt b k)) _ (slot-sound b k s h) .0) .0)
+  text-small = leb-true (lengthIn (slotAt b k)) mostText (both (leb (lengthIn (slotAt b k)) mostText) _ (both (textReads (slotAt b k)) _ (slot-sound b s k h) .0) .0)
 
   text-length : length (textIn (slotAt b k)) ≡ lengthIn (slotAt b k)
   unfolding textIn
