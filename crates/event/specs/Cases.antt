@@ -5,7 +5,8 @@ use mathlib.Core.Path.{_≡_, refl}
 use mathlib.Core.List.{List, [], _∷_}
 use lib.IntN.{pos, negsuc}
 use lib.ListN.{length}
-use Rattle.json.specs.Grammar.{classOf, run, past, oneAt, tokenAt, wordAt, literalAt, digitsAt, intAt, fracAt, expAt, numberAt, hexAt, escapedAt, charAt, charsUpTo, charsAt, stringAt, scalarAt}
+use Rattle.json.specs.Grammar.{classOf, run, past, oneAt, tokenAt, wordAt, literalAt, digitsAt, intAt, fracAt, expAt, numberAt, hexAt}
+use Rattle.json.specs.Grammar.{escapedAt, charAt, charsUpTo, charsAt, stringAt, scalarAt}
 use Rattle.json.specs.Tree.{itemsAt, treeAt}
 use Rattle.spell.specs.Spell.{hexVal, four, fourAt, shortOf, isPair, pairOf, unicodeOf, charOf, charsFrom, utf8Of, bytesOf, joined, decode}
 use Rattle.message.specs.declared.Body.{Body}
@@ -27,7 +28,8 @@ unfolding isNewer isLower
 order = (refl, refl, refl, refl, refl)
 
 -- 01 23 45 67 89 ab cd ef
-hex : hexOf (0x01 ∷ 0x23 ∷ 0x45 ∷ 0x67 ∷ 0x89 ∷ 0xab ∷ 0xcd ∷ 0xef ∷ []) ≡ 48 ∷ 49 ∷ 50 ∷ 51 ∷ 52 ∷ 53 ∷ 54 ∷ 55 ∷ 56 ∷ 57 ∷ 97 ∷ 98 ∷ 99 ∷ 100 ∷ 101 ∷ 102 ∷ []
+hex : hexOf (0x01 ∷ 0x23 ∷ 0x45 ∷ 0x67 ∷ 0x89 ∷ 0xab ∷ 0xcd ∷ 0xef ∷ [])
+    ≡ 48 ∷ 49 ∷ 50 ∷ 51 ∷ 52 ∷ 53 ∷ 54 ∷ 55 ∷ 56 ∷ 57 ∷ 97 ∷ 98 ∷ 99 ∷ 100 ∷ 101 ∷ 102 ∷ []
 unfolding hexOf
 hex = refl
 
@@ -58,9 +60,10 @@ outputs = (refl, refl)
 answers : (answered 0 2 ≡ Wrote 2) × (answered 9 2 ≡ Refused 9)
 answers = (refl, refl)
 
--- [ ["\u0064","\/"],[]] : what the strings say, not how they are spelled; what is no string of a tag, and no tag, is empty: [1,[7]]
+-- [ ["\u0064","\/"],[]]: what the strings say, not how they are spelled. [1,[7]]: what is no tag, and no string of a tag, is empty
 tags :
-    (tagsAt (91 ∷ 32 ∷ 91 ∷ 34 ∷ 92 ∷ 117 ∷ 48 ∷ 48 ∷ 54 ∷ 52 ∷ 34 ∷ 44 ∷ 34 ∷ 92 ∷ 47 ∷ 34 ∷ 93 ∷ 44 ∷ 91 ∷ 93 ∷ 93 ∷ []) 0 ≡ ((100 ∷ []) ∷ (47 ∷ []) ∷ []) ∷ [] ∷ [])
+    (tagsAt (91 ∷ 32 ∷ 91 ∷ 34 ∷ 92 ∷ 117 ∷ 48 ∷ 48 ∷ 54 ∷ 52 ∷ 34 ∷ 44 ∷ 34 ∷ 92 ∷ 47 ∷ 34 ∷ 93 ∷ 44 ∷ 91 ∷ 93 ∷ 93 ∷ []) 0
+    ≡ ((100 ∷ []) ∷ (47 ∷ []) ∷ []) ∷ [] ∷ [])
     × (tagsAt (91 ∷ 49 ∷ 44 ∷ 91 ∷ 55 ∷ 93 ∷ 93 ∷ []) 0 ≡ [] ∷ ([] ∷ []) ∷ [])
 unfolding tagsAt tagsOf stringsOf classOf run past oneAt tokenAt wordAt literalAt digitsAt intAt fracAt expAt numberAt hexAt escapedAt charAt charsUpTo charsAt stringAt scalarAt itemsAt treeAt hexVal four fourAt shortOf isPair pairOf unicodeOf charOf charsFrom utf8Of bytesOf joined decode
 tags = (refl, refl)

@@ -143,7 +143,8 @@ module _ (E : Events) (Sig : Type 0) (M : Machine E Sig) (Good : M .State → Ty
     same : map judge before ≡ ps
     brings : judge offer ≡ j
 
-  split-behind : (o : Offering) (os : List Offering) (p : Offer S) (ps : List (Offer S)) (j : Offer S) → judge o ≡ p → Split os ps j → Split (o ∷ os) (p ∷ ps) j
+  split-behind : (o : Offering) (os : List Offering) (p : Offer S) (ps : List (Offer S)) (j : Offer S)
+      → judge o ≡ p → Split os ps j → Split (o ∷ os) (p ∷ ps) j
   split-behind o os p ps j q s = record {
     before = o ∷ s .before;
     offer = s .offer;
@@ -277,8 +278,14 @@ module _ (E : Events) (Sig : Type 0) (M : Machine E Sig) (Good : M .State → Ty
       let (os, r) = tells-list xs (λ s m. f s (List·Memᴰ·tail m)) in (
         o ∷ os,
         record {
-          each = λ s m. ⊎-elim (λ z. (o, List·Memᴰ·head refl, rw z t)) (λ k. let (a, b, c) = r .each s k in (a, List·Memᴰ·tail b, c)) (List·Memᴰ·cases-cons m);
-          no-other = λ a m. ⊎-elim (λ z. (x, List·Memᴰ·head refl, rw z t)) (λ k. let (s, b, c) = r .no-other a k in (s, List·Memᴰ·tail b, c)) (List·Memᴰ·cases-cons m);
+          each = λ s m. ⊎-elim
+              (λ z. (o, List·Memᴰ·head refl, rw z t))
+              (λ k. let (a, b, c) = r .each s k in (a, List·Memᴰ·tail b, c))
+              (List·Memᴰ·cases-cons m);
+          no-other = λ a m. ⊎-elim
+              (λ z. (x, List·Memᴰ·head refl, rw z t))
+              (λ k. let (s, b, c) = r .no-other a k in (s, List·Memᴰ·tail b, c))
+              (List·Memᴰ·cases-cons m);
         },
       )
 

@@ -113,7 +113,9 @@ module _ (E : Events) (Sig : Type 0) (M : Machine E Sig) where
     -- a fresh table holds nothing: what it holds would be a valid event of the empty list
     empty : (b : State) → Fresh b → slots b ≡ []
     unfolding runOn
-    empty b f = no-entry (slots b) (λ s m. List·Memᴰ·not-nil (settles b [] f (λ e g v. absurd (List·Memᴰ·not-nil v)) (omega arith) .held (s .0) .0 (Memᴰ·map (event E Sig) m) .0))
+    empty b f =
+        let none = settles b [] f (λ e g v. absurd (List·Memᴰ·not-nil v)) (omega arith) in
+        no-entry (slots b) (λ s m. List·Memᴰ·not-nil (none .held (s .0) .0 (Memᴰ·map (event E Sig) m) .0))
 
     module _ (b : State) (f : Fresh b) where
       -- after one offer of a regular event that event alone is held
@@ -159,7 +161,8 @@ module _ (E : Events) (Sig : Type 0) (M : Machine E Sig) where
       pub made-up-count : Laws E → (os : List Offering) → IdPremise E (judged E Sig M os) → slotsNeeded E (judged E Sig M os) ≤ capacity b
           → (n : ℕ) → n ≢ slotsNeeded E (judged E Sig M os) → length (slots (runOn E Sig M b os)) ≢ n
       made-up-count L os ids le n ne q =
-          ne (sym q ∙ sym (length-map (slots (runOn E Sig M b os)) (event E Sig)) ∙ settled-count E L (view E Sig M (runOn E Sig M b os)) (judged E Sig M os) ids (settles b os f ids le))
+          let c = settled-count E L (view E Sig M (runOn E Sig M b os)) (judged E Sig M os) ids (settles b os f ids le) in
+          ne (sym q ∙ sym (length-map (slots (runOn E Sig M b os)) (event E Sig)) ∙ c)
 
       -- after an offer the table holds the event with the very signature that was offered
       pub held-signature : SignatureStoredOn E Sig M → (o : Offering) (e : Event) (v : OfRegular o e) → 1 ≤ capacity b
@@ -179,7 +182,8 @@ module _ (E : Events) (Sig : Type 0) (M : Machine E Sig) where
       other-signature sigs o e v le other = held-signature sigs o e v le (other b o (e, v .signature) (v .valid))
 
   -- "one verdict .. for all": the first offer of a regular event is stored, and the second is a duplicate
-  pub one-verdict : (Good : State → Type 0) → Faithful E Sig M Good → Laws E → (b : State) → Fresh b → (o : Offering) (e : Event) → OfRegular o e → 1 ≤ capacity b
+  pub one-verdict : (Good : State → Type 0) → Faithful E Sig M Good → Laws E
+      → (b : State) → Fresh b → (o : Offering) (e : Event) → OfRegular o e → 1 ≤ capacity b
       → ((b c : State) (o p : Offering) → verdictOf (answer b o) ≡ verdictOf (answer c p)) → ⊥
   one-verdict Good F L b f o e v le same =
       let S : Events = withSignature E Sig in

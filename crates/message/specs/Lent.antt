@@ -30,7 +30,7 @@ use Rattle.message.specs.declared.FilterParts.{FilterParts}
 abbrev pub lowest : Bool → Bool → Bool → Bool → Bool → Bool → ℕ
 lowest row2 row4 row5 row6 row7 row8 = cond row2 2 (cond row4 4 (cond row5 5 (cond row6 6 (cond row7 7 (cond row8 8 0)))))
 
--- the lower of two rows, where 0 is none
+-- "Where several hold, the lowest number is given": the lower of two rows, where 0 is none
 abbrev pub lowerRow : ℕ → ℕ → ℕ
 lowerRow r s = cond (eqb r 0) s (cond (eqb s 0) r (min r s))
 

@@ -21,7 +21,9 @@ fresh : Fresh freshTable
 fresh = just-formatted programSlots (replicate (tableSize programSlots) 0) row-0
 
 pub stays-sound : StaysSound
-stays-sound ms = ap sound (all-offered freshTable ms) ∙ good-run tableEvents Signature relay Good faithful freshTable (map asMessage ms) fresh .is-sound
+stays-sound ms =
+    ap sound (all-offered freshTable ms)
+    ∙ good-run tableEvents Signature relay Good faithful freshTable (map asMessage ms) fresh .is-sound
 
 pub program-settles : ProgramSettles
 program-settles ms ids fit =

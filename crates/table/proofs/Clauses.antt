@@ -66,7 +66,8 @@ shared-key e f t = go (classOf (e .kind)) (classOf (f .kind)) t
     same : {x y : Key} → T (sameKey y x) → x ≡ y
     same {x} {y} t = sym (event-laws .key-eq y x .0 t)
 
-    go : (c d : kinds.Class) → T (shareKey sameKey (classFor d (keyIn d f)) (classFor c (keyIn c e))) → (hasKey (keyIn c e) ≡ true) × (keyIn c e ≡ keyIn d f)
+    go : (c d : kinds.Class) → T (shareKey sameKey (classFor d (keyIn d f)) (classFor c (keyIn c e)))
+        → (hasKey (keyIn c e) ≡ true) × (keyIn c e ≡ keyIn d f)
     go c Regular t = absurd t
     go c Ephemeral t = absurd t
     go Regular Replaceable t = absurd t

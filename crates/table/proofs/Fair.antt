@@ -124,7 +124,8 @@ judged-tells b p s e = go (isValid (asParts b p)) refl e
 -- ---- what a list of offers leaves in a fresh table
 pub told-exactly : ToldExactly
 told-exactly b os s f m c p =
-    (λ t. passes (runOn tableEvents Signature relay b os) (asParts c p) s (good-run tableEvents Signature relay Good faithful b os f) m t, judged-tells c p s)
+    let g = good-run tableEvents Signature relay Good faithful b os f in
+    (λ t. passes (runOn tableEvents Signature relay b os) (asParts c p) s g m t, judged-tells c p s)
 
 pub tellable : Tellable
 tellable b os s f m = held.tellable (runOn tableEvents Signature relay b os) s (good-run tableEvents Signature relay Good faithful b os f) m

@@ -147,20 +147,19 @@ module _ (h : Held) (f : Fits h) where
   pub slot-sound : isEphemeral (h .event .kind) ≡ false → slotSound (slotBytes h) ≡ true
   unfolding slotSound textReads fieldsAgree isLasting zeroAfterText agreesWith
   slot-sound k =
+      let s = slotBytes h in
+      let e = h .event in
       let l = f .text in
-      rw (
+      simp (
         slot-reads,
-        le-leb (lengthIn (slotBytes h)) mostText (omega (arith, slot-text-length)),
-        eq-eqb (fieldAt (slotBytes h) 96 8) (unsigned (h .event .time)) slot-time,
-        slot-d,
-        slot-kind,
-        eq-eqb (h .event .kind) (h .event .kind) refl,
-        eq-eqb (dPlace (h .event) .at) (dPlace (h .event) .at) refl,
-        eq-eqb (dPlace (h .event) .len) (dPlace (h .event) .len) refl,
-        k,
-        slot-rest,
+        le-leb (lengthIn s) mostText (omega (arith, slot-text-length)),
+        eq-eqb (fieldAt s 96 8) (unsigned (e .time)) slot-time,
+        eq-eqb (kindIn s) (e .kind) slot-kind,
+        eq-eqb (dIn s .at) (dPlace e .at) (ap (λ p. p .at) slot-d),
+        eq-eqb (dIn s .len) (dPlace e .len) (ap (λ p. p .len) slot-d),
+        ap isEphemeral slot-kind ∙ k,
+        ap isZero slot-rest ∙ zeros-zero (mostText - length (serialise e)),
       )
-      (zeros-zero (mostText - length (serialise (h .event))))
 
 -- ---- what soundness says of a slot whose text is read as e
 pub read-of : (r : Read) → isRead r ≡ true → (e : Event) × (r ≡ read e)
@@ -187,7 +186,9 @@ module _ (s : List ℕ) (ok : slotSound s ≡ true) where
 
   pub sound-lasting : isEphemeral (kindIn s) ≡ false
   unfolding isLasting
-  sound-lasting = not-true (isEphemeral (kindIn s)) (both (isLasting s) (zeroAfterText s) (both (fieldsAgree s) (isLasting s && zeroAfterText s) rest-sound .1) .0)
+  sound-lasting =
+      not-true (isEphemeral (kindIn s))
+      (both (isLasting s) (zeroAfterText s) (both (fieldsAgree s) (isLasting s && zeroAfterText s) rest-sound .1) .0)
 
   pub sound-rest : isZero (restIn s) ≡ true
   unfolding zeroAfterText

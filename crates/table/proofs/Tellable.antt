@@ -8,7 +8,7 @@ use Prim.Native.Nat.{ℕ, _+_}
 use native.Mathlib.Omega.{arith}
 use borrow.Author.Tests.{le-leb}
 use lib.IntN.{pos}
-use lib.ListN.{length, length-append}
+use lib.ListN.{length, drop, length-append}
 use lib.Seq.{take-at, drop-at}
 use Rattle.wire.specs.Bytes.{isHex}
 use Rattle.wire.specs.Escape.{escape}
@@ -127,7 +127,9 @@ module _ (t : List ℕ) (e : Event) (a : IsTextOf t e) where
     unfolding serialise
     told-pubkey =
         let z : opening ++ (e .pubkey ++ (back e ++ (tagsText (e .tags) ++ (comma ++ after e r)))) ≡ t ++ r = whole (simp append-assoc) in
-        rw z at (spells-hex opening (e .pubkey) (back e ++ (tagsText (e .tags) ++ (comma ++ after e r))) 4 64 refl pubkey-size (pubkey-hex (e .pubkey) (limits .pubkey)))
+        rw z at
+        (spells-hex opening (e .pubkey) (back e ++ (tagsText (e .tags) ++ (comma ++ after e r))) 4 64 refl pubkey-size
+        (pubkey-hex (e .pubkey) (limits .pubkey)))
 
     told-content : Spells (t ++ r) (contentPart e) (e .content)
     unfolding serialise quoted
@@ -142,7 +144,8 @@ module _ (t : List ℕ) (e : Event) (a : IsTextOf t e) where
     told-tags =
         let k = tagsText (e .tags) in
         let z : t ++ r ≡ front e ++ ((k ++ (44 ∷ [])) ++ after e r) = sym (whole (simp append-assoc)) in
-        let b = spelt (t ++ r) (k ++ (44 ∷ [])) (after e r) (tagsPlace e) (tagsPlace e + length (k ++ (44 ∷ []))) (rw z (drop-at (front e) ((k ++ (44 ∷ [])) ++ after e r) (tagsPlace e) front-size)) refl in
+        let d : drop (tagsPlace e) (t ++ r) ≡ (k ++ (44 ∷ [])) ++ after e r = rw z (drop-at (front e) ((k ++ (44 ∷ [])) ++ after e r) (tagsPlace e) front-size) in
+        let b = spelt (t ++ r) (k ++ (44 ∷ [])) (after e r) (tagsPlace e) (tagsPlace e + length (k ++ (44 ∷ []))) d refl in
         tags-spelled (t ++ r) (e .tags) (tagsPlace e) (tagsPlace e + length k) (limits .tags) (left k (44 ∷ []) b) (byte-is (right k (44 ∷ []) b))
 
   -- the text alone
@@ -166,7 +169,8 @@ toldParts s e = record {
   sig = record { start = length (s .0 .text) + 64; len = 128 };
 }
 
-module _ (s : SignedEvent) (e : Event) (a : IsTextOf (s .0 .text) e) (id-length : length (hexOf (s .0 .id)) ≡ 64) (id-hex : spell.all isHex (hexOf (s .0 .id)) ≡ true)
+module _ (s : SignedEvent) (e : Event) (a : IsTextOf (s .0 .text) e)
+    (id-length : length (hexOf (s .0 .id)) ≡ 64) (id-hex : spell.all isHex (hexOf (s .0 .id)) ≡ true)
     (sig-length : length (hexOf (s .1)) ≡ 128) (sig-hex : spell.all isHex (hexOf (s .1)) ≡ true) where
   told-id : Spells (toldIn s) (toldParts s e .id) (hexOf (s .0 .id))
   told-id = spells-hex (s .0 .text) (hexOf (s .0 .id)) (hexOf (s .1)) (length (s .0 .text)) 64 refl id-length id-hex

@@ -125,7 +125,8 @@ module _ (answer′ : List ℕ → Offering → Offered) (next′ : List ℕ →
     pub stores-nothing : ((b : List ℕ) (o : Offering) → view (next′ b o) ≡ view b) → ⊥
     stores-nothing idle =
         let (o, v, _) = offer-of 0 suits₀ in
-        wrong.stores-nothing tableEvents Signature another held room table table-fresh o (named (noted 0)) (of-regular v) (omega (arith, table-two)) idle
+        wrong.stores-nothing tableEvents Signature another held room table table-fresh o (named (noted 0)) (of-regular v)
+        (omega (arith, table-two)) idle
 
     -- one that refuses everything, if it keeps "every lent buffer stays as found"
     pub refuses-all : ((b : List ℕ) (o : Offering) → isStored (answer′ b o) ≡ false → next′ b o ≡ b) → ((b : List ℕ) (o : Offering) → isStored (answer′ b o) ≡ false) → ⊥
@@ -136,35 +137,40 @@ module _ (answer′ : List ℕ → Offering → Offered) (next′ : List ℕ →
     stores-first-only idle =
         let (o, v, _) = offer-of 0 suits₀ in
         let (p, w, _) = offer-of 1 suits₁ in
-        wrong.stores-first-only tableEvents Signature another held room table table-fresh o p (named (noted 0)) (named (noted 1)) (of-regular v) (of-regular w) ids-differ
-        (omega (arith, table-two)) idle
+        wrong.stores-first-only tableEvents Signature another held room table table-fresh o p (named (noted 0)) (named (noted 1))
+        (of-regular v) (of-regular w) ids-differ (omega (arith, table-two)) idle
 
     -- "a made-up held count .. (the header ..)": one that no offer changes, and any other than the slots needed
     pub constant-count : ((b : List ℕ) (o : Offering) → countOf (next′ b o) ≡ countOf b) → ⊥
     constant-count idle =
         let (o, v, _) = offer-of 0 suits₀ in
-        wrong.constant-count tableEvents Signature another held room table table-fresh event-laws o (named (noted 0)) (of-regular v) (omega (arith, table-two))
-        (λ b o. length-view (next′ b o) ∙ idle b o ∙ sym (length-view b))
+        wrong.constant-count tableEvents Signature another held room table table-fresh event-laws o (named (noted 0)) (of-regular v)
+        (omega (arith, table-two)) (λ b o. length-view (next′ b o) ∙ idle b o ∙ sym (length-view b))
 
     pub made-up-count : (b : List ℕ) → Fresh b → (os : List Offering) → IdPremise tableEvents (judged tableEvents Signature another os)
         → slotsNeeded tableEvents (judged tableEvents Signature another os) ≤ capacityOf b
         → (n : ℕ) → n ≢ slotsNeeded tableEvents (judged tableEvents Signature another os) → countOf (runOn tableEvents Signature another b os) ≢ n
     made-up-count b f os ids le n ne q =
-        wrong.made-up-count tableEvents Signature another held room b f event-laws os ids le n ne (length-view (runOn tableEvents Signature another b os) ∙ q)
+        wrong.made-up-count tableEvents Signature another held room b f event-laws os ids le n ne
+        (length-view (runOn tableEvents Signature another b os) ∙ q)
 
     -- one that stores another signature than the offer's, and so one that stores 64 zero bytes for every signature
-    pub other-signature : SignatureStoredOn tableEvents Signature another → ((b : List ℕ) (o : Offering) (s : SignedEvent) → judge o ≡ some s → s ∈ view (next′ b o) → ⊥) → ⊥
+    pub other-signature : SignatureStoredOn tableEvents Signature another
+        → ((b : List ℕ) (o : Offering) (s : SignedEvent) → judge o ≡ some s → s ∈ view (next′ b o) → ⊥) → ⊥
     other-signature sigs other =
         let (o, v, _) = offer-of 0 suits₀ in
-        wrong.other-signature tableEvents Signature another held room table table-fresh sigs o (named (noted 0)) (of-regular v) (omega (arith, table-two)) other
+        wrong.other-signature tableEvents Signature another held room table table-fresh sigs o (named (noted 0)) (of-regular v)
+        (omega (arith, table-two)) other
 
-    pub zero-signature : SignatureStoredOn tableEvents Signature another → ((b : List ℕ) (o : Offering) (s : SignedEvent) → s ∈ view (next′ b o) → s .1 ≡ signature 0) → ⊥
+    pub zero-signature : SignatureStoredOn tableEvents Signature another
+        → ((b : List ℕ) (o : Offering) (s : SignedEvent) → s ∈ view (next′ b o) → s .1 ≡ signature 0) → ⊥
     unfolding of-regular
     zero-signature sigs zero =
         let (o, v, q) = offer-of 0 suits₀ in
-        let zeros : (named (noted 0), v .signature) ∈ view (next′ table o) → signature 1 ≡ signature 0 = λ m. sym q ∙ zero table o (named (noted 0), v .signature) m in
-        wrong.held-signature tableEvents Signature another held room table table-fresh sigs o (named (noted 0)) (of-regular v) (omega (arith, table-two))
-        (λ m. omega (arith, ap (λ (l : List ℕ). getD l 0 0) (zeros m)))
+        let s : SignedEvent = (named (noted 0), v .signature) in
+        let zeros : s ∈ view (next′ table o) → signature 1 ≡ signature 0 = λ m. sym q ∙ zero table o s m in
+        wrong.held-signature tableEvents Signature another held room table table-fresh sigs o (named (noted 0)) (of-regular v)
+        (omega (arith, table-two)) (λ m. omega (arith, ap (λ (l : List ℕ). getD l 0 0) (zeros m)))
 
 -- ---- this relay meets the claims, and so is none of these
 pub stores-something : ((b : List ℕ) (o : Offering) → view (next b o) ≡ view b) → ⊥

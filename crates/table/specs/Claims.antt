@@ -1,5 +1,5 @@
 -- What is claimed of a table beside demand 3 (specs/Relay). Quotes are from 01. Proofs: Formatted, Rows, Faithful,
--- Unread, Texts, SoundBytes, DPlaces, Shown, Tellable, Fair.
+-- Unread, Texts, Clauses, SoundBytes, DPlaces, Shown, Tellable, Fair.
 use mathlib.Core.Path.{_≡_}
 use mathlib.Core.Bool.{true, false}
 use mathlib.Core.Logic.{_↔_, _⊎_, _≢_}

@@ -1,23 +1,25 @@
 -- Worked tables of the text's bytes and escapes, of kinds, and of d: each computed, so that a slip in a definition shows.
 use mathlib.Core.Path.{_≡_, refl}
 use mathlib.Core.Bool.{not}
-use mathlib.Core.List.{List, [], _∷_, map}
+use mathlib.Core.List.{[], _∷_, map}
 use lib.Dec.{eqb}
 use Rattle.wire.specs.Bytes.{those}
 use Rattle.wire.specs.Escape.{letterOf}
 use Rattle.utf8.specs.Utf8.{isUtf8, utf8From, leadOf}
 use Rattle.text.specs.Event.{isPlainByte}
-use Rattle.text.specs.Read.{Got, none, got, byteOf, isRaw, bodyFrom, stringAt}
+use Rattle.text.specs.Read.{none, got, byteOf, isRaw, bodyFrom, stringAt}
 use Rattle.text.specs.Kinds.{classOf, dOf}
 use Rattle.text.specs.declared.Class.the-variants.{Regular, Replaceable, Ephemeral, Addressable}
 
 -- ---- of 256 bytes: those that no string may hold, and those that never stand as they are
-refused-bytes : those (λ b. not (isPlainByte b)) 256 ≡ 0x00 ∷ 0x01 ∷ 0x02 ∷ 0x03 ∷ 0x04 ∷ 0x05 ∷ 0x06 ∷ 0x07 ∷ 0x0b ∷ 0x0e ∷ 0x0f ∷ 0x10 ∷ 0x11 ∷ 0x12 ∷ 0x13 ∷ 0x14 ∷ 0x15 ∷ 0x16 ∷ 0x17 ∷ 0x18 ∷ 0x19 ∷ 0x1a ∷ 0x1b ∷ 0x1c ∷ 0x1d ∷ 0x1e ∷ 0x1f ∷ []
+refused-bytes : those (λ b. not (isPlainByte b)) 256
+    ≡ 0 ∷ 1 ∷ 2 ∷ 3 ∷ 4 ∷ 5 ∷ 6 ∷ 7 ∷ 11 ∷ 14 ∷ 15 ∷ 16 ∷ 17 ∷ 18 ∷ 19 ∷ 20 ∷ 21 ∷ 22 ∷ 23 ∷ 24 ∷ 25 ∷ 26 ∷ 27 ∷ 28 ∷ 29 ∷ 30 ∷ 31 ∷ []
 unfolding isPlainByte
 refused-bytes = refl
 
 never-raw : those (λ b. not (isRaw b)) 256
-    ≡ 0x00 ∷ 0x01 ∷ 0x02 ∷ 0x03 ∷ 0x04 ∷ 0x05 ∷ 0x06 ∷ 0x07 ∷ 0x08 ∷ 0x09 ∷ 0x0a ∷ 0x0b ∷ 0x0c ∷ 0x0d ∷ 0x0e ∷ 0x0f ∷ 0x10 ∷ 0x11 ∷ 0x12 ∷ 0x13 ∷ 0x14 ∷ 0x15 ∷ 0x16 ∷ 0x17 ∷ 0x18 ∷ 0x19 ∷ 0x1a ∷ 0x1b ∷ 0x1c ∷ 0x1d ∷ 0x1e ∷ 0x1f ∷ 0x22 ∷ 0x5c ∷ []
+    ≡ 0 ∷ 1 ∷ 2 ∷ 3 ∷ 4 ∷ 5 ∷ 6 ∷ 7 ∷ 8 ∷ 9 ∷ 10 ∷ 11 ∷ 12 ∷ 13 ∷ 14 ∷ 15 ∷ 16 ∷ 17 ∷ 18 ∷ 19
+    ∷ 20 ∷ 21 ∷ 22 ∷ 23 ∷ 24 ∷ 25 ∷ 26 ∷ 27 ∷ 28 ∷ 29 ∷ 30 ∷ 31 ∷ 34 ∷ 92 ∷ []
 unfolding isRaw isPlainByte letterOf
 never-raw = refl
 
@@ -30,7 +32,7 @@ stand-for : map byteOf (34 ∷ 92 ∷ 98 ∷ 102 ∷ 110 ∷ 114 ∷ 116 ∷ [])
 unfolding byteOf
 stand-for = refl
 
--- "\\\"n" after a comma is \"n, and ends after six bytes and a comma; "\/" and "\u0041" are no spellings of the text; a raw 09 is none
+-- the string of ,"\\\"n"] at 1 is \"n and ends before the bracket; "\/", "\u0041" and a raw 09 are no spellings of the text; / and 7F stand as they are
 strings :
     (stringAt (44 ∷ 34 ∷ 92 ∷ 92 ∷ 92 ∷ 34 ∷ 110 ∷ 34 ∷ 93 ∷ []) 1 ≡ got (92 ∷ 34 ∷ 110 ∷ []) 8)
     × (stringAt (34 ∷ 92 ∷ 47 ∷ 34 ∷ []) 0 ≡ none)
