@@ -355,6 +355,47 @@ fn parts_alike(text: &[u8]) {
     }
 }
 
+fn back_timed(name: &str, t: &[u8]) {
+    let (mut a, mut b) = ([0; 7], [0; 7]);
+    let (proved, plain) = race(
+        || {
+            black_box(proved_read_text(black_box(t), &mut a));
+            black_box(&mut a);
+        },
+        || {
+            black_box(plain_read_text(black_box(t), &mut b));
+            black_box(&mut b);
+        },
+    );
+    row(&format!("read back, {name}, {} bytes", t.len()), proved, plain);
+}
+
+// Texts in which bytes that stand as they are come in short runs.
+fn back() {
+    let d = "[\"d\",\"floor 3\"]";
+    let cases = [
+        ("lines", messages::sized(4096, d, "a tile of floor 3, read by cart 17 \\n")),
+        ("words in quotes", messages::sized(4096, d, "said \\\"no\\\" to it, and \\\"yes\\\" to that\\n")),
+        ("words of Latin with accents", messages::sized(4096, d, "der Weg über die Brücke führt nach Köln, ")),
+        ("short tags", messages::sized(2048, &vec!["[\"t\",\"shelf\",\"a\",\"door 4\"]"; 60].join(","), "the shelf by the door has moved")),
+    ];
+    for (name, text) in &cases {
+        let Ok(Message::Event(e)) = plain_message::read(text) else { panic!("{name}") };
+        let mut out = vec![0u8; 4096];
+        let n = plain_event::serialise(text, &e.body, &mut out).unwrap();
+        assert_eq!(text_alike(&out[..n]), 0, "{name}");
+        for at in 0..n {
+            let was = out[at];
+            for byte in [b'"', b'\\', b'x', 0x1f, 0x80, 0xc3, 0xed, 0xf4] {
+                out[at] = byte;
+                text_alike(&out[..n]);
+            }
+            out[at] = was;
+        }
+        back_timed(name, &out[..n]);
+    }
+}
+
 fn event() {
     for line in lines(MESSAGE_CASES).chain(lines(EVENT_CASES)) {
         parts_alike(line);
@@ -390,19 +431,7 @@ fn event() {
             },
         );
         row(&format!("serialise, {name}, {n} bytes"), proved, plain);
-        let (mut a, mut b) = ([0; 7], [0; 7]);
-        let t = out[..n].to_vec();
-        let (proved, plain) = race(
-            || {
-                black_box(proved_read_text(black_box(&t), &mut a));
-                black_box(&mut a);
-            },
-            || {
-                black_box(plain_read_text(black_box(&t), &mut b));
-                black_box(&mut b);
-            },
-        );
-        row(&format!("read back, {name}, {n} bytes"), proved, plain);
+        back_timed(name, &out[..n]);
         let (proved, plain) = race(
             || {
                 black_box(proved_id(black_box(text), black_box(&p))).ok();
@@ -436,7 +465,8 @@ fn event() {
 fn main() {
     let named: Vec<String> = std::env::args().skip(1).collect();
     println!("{:<54} {:>12} {:>12} {:>7}", "", "proved, ns", "plain, ns", "ratio");
-    let all: [(&str, fn()); 5] = [("digest", digest), ("text_row", text_row), ("message_row", message_row), ("read", read), ("event", event)];
+    let all: [(&str, fn()); 6] =
+        [("digest", digest), ("text_row", text_row), ("message_row", message_row), ("read", read), ("event", event), ("back", back)];
     for (name, run) in all {
         if named.is_empty() || named.iter().any(|n| n == name) {
             run();

@@ -1,12 +1,13 @@
 -- What an answer of the digest says of its message; a law for each way out of a call that writes into a lent row; the numbers of filters.
 use mathlib.Core.Path.{_≡_, refl, sym, ap, _∙_}
-use mathlib.Core.List.{List, [], _++_}
-use Prim.Native.Nat.{ℕ, suc, _+_, _-_, _^_, _≤_, _<_}
+use mathlib.Core.List.{List, [], _∷_, _++_}
+use Prim.Native.Nat.{ℕ, suc, _+_, _-_, _*_, _^_, _≤_, _<_}
 use native.Mathlib.Decide.{decLe}
 use native.Mathlib.Omega.{arith}
 use borrow.Author.Tests.{le-leb, lt-leb, eq-eqb, ne-eqb}
 use lib.IntN.{ℤ}
-use lib.ListN.{length, drop}
+use lib.ListN.{length, take, drop, getD, length-append, length-take, length-drop, drop-of-length-le}
+use lib.Seq.{drop-cons, take-nil}
 use lib.Signed.{mag}
 use mir.Syntax.{w64}
 use mir.Val.{toZ, ofZ, SFits}
@@ -18,15 +19,12 @@ use Rattle.digest.specs.State.{most, digested}
 use Rattle.digest.specs.Pieces.{digest-done, digest-refused}
 use Rattle.wire.specs.Put.{put, Puts}
 use Rattle.wire.specs.Field.{unsigned}
-use Rattle.wire.proofs.Laws.{put-over, Rest, rest-start}
-use Rattle.message.specs.Parts.{filterAt}
-use Rattle.message.specs.Lists.{upTo, nextOf, elementsFrom}
+use Rattle.wire.proofs.Laws.{put-over, puts-whole, Rest, rest-start}
 use Rattle.message.specs.declared.Body.{Body}
-use Rattle.message.specs.declared.Element.{Element}
-use Rattle.message.specs.declared.Element.the-variants.{At, Ended, Broken}
+use Rattle.message.specs.declared.FilterParts.{FilterParts}
 use Rattle.event.specs.Answer.{numberOf, serialised, serialisedOut}
 use Rattle.event.specs.declared.Written.{Written}
-use Rattle.capi.specs.Numbers.{filterNumbers, filtersAt, filtersFrom, bodyFrom}
+use Rattle.capi.specs.Numbers.{filterNumbers, partsNumbers, bodyFrom}
 use Rattle.capi.specs.Calls.{digestRow, digestOut, lentRow, lentOut, lengthOr}
 
 length-digest : (l : List ℕ) → length (digest l) ≡ 32
@@ -107,34 +105,23 @@ module _ (b : List ℕ) (p : Body) (out : List ℕ) {x : Body} {w : Written} {o 
       (numberOf v ≡ numberOf (serialised b p out)) × ((o ≡ serialisedOut b p out) × (lengthOr v m ≡ lengthOr (serialised b p out) m))
   said-length m h = (ap numberOf (written-as h), (bytes-as, ap (λ z. lengthOr z m) (written-as h)))
 
--- ---- the filters of a REQ, and those that are left after k
-pub filters-all : (s : List ℕ) (first : ℕ) (d : List ℕ) (i : ℕ) → i ≤ length d → Rest d i (filtersFrom s first) d i (filtersAt s (upTo (length s - 0) s (At first)))
-unfolding filtersFrom elementsFrom
-filters-all s first d i h =
-    let n : length s - 0 ≡ length s = omega arith in
-    rw n (rest-start d i (filtersAt s (upTo (length s) s (At first))) h)
+-- ---- filters: ten numbers each, and those that are left after i
+pub length-parts : (ps : List FilterParts) → length (partsNumbers ps) ≡ 10 * length ps
+length-parts [] = refl
+length-parts (p ∷ ps) = let h = length-parts ps in simp length-append (omega arith)
 
-module _ (s : List ℕ) (k : ℕ) (x : Element) where
-  module _ (h : k < length s) where
-    pub filters-turn : (v : ℕ) (y : Element) → x ≡ At v → y ≡ nextOf s v
-        → filtersAt s (upTo (length s - k) s x) ≡ filterNumbers (filterAt s v) ++ filtersAt s (upTo (length s - (k + 1)) s y)
-    unfolding filtersAt upTo
-    filters-turn v y e f =
-        let n : length s - k ≡ suc (length s - (k + 1)) = omega arith in
-        rw (e, n, f)
+module _ (fs : List FilterParts) (n i : ℕ) where
+  abbrev pub leftParts : List ℕ
+  leftParts = partsNumbers (take (n - i) (drop i fs))
 
-    pub filters-ended : x ≡ Ended → filtersAt s (upTo (length s - k) s x) ≡ []
-    unfolding filtersAt upTo
-    filters-ended e =
-        let n : length s - k ≡ suc (length s - (k + 1)) = omega arith in
-        rw (e, n)
+  pub filters-turn : (z : FilterParts) → i < n → i < length fs → leftParts ≡ filterNumbers (getD fs i z) ++ partsNumbers (take (n - (i + 1)) (drop (i + 1) fs))
+  filters-turn z h k =
+      let m : n - i ≡ suc (n - (i + 1)) = omega arith in
+      let e : suc i ≡ i + 1 = omega arith in
+      rw (m, drop-cons fs i z k, e) refl
 
-    pub filters-broken : x ≡ Broken → filtersAt s (upTo (length s - k) s x) ≡ []
-    unfolding filtersAt upTo
-    filters-broken e =
-        let n : length s - k ≡ suc (length s - (k + 1)) = omega arith in
-        rw (e, n)
+  pub filters-spent : length fs ≤ i → leftParts ≡ []
+  filters-spent h = rw (drop-of-length-le fs {i = i} h, take-nil {A = FilterParts} (n - i)) refl
 
-  pub filters-past : length s ≤ k → filtersAt s (upTo (length s - k) s x) ≡ []
-  unfolding filtersAt upTo
-  filters-past h = let n : length s - k ≡ 0 = omega arith in rw n
+  pub filters-end : n ≤ i → leftParts ≡ []
+  filters-end h = let m : n - i ≡ 0 = omega arith in rw m refl

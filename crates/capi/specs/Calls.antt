@@ -31,12 +31,12 @@ lentRow r k out = cond (eqb r 0) (cond (leb k (length out)) 0 13) r
 unfoldable pub lentOut : ℕ → ℕ → List ℕ → List ℕ → List ℕ
 lentOut r k l out = cond (eqb r 0) (cond (leb k (length out)) (put out 0 l) out) out
 
--- ---- a message read: rows 1 to 8, then its parts
+-- ---- a message read: rows 1 to 8, then its parts, which need no more room than they take
 abbrev pub readRow : List ℕ → List ℕ → ℕ
-readRow s out = lentRow (rowOf (readOf s)) 43 out
+readRow s out = lentRow (rowOf (readOf s)) (length (messageNumbers s (readOf s))) out
 
 abbrev pub readOut : List ℕ → List ℕ → List ℕ
-readOut s out = lentOut (rowOf (readOf s)) 43 (messageNumbers s (readOf s)) out
+readOut s out = lentOut (rowOf (readOf s)) (length (messageNumbers s (readOf s))) (messageNumbers s (readOf s)) out
 
 -- ---- a text read back: rows 9 and 5, then its parts
 abbrev pub readTextRow : List ℕ → List ℕ → ℕ

@@ -2,13 +2,15 @@
 use Prim.Native.Nat.{ℕ}
 use mathlib.Core.List.{List, [], _∷_, _++_}
 use lib.IntN.{ℤ}
+use lib.ListN.{take}
 use Rattle.wire.specs.Field.{unsigned}
-use Rattle.message.specs.Parts.{filterAt}
-use Rattle.message.specs.Lists.{elementsFrom}
+use Rattle.message.specs.Parts.{filtersAt}
 use Rattle.message.specs.declared.Span.{Span}
 use Rattle.message.specs.declared.Body.{Body}
 use Rattle.message.specs.declared.EventParts.{EventParts}
 use Rattle.message.specs.declared.FilterParts.{FilterParts}
+use Rattle.message.specs.declared.Filters.{Filters}
+use Rattle.message.specs.declared.ReqParts.{ReqParts}
 use Rattle.message.specs.declared.Bound.{Bound}
 use Rattle.message.specs.declared.Bound.the-variants as bound
 use Rattle.message.specs.declared.Listed.{Listed}
@@ -44,18 +46,20 @@ filterNumbers p =
     placeOf (p .ids) ∷ placeOf (p .authors) ∷ placeOf (p .kinds) ∷ flagOf (p .since) ∷ bitsOf (p .since) ∷ flagOf (p .until) ∷ bitsOf (p .until)
     ∷ flagOf (p .limit) ∷ bitsOf (p .limit) ∷ placeOf (p .conditions) ∷ []
 
--- of the filters at some places, and of all from one on
-unfoldable pub filtersAt : List ℕ → List ℕ → List ℕ
-filtersAt s [] = []
-filtersAt s (v ∷ vs) = filterNumbers (filterAt s v) ++ filtersAt s vs
+abbrev pub partsNumbers : List FilterParts → List ℕ
+partsNumbers [] = []
+partsNumbers (p ∷ ps) = filterNumbers p ++ partsNumbers ps
 
-unfoldable pub filtersFrom : List ℕ → ℕ → List ℕ
-filtersFrom s first = filtersAt s (elementsFrom s (element.At first))
+-- how many filters there are stands before them
+abbrev pub requestNumbers : List ℕ → ReqParts → List ℕ
+requestNumbers s p =
+    (2 ∷ p .subscription .start ∷ p .subscription .len ∷ filtersAt s (p .filters) .n ∷ [])
+    ++ partsNumbers (take (filtersAt s (p .filters) .n) (filtersAt s (p .filters) .parts))
 
 -- the first number says what was read: 1 an EVENT, 2 a REQ, 3 a CLOSE
 abbrev pub messageNumbers : List ℕ → Message → List ℕ
 messageNumbers s (message.Event p) = eventNumbers p
-messageNumbers s (message.Req p) = (2 ∷ p .subscription .start ∷ p .subscription .len ∷ []) ++ filtersFrom s (p .filters)
+messageNumbers s (message.Req p) = requestNumbers s p
 messageNumbers s (message.Close p) = 3 ∷ p .start ∷ p .len ∷ []
 messageNumbers s (message.Refused r) = []
 

@@ -1,24 +1,24 @@
 // The calls that Rust or C link (`rt staticlib capi`): numbers and slices of numbers only, each slice a pointer and a length.
 ghost use mathlib.Core.Path.{_≡_};
+ghost use lib.ListN.{length, take};
 ghost use Rattle.wire.specs.Put.{Puts};
 ghost use Rattle.rows.specs.Rows.{textRow};
 ghost use Rattle.shape.specs.Rows.{messageRow};
-ghost use Rattle.message.specs.Read.{rowOf};
-ghost use Rattle.capi.specs.Calls.{digestRow, digestOut, readRow, readOut, readTextRow, readTextOut, serialiseRow, serialiseOut, serialiseLength, idRow, idOut};
-ghost use Rattle.capi.specs.Numbers.{placeOf, flagOf, bitsOf, bodyFrom, eventNumbers, filterNumbers, filtersFrom, messageNumbers, textNumbers};
+ghost use Rattle.capi.specs.Calls.{digestRow, digestOut, lentRow, lentOut, readRow, readOut, readTextRow, readTextOut, serialiseRow, serialiseOut, serialiseLength, idRow, idOut};
+ghost use Rattle.capi.specs.Numbers.{placeOf, flagOf, bitsOf, bodyFrom, eventNumbers, filterNumbers, partsNumbers, requestNumbers, textNumbers};
 use message::Body;
 use message::Bound;
-use message::Element;
 use message::EventParts;
 use message::FilterParts;
 use message::Listed;
 use message::Message;
+use message::ReqParts;
 use message::Span;
 use text::Text;
 use text::TextAnswer;
 
-// The most numbers that a message's parts take: three of a REQ and ten of each filter.
-const MOST_NUMBERS: usize = 43;
+// The most filters of a REQ.
+const MOST_FILTERS: usize = 4;
 
 // The numbers of a text that is read back.
 const TEXT_NUMBERS: usize = 7;
@@ -157,85 +157,73 @@ fn filter_numbers(p: FilterParts) -> [u64; 10]
     ]
 }
 
-// The filters of a REQ from the first one on.
-fn put_filters(out: &mut [u64], at: usize, s: &[u8], first: usize) -> usize
-    ensures { λ r. ⌜ Puts (now (out .entry)) at (filtersFrom (now (s .entry)) first) r (now (out .exit)) ⌝ }
+// The first n of some filters.
+fn put_filters(out: &mut [u64], at: usize, fs: [FilterParts; 4], n: usize) -> usize
+    ensures { λ r. ⌜ Puts (now (out .entry)) at (partsNumbers (take n fs)) r (now (out .exit)) ⌝ }
 {
     if out.len() < at {
         return out.len();
     }
     let mut o = at;
-    let mut x = Element::At(first);
-    let mut k: usize = 0;
-    while k < s.len() {
-        match x {
-            Element::Ended => {
-                return o;
-            }
-            Element::Broken => {
-                return o;
-            }
-            Element::At(v) => {
-                let f = filter_numbers(message::filter_at(s, v));
-                o = put_numbers(out, o, &f);
-                x = message::next(s, v);
-            }
+    let mut i: usize = 0;
+    while i < MOST_FILTERS {
+        if n <= i {
+            return o;
         }
-        k += 1;
+        let f = filter_numbers(fs[i]);
+        o = put_numbers(out, o, &f);
+        i += 1;
     }
     o
 }
 
-fn put_message(out: &mut [u64], s: &[u8], m: Message) -> usize
-    ensures { λ r. ⌜ Puts (now (out .entry)) 0 (messageNumbers (now (s .entry)) m) r (now (out .exit)) ⌝ }
+// Numbers from the start of `out`: 13 if it has no room for them, or 0.
+fn put_row(out: &mut [u64], l: &[u64]) -> u8
+    ensures { λ r. ⌜ r ≡ lentRow 0 (length (now (l .entry))) (now (out .entry)) ⌝ }
+    ensures { λ _. ⌜ now (out .exit) ≡ lentOut 0 (length (now (l .entry))) (now (l .entry)) (now (out .entry)) ⌝ }
 {
-    match m {
-        Message::Event(p) => {
-            let l = event_numbers(p);
-            put_numbers(out, 0, &l)
-        }
-        Message::Req(p) => {
-            let subscription = p.subscription;
-            let l = [2, subscription.start as u64, subscription.len as u64];
-            let o = put_numbers(out, 0, &l);
-            put_filters(out, o, s, p.filters)
-        }
-        Message::Close(p) => {
-            let l = [3, p.start as u64, p.len as u64];
-            put_numbers(out, 0, &l)
-        }
-        Message::Refused(_) => 0,
+    if out.len() < l.len() {
+        return 13;
     }
+    put_numbers(out, 0, l);
+    0
 }
 
-fn row_of(m: Message) -> u8
-    ensures { λ r. ⌜ r ≡ rowOf m ⌝ }
+fn put_request(out: &mut [u64], s: &[u8], p: ReqParts) -> u8
+    ensures { λ r. ⌜ r ≡ lentRow 0 (length (requestNumbers (now (s .entry)) p)) (now (out .entry)) ⌝ }
+    ensures { λ _. ⌜ now (out .exit) ≡ lentOut 0 (length (requestNumbers (now (s .entry)) p)) (requestNumbers (now (s .entry)) p) (now (out .entry)) ⌝ }
 {
-    match m {
-        Message::Event(_) => 0,
-        Message::Req(_) => 0,
-        Message::Close(_) => 0,
-        Message::Refused(r) => r,
-    }
+    let subscription = p.subscription;
+    let fs = message::filters_at(s, p.filters);
+    let parts = fs.parts;
+    let n = fs.n;
+    let head = [2, subscription.start as u64, subscription.len as u64, n as u64];
+    let mut l = [0u64; 44];
+    let a = put_numbers(&mut l, 0, &head);
+    let e = put_filters(&mut l, a, parts, n);
+    put_row(out, &l[..e])
 }
 
-// A client message read, and its parts as numbers into `out`: the lowest of rows 1 to 8 that holds, 13 if `out` has room for fewer than 43
-// numbers, or 0.
+// A client message read, and its parts as numbers into `out`: the lowest of rows 1 to 8 that holds, 13 if `out` has no room for them, or 0.
+// The first number says what was read: 1 an EVENT (12 numbers), 2 a REQ (4, of which the last says how many filters follow, and 10 a filter),
+// 3 a CLOSE (3).
 #[no_mangle]
 pub extern "C" fn plavdrosa_read(bytes: &[u8], out: &mut [u64]) -> u8
     ensures { λ r. ⌜ r ≡ readRow (now (bytes .entry)) (now (out .entry)) ⌝ }
     ensures { λ _. ⌜ now (out .exit) ≡ readOut (now (bytes .entry)) (now (out .entry)) ⌝ }
 {
-    let m = message::read(bytes);
-    let row = row_of(m);
-    if row != 0 {
-        return row;
+    match message::read(bytes) {
+        Message::Event(p) => {
+            let l = event_numbers(p);
+            put_row(out, &l)
+        }
+        Message::Req(p) => put_request(out, bytes, p),
+        Message::Close(p) => {
+            let l = [3, p.start as u64, p.len as u64];
+            put_row(out, &l)
+        }
+        Message::Refused(r) => r,
     }
-    if out.len() < MOST_NUMBERS {
-        return 13;
-    }
-    put_message(out, bytes, m);
-    0
 }
 
 fn text_numbers(x: Text) -> [u64; 7]

@@ -1,3 +1,5 @@
--- Row: 01's number of what an offer is answered. Slot: an offer by the bytes of the slot that it would fill, as the code has it.
+-- Row: 01's number of what an offer is answered. Slot: an offer by the bytes of the slot that it would fill, as the code has it. Demand3: what a
+-- list of calls leaves.
 pub mod Row
 pub mod Slot
+pub mod Demand3

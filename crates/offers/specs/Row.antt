@@ -14,7 +14,9 @@ use Rattle.table.specs.Offer.{Offering, rowOf, offeredOf}
 
 -- "new slot needed": it is not ephemeral, and neither its id nor its key is held
 unfoldable pub needsSlot : List ℕ → Held → Bool
-needsSlot b h = not (isEphemeral (h .event .kind)) && (not (any (hasId signedEvents (ofHeld h)) (view b)) && not (any (hasKey signedEvents (ofHeld h)) (view b)))
+needsSlot b h =
+    not (isEphemeral (h .event .kind))
+    && (not (any (hasId signedEvents (ofHeld h)) (view b)) && not (any (hasKey signedEvents (ofHeld h)) (view b)))
 
 -- "all in use"
 unfoldable pub allInUse : List ℕ → Bool

@@ -2,10 +2,9 @@
 -- pass the test of lent filters (message/proofs/Passes has each filter and their number).
 use mathlib.Core.Path.{_≡_, refl, sym, ap, ap₂, _∙_}
 use mathlib.Core.Bool.{Bool, true, false, cond, false≢true}
-use mathlib.Core.List.{List, [], _∷_, map, Memᴰ·of-map}
+use mathlib.Core.List.{List, _∷_, map, Memᴰ·of-map}
 use Prim.Native.Nat.{ℕ, suc, _≤_, _<_}
 use native.Mathlib.Omega.{arith}
-use lib.Dec.{ltb}
 use lib.ListN.{length, take, length-take, length-map}
 use Rattle.json.specs.Grammar.{wsAt}
 use Rattle.json.specs.Tree.{Json, word, num, str, arr, obj, Items, nil, item, got, treeAt, root}
@@ -17,18 +16,17 @@ use Rattle.message.specs.declared.Element.the-variants.{At}
 use Rattle.message.specs.declared.ReqParts.{ReqParts}
 use Rattle.message.specs.declared.Message.the-variants as message
 use Rattle.message.specs.Parts as parts
-use Rattle.message.specs.Parts.{membersOf, membersGot, membersAt, filterAt}
+use Rattle.message.specs.Parts.{membersGot, membersAt, filterAt}
 use Rattle.message.specs.Lent.{filterRow}
 use Rattle.message.specs.Lists.{within, elementsFrom, placesOf}
 use Rattle.message.specs.Read.{partsOf, inRoot, readOf, rowOf}
-use Rattle.message.proofs.Walks.{Walk, last, more, deeper}
+use Rattle.message.proofs.Walks.{Walk, more, deeper}
 use Rattle.message.proofs.Elements.{Group, filled, group-of, walk-first, walk-places, Listing, end, one, array-listing}
 use Rattle.message.proofs.Reading.{row-read}
 use Rattle.message.proofs.Passes as passes
 use Rattle.law.specs.Lists.{_∈_}
-use Rattle.table.specs.Sound.{sound}
 use Rattle.query.specs.Filter.{filterOf}
-use Rattle.query.specs.Answer.{answerList, filterPlaces, partsAt, filtersAt, meant, filtersRow, listingRow}
+use Rattle.query.specs.Answer.{answerList, filterPlaces, partsAt, filtersAt, meant, listingRow}
 use Rattle.query.specs.Laws.{filtersOf, AllFilters, TextFilters, ReadPasses, ReadListing}
 use Rattle.query.proofs.Sorting.{no-left, no-right}
 use Rattle.query.proofs.Lent.{filters-pass}

@@ -143,14 +143,16 @@ module _ (b : List ℕ) (ok : sound b ≡ true) where
           none-twice (hasId signedEvents) inSlot (heldSlots b) [] none i j l (omega (arith, n))
           (rw (held-at b i (omega arith), held-at b j h) (same-bytes (idAt b j) (idAt b i) .1 q))
 
+  pub slot-sound : (k : ℕ) → k < countOf b → slotSound (slotAt b k) ≡ true
+  unfolding slotsSound
+  slot-sound k h =
+      let n = held-length b in
+      sym (ap slotSound (held-at b k h)) ∙ all-at slotSound (heldSlots b) (both (slotsSound b) _ after-header .0) k [] (omega (arith, n))
+
   -- "held texts are serialisations of events"
   slot-reads : (k : ℕ) → k < countOf b → isRead (readText (textIn (slotAt b k))) ≡ true
-  unfolding slotsSound slotSound textReads
-  slot-reads k h =
-      let n = held-length b in
-      let s = all-at slotSound (heldSlots b) (both (slotsSound b) _ after-header .0) k [] (omega (arith, n)) in
-      let t : slotSound (slotAt b k) ≡ true = sym (ap slotSound (held-at b k h)) ∙ s in
-      both (leb (lengthIn (slotAt b k)) mostText) _ (both (textReads (slotAt b k)) _ t .0) .1
+  unfolding slotSound textReads
+  slot-reads k h = both (leb (lengthIn (slotAt b k)) mostText) _ (both (textReads (slotAt b k)) _ (slot-sound k h) .0) .1
 
 pub slot-matches : SlotMatches
 unfolding matchesSlot

@@ -1,8 +1,8 @@
 -- No answer is longer than an EVENT for each slot and one short reply: `Enough` of specs/Answering.
 use mathlib.Core.Path.{_≡_, refl, sym, ap, _∙_}
 use mathlib.Core.Bool.{Bool, true, false, cond, not, _||_, false≢true}
-use mathlib.Core.List.{List, [], _∷_, _++_, append-nil, List·Memᴰ·head, List·Memᴰ·tail}
-use Prim.Native.Nat.{ℕ, zero, suc, _+_, _-_, _*_, _≤_, _<_}
+use mathlib.Core.List.{List, [], _∷_, append-nil, List·Memᴰ·head, List·Memᴰ·tail}
+use Prim.Native.Nat.{ℕ, _+_, _-_, _*_, _≤_, _<_}
 use native.Mathlib.Omega.{arith}
 use borrow.Author.Tests.{le-ltb, ltb-false}
 use lib.Dec.{leb, ltb}
@@ -13,16 +13,15 @@ use Rattle.wire.specs.Escape.{letterOf, escOne, escape}
 use Rattle.utf8.specs.Utf8.{isUtf8}
 use Rattle.json.specs.Grammar.{wsAt, isSpelling}
 use Rattle.json.proofs.Spelled.{string-parts, string-spelled}
-use Rattle.json.specs.Tree.{Json, word, num, str, arr, obj, Items, item, Got, none, got, treeAt, root}
+use Rattle.json.specs.Tree.{Json, word, num, str, arr, obj, Items, item, got, treeAt, root}
 use Rattle.spell.specs.Spell.{decode, refuses, characterCount, isHexOf}
-use Rattle.rows.specs.Strings.{part, refusedIn, refusedItems}
+use Rattle.rows.specs.Strings.{part, refusedIn}
 use Rattle.rows.specs.Rows.{row1, row2, row3}
-use Rattle.shape.specs.Shape.{Word, event, req, close, other, wordOf, hasShape, opened, isString, allItems, isFilter, idName}
-use Rattle.shape.specs.Rows.{row4, row5, row6, row7, row8, treeRow, rootRow, messageRow, wrongSubscription}
+use Rattle.shape.specs.Shape.{Word, event, req, close, other, wordOf, hasShape, opened, isString, idName}
+use Rattle.shape.specs.Rows.{row5, row6, row7, row8, treeRow, rootRow, messageRow, wrongSubscription}
 use Rattle.text.specs.Event.{quoted}
 use Rattle.text.proofs.Pieces.{both}
 use Rattle.message.specs.declared.Span.{Span}
-use Rattle.message.specs.declared.EventParts.{EventParts}
 use Rattle.message.specs.declared.ReqParts.{ReqParts}
 use Rattle.message.specs.declared.Message.{Message}
 use Rattle.message.specs.declared.Message.the-variants as message
@@ -30,7 +29,7 @@ use Rattle.message.specs.declared.Named.{Named}
 use Rattle.message.specs.declared.Named.the-variants as names
 use Rattle.message.specs.Lists.{within}
 use Rattle.message.specs.Parts.{memberOf, membersOf, spanIn, spanOf}
-use Rattle.message.specs.Read.{firstOf, readOf, idNamed, namedIn, namedRoot, isEarly, namedOf}
+use Rattle.message.specs.Read.{readOf, idNamed, namedIn, namedRoot, isEarly, namedOf}
 use Rattle.message.proofs.Elements.{group-of, Listing, one, array-listing}
 use Rattle.message.proofs.Reading.{Shaped, shaped, late-shaped, begun, Begun, begun-of, string-tree}
 use Rattle.event.specs.Lent.{said}
@@ -45,9 +44,8 @@ use Rattle.table.proofs.Bytes.{clauses}
 use Rattle.query.specs.Answer.{answerList, filtersAt}
 use Rattle.query.proofs.Sorting.{no-left, no-right}
 use Rattle.query.proofs.Tables.{answer-means}
-use Rattle.reply.specs.Ascii.{ascii}
 use Rattle.reply.specs.Replies.{Reply, ok, eose, closed, notice, truth, replyText, reasonOf, verdictReason}
-use Rattle.reply.specs.Program.{refusalNaming, refusal, offerReply, requestReplies, repliesIn, repliesTo, replyLine, written}
+use Rattle.reply.specs.Program.{refusalNaming, refusal, offerReply, requestReplies, repliesTo, replyLine, written}
 use Rattle.reply.specs.Respond.{response, respondRow, slotLine, joined, slotLines}
 use Rattle.reply.specs.Answering.{enoughFor, Enough}
 use Rattle.reply.proofs.Which.{names-id, names-subscription}
@@ -194,7 +192,15 @@ unfolding joined
 slots-short b sub s l [] h = omega arith
 slots-short b sub s l (k ∷ ks) h =
     let i = h k (List·Memᴰ·head refl) in
-    omega (arith, length-append (slotLine b sub k) (joined (slotLines b sub ks)), line-length b k s i sub, text-small b k s i, quoted-length sub, l, slots-short b sub s l ks (λ j m. h j (List·Memᴰ·tail m)))
+    omega (
+      arith,
+      length-append (slotLine b sub k) (joined (slotLines b sub ks)),
+      line-length b k s i sub,
+      text-small b k s i,
+      quoted-length sub,
+      l,
+      slots-short b sub s l ks (λ j m. h j (List·Memᴰ·tail m)),
+    )
 
 one-written : (r : Reply) → length (written (r ∷ [])) ≡ length (replyLine r)
 unfolding written
@@ -239,7 +245,9 @@ module _ (b m : List ℕ) where
   response-short = go (readOf m) refl
     where
       go : (x : Message) → readOf m ≡ x → length (response b m) ≤ enoughFor (capacityOf b)
-      go (message.Event p) e = one-short (offerReply m (said m (p .id)) (answer b (asMessage m))) (rw e) (offer-short m (said m (p .id)) (answer b (asMessage m)) (rw (names-id m p e) at (named-short m)))
+      go (message.Event p) e =
+          let a = answer b (asMessage m) in
+          one-short (offerReply m (said m (p .id)) a) (rw e) (offer-short m (said m (p .id)) a (rw (names-id m p e) at (named-short m)))
       go (message.Req r) e = request-short r e
       go (message.Close p) e = close-short p e
       go (message.Refused r) e = one-short (refusal m r) (rw e) (refusal-short m r)

@@ -4,23 +4,22 @@ use mathlib.Core.Path.{_≡_, refl, sym, ap, ap₂, _∙_}
 use mathlib.Core.Bool.{Bool, true, false, cond, _||_, false≢true}
 use mathlib.Core.Logic.{_⊎_, inl, inr, ⊎-elim, _≢_}
 use mathlib.Core.List.{List, [], _∷_, _++_, append-assoc, append-nil}
-use Prim.Native.Nat.{ℕ, zero, suc, _+_, _-_, _≤_, _<_, min}
+use Prim.Native.Nat.{ℕ, suc, _+_, _-_, _≤_, _<_, min}
 use native.Mathlib.Omega.{arith}
 use borrow.Author.Tests.{eqb-true, eq-eqb, ne-eqb, ltb-true, ltb-false, le-ltb}
-use lib.Dec.{eqb, ltb}
-use lib.ListN.{length, take, drop, length-take, length-append, take-append-drop}
-use lib.Seq.{take-all, take-append-le, take-append-add, take-take, take-length, sets-eq, take-at}
+use lib.Dec.{ltb}
+use lib.ListN.{length, take, drop, length-take, take-append-drop}
+use lib.Seq.{take-all, take-append-le, take-append-add, take-take, sets-eq, take-at}
 use Rattle.wire.specs.Put.{put}
 use Rattle.wire.proofs.Laws.{length-put}
 use Rattle.law.specs.Lists.{any}
-use Rattle.reply.specs.Replies.{notice, reasonOf}
 use Rattle.reply.specs.Lent.{shortRow}
 use Rattle.reply.specs.Program.{repliesTo, tableAfter, lines, written, outputFrom, freshTable, output}
 use Rattle.reply.specs.Laws.{Plain}
 use Rattle.reply.specs.Respond.{response}
 use Rattle.reply.specs.declared.Turned.the-variants as turning
-use Rattle.reply.specs.Feed.{State, start, mostLine, kept, isEnd, afterByte, saidAt, afterBytes, saidBy, lastLine, saidLast, stateOf, before, usedOf, turnText, turnState, turnRow, turned, turnTable, turnLine, turnOut, turnedNumber, turnedUsed, turnedLine, turnedBytes}
-use Rattle.reply.specs.Answering.{KeptSame, InPieces, SaysOutput, TurnIs, TurnMeans, TurnRowIs, TurnedIs, TurnedMeans}
+use Rattle.reply.specs.Feed.{State, mostLine, kept, isEnd, afterByte, saidAt, afterBytes, saidBy, lastLine, saidLast, stateOf, before, usedOf, turnText, turnState, turnRow, turned, turnTable, turnLine, turnOut, turnedNumber, turnedUsed, turnedLine, turnedBytes}
+use Rattle.reply.specs.Answering.{KeptSame, InPieces, SaysOutput, TurnMeans, TurnRowIs, TurnedMeans}
 use Rattle.reply.proofs.Which.{overlong}
 use Rattle.reply.proofs.Lines.{line-ends, last-line}
 use Rattle.reply.proofs.Lent.{zero-or, writes-or}

@@ -28,7 +28,7 @@ use Rattle.query.proofs.Sorting.{bool, clash, or-cases, or-right}
 use Rattle.query.proofs.Lent.{alike}
 use Rattle.reply.specs.declared.ReplyParts.{ReplyParts}
 use Rattle.reply.specs.declared.ReplyParts.the-variants as parts
-use Rattle.reply.specs.Lent.{subscription8, partsRow, shortRow, outputAfter, replyRow, replied, repliedOut}
+use Rattle.reply.specs.Lent.{subscription8, partsRow, outputAfter, replyRow, replied, repliedOut}
 use Rattle.reply.specs.Laws.{lentText, ok-id, ok-reason, event-subscription, eose-subscription, closed-subscription, closed-reason, notice-reason, of-event, of-eose, of-closed, EventHolds, event-utf8, event-string, event-shape, event-number, event-hex, event-count, event-large, PartsHold, not-utf8, not-allowed, not-spelled, not-hex, miscounted, in-event, PartsRowIs, PartsPass, ReplyHolds, of-parts, too-short, ReplyRowIs, PartsFirst, ShortOutput, ReplyFits, WritesOr, RepliedMeans, SerialisedNumber, OfferedNumber}
 use Rattle.reply.proofs.Which.{verdict-rows}
 

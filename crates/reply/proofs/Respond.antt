@@ -5,11 +5,10 @@ use mathlib.Core.Logic.{_≢_}
 use mathlib.Core.List.{List}
 use Prim.Native.Nat.{ℕ, _≤_, _<_}
 use native.Mathlib.Omega.{arith}
-use borrow.Author.Tests.{eq-eqb, ne-eqb, ltb-true, ltb-false, lt-ltb}
+use borrow.Author.Tests.{eq-eqb, ne-eqb, ltb-true, ltb-false}
 use lib.Dec.{ltb}
 use lib.ListN.{length}
 use Rattle.reply.specs.Lent.{shortRow}
-use Rattle.reply.specs.Program.{tableAfter}
 use Rattle.reply.specs.Respond.{response, respondRow, responded, respondedOut, respondedTable}
 use Rattle.reply.specs.Answering.{RespondRowIs, RespondedMeans}
 use Rattle.reply.proofs.Lent.{writes-or}

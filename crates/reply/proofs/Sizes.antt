@@ -1,13 +1,12 @@
 -- How long replies are: an EVENT of a held slot, what a refusal names, a row's reason.
-use mathlib.Core.Path.{_≡_, refl, sym, ap, _∙_}
-use mathlib.Core.Bool.{Bool, true, false, cond, not, _&&_, _||_, false≢true}
-use mathlib.Core.List.{List, [], _∷_, _++_, Memᴰ·cast}
+use mathlib.Core.Path.{_≡_, refl, ap, _∙_}
+use mathlib.Core.Bool.{Bool, true, false, cond}
+use mathlib.Core.List.{List, [], _∷_, _++_}
 use Prim.Native.Nat.{ℕ, zero, suc, _+_, _*_, _/_, _%_, _≤_, _<_}
 use native.Mathlib.Omega.{arith}
-use borrow.Author.Tests.{eqb-true, ne-eqb, leb-true, le-leb, lt-leb, ltb-true, ltb-false, not-false}
+use borrow.Author.Tests.{eqb-true, ne-eqb, leb-true, le-leb, lt-leb, ltb-true, ltb-false}
 use lib.Dec.{eqb, leb, ltb}
-use lib.ListN.{length, getD, take, drop, length-append, length-take, length-drop}
-use Rattle.wire.specs.Bytes.{isHex}
+use lib.ListN.{length, getD, drop, length-append, length-take, length-drop}
 use Rattle.wire.specs.Limits.{mostText, hexLength}
 use Rattle.wire.specs.Escape.{letterOf, escOne, escape}
 use Rattle.wire.proofs.Escapes.{esc-two}
@@ -16,11 +15,9 @@ use Rattle.utf8.specs.Abnf.{Octets, none, utf8-1, utf8-2, utf8-3-e0, utf8-3-e1,
 use Rattle.utf8.proofs.Abnf.{as-in-abnf}
 use Rattle.json.specs.Grammar.{isSpelling}
 use Rattle.rows.specs.Strings.{part}
-use Rattle.spell.specs.Spell as spell
 use Rattle.spell.specs.Spell.{decode, refuses, points, characterCount, isHexOf}
 use Rattle.spell.proofs.Laws.{hex-escape}
 use Rattle.text.specs.Event.{Event, quoted, serialise, isPlainByte, isString, all}
-use Rattle.text.specs.Read.{read, readText}
 use Rattle.text.proofs.Pieces.{both}
 use Rattle.text.proofs.Limits.{limits-of}
 use Rattle.text.proofs.Rows.{pubkey-length}
@@ -32,10 +29,9 @@ use Rattle.table.specs.Layout.{slotSize, slotPlace, countOf, slotAt, idIn, sigI
 use Rattle.table.specs.Sound.{textReads, slotSound, sound}
 use Rattle.table.proofs.Bytes.{clauses}
 use Rattle.table.proofs.Passes.{pubkey-hex}
-use Rattle.reply.specs.Ascii.{ascii}
+use Rattle.query.proofs.Tables.{slot-sound}
 use Rattle.reply.specs.Replies.{event, objectText, replyText, reasons, reasonOf}
 use Rattle.reply.specs.Respond.{slotText, slotLine}
-use Rattle.reply.proofs.Shown.{slot-sound}
 use Rattle.reply.proofs.Streamed.{slot-text-is}
 
 -- ---- quotes, hex
@@ -46,7 +42,15 @@ quoted-length v = simp length-append (omega arith)
 letter-none : (b : ℕ) → 48 ≤ b → (b ≡ 92 → ⊥) → letterOf b ≡ 0
 unfolding letterOf
 letter-none b h n =
-    rw (ne-eqb b 0x0a (λ e. omega arith), ne-eqb b 0x22 (λ e. omega arith), ne-eqb b 0x5c n, ne-eqb b 0x0d (λ e. omega arith), ne-eqb b 0x09 (λ e. omega arith), ne-eqb b 0x08 (λ e. omega arith), ne-eqb b 0x0c (λ e. omega arith))
+    rw (
+      ne-eqb b 0x0a (λ e. omega arith),
+      ne-eqb b 0x22 (λ e. omega arith),
+      ne-eqb b 0x5c n,
+      ne-eqb b 0x0d (λ e. omega arith),
+      ne-eqb b 0x09 (λ e. omega arith),
+      ne-eqb b 0x08 (λ e. omega arith),
+      ne-eqb b 0x0c (λ e. omega arith),
+    )
     refl
 
 itself : (b : ℕ) → 48 ≤ b → (b ≡ 92 → ⊥) → escOne b ≡ b ∷ []
@@ -84,7 +88,7 @@ module _ (b : List ℕ) (k : ℕ) (s : sound b ≡ true) (h : k < countOf b) whe
 
   pub text-small : lengthIn (slotAt b k) ≤ 4096
   unfolding slotSound textReads
-  text-small = leb-true (lengthIn (slotAt b k)) mostText (both (leb (lengthIn (slotAt b k)) mostText) _ (both (textReads (slotAt b k)) _ (slot-sound b k s h) .0) .0)
+  text-small = leb-true (lengthIn (slotAt b k)) mostText (both (leb (lengthIn (slotAt b k)) mostText) _ (both (textReads (slotAt b k)) _ (slot-sound b s k h) .0) .0)
 
   text-length : length (textIn (slotAt b k)) ≡ lengthIn (slotAt b k)
   unfolding textIn
@@ -141,24 +145,56 @@ two a b s h l m i = omega (arith, high-byte a (b ∷ s) (omega arith), high-byte
 
 three : (a b c : ℕ) (s : List ℕ) → 0xc0 ≤ a → 0x80 ≤ b → b ≤ 0xbf → 0x80 ≤ c → c ≤ 0xbf → Short s → Short (a ∷ b ∷ c ∷ s)
 three a b c s h l m n o i =
-    omega (arith, high-byte a (b ∷ c ∷ s) (omega arith), high-byte b (c ∷ s) l, high-byte c s n, lead-point a (b ∷ c ∷ s) h, tail-point b (c ∷ s) l m, tail-point c s n o)
+    omega (
+      arith,
+      high-byte a (b ∷ c ∷ s) (omega arith),
+      high-byte b (c ∷ s) l,
+      high-byte c s n,
+      lead-point a (b ∷ c ∷ s) h,
+      tail-point b (c ∷ s) l m,
+      tail-point c s n o,
+    )
 
 four : (a b c d : ℕ) (s : List ℕ) → 0xc0 ≤ a → 0x80 ≤ b → b ≤ 0xbf → 0x80 ≤ c → c ≤ 0xbf → 0x80 ≤ d → d ≤ 0xbf → Short s → Short (a ∷ b ∷ c ∷ d ∷ s)
 four a b c d s h l m n o p q i =
-    omega (arith, high-byte a (b ∷ c ∷ d ∷ s) (omega arith), high-byte b (c ∷ d ∷ s) l, high-byte c (d ∷ s) n, high-byte d s p, lead-point a (b ∷ c ∷ d ∷ s) h, tail-point b (c ∷ d ∷ s) l m, tail-point c (d ∷ s) n o, tail-point d s p q)
+    omega (
+      arith,
+      high-byte a (b ∷ c ∷ d ∷ s) (omega arith),
+      high-byte b (c ∷ d ∷ s) l,
+      high-byte c (d ∷ s) n,
+      high-byte d s p,
+      lead-point a (b ∷ c ∷ d ∷ s) h,
+      tail-point b (c ∷ d ∷ s) l m,
+      tail-point c (d ∷ s) n o,
+      tail-point d s p q,
+    )
 
 octets-short : {s : List ℕ} → Octets s → Short s
 unfolding escape points
 octets-short none = omega arith
 octets-short (utf8-1 {a = a} {s = s} r o) = omega (arith, low-byte a s, low-point a s (r .high), octets-short o)
 octets-short (utf8-2 {a = a} {b = b} {s = s} r p o) = let h = r .low in two a b s (omega arith) (p .low) (p .high) (octets-short o)
-octets-short (utf8-3-e0 {b = b} {c = c} {s = s} r p o) = let h = r .low in three 0xe0 b c s (omega arith) (omega arith) (r .high) (p .low) (p .high) (octets-short o)
-octets-short (utf8-3-e1 {a = a} {b = b} {c = c} {s = s} r p q o) = let h = r .low in three a b c s (omega arith) (p .low) (p .high) (q .low) (q .high) (octets-short o)
-octets-short (utf8-3-ed {b = b} {c = c} {s = s} r p o) = let h = r .high in three 0xed b c s (omega arith) (r .low) (omega arith) (p .low) (p .high) (octets-short o)
-octets-short (utf8-3-ee {a = a} {b = b} {c = c} {s = s} r p q o) = let h = r .low in three a b c s (omega arith) (p .low) (p .high) (q .low) (q .high) (octets-short o)
-octets-short (utf8-4-f0 {b = b} {c = c} {d = d} {s = s} r p q o) = let h = r .low in four 0xf0 b c d s (omega arith) (omega arith) (r .high) (p .low) (p .high) (q .low) (q .high) (octets-short o)
-octets-short (utf8-4-f1 {a = a} {b = b} {c = c} {d = d} {s = s} r p q t o) = let h = r .low in four a b c d s (omega arith) (p .low) (p .high) (q .low) (q .high) (t .low) (t .high) (octets-short o)
-octets-short (utf8-4-f4 {b = b} {c = c} {d = d} {s = s} r p q o) = let h = r .high in four 0xf4 b c d s (omega arith) (r .low) (omega arith) (p .low) (p .high) (q .low) (q .high) (octets-short o)
+octets-short (utf8-3-e0 {b = b} {c = c} {s = s} r p o) =
+    let h = r .low in
+    three 0xe0 b c s (omega arith) (omega arith) (r .high) (p .low) (p .high) (octets-short o)
+octets-short (utf8-3-e1 {a = a} {b = b} {c = c} {s = s} r p q o) =
+    let h = r .low in
+    three a b c s (omega arith) (p .low) (p .high) (q .low) (q .high) (octets-short o)
+octets-short (utf8-3-ed {b = b} {c = c} {s = s} r p o) =
+    let h = r .high in
+    three 0xed b c s (omega arith) (r .low) (omega arith) (p .low) (p .high) (octets-short o)
+octets-short (utf8-3-ee {a = a} {b = b} {c = c} {s = s} r p q o) =
+    let h = r .low in
+    three a b c s (omega arith) (p .low) (p .high) (q .low) (q .high) (octets-short o)
+octets-short (utf8-4-f0 {b = b} {c = c} {d = d} {s = s} r p q o) =
+    let h = r .low in
+    four 0xf0 b c d s (omega arith) (omega arith) (r .high) (p .low) (p .high) (q .low) (q .high) (octets-short o)
+octets-short (utf8-4-f1 {a = a} {b = b} {c = c} {d = d} {s = s} r p q t o) =
+    let h = r .low in
+    four a b c d s (omega arith) (p .low) (p .high) (q .low) (q .high) (t .low) (t .high) (octets-short o)
+octets-short (utf8-4-f4 {b = b} {c = c} {d = d} {s = s} r p q o) =
+    let h = r .high in
+    four 0xf4 b c d s (omega arith) (r .low) (omega arith) (p .low) (p .high) (q .low) (q .high) (octets-short o)
 
 pub spelled-short : (l : List ℕ) → isUtf8 l ≡ true → isSpelling l ≡ true → refuses l ≡ false → length (escape (decode l)) ≤ 4 * characterCount l
 unfolding isString characterCount

@@ -1,6 +1,6 @@
 -- The starred cases of 01 hold: one statement.
 use mathlib.Core.Path.{_≡_, refl, sym, ap, _∙_}
-use mathlib.Core.Bool.{Bool, true, false, cond, _||_}
+use mathlib.Core.Bool.{Bool, true, false, cond}
 use mathlib.Core.Option.{none}
 use mathlib.Core.List.{List, [], _∷_, _++_}
 use Prim.Native.Nat.{ℕ, zero, suc, _+_}
@@ -8,7 +8,7 @@ use native.Mathlib.Omega.{arith}
 use borrow.Author.Tests.{le-leb, not-false}
 use lib.Dec.{ltb}
 use lib.IntN.{pos, negsuc}
-use lib.ListN.{length, take, replicate, length-append, length-replicate}
+use lib.ListN.{length, replicate, length-append, length-replicate}
 use lib.Seq.{take-all}
 use Rattle.wire.specs.Bytes.{sameBytes, isHex}
 use Rattle.wire.specs.Escape.{letterOf, escOne, escape}
@@ -41,7 +41,7 @@ use Rattle.table.proofs.Strings.{escape-spelling}
 use Rattle.table.proofs.Refused.{not-refused}
 use Rattle.query.specs.Filter.{Filter, filterOf}
 use Rattle.query.specs.Match.{matches}
-use Rattle.query.specs.Answer.{keep, among, newestFirst, picked, union, answerList, newerSlot, matchesSlot}
+use Rattle.query.specs.Answer.{keep, among, newestFirst, picked, union, answerList}
 use Rattle.reply.specs.Ascii.{ascii}
 use Rattle.reply.specs.Starred.{AllHold, A, dated, lentIn, lentParts, filterIn, starred}
 
@@ -61,7 +61,8 @@ limit-read : filterIn (ascii "{\"limit\":0}") .limit ≡ Number (pos 0)
 unfolding json.classOf run past oneAt tokenAt wordAt literalAt digitsAt intAt fracAt expAt numberAt hexAt escapedAt charAt charsUpTo charsAt stringAt scalarAt itemsAt treeAt isDigit allDigits valueFrom isNatural naturalOf negativeOf wholeOf answerOf charOf charsFrom bytesOfChar joined decode spell.any sameBytes spelledAt nameAt parts.filterOf membersAt filterAt stringsOf filterOf parts.memberOf isWithin isCondition
 limit-read = refl
 
-since-read : filterIn (ascii "{\"since\":0}") ≡ record { ids = none; authors = none; kinds = none; since = Number (pos 0); until = Absent; limit = Absent; conditions = [] }
+since-read : filterIn (ascii "{\"since\":0}")
+    ≡ record { ids = none; authors = none; kinds = none; since = Number (pos 0); until = Absent; limit = Absent; conditions = [] }
 unfolding json.classOf run past oneAt tokenAt wordAt literalAt digitsAt intAt fracAt expAt numberAt hexAt escapedAt charAt charsUpTo charsAt stringAt scalarAt itemsAt treeAt isDigit allDigits valueFrom isNatural naturalOf negativeOf wholeOf answerOf charOf charsFrom bytesOfChar joined decode spell.any sameBytes spelledAt nameAt parts.filterOf membersAt filterAt stringsOf filterOf parts.memberOf isWithin isCondition
 since-read = refl
 
@@ -133,5 +134,22 @@ module _ (n : ℕ) where
 
 pub starred-hold : AllHold starred
 unfolding letterOf escOne escape digitsIn digits decimal quoted membersText tagText tagsText serialise classOf dOf keyOf isLower isNewer matches
-starred-hold =
-    ((refl, refl), (xs-length 0, (xs-cases .1, (xs-cases .2, ((event-is 4016, lent-row 4016), ((event-is 4017, lent-row 4017), ((refl, refl), ((refl, refl), (refl, (refl, (refl, (refl, (refl, (refl, (refl, (refl, (refl, (refl, (refl, (nothing _ limit-read, (shut-out, tt)))))))))))))))))))))
+starred-hold = (
+  (refl, refl),
+  (
+    xs-length 0,
+    (
+      xs-cases .1,
+      (
+        xs-cases .2,
+        (
+          (event-is 4016, lent-row 4016),
+          (
+            (event-is 4017, lent-row 4017),
+            ((refl, refl), ((refl, refl), (refl, (refl, (refl, (refl, (refl, (refl, (refl, (refl, (refl, (refl, (refl, (nothing _ limit-read, (shut-out, tt))))))))))))))),
+          ),
+        ),
+      ),
+    ),
+  ),
+)

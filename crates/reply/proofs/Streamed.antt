@@ -8,7 +8,7 @@ use native.Mathlib.Omega.{arith}
 use borrow.Author.Tests.{eqb-true, eqb-false, eq-eqb, ne-eqb, ltb-true, ltb-false, lt-ltb, le-ltb}
 use lib.Dec.{eqb, ltb}
 use lib.ListN.{length, take, drop, length-append}
-use Rattle.text.specs.Event.{Event, all}
+use Rattle.text.specs.Event.{all}
 use Rattle.text.specs.Read.{readText}
 use Rattle.text.proofs.Pieces.{both}
 use Rattle.message.specs.declared.Span.{Span}
@@ -23,12 +23,12 @@ use Rattle.query.specs.Laws.{Lowest}
 use Rattle.query.proofs.Sorting.{clash}
 use Rattle.query.proofs.Lent.{alike}
 use Rattle.query.proofs.Listings.{or-else}
-use Rattle.reply.specs.Replies.{Reply, eose, replyText}
+use Rattle.reply.specs.Replies.{eose}
 use Rattle.reply.specs.Lent.{eoseRow, outputAfter}
 use Rattle.reply.specs.Program.{eventIn, eventsOf, requestReplies, repliesTo, replyLine, written}
 use Rattle.reply.specs.Laws.{PartsHold, WritesOr}
 use Rattle.reply.specs.declared.ReplyParts.the-variants as parts
-use Rattle.reply.specs.Respond.{response, slotReplies, slotText, slotLine, slotEventRow, slotEvent, slotEventOut, joined, fitting, slotLines, fittingText, noneFits, allHeld, eventsRow, sentEvents, sentEventsOut, sentNumber, sentBytes, sentSlots}
+use Rattle.reply.specs.Respond.{response, slotText, slotLine, slotEventRow, slotEvent, slotEventOut, joined, fitting, slotLines, fittingText, noneFits, allHeld, eventsRow, sentEvents, sentEventsOut, sentNumber, sentBytes, sentSlots}
 use Rattle.reply.specs.declared.Sent.the-variants as sending
 use Rattle.reply.specs.Answering.{OneByOne, SlotTextIs, SlotEventHolds, of-subscription, not-sound, too-short, not-held, SlotEventRowIs, SlotEventMeans, Batches, EventsHold, of-label, bad-table, none-fits, some-not-held, EventsRowIs, SentIs, SentMeans}
 use Rattle.reply.proofs.Lent.{parts-row-is, parts-hold, zero-or, writes-or}

@@ -1,6 +1,6 @@
 -- What specs/Respond and Feed mean: proved in proofs/Respond, Streamed, Feed and Enough, each under its own name in small letters.
 use mathlib.Core.Path.{_≡_}
-use mathlib.Core.Bool.{Bool, true, false, cond}
+use mathlib.Core.Bool.{true, false, cond}
 use mathlib.Core.Logic.{_↔_, _≢_}
 use mathlib.Core.List.{List, [], _∷_, _++_}
 use Prim.Native.Nat.{ℕ, _*_, _+_, _≤_, _<_}
@@ -18,7 +18,7 @@ use Rattle.table.specs.Layout.{capacityOf, countOf, slotAt, idIn, sigIn, textIn
 use Rattle.table.specs.Sound.{sound}
 use Rattle.query.specs.Answer.{answerList, filtersAt}
 use Rattle.query.specs.Laws.{Lowest}
-use Rattle.reply.specs.Replies.{Reply, event, eose, replyText}
+use Rattle.reply.specs.Replies.{event, eose, replyText}
 use Rattle.reply.specs.declared.ReplyParts.the-variants as parts
 use Rattle.reply.specs.Program.{repliesTo, tableAfter, replyLine, output}
 use Rattle.reply.specs.Laws.{PartsHold, WritesOr}
@@ -98,8 +98,10 @@ pub record SentIs (b ks m : List ℕ) (s : Span) (out : List ℕ) : Type 0 where
   pub number : sentNumber (sentEvents b ks m s out) ≡ eventsRow b ks m s out
   pub bytes : eventsRow b ks m s out ≡ 0 → sentBytes (sentEvents b ks m s out) ≡ length (fittingText b (said m s) ks out)
   pub begins : eventsRow b ks m s out ≡ 0 →
-      take (sentBytes (sentEvents b ks m s out)) (sentEventsOut b ks m s out) ≡ joined (slotLines b (said m s) (take (sentSlots (sentEvents b ks m s out)) ks))
-  pub rest : eventsRow b ks m s out ≡ 0 → drop (sentBytes (sentEvents b ks m s out)) (sentEventsOut b ks m s out) ≡ drop (sentBytes (sentEvents b ks m s out)) out
+      take (sentBytes (sentEvents b ks m s out)) (sentEventsOut b ks m s out)
+      ≡ joined (slotLines b (said m s) (take (sentSlots (sentEvents b ks m s out)) ks))
+  pub rest : eventsRow b ks m s out ≡ 0 →
+      drop (sentBytes (sentEvents b ks m s out)) (sentEventsOut b ks m s out) ≡ drop (sentBytes (sentEvents b ks m s out)) out
   -- some slot is served where there is one, so calls for the slots that are left come to an end
   pub progress : eventsRow b ks m s out ≡ 0 → ks ≢ [] → 1 ≤ sentSlots (sentEvents b ks m s out)
   pub as-long : length (sentEventsOut b ks m s out) ≡ length out

@@ -1,7 +1,7 @@
 -- The program as a state that bytes are fed to, and one turn of feeding over lent buffers. 01: "One program reads messages from standard input,
 -- one a line, over a fresh table of 8 slots. 0A ends a line and is no part of the message; a last line without it counts if not empty; an
 -- overlong line gives one reply."
-use mathlib.Core.Bool.{Bool, true, false, cond}
+use mathlib.Core.Bool.{Bool, cond}
 use mathlib.Core.List.{List, [], _∷_, _++_}
 use Prim.Native.Nat.{ℕ, suc, _-_, min}
 use lib.Dec.{eqb, ltb}

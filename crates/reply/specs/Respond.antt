@@ -1,5 +1,5 @@
 -- One message answered into a lent output, over a lent table; and a REQ's answer a reply at a time, for an output that does not hold it whole.
-use mathlib.Core.Bool.{Bool, true, false, cond}
+use mathlib.Core.Bool.{Bool, false, cond}
 use mathlib.Core.List.{List, [], _∷_, _++_, map}
 use Prim.Native.Nat.{ℕ, suc, _-_}
 use lib.Dec.{eqb, ltb}

@@ -4,11 +4,10 @@ use mathlib.Core.Path.{_≡_}
 use mathlib.Core.Bool.{true, false}
 use mathlib.Core.List.{List, [], _∷_, _++_}
 use Prim.Native.Nat.{ℕ}
-use lib.Dec.{T}
 use lib.IntN.{ℤ, pos, negsuc}
 use lib.ListN.{length, replicate}
 use Rattle.text.specs.Event.{Tag, Event, serialise}
-use Rattle.text.specs.Read.{Read, tooLarge, read, readText}
+use Rattle.text.specs.Read.{tooLarge, read, readText}
 use Rattle.text.specs.Kinds.{Key, addressable, classOf, keyOf}
 use Rattle.text.specs.declared.Class.{Class}
 use Rattle.text.specs.declared.Class.the-variants.{Regular, Replaceable, Ephemeral, Addressable}

@@ -45,7 +45,6 @@ pass s i (suc n) h f =
 pub pass-on : {s : List ℕ} {at i n : ℕ} → Passes s at i → Raws s i n → i + 32 ≤ length s → (m : ℕ) → m ≤ n → Passes s at (i + m)
 pass-on {s} {at} {i} {n} p r h m l = record {
   from = omega (arith, p .from);
-  within = omega (arith, r .few);
   same = p .same ∙ pass s i m (omega (arith, r .few)) (λ j u. r .all j (omega arith));
 }
 

@@ -17,8 +17,8 @@ use Rattle.wire.specs.Limits.{mostText, hexLength, mostTags, mostStrings}
 use Rattle.numeral.specs.Decimal.{digits, decimal}
 use Rattle.numeral.proofs.Digits.{digits-one, digits-split, by-digits}
 use Rattle.text.specs.Event.{Tag, Event, quoted, membersText, tagText, tagsText, opening, closing, comma, bracket, serialise, all, isPlainByte, isPubkey, isString, isTag, isTags, isFit}
-use Rattle.text.specs.Read.{readText}
-use Rattle.text.specs.Answer.{answerOf}
+use Rattle.text.specs.Read.{wrongShape, readText}
+use Rattle.text.specs.Answer.{answerOf, numberOf, rowOf}
 use Rattle.text.specs.declared.TextAnswer.the-variants as answer
 use Rattle.text.proofs.Pieces.{both}
 use Rattle.text.proofs.Strings.{utf8-escape}
@@ -123,5 +123,8 @@ pub serialise-utf8 : (e : Event) → isFit e ≡ true → isUtf8 (serialise e) �
 unfolding isUtf8 utf8From
 serialise-utf8 e h = ap (utf8From Lead) (sym (append-nil (serialise e))) ∙ text e h .on []
 
-pub text-not : (t : List ℕ) → length t ≤ mostText → isUtf8 t ≡ false → answer.WrongShape ≡ answerOf (readText t)
-text-not t h u = ap answerOf (sym (wrong-shape t .1 (h, λ e f s. false≢true (sym u ∙ ap isUtf8 (sym s) ∙ serialise-utf8 e f))))
+pub text-not : (t : List ℕ) → length t ≤ mostText → isUtf8 t ≡ false →
+    (answer.WrongShape ≡ answerOf (readText t)) × (numberOf answer.WrongShape ≡ rowOf (readText t))
+text-not t h u =
+    let w : readText t ≡ wrongShape = wrong-shape t .1 (h, λ e f s. false≢true (sym u ∙ ap isUtf8 (sym s) ∙ serialise-utf8 e f)) in
+    (ap answerOf (sym w), ap rowOf (sym w))

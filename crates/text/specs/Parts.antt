@@ -36,7 +36,6 @@ isLetter c = not (eqb (byteOf c) 0)
 -- the string goes on from i as it does from r
 pub record Passes (s : List ℕ) (i r : ℕ) : Type 0 where
   pub from : i ≤ r
-  pub within : r ≤ length s
   pub same : endOf (bodyFrom false i (drop i s)) ≡ endOf (bodyFrom false r (drop r s))
 
 -- n bytes of the 32 from i on, each of which stands as it is

@@ -204,6 +204,23 @@ fn past_raw(s: &[u8], at: usize) -> usize
     i
 }
 
+// Past escapes that stand one after the other.
+fn past_escapes(s: &[u8], at: usize) -> usize
+    ensures { λ r. ⌜ Passes (now (s .entry)) at r ⌝ }
+{
+    let mut i = at;
+    while i < s.len() {
+        if s[i] != b'\\' {
+            return i;
+        }
+        if !is_letter(byte(s, i + 1)) {
+            return i;
+        }
+        i += 2;
+    }
+    i
+}
+
 // The place after the closing quote of a string whose opening quote stands before `at`. Bytes go one at a time until 16 in a row stood as they
 // are: short strings, and escapes close to each other, are faster so.
 fn body_end(s: &[u8], at: usize) -> Out
@@ -217,7 +234,7 @@ fn body_end(s: &[u8], at: usize) -> Out
             if !is_letter(byte(s, i + 1)) {
                 return Out::Bad;
             }
-            i += 2;
+            i = past_escapes(s, i + 2);
             run = 0;
             continue;
         }

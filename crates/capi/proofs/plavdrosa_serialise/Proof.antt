@@ -8,14 +8,14 @@ returns c =
     let e = c .before .before .before .before .before in
     let b = e .before .before in
     let a = b .before .before .before in
-    said-length _ _ _ (body-back _ _ _ _ _ _ _ (a .fits .created-at) (a .fits .kind) (b .body-from .ensures)) (e .serialise .ensures .0) (e .serialise .ensures .1) _ (c .before .n .given .1)
+    said-length _ _ _ (body-back _ _ _ _ _ _ _ (a .fits .created-at) (a .fits .kind) (b .body-from .ensures)) (e .serialise .ensures .0) (e .serialise .ensures .1 .1) _ (c .before .n .given .1)
 
 returns-2 : tie.Need-returns-2
 returns-2 c =
     let e = c .before .before .before .before .before in
     let b = e .before .before in
     let a = b .before .before .before in
-    said-length _ _ _ (body-back _ _ _ _ _ _ _ (a .fits .created-at) (a .fits .kind) (b .body-from .ensures)) (e .serialise .ensures .0) (e .serialise .ensures .1) _ (c .before .r .given .1)
+    said-length _ _ _ (body-back _ _ _ _ _ _ _ (a .fits .created-at) (a .fits .kind) (b .body-from .ensures)) (e .serialise .ensures .0) (e .serialise .ensures .1 .1) _ (c .before .r .given .1)
 
 pub plavdrosa-serialise-spec : {M : Type 1} → statement M
 plavdrosa-serialise-spec =

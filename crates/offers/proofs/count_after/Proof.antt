@@ -1,3 +1,4 @@
+-- By whether the slot was held.
 use borrow.Author.Needs.{needs}
 use borrow.Author.Tests.{lt-ltb, le-ltb}
 use Rattle.offers.proofs.count_after.Statement.{statement}

@@ -1,3 +1,4 @@
+-- By the class of the kind.
 use mathlib.Core.Path.{sym, ap, _∙_}
 use borrow.Author.Needs.{needs}
 use Rattle.offers.specs.Slot.{ifAddressable}

@@ -16,13 +16,29 @@ abbrev μ-loop : tie.MeasureT-loop
 μ-loop table c new k₀ k = c - k
 
 returns : tie.Need-returns Inv-loop μ-loop
-returns c = let l = c .before .before .before .before .loop in sym (find-met _ (l .k) _ _ (l .inv .1) (c .before .before .before .loop-test .taken) (sym (c .before .same-key .ensures ∙ ap (sameKeyIn _) (c .before .before .slot .ensures)) ∙ c .if1 .taken))
+returns c =
+    let c1 = c .before in
+    let c2 = c1 .before in
+    let c3 = c2 .before in
+    let c4 = c3 .before in
+    let l = c4 .loop in
+    sym
+    (find-met _ (l .k) _ _ (l .inv .1) (c3 .loop-test .taken) (sym (c1 .same-key .ensures ∙ ap (sameKeyIn _) (c2 .slot .ensures)) ∙ c .if1 .taken))
 
 loop-again : tie.Need-loop-again Inv-loop μ-loop
-loop-again c = let l = c .before .before .before .before .loop in (search needs, find-more _ (l .k) _ _ (l .inv .1) (c .before .before .before .loop-test .taken) (sym (c .before .same-key .ensures ∙ ap (sameKeyIn _) (c .before .before .slot .ensures)) ∙ c .if1 .left))
+loop-again c =
+    let c1 = c .before in
+    let c2 = c1 .before in
+    let c3 = c2 .before in
+    let c4 = c3 .before in
+    let l = c4 .loop in
+    (search needs, find-more _ (l .k) _ _ (l .inv .1) (c3 .loop-test .taken) (sym (c1 .same-key .ensures ∙ ap (sameKeyIn _) (c2 .slot .ensures)) ∙ c .if1 .left))
 
 returns-2 : tie.Need-returns-2 Inv-loop μ-loop
 returns-2 c = let l = c .before .loop in sym (find-end _ (l .k) _ _ (l .inv .1) (c .loop-test .left))
 
 pub find-key-spec : {M : Type 1} → statement M
-find-key-spec = tie.close (tie.spec Inv-loop μ-loop (λ c. (search needs, simp (sub-zero, zero-add))) (λ c κs. search needs) (λ c κs. search needs) returns (search needs) (search needs) loop-again returns-2)
+find-key-spec =
+    tie.close
+    (tie.spec Inv-loop μ-loop (λ c. (search needs, simp (sub-zero, zero-add))) (λ c κs. search needs) (λ c κs. search needs) returns
+    (search needs) (search needs) loop-again returns-2)

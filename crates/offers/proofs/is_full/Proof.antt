@@ -1,3 +1,4 @@
+-- The capacity is the header's first number.
 use mathlib.Core.Path.{ap, _∙_}
 use lib.Dec.{leb}
 use borrow.Author.Needs.{needs}

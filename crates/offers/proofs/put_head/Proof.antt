@@ -16,5 +16,5 @@ returns c =
 pub put-head-spec : {M : Type 1} → statement M
 put-head-spec =
     tie.close
-    (tie.spec (λ c κs. c .before .before .before .before .before .pre .0) (λ c κs. c .before .before .before .before .before .before .before .before .before .pre .1)
-    (λ c κs. search needs) (search needs) returns)
+    (tie.spec (λ c κs. c .before .before .before .before .before .pre .0)
+    (λ c κs. c .before .before .before .before .before .before .before .before .before .pre .1) (λ c κs. search needs) (search needs) returns)

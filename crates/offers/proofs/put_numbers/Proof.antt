@@ -9,6 +9,7 @@ use Rattle.offers.proofs.put_numbers.Tie as tie
 returns : tie.Need-returns
 returns c =
     let c2 = c .before .before in
+    let c2 = c2 in
     let c3 = c2 .before in
     let c7 = c3 .before .before .before .before in
     let c8 = c7 .before in
@@ -18,7 +19,8 @@ returns c =
     let c22 = c21 .before in
     let c23 = c22 .before in
     let a = c23 .before .before .before .args in
-    numbers-put (a .t) (a .n) (bits-back (a .t .time) (c23 .struct-told .given .0 .1) (c22 .to-unsigned .ensures)) (c8 .d-if .ensures) (c3 .d-if2 .ensures)
+    numbers-put (a .t) (a .n) (bits-back (a .t .time) (c23 .struct-told .given .0 .1) (c22 .to-unsigned .ensures)) (c8 .d-if .ensures)
+    (c3 .d-if2 .ensures)
     (puts-then (puts-then (puts-then (puts-then (c21 .put-le .ensures) (c16 .put-le2 .ensures)) (c12 .put-le3 .ensures)) (c7 .put-le4 .ensures)) (c2 .put-le5 .ensures))
 
 pub put-numbers-spec : {M : Type 1} → statement M

@@ -45,14 +45,16 @@ count-after-requires c κs =
 returns : tie.Need-returns
 returns c =
     let c2 = c .before .before in
+    let c2 = c2 in
     let c7 = c2 .before .before .before .before .before in
     let c9 = c7 .before .before in
     let c11 = c9 .before .before in
     let p = c11 .before .before .before .before .pre in
-    stored-is _ _ (p .0) (p .1) (c11 .le-at .ensures .is) (c9 .find-key .ensures) (c7 .write-slot .ensures) (c2 .before .count-after .ensures) (c2 .put-le .ensures)
+    stored-is _ _ (p .0) (p .1) (c11 .le-at .ensures .is) (c9 .find-key .ensures) (c7 .write-slot .ensures)
+    (c2 .before .count-after .ensures) (c2 .put-le .ensures)
 
 pub store-spec : {M : Type 1} → statement M
 store-spec =
     tie.close
-    (tie.spec (λ c κs. search needs) (λ c κs. search needs) mul-a add-a add-e (search needs) (search needs) part-write-slot-end write-slot-requires count-after-requires
-    (λ c κs. search needs) (search needs) returns)
+    (tie.spec (λ c κs. search needs) (λ c κs. search needs) mul-a add-a add-e (search needs) (search needs) part-write-slot-end
+    write-slot-requires count-after-requires (λ c κs. search needs) (search needs) returns)

@@ -1,3 +1,4 @@
+-- The first bytes of the id.
 use mathlib.Core.Path.{ap, _∙_}
 use native.Mathlib.Omega.{arith}
 use borrow.Author.Needs.{needs}

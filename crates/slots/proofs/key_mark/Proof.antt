@@ -1,3 +1,4 @@
+-- The last bytes of d and of the pubkey.
 use mathlib.Core.Path.{ap, ap₂, _∙_}
 use borrow.Author.Needs.{needs}
 use lib.Bits.{bitXor}

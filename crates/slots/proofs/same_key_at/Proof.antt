@@ -1,3 +1,4 @@
+-- Unlike marks, or the keys compared.
 use mathlib.Core.Path.{ap₂, _∙_}
 use native.Mathlib.Omega.{arith}
 use borrow.Author.Needs.{needs}

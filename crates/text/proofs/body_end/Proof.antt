@@ -24,11 +24,13 @@ returns c =
     let c5 = c2 .before .before .before in
     sym (c5 .before .loop .inv .1 ∙ body-unknown _ _ (c5 .loop-test .taken) (c2 .before .if1 .taken) (c2 .byte .ensures) (c .before .is-letter .ensures) (not-true _ (c .if2 .taken)))
 
+-- an escape, and those after it
 loop-again : tie.Need-loop-again Inv-loop μ-loop
 loop-again c =
-    let c2 = c .before .before in
-    let c5 = c2 .before .before .before in
-    (omega arith, c5 .before .loop .inv .1 ∙ body-pair _ _ (c5 .loop-test .taken) (c2 .before .if1 .taken) (c2 .byte .ensures) (c .before .is-letter .ensures) (not-false _ (c .if2 .left)))
+    let c1 = c .before in
+    let c3 = c1 .before .before in
+    let c6 = c3 .before .before .before in
+    (omega arith, c6 .before .loop .inv .1 ∙ body-pair _ _ (c6 .loop-test .taken) (c3 .before .if1 .taken) (c3 .byte .ensures) (c1 .before .is-letter .ensures) (not-false _ (c1 .if2 .left)) ∙ c .past-escapes .ensures .same)
 
 returns-2 : tie.Need-returns-2 Inv-loop μ-loop
 returns-2 c =
@@ -60,7 +62,7 @@ pub body-end-spec : {M : Type 1} → statement M
 body-end-spec =
     tie.close
     (tie.spec Inv-loop μ-loop (λ c. (omega arith, refl)) (λ c. search needs) (λ c. search needs) (λ c κs. search needs)
-    (λ c κs. search needs) returns (λ c. search needs) (λ c. omega arith) loop-again (λ c. search needs) returns-2
+    (λ c κs. search needs) returns (λ c. search needs) (λ c κs. search needs) (λ c. let h = c .past-escapes .ensures .from in omega arith) loop-again (λ c. search needs) returns-2
     returns-3 (λ c. search needs) (λ c. let h = c .before .before .before .before .before .loop .inv .0 in omega arith) (λ c κs. omega arith)
     (λ c. let h = c .past-raw .ensures .from in omega arith) loop-again-2 (λ c. omega arith) loop-again-3
     (λ c. sym (c .before .loop .inv .1 ∙ body-over _ _ _ (c .loop-test .left))))
