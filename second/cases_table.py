@@ -318,7 +318,7 @@ def refusals():
     messages += [(10, event_with()), (10, offer(made(kind=20000), id=A))]
     messages += [(9, offer(made(content="x" * 4017))), (9, offer(made(content="x" * 4017), id=A))]
     wanted += [(row, lent.add(raw(text)), len(raw(text))) for row, text in messages]
-    taken = lent.event(made(content="x" * 4016))
+    taken, large = [lent.event(made(content="x" * size)) for size in (4016, 4017)]
     long = lent.add(raw(offer(made()) + " " * 8192))
     wanted += [(1, long, 8193), (0, long, 8192)]
     yield lent.set()
@@ -343,6 +343,7 @@ def refusals():
         if bad:
             yield b"11 refused", taken.parts()
         # Parts that break a row, each of them in an event that is good but for it.
+        yield b"9 refused", large.parts()
         for one in good[:2]:
             for row, at, value in part_faults(one):
                 numbers = list(one.numbers)
@@ -372,26 +373,24 @@ def turned(want, at, bits):
 def each_byte():
     """A table of three slots that holds two, with every byte that soundness names changed one at a time."""
     lent = Lent()
-    tile = lent.event(made(kind=30000, created_at=-7200, tags=[["e", "x"], ["d", "t\n1"]], content='a"b'))
-    plain_one = lent.event(made(kind=1, created_at=7, content="x"))
+    addressable = lent.event(made(kind=30000, created_at=-7200, tags=[["e", "x"], ["d", "t\n1"]], content='a"b'))
+    regular = lent.event(made(kind=1, created_at=7, content="x"))
     probe = lent.event(made(kind=2))
     yield lent.set()
     for extra in (0, 40):
         yield from fresh(3, extra, 0)
-        yield STORED, tile.message()
-        yield STORED, plain_one.message()
+        yield STORED, addressable.message()
+        yield STORED, regular.message()
         for at in range(16):
             for bit in range(8):
                 # A capacity of 2 is sound too.
                 yield from turned(b"sound" if (at, bit) == (0, 0) else b"unsound", at, 1 << bit)
-        if extra:
-            break
     yield b"unsound", line(b"X", 12, 1)
     yield b"11 refused", probe.message()
     yield b"11 refused", probe.judged()
     yield b"11 ", line(b"H", 0)
     yield b"sound", line(b"X", 12, 1)
-    sizes = [len(text_of(one.fields)) for one in (tile, plain_one)]
+    sizes = [len(text_of(one.fields)) for one in (addressable, regular)]
     for slot in (0, 1):
         base = HEADER + slot * SLOT
         for name, (at, length) in FIELDS.items():
