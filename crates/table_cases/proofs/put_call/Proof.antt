@@ -11,5 +11,5 @@ slice-aggregate-put-answer c = sym (length-take-le _ _ (omega arith))
 pub put-call-spec : {M : Type 1} → statement M
 put-call-spec =
     tie.close
-    (tie.spec (λ c. search needs) slice-aggregate-put-answer (λ c κs. search needs) (λ c. search needs)
-    (λ c. search needs))
+    (tie.spec (λ c. search needs) (λ c. search needs) slice-aggregate-put-answer (λ c κs. search needs)
+    (λ c. search needs) (λ c. search needs) (λ c. search needs))
