@@ -32,7 +32,8 @@ extern "C" {
         content_len: usize,
         out: *mut u8,
         out_len: usize,
-    ) -> usize;
+        written: *mut usize,
+    ) -> u8;
     fn plavdrosa_id(
         bytes: *const u8,
         len: usize,
@@ -63,7 +64,7 @@ fn proved_message_row(bytes: &[u8]) -> u8 {
     unsafe { plavdrosa_message_row(bytes.as_ptr(), bytes.len()) }
 }
 
-type Numbers = [u64; 43];
+type Numbers = [u64; 44];
 
 fn proved_read(bytes: &[u8], out: &mut Numbers) -> u8 {
     unsafe { plavdrosa_read(bytes.as_ptr(), bytes.len(), out.as_mut_ptr(), out.len()) }
@@ -93,10 +94,10 @@ fn plain_read_text(bytes: &[u8], out: &mut [u64; 7]) -> u8 {
     }
 }
 
-// No text has fewer than 80 bytes.
 fn proved_serialise(b: &[u8], p: &Body, out: &mut [u8]) -> Result<usize, u8> {
     let (k, c) = (p.pubkey, p.content);
-    let n = unsafe {
+    let mut n = 0usize;
+    let row = unsafe {
         plavdrosa_serialise(
             b.as_ptr(),
             b.len(),
@@ -109,9 +110,10 @@ fn proved_serialise(b: &[u8], p: &Body, out: &mut [u8]) -> Result<usize, u8> {
             c.len,
             out.as_mut_ptr(),
             out.len(),
+            &mut n,
         )
     };
-    if n < 80 { Err(n as u8) } else { Ok(n) }
+    if row == 0 { Ok(n) } else { Err(row) }
 }
 
 fn proved_id(b: &[u8], p: &Body) -> Result<[u8; 32], u8> {
@@ -266,7 +268,7 @@ fn message_row() {
 
 // Both sides read alike: the row, and every part.
 fn read_alike(text: &[u8]) -> u8 {
-    let (mut proved, mut plain) = ([7; 43], [7; 43]);
+    let (mut proved, mut plain) = ([7; 44], [7; 44]);
     let row = proved_read(text, &mut proved);
     assert_eq!(row, plain_read(text, &mut plain), "{}", String::from_utf8_lossy(text));
     assert_eq!(proved, plain, "{}", String::from_utf8_lossy(text));
@@ -280,7 +282,7 @@ fn read() {
     let texts = client_messages();
     for (name, text) in &texts {
         assert_eq!(read_alike(text), 0, "{name}");
-        let (mut p, mut q) = ([0; 43], [0; 43]);
+        let (mut p, mut q) = ([0; 44], [0; 44]);
         let (proved, plain) = race(
             || {
                 black_box(proved_read(black_box(text), &mut p));
@@ -296,7 +298,7 @@ fn read() {
     for k in [1, 3] {
         let (name, text) = &texts[k];
         let used = stack::used(|| {
-            black_box(proved_read(black_box(text), &mut [0; 43]));
+            black_box(proved_read(black_box(text), &mut [0; 44]));
         });
         println!("stack of reading, {name}: {used} bytes");
     }

@@ -1,13 +1,15 @@
 -- What an answer of the digest says of its message; a law for each way out of a call that writes into a lent row; the numbers of filters.
 use mathlib.Core.Path.{_≡_, refl, sym, ap, _∙_}
+use mathlib.Core.Bool.{Bool, true, false}
 use mathlib.Core.List.{List, [], _∷_, _++_}
 use Prim.Native.Nat.{ℕ, suc, _+_, _-_, _*_, _^_, _≤_, _<_}
 use native.Mathlib.Decide.{decLe}
 use native.Mathlib.Omega.{arith}
-use borrow.Author.Tests.{le-leb, lt-leb, eq-eqb, ne-eqb}
+use borrow.Author.Tests.{le-leb, lt-leb, eq-eqb, ne-eqb, eqb-true, eqb-false}
+use lib.Dec.{eqb}
 use lib.IntN.{ℤ}
 use lib.ListN.{length, take, drop, getD, length-append, length-take, length-drop, drop-of-length-le}
-use lib.Seq.{drop-cons, take-nil}
+use lib.Seq.{drop-cons, take-nil, take-append-seam}
 use lib.Signed.{mag}
 use mir.Syntax.{w64}
 use mir.Val.{toZ, ofZ, SFits}
@@ -19,13 +21,18 @@ use Rattle.digest.specs.State.{most, digested}
 use Rattle.digest.specs.Pieces.{digest-done, digest-refused}
 use Rattle.wire.specs.Put.{put, Puts}
 use Rattle.wire.specs.Field.{unsigned}
-use Rattle.wire.proofs.Laws.{put-over, puts-whole, Rest, rest-start}
+use Rattle.wire.proofs.Laws.{put-over, puts-none, puts-whole, puts-then}
 use Rattle.message.specs.declared.Body.{Body}
 use Rattle.message.specs.declared.FilterParts.{FilterParts}
+use Rattle.message.specs.declared.Message.{Message}
+use Rattle.message.specs.declared.Message.the-variants as message
+use Rattle.message.specs.declared.Filters.{Filters}
+use Rattle.message.specs.Parts.{filtersAt}
+use Rattle.message.specs.Read.{readOf, rowOf}
 use Rattle.event.specs.Answer.{numberOf, serialised, serialisedOut}
 use Rattle.event.specs.declared.Written.{Written}
-use Rattle.capi.specs.Numbers.{filterNumbers, partsNumbers, bodyFrom}
-use Rattle.capi.specs.Calls.{digestRow, digestOut, lentRow, lentOut, lengthOr}
+use Rattle.capi.specs.Numbers.{filterNumbers, partsNumbers, messageNumbers, bodyFrom}
+use Rattle.capi.specs.Calls.{digestRow, digestOut, lentRow, lentOut, readRow, readOut, lengthOr}
 
 length-digest : (l : List ℕ) → length (digest l) ≡ 32
 unfolding digest digestBytes
@@ -125,3 +132,52 @@ module _ (fs : List FilterParts) (n i : ℕ) where
 
   pub filters-end : n ≤ i → leftParts ≡ []
   filters-end h = let m : n - i ≡ 0 = omega arith in rw m refl
+
+-- the filters of a REQ stand in four places
+pub four-parts : (s : List ℕ) (at : ℕ) {f : Filters} → f ≡ filtersAt s at → length (f .parts) ≡ 4
+unfolding filtersAt
+four-parts s at e = ap (λ (x : Filters). length (x .parts)) e
+
+-- ---- a REQ: its head and its filters are put into 44 numbers, and what they take of these is lent on
+module _ (d head : List ℕ) (fs : List FilterParts) (n : ℕ) (long : length d ≡ 44) (four : length head ≡ 4) (most : length fs ≡ 4) where
+  abbrev request : List ℕ
+  request = head ++ partsNumbers (take n fs)
+
+  small : length request ≤ length d
+  small =
+      let a = length-parts (take n fs) in
+      let b = length-take n fs in
+      simp length-append (omega arith)
+
+  module _ {a r : ℕ} {l o : List ℕ} (p : Puts d 0 head a l) (q : Puts l a (partsNumbers (take n fs)) r o) where
+    pub request-taken : take r o ≡ request
+    request-taken =
+        let w = puts-whole small (puts-then p q) in
+        rw (w .0, w .1) (take-append-seam request (drop (length request) d))
+
+    pub request-length : r ≡ length (take r o)
+    request-length = puts-whole small (puts-then p q) .0 ∙ sym (ap length request-taken)
+
+pub lent-as : (out : List ℕ) {l m o : List ℕ} {x : ℕ} → l ≡ m → x ≡ lentRow 0 (length l) out → o ≡ lentOut 0 (length l) l out →
+    (x ≡ lentRow 0 (length m) out) × (o ≡ lentOut 0 (length m) m out)
+lent-as out e a b = rw (sym e) (a, b)
+
+-- ---- a message that was read
+module _ (s out : List ℕ) {m : Message} (e : m ≡ readOf s) where
+  pub read-lent : {l o : List ℕ} {x : ℕ} → rowOf m ≡ 0 → l ≡ messageNumbers s m → x ≡ lentRow 0 (length l) out → o ≡ lentOut 0 (length l) l out →
+      (x ≡ readRow s out) × (o ≡ readOut s out)
+  read-lent z f a b =
+      let y : rowOf (readOf s) ≡ 0 = ap rowOf (sym e) ∙ z in
+      let g = f ∙ ap (messageNumbers s) e in
+      rw (y, sym g) (a, b)
+
+  -- a refusal by no row is none: nothing would be written
+  pub read-refused : (x : ℕ) → m ≡ message.Refused x → (x ≡ readRow s out) × (out ≡ readOut s out)
+  read-refused x f = let y : readOf s ≡ message.Refused x = sym e ∙ f in rw y (go (eqb x 0) refl)
+    where
+      go : (b : Bool) → eqb x 0 ≡ b → (x ≡ lentRow x 0 out) × (out ≡ lentOut x 0 [] out)
+      go true q =
+          let z : x ≡ 0 = eqb-true x 0 q in
+          let w = lent-wrote x 0 [] out z (omega arith) refl (puts-none out 0 (omega arith)) in
+          (z ∙ w .0, w .1)
+      go false q = lent-refused x 0 [] out refl (eqb-false x 0 q)

@@ -197,7 +197,12 @@ fn put_request(out: &mut [u64], s: &[u8], p: ReqParts) -> u8
     let fs = message::filters_at(s, p.filters);
     let parts = fs.parts;
     let n = fs.n;
-    let head = [2, subscription.start as u64, subscription.len as u64, n as u64];
+    let head = [
+        2,
+        subscription.start as u64,
+        subscription.len as u64,
+        n as u64,
+    ];
     let mut l = [0u64; 44];
     let a = put_numbers(&mut l, 0, &head);
     let e = put_filters(&mut l, a, parts, n);

@@ -5,22 +5,17 @@ use mathlib.Core.List.{List, _++_}
 use Prim.Native.Nat.{ℕ}
 use lib.Dec.{eqb, ltb}
 use lib.ListN.{length, drop}
-use Rattle.wire.specs.Limits.{hexLength, mostCharacters}
-use Rattle.spell.specs.Spell.{characterCount}
-use Rattle.shape.specs.Rows.{outside}
+use Rattle.wire.specs.Limits.{hexLength}
 use Rattle.message.specs.declared.Span.{Span}
 use Rattle.message.specs.declared.EventParts.{EventParts}
-use Rattle.message.specs.Lent.{bytesOf, isSpelled, string2, string4, string5, string7, lowest, event2, event4, event5, event7, body6, body8}
+unfoldable pub use Rattle.message.specs.Lent.{subscription8}
+use Rattle.message.specs.Lent.{string2, string4, string5, string7, lowest, event2, event4, event5, event7, body6, body8}
 use Rattle.event.specs.Lent.{said, eventOf}
 use Rattle.event.specs.Answer.{orElse, isLarge, answered}
 use Rattle.event.specs.declared.Written.{Written}
 use Rattle.reply.specs.Replies.{Reply, ok, event, eose, closed, notice, replyText}
 use Rattle.reply.specs.declared.ReplyParts.{ReplyParts}
 use Rattle.reply.specs.declared.ReplyParts.the-variants as parts
-
--- row 8 of a subscription id: "1 to 64 characters (code points)"
-unfoldable pub subscription8 : List ℕ → Span → Bool
-subscription8 b p = isSpelled b p && outside 1 mostCharacters (characterCount (bytesOf b p))
 
 -- the reply that the parts spell
 abbrev pub replyOf : List ℕ → ReplyParts → Reply
