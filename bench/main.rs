@@ -5,7 +5,9 @@ mod plain_event;
 mod plain_json;
 mod plain_message;
 mod plain_sha256;
+mod plain_table;
 mod stack;
+mod table;
 
 use plain_message::{Body, Message};
 use std::hint::black_box;
@@ -467,8 +469,15 @@ fn event() {
 fn main() {
     let named: Vec<String> = std::env::args().skip(1).collect();
     println!("{:<54} {:>12} {:>12} {:>7}", "", "proved, ns", "plain, ns", "ratio");
-    let all: [(&str, fn()); 6] =
-        [("digest", digest), ("text_row", text_row), ("message_row", message_row), ("read", read), ("event", event), ("back", back)];
+    let all: [(&str, fn()); 7] = [
+        ("digest", digest),
+        ("text_row", text_row),
+        ("message_row", message_row),
+        ("read", read),
+        ("event", event),
+        ("back", back),
+        ("table", table::run),
+    ];
     for (name, run) in all {
         if named.is_empty() || named.iter().any(|n| n == name) {
             run();

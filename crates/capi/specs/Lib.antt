@@ -1,3 +1,4 @@
 -- What the calls for Rust and C answer, and what the lent buffer then holds.
 pub mod Numbers
 pub mod Calls
+pub mod Table

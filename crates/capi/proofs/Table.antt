@@ -1,0 +1,37 @@
+-- Laws of the calls on a table: an answer of the call below says what the numbers are.
+use mathlib.Core.Path.{_≡_, refl, sym, ap, _∙_}
+use mathlib.Core.Bool.{Bool, true, false}
+use mathlib.Core.List.{List}
+use Prim.Native.Nat.{ℕ}
+use Rattle.message.specs.declared.Body.{Body}
+use Rattle.message.specs.declared.EventParts.{EventParts}
+use Rattle.table.specs.Sound.{sound}
+use Rattle.table.specs.Format.{shownRow}
+use Rattle.table.specs.Offer.{asParts, answer, next}
+use Rattle.table.specs.declared.Offered.{Offered}
+use Rattle.slots.specs.Shown.{shownAt, numberOf}
+use Rattle.slots.specs.declared.Shown.{Shown}
+use Rattle.capi.specs.Table.{soundRow, offeredNumber, shownPlace, shownLength, eventFrom}
+
+pub sound-0 : (t : List ℕ) {x : Bool} → x ≡ sound t → x ≡ true → 0 ≡ soundRow t
+unfolding soundRow
+sound-0 t e h = rw (sym e ∙ h) refl
+
+pub unsound-11 : (t : List ℕ) {x : Bool} → x ≡ sound t → x ≡ false → 11 ≡ soundRow t
+unfolding soundRow
+unsound-11 t e h = rw (sym e ∙ h) refl
+
+-- parts whose body is another that is equal
+pub event-as : (i n s m : ℕ) {y z : Body} {x : EventParts} → x ≡ eventFrom i n y s m → y ≡ z → x ≡ eventFrom i n z s m
+event-as i n s m f e = f ∙ ap (λ (w : Body). eventFrom i n w s m) e
+
+pub offered-as : (t b : List ℕ) {p q : EventParts} {x : Offered} {o : List ℕ} {r : ℕ} → p ≡ q → r ≡ offeredNumber x → x ≡ answer t (asParts b p) →
+    o ≡ next t (asParts b p) → (r ≡ offeredNumber (answer t (asParts b q))) × (o ≡ next t (asParts b q))
+offered-as t b e f g h =
+    (f ∙ ap offeredNumber (g ∙ ap (λ (y : EventParts). answer t (asParts b y)) e), h ∙ ap (λ (y : EventParts). next t (asParts b y)) e)
+
+-- what is answered and left, with m and n in the lent numbers
+pub said-place : (t : List ℕ) (k : ℕ) {x v : Shown} (m n : ℕ) → x ≡ shownAt t k → numberOf x ≡ shownRow t k → x ≡ v →
+    (numberOf v ≡ shownRow t k) × ((shownPlace v m ≡ shownPlace (shownAt t k) m) × (shownLength v n ≡ shownLength (shownAt t k) n))
+said-place t k m n e f h =
+    (sym (ap numberOf h) ∙ f, (ap (λ (z : Shown). shownPlace z m) (sym h ∙ e), ap (λ (z : Shown). shownLength z n) (sym h ∙ e)))

@@ -1,0 +1,35 @@
+-- Calls on a table for Rust and C: what they answer as numbers, and the parts that they make of numbers.
+use Prim.Native.Nat.{ℕ}
+use mathlib.Core.List.{List}
+use mathlib.Core.Bool.{cond}
+use Rattle.message.specs.declared.Body.{Body}
+use Rattle.message.specs.declared.EventParts.{EventParts}
+use Rattle.table.specs.Sound.{sound}
+use Rattle.table.specs.declared.Offered.{Offered}
+use Rattle.table.specs.declared.Offered.the-variants as offered
+use Rattle.slots.specs.declared.Shown.{Shown}
+use Rattle.slots.specs.declared.Shown.the-variants as shown
+
+-- 11, "table not sound", or 0
+unfoldable pub soundRow : List ℕ → ℕ
+soundRow b = cond (sound b) 0 11
+
+-- the row that refuses an offer, and for the verdicts numbers that no row has; 0 says that it was stored
+abbrev pub offeredNumber : Offered → ℕ
+offeredNumber offered.Stored = 0
+offeredNumber offered.Ephemeral = 100
+offeredNumber offered.Duplicate = 101
+offeredNumber offered.Older = 102
+offeredNumber (offered.Refused r) = r
+
+-- where a shown text stands and how long it is; on a refusal the lent numbers stay
+abbrev pub shownPlace : Shown → ℕ → ℕ
+shownPlace (shown.At v n) m = v
+shownPlace (shown.Refused r) m = m
+
+abbrev pub shownLength : Shown → ℕ → ℕ
+shownLength (shown.At v n) m = n
+shownLength (shown.Refused r) m = m
+
+abbrev pub eventFrom : ℕ → ℕ → Body → ℕ → ℕ → EventParts
+eventFrom i n b s m = record { id = record { start = i; len = n }; body = b; sig = record { start = s; len = m } }
