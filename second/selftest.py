@@ -6,6 +6,7 @@ Exits 1 on a difference.
 import hashlib
 import json
 import random
+import struct
 import sys
 from functools import cache
 
@@ -13,12 +14,14 @@ import cases_digest
 import cases_event
 import cases_message
 import cases_parts
+import cases_table
 from answer import ANSWERS, lines
 from cases import stdin
 from json_text import NotUtf8, characters
 from rows import text_of
 from sha256 import sha256
 from spell import damaged, raw
+from table import Event, Program, held, parts_event
 
 A = "a" * 64
 failures = []
@@ -255,8 +258,75 @@ def same_field(buffer, at, width, number, answer):
         same("end %r" % answer, int(end), at + width)
 
 
+def kept(valid):
+    """01's demand 3: the pairs of id and text that stay of valid events, and how many slots they need."""
+    ephemeral = [e for e in valid if 20000 <= e.kind <= 29999]
+    alone = [e for e in valid if e.key is None and e not in ephemeral]
+    newest = [min((e for e in valid if e.key == key), key=Event.age) for key in {e.key for e in valid if e.key}]
+    pairs = {(e.id, e.text) for e in alone + newest}
+    return pairs, len(pairs)
+
+
+class Watched(Program):
+    """The program, with what was validly offered since the table was formatted; None while a byte was damaged."""
+
+    def __init__(self):
+        super().__init__()
+        self.valid, self.lacked = None, False
+
+    def watch(self, line):
+        answer = self.answer(line)
+        if line[:1] in b"LX":
+            self.valid = None
+        if line[:1] == b"F" and answer.startswith(b"0 "):
+            self.valid, self.lacked = [], False
+        if line[:1] in b"MP" and self.valid is not None:
+            numbers = [int(n) for n in line.split(b" ")[1:]]
+            offered = self.message(*numbers) if line[:1] == b"M" else parts_event(self.lent, *numbers)
+            self.valid += [] if isinstance(offered, int) else [offered]
+            self.lacked |= answer.startswith(b"12 ")
+        return answer
+
+    def pairs(self):
+        return {(e.id, e.text) for e in held(self.table())}
+
+
+def same_slots(table, count):
+    """Held slots by struct and json."""
+    for k in range(count):
+        slot = table[16 + 4208 * k : 16 + 4208 * (k + 1)]
+        _, _, time, kind, size, at, length, text = struct.unpack("<32s64sqHHHH4096s", slot)
+        same("rest of slot %d" % k, text[size:].strip(b"\0"), b"")
+        same("fields of slot %d" % k, [time, kind], json.loads(text[:size])[2:4])
+        same("d of slot %d" % k, text[at : at + length], library_d(text[:size]) if 30000 <= kind <= 39999 else b"")
+
+
+def test_table():
+    watched = Watched()
+    for want, line in cases_table.labelled():
+        before, answer = watched.valid, watched.watch(line)
+        same("table %r" % line[:100], answer[: len(want or b"")], want or b"")
+        if watched.valid is not None and watched.valid is before and line[:1] in b"MP":
+            pairs, needed = kept(watched.valid)
+            capacity = int.from_bytes(watched.room[:4], "little")
+            same("room after %r" % line[:100], watched.lacked, needed > capacity)
+            if not watched.lacked:
+                same("held after %r" % line[:100], watched.pairs(), pairs)
+        if line == b"S" and answer.startswith(b"sound"):
+            same_slots(watched.table(), int(answer.split(b" ")[1]))
+    for first, second in cases_table.exchanges():
+        relays = [Watched(), Watched()]
+        for relay, part in zip(relays, (first, second)):
+            for _, line in part:
+                relay.watch(line)
+        pairs, _ = kept(relays[0].valid + relays[1].valid)
+        for relay in relays:
+            same("exchange", relay.lacked, False)
+            same("exchange", relay.pairs(), pairs)
+
+
 if __name__ == "__main__":
-    for test in (test_digest, test_utf8, test_json, test_messages, test_events, test_parts):
+    for test in (test_digest, test_utf8, test_json, test_messages, test_events, test_parts, test_table):
         test()
     print("selftest: %d differences" % len(failures))
     sys.exit(1 if failures else 0)
