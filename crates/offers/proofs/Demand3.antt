@@ -94,12 +94,11 @@ after-each cs ds s ids fits =
 
 any-order : AnyOrder
 any-order cs ds s t ids fits same le =
-    let (n, h, l) = demand-3 .order-free (s .table) (t .table) (offersOf cs) (offersOf ds) (isFresh s) (isFresh t) ids (none (room s) fits) same (omega (arith, size s, size t)) in
-    (
+    let (n, h, l) = demand-3 .order-free (s .table) (t .table) (offersOf cs) (offersOf ds) (isFresh s) (isFresh t) ids (none (room s) fits) same (omega (arith, size s, size t)) in (
       room t ∙ no-more _ n,
       rw (ends s, ends t) h,
       ap countOf (ends t) ∙ sym (length-view (runOn tableEvents Signature relay (t .table) (offersOf ds))) ∙ l
-      ∙ length-view (runOn tableEvents Signature relay (s .table) (offersOf cs)) ∙ sym (ap countOf (ends s)),
+          ∙ length-view (runOn tableEvents Signature relay (s .table) (offersOf cs)) ∙ sym (ap countOf (ends s)),
     )
 
 runs-out : RoomRunsOut
@@ -122,7 +121,8 @@ end-alike hs es ls ks fs ms s t x ids r u =
     (none (room t ∙ ap (lacksOn tableEvents Signature relay (t .table)) q) u))
 
 pub demand-3-of-calls : Demand3OfCalls
-demand-3-of-calls = record { held-at-end = at-end; held-after-each = after-each; any-order = any-order; relays-end-alike = end-alike; room-runs-out = runs-out }
+demand-3-of-calls =
+    record { held-at-end = at-end; held-after-each = after-each; any-order = any-order; relays-end-alike = end-alike; room-runs-out = runs-out }
 
 -- ---- the wrong relays
 not-stored : (a : Offered) → numberOf a ≢ 0 → isStored a ≡ false

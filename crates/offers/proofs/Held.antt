@@ -39,7 +39,8 @@ tied s x y e f =
     (and-true (hasKeyIn (classOf (kindIn y))) _ j
     (and-true (sameBytes (pubkeyIn y) (pubkeyIn x)) (sameBytes (dBytesIn y) (dBytesIn x)) (equal-same (pubkeyIn y) (pubkeyIn x) (k ∙ sym c)) (equal-same (dBytesIn y) (dBytesIn x) (l ∙ sym d))))
   where
-    parts : (t : List ℕ) → sameKeyIn s t ≡ true → (kindIn t ≡ kindIn s) × (hasKeyIn (classOf (kindIn t)) ≡ true) × (pubkeyIn t ≡ pubkeyIn s) × (dBytesIn t ≡ dBytesIn s)
+    parts : (t : List ℕ) → sameKeyIn s t ≡ true
+        → (kindIn t ≡ kindIn s) × (hasKeyIn (classOf (kindIn t)) ≡ true) × (pubkeyIn t ≡ pubkeyIn s) × (dBytesIn t ≡ dBytesIn s)
     parts t h =
         let a = both (eqb (kindIn t) (kindIn s)) (hasKeyIn (classOf (kindIn t)) && (sameBytes (pubkeyIn t) (pubkeyIn s) && sameBytes (dBytesIn t) (dBytesIn s))) h in
         let b = both (hasKeyIn (classOf (kindIn t))) (sameBytes (pubkeyIn t) (pubkeyIn s) && sameBytes (dBytesIn t) (dBytesIn s)) (a .1) in

@@ -52,7 +52,8 @@ module _ {d s o : List ℕ} {n m : ℕ} (room : length o ≡ m) (p : Puts d 0 s 
   front-length = whole .0 ∙ ap length (sym front-is)
 
 -- ---- the numbers before the text
-pub numbers-put : (t : Text) (n : ℕ) {d o : List ℕ} {at r u i j : ℕ} → u ≡ unsigned (t .time) → i ≡ ifAddressable (classOf (t .kind)) (t .d) → j ≡ ifAddressable (classOf (t .kind)) (t .«d_len»)
+pub numbers-put : (t : Text) (n : ℕ) {d o : List ℕ} {at r u i j : ℕ} → u ≡ unsigned (t .time) → i ≡ ifAddressable (classOf (t .kind)) (t .d)
+    → j ≡ ifAddressable (classOf (t .kind)) (t .«d_len»)
     → Puts d at (leBytes 8 u ++ leBytes 2 (t .kind) ++ leBytes 2 n ++ leBytes 2 i ++ leBytes 2 j) r o → Puts d at (numbersOf t n) r o
 unfolding numbersOf
 numbers-put t n p q s w = rw (p, q, s) at w
@@ -158,7 +159,10 @@ module _ (b : List ℕ) (p : EventParts) where
       slot-made u =
           let s = headOf b p n (textOf (eventOf b (p .body))) in
           let x : textPlace ≤ length d
-          = omega (arith, ap length q, length-append (replicate {A = ℕ} textPlace 0) (textBytes (lent.textOf b (p .body))), length-replicate {A = ℕ} textPlace 0) in
+          =
+          omega
+          (arith, ap length q, length-append (replicate {A = ℕ} textPlace 0) (textBytes (lent.textOf b (p .body))), length-replicate {A = ℕ} textPlace 0)
+          in
           puts-whole (omega (arith, head-length)) u .1 ∙ ap (λ j. s ++ drop j d) head-length ∙ ap (s ++_) rest ∙ head-text
 
   -- what a slot d of zeros came back as, its place for the text having been lent
@@ -208,7 +212,8 @@ module _ (b : List ℕ) (p : EventParts) where
         came-back : given d y ≡ replicate textPlace 0 ++ textBytes (lent.textOf b (p .body))
         came-back = lent-zeros textPlace mostText slotSize (omega arith) zs y ∙ ap (λ z. replicate textPlace 0 ++ z) text-is
 
-        pub made : {r : ℕ} {u : List ℕ} → ((v : Event) → readText (part (given d y) textPlace n) ≡ read v → Puts (given d y) 0 (headOf b p n (textOf v)) r u)
+        pub made : {r : ℕ} {u : List ℕ}
+            → ((v : Event) → readText (part (given d y) textPlace n) ≡ read v → Puts (given d y) 0 (headOf b p n (textOf v)) r u)
             → (0 ≡ offeredRow b p) × (_≡_ {A = ℕ} 0 0 → u ≡ slotBytes (heldOf b p))
         made f =
             (sym row-none, λ z. slot-made row-none (given d y) came-back n length-is (f (eventOf b (p .body)) (text-reads row-none (given d y) came-back n length-is)))

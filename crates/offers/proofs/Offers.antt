@@ -65,7 +65,8 @@ module _ {A : Type 0} (p q : A → Bool) where
       go false f h = h f
 
 -- the number of a verdict: n holds nowhere where k does not
-verdict-number : (e i n k l : Bool) → (k ≡ false → n ≡ false) → numberOf (answerOf 0 (firstOf e i n (not k && l))) ≡ cond ((not e && (not i && not k)) && l) 12 0
+verdict-number : (e i n k l : Bool) → (k ≡ false → n ≡ false)
+    → numberOf (answerOf 0 (firstOf e i n (not k && l))) ≡ cond ((not e && (not i && not k)) && l) 12 0
 verdict-number true i n k l h = refl
 verdict-number false true n k l h = refl
 verdict-number false false true true l h = refl
@@ -146,7 +147,8 @@ module _ (b : List ℕ) (o : Offering) where
       answer-is = go (sound b) refl
         where
           go : (x : Bool) → sound b ≡ x → cond x (answerFor b s) (Refused 11) ≡ answer b o
-          go true g = ap₂ (λ k v. answerOf k (verdict signedEvents (capacityOf b) (view b) (some v))) (sym (sym f ∙ z)) held ∙ sym (answer-valid b o valid g)
+          go true g =
+              ap₂ (λ k v. answerOf k (verdict signedEvents (capacityOf b) (view b) (some v))) (sym (sym f ∙ z)) held ∙ sym (answer-valid b o valid g)
           go false g = sym (answer-unsound b o valid g)
 
       stores : storedFor b s ≡ storedIn b (offeredOf o)

@@ -45,7 +45,8 @@ module _ (b s : List ℕ) (g : sound b ≡ true) (n : New s) where
     class-is = sym (q ∙ ap isEphemeral p)
 
     pub was-ephemeral : x ≡ true → Ephemeral ≡ answerFor b s
-    was-ephemeral e = sym (by-class ∙ ap (λ t. answerOf 0 (firstOf t (any (hasId signedEvents (inSlot s)) (view b)) (newerHeld b s) (lacks b s))) (class-is ∙ e))
+    was-ephemeral e =
+        sym (by-class ∙ ap (λ t. answerOf 0 (firstOf t (any (hasId signedEvents (inSlot s)) (view b)) (newerHeld b s) (lacks b s))) (class-is ∙ e))
 
     module _ (e : x ≡ false) {c : ℕ} (l : c ≡ fieldAt b 4 4) {y : Bool} (f : y ≡ any (sameIdIn s) (from b 0 c)) where
       pub lasts : slotSound s ≡ true
@@ -56,7 +57,10 @@ module _ (b s : List ℕ) (g : sound b ≡ true) (n : New s) where
       count-is = l
 
       by-id : answerFor b s ≡ answerOf 0 (firstOf false y (newerHeld b s) (lacks b s))
-      by-id = by-class ∙ ap₂ (λ t u. answerOf 0 (firstOf t u (newerHeld b s) (lacks b s))) (class-is ∙ e) (ids b s g ∙ sym (f ∙ ap (λ m. any (sameIdIn s) (from b 0 m)) count-is))
+      by-id =
+          by-class
+          ∙ ap₂ (λ t u. answerOf 0 (firstOf t u (newerHeld b s) (lacks b s))) (class-is ∙ e)
+          (ids b s g ∙ sym (f ∙ ap (λ m. any (sameIdIn s) (from b 0 m)) count-is))
 
       pub was-duplicate : y ≡ true → Duplicate ≡ answerFor b s
       was-duplicate h = sym (by-id ∙ ap (λ u. answerOf 0 (firstOf false u (newerHeld b s) (lacks b s))) h)
@@ -97,7 +101,8 @@ module _ (b s : List ℕ) (g : sound b ≡ true) (n : New s) where
           was-stored z = sym (by-room ∙ ap (λ t. answerOf 0 (firstOf false false false t)) z)
 
 -- ---- what a comparison of two slots answers
-pub newer-by : (s t : List ℕ) (a b : ℤ) {r : Bool} {x y : ℕ} {i j : List ℕ} → SFits w64 a → SFits w64 b → r ≡ isNewer (toZ w64 (ofZ w64 a)) i (toZ w64 (ofZ w64 b)) j
+pub newer-by : (s t : List ℕ) (a b : ℤ) {r : Bool} {x y : ℕ} {i j : List ℕ} → SFits w64 a → SFits w64 b
+    → r ≡ isNewer (toZ w64 (ofZ w64 a)) i (toZ w64 (ofZ w64 b)) j
     → a ≡ signed x → x ≡ fieldAt s 96 8 → b ≡ signed y → y ≡ fieldAt t 96 8 → i ≡ part s 0 32 → j ≡ part t 0 32 → r ≡ newerIn s t
 unfolding newerIn idIn
 newer-by s t a b {r} {x} {y} {i} {j} f g e p q u v k l =

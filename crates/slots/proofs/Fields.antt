@@ -31,7 +31,9 @@ use Rattle.slots.specs.Slots.{dAgrees, agreesText}
 module _ (s : List ℕ) (t : Text) {r u : ℕ} (a : r ≡ fieldAt s 96 8) (b : u ≡ unsigned (t .time)) where
   pub other-time : (r ≡ u → ⊥) → false ≡ agreesText s t
   unfolding agreesText
-  other-time n = sym (ap (_&& (eqb (kindIn s) (t .kind) && dAgrees (classOf (t .kind)) (dIn s .at) (dIn s .len) (t .d) (t .«d_len»))) (ne-eqb (fieldAt s 96 8) (unsigned (t .time)) (λ e. n (a ∙ e ∙ sym b))))
+  other-time n =
+      sym
+      (ap (_&& (eqb (kindIn s) (t .kind) && dAgrees (classOf (t .kind)) (dIn s .at) (dIn s .len) (t .d) (t .«d_len»))) (ne-eqb (fieldAt s 96 8) (unsigned (t .time)) (λ e. n (a ∙ e ∙ sym b))))
 
   module _ (e : r ≡ u) {k : ℕ} (c : k ≡ fieldAt s 104 2) where
     same-time : eqb (fieldAt s 96 8) (unsigned (t .time)) ≡ true
@@ -41,7 +43,8 @@ module _ (s : List ℕ) (t : Text) {r u : ℕ} (a : r ≡ fieldAt s 96 8) (b : u
     unfolding agreesText kindIn
     other-kind n = sym (rw (same-time, ne-eqb (fieldAt s 104 2) (t .kind) (λ q. n (c ∙ q))))
 
-    pub by-d : {x : Bool} {i l : ℕ} → k ≡ t .kind → i ≡ fieldAt s 108 2 → l ≡ fieldAt s 110 2 → x ≡ dAgrees (classOf (t .kind)) i l (t .d) (t .«d_len») → x ≡ agreesText s t
+    pub by-d : {x : Bool} {i l : ℕ} → k ≡ t .kind → i ≡ fieldAt s 108 2 → l ≡ fieldAt s 110 2
+        → x ≡ dAgrees (classOf (t .kind)) i l (t .d) (t .«d_len») → x ≡ agreesText s t
     unfolding agreesText kindIn dIn
     by-d {x} {i} {l} q f g h =
         h ∙ ap₂ (λ m n. dAgrees (classOf (t .kind)) m n (t .d) (t .«d_len»)) f g
@@ -89,7 +92,9 @@ module _ (s : List ℕ) {n : ℕ} (l : n ≡ fieldAt s 106 2) where
 
     no-text : (r : Read) → readText (textIn s) ≡ r → isRead r ≡ false → slotSound s ≡ false
     unfolding slotSound textReads
-    no-text r e f = ap (λ t. (leb (lengthIn s) mostText && isRead t) && rest s) e ∙ ap (λ t. (leb (lengthIn s) mostText && t) && rest s) f ∙ ap (_&& rest s) (and-false (leb (lengthIn s) mostText))
+    no-text r e f =
+        ap (λ t. (leb (lengthIn s) mostText && isRead t) && rest s) e ∙ ap (λ t. (leb (lengthIn s) mostText && t) && rest s) f
+        ∙ ap (_&& rest s) (and-false (leb (lengthIn s) mostText))
 
     pub too-large : x ≡ answer.TooLarge → false ≡ slotSound s
     too-large e = sym (go (readText (textIn s)) refl (sym e ∙ answers))
@@ -118,7 +123,8 @@ module _ (s : List ℕ) {n : ℕ} (l : n ≡ fieldAt s 106 2) where
           ap (λ b. (b && isRead (readText (textIn s))) && rest s) (le-leb (lengthIn s) mostText short)
           ∙ go (readText (textIn s)) refl (sym e ∙ answers)
         where
-          go : (r : Read) → readText (textIn s) ≡ r → answer.Read t ≡ answerOf r → (isRead (readText (textIn s)) && rest s) ≡ (agreesText s t && zeroAfterText s)
+          go : (r : Read) → readText (textIn s) ≡ r → answer.Read t ≡ answerOf r
+              → (isRead (readText (textIn s)) && rest s) ≡ (agreesText s t && zeroAfterText s)
           go tooLarge h f = absurd (let z : _≡_ {A = ℕ} 0 1 = cc in omega arith)
           go wrongShape h f = absurd (let z : _≡_ {A = ℕ} 0 1 = cc in omega arith)
           go (read v) h f =

@@ -26,7 +26,8 @@ use Rattle.slots.specs.declared.Shown.the-variants.{At, Refused}
 module _ (n : ℕ) (b : List ℕ) where
   stays : {r : ℕ} → r ≡ formatRow n b → (r ≡ 0 → ⊥) → b ≡ formatted n b
   unfolding formatted
-  stays e o = sym (ap (λ t. cond t (headerBytes n 0 ++ (replicate (n * slotSize) 0 ++ drop (tableSize n) b)) b) (ne-eqb (formatRow n b) 0 (λ q. o (e ∙ q))))
+  stays e o =
+      sym (ap (λ t. cond t (headerBytes n 0 ++ (replicate (n * slotSize) 0 ++ drop (tableSize n) b)) b) (ne-eqb (formatRow n b) 0 (λ q. o (e ∙ q))))
 
   pub too-few : n < 1 → (14 ≡ formatRow n b) × (b ≡ formatted n b)
   unfolding formatRow
@@ -41,7 +42,8 @@ module _ (n : ℕ) (b : List ℕ) where
     unfolding formatRow
     too-short k = let e : 13 ≡ formatRow n b = sym (rw (le-leb 1 n g, le-leb n mostSlots h, lt-ltb (length b) (tableSize n) k)) in (e, stays e (λ q. omega arith))
 
-    pub fresh : {o : List ℕ} {r : ℕ} → tableSize n ≤ length b → Puts b 0 (leBytes 4 n ++ leBytes 4 0 ++ leBytes 4 slotSize ++ leBytes 4 headerSize ++ replicate (n * slotSize) 0) r o
+    pub fresh : {o : List ℕ} {r : ℕ} → tableSize n ≤ length b
+        → Puts b 0 (leBytes 4 n ++ leBytes 4 0 ++ leBytes 4 slotSize ++ leBytes 4 headerSize ++ replicate (n * slotSize) 0) r o
         → (0 ≡ formatRow n b) × (o ≡ formatted n b)
     unfolding formatRow formatted headerBytes
     fresh {o} {r} k p =

@@ -23,7 +23,8 @@ use Rattle.slots.proofs.Bytes.{is-false}
 use Rattle.slots.proofs.Walk.{any-none}
 
 -- ---- a row of numbers, one more of them stored
-pub set-more : (f : ℕ → ℕ) (l : List ℕ) (i v : ℕ) → ((k : ℕ) → k < i → getD l k 0 ≡ f k) → i < length l → v ≡ f i → (k : ℕ) → k < i + 1 → getD (set l i v) k 0 ≡ f k
+pub set-more : (f : ℕ → ℕ) (l : List ℕ) (i v : ℕ) → ((k : ℕ) → k < i → getD l k 0 ≡ f k) → i < length l → v ≡ f i → (k : ℕ) → k < i + 1
+    → getD (set l i v) k 0 ≡ f k
 set-more f l i v h n e k q = go (decLt k i)
   where
     go : Dec (k < i) → getD (set l i v) k 0 ≡ f k
@@ -32,13 +33,15 @@ set-more f l i v h n e k q = go (decLt k i)
 
 -- ---- no later mark equals that of slot i
 
-pub unlike-more : {ids keys : List ℕ} {i j : ℕ} (h : Bool) → (h ≡ false → Unlike ids keys i j) → ((h || eqb (getD ids j 0) (getD ids i 0)) || eqb (getD keys j 0) (getD keys i 0)) ≡ false → Unlike ids keys i (j + 1)
+pub unlike-more : {ids keys : List ℕ} {i j : ℕ} (h : Bool) → (h ≡ false → Unlike ids keys i j)
+    → ((h || eqb (getD ids j 0) (getD ids i 0)) || eqb (getD keys j 0) (getD keys i 0)) ≡ false → Unlike ids keys i (j + 1)
 unlike-more {ids} {keys} {i} {j} h u e =
     let (a, f) = or-neither (h || eqb (getD ids j 0) (getD ids i 0)) (eqb (getD keys j 0) (getD keys i 0)) e in
     let (g, d) = or-neither h (eqb (getD ids j 0) (getD ids i 0)) a in
     record { ids-differ = λ x p q. more ids (u g .ids-differ) d x p q; keys-differ = λ x p q. more keys (u g .keys-differ) f x p q }
   where
-    more : (l : List ℕ) → ((x : ℕ) → i < x → x < j → getD l i 0 ≡ getD l x 0 → ⊥) → eqb (getD l j 0) (getD l i 0) ≡ false → (x : ℕ) → i < x → x < j + 1 → getD l i 0 ≡ getD l x 0 → ⊥
+    more : (l : List ℕ) → ((x : ℕ) → i < x → x < j → getD l i 0 ≡ getD l x 0 → ⊥) → eqb (getD l j 0) (getD l i 0) ≡ false → (x : ℕ) → i < x
+        → x < j + 1 → getD l i 0 ≡ getD l x 0 → ⊥
     more l o w x p q z = go (decLt x j)
       where
         go : Dec (x < j) → ⊥
@@ -61,7 +64,9 @@ module _ {b : List ℕ} {c : ℕ} {ids keys : List ℕ} (m : Marked b c ids keys
       (λ e. n (m .ids-are i h ∙ ap (λ l. fieldAt l 0 4) (sym (same-equal (idIn (slotAt b j)) (idIn (slotAt b i)) e)) ∙ sym (m .ids-are j k))))
 
   pub keys-differ : (getD keys i 0 ≡ getD keys j 0 → ⊥) → false ≡ sameKeyIn (slotAt b i) (slotAt b j)
-  keys-differ n = sym (is-false (sameKeyIn (slotAt b i) (slotAt b j)) (λ e. n (m .keys-are i h ∙ sym (alike (slotAt b i) (slotAt b j) e) ∙ sym (m .keys-are j k))))
+  keys-differ n =
+      sym
+      (is-false (sameKeyIn (slotAt b i) (slotAt b j)) (λ e. n (m .keys-are i h ∙ sym (alike (slotAt b i) (slotAt b j) e) ∙ sym (m .keys-are j k))))
 
 module _ (s t : List ℕ) where
   pub clash-id : sameIdIn s t ≡ true → clash s t ≡ true
@@ -77,7 +82,8 @@ module _ (s t : List ℕ) where
   clash-none e f = ap₂ _||_ e f
 
 -- ---- no later slot is alike
-pub none-alike : {b : List ℕ} {c : ℕ} {ids keys : List ℕ} (i : ℕ) → Marked b c ids keys → i < c → Unlike ids keys i c → false ≡ any (clash (slotAt b i)) (from b (i + 1) (c - (i + 1)))
+pub none-alike : {b : List ℕ} {c : ℕ} {ids keys : List ℕ} (i : ℕ) → Marked b c ids keys → i < c → Unlike ids keys i c
+    → false ≡ any (clash (slotAt b i)) (from b (i + 1) (c - (i + 1)))
 none-alike {b} {c} {ids} {keys} i m h u =
     sym (any-none b c (clash (slotAt b i)) (c - (i + 1)) (i + 1) refl
     (λ j p q. clash-none (slotAt b i) (slotAt b j) (sym (ids-differ m i j h q (u .ids-differ j (omega arith) q))) (sym (keys-differ m i j h q (u .keys-differ j (omega arith) q)))))

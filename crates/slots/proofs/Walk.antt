@@ -64,6 +64,8 @@ module _ (b : List ℕ) (k c : ℕ) where
     none-end e h = e ∙ ap (noneTwice r) (from-none h)
 
 -- no slot from k on passes the test
-pub any-none : (b : List ℕ) (c : ℕ) (p : List ℕ → Bool) (n k : ℕ) → c - k ≡ n → ((j : ℕ) → k ≤ j → j < c → p (slotAt b j) ≡ false) → any p (from b k (c - k)) ≡ false
+pub any-none : (b : List ℕ) (c : ℕ) (p : List ℕ → Bool) (n k : ℕ) → c - k ≡ n → ((j : ℕ) → k ≤ j → j < c → p (slotAt b j) ≡ false)
+    → any p (from b k (c - k)) ≡ false
 any-none b c p zero k e h = any-end b k c p refl (omega arith)
-any-none b c p (suc n) k e h = any-more b k c p refl (omega arith) (h k (omega arith) (omega arith)) ∙ any-none b c p n (k + 1) (omega arith) (λ j a q. h j (omega arith) q)
+any-none b c p (suc n) k e h =
+    any-more b k c p refl (omega arith) (h k (omega arith) (omega arith)) ∙ any-none b c p n (k + 1) (omega arith) (λ j a q. h j (omega arith) q)

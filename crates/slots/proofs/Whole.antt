@@ -40,16 +40,21 @@ module _ (b : List ℕ) where
       module _ {c : ℕ} (k : 16 + n * 4208 ≤ length b) (d : c ≡ fieldAt b 4 4) where
         pub too-full : n < c → false ≡ headerSound b
         unfolding headerSound hasHeader capacityFits slotsFit countFits capacityOf countOf
-        too-full q = sym (rw (le-leb headerSize (length b) l, ← a, ← d, le-leb 1 n g, le-leb n mostSlots h, le-leb (tableSize n) (length b) k, lt-leb c n q))
+        too-full q =
+            sym (rw (le-leb headerSize (length b) l, ← a, ← d, le-leb 1 n g, le-leb n mostSlots h, le-leb (tableSize n) (length b) k, lt-leb c n q))
 
         module _ {z : ℕ} (q : c ≤ n) (e : z ≡ fieldAt b 8 4) where
           pub other-size : (z ≡ 4208 → ⊥) → false ≡ headerSound b
           unfolding headerSound hasHeader capacityFits slotsFit countFits othersAsAbove capacityOf countOf slotSizeOf
-          other-size o = sym (rw (le-leb headerSize (length b) l, ← a, ← d, ← e, le-leb 1 n g, le-leb n mostSlots h, le-leb (tableSize n) (length b) k, le-leb c n q, ne-eqb z slotSize o))
+          other-size o =
+              sym
+              (rw (le-leb headerSize (length b) l, ← a, ← d, ← e, le-leb 1 n g, le-leb n mostSlots h, le-leb (tableSize n) (length b) k, le-leb c n q, ne-eqb z slotSize o))
 
           pub first-decides : {f : ℕ} → z ≡ 4208 → f ≡ fieldAt b 12 4 → eqb f 16 ≡ headerSound b
           unfolding headerSound hasHeader capacityFits slotsFit countFits othersAsAbove capacityOf countOf slotSizeOf firstSlotOf
-          first-decides o i = sym (rw (le-leb headerSize (length b) l, ← a, ← d, ← e, ← i, le-leb 1 n g, le-leb n mostSlots h, le-leb (tableSize n) (length b) k, le-leb c n q, eq-eqb z slotSize o))
+          first-decides o i =
+              sym
+              (rw (le-leb headerSize (length b) l, ← a, ← d, ← e, ← i, le-leb 1 n g, le-leb n mostSlots h, le-leb (tableSize n) (length b) k, le-leb c n q, eq-eqb z slotSize o))
 
 -- ---- the whole table
 grouped : (a b c d e r : Bool) → (a && (b && (c && (d && (e && r))))) ≡ ((a && (b && (c && (d && e)))) && r)
@@ -62,7 +67,9 @@ grouped false b c d e r = refl
 module _ (b : List ℕ) where
   by-header : sound b ≡ (headerSound b && (slotsSound b && (noIdTwice b && (noKeyTwice b && laterZero b))))
   unfolding sound headerSound
-  by-header = grouped (hasHeader b) (capacityFits b) (slotsFit b) (countFits b) (othersAsAbove b) (slotsSound b && (noIdTwice b && (noKeyTwice b && laterZero b)))
+  by-header =
+      grouped (hasHeader b) (capacityFits b) (slotsFit b) (countFits b) (othersAsAbove b)
+      (slotsSound b && (noIdTwice b && (noKeyTwice b && laterZero b)))
 
   module _ {x : Bool} (h : x ≡ headerSound b) where
     pub header-bad : x ≡ false → false ≡ sound b
@@ -102,6 +109,8 @@ module _ (b : List ℕ) where
           pub twice-held : z ≡ false → false ≡ sound b
           twice-held q = sym (after-slots ∙ ap (_&& laterZero b) q)
 
-          pub later-decides : {n : ℕ} {w : List ℕ} {u : Bool} → z ≡ true → n ≡ fieldAt b 0 4 → w ≡ part b (16 + c * 4208) ((n - c) * 4208) → u ≡ isZero w → u ≡ sound b
+          pub later-decides : {n : ℕ} {w : List ℕ} {u : Bool} → z ≡ true → n ≡ fieldAt b 0 4 → w ≡ part b (16 + c * 4208) ((n - c) * 4208)
+              → u ≡ isZero w → u ≡ sound b
           unfolding laterZero capacityOf countOf
-          later-decides {n} {w} {u} q i j v = v ∙ ap isZero (j ∙ ap₂ (λ x y. part b (16 + x * 4208) ((y - x) * 4208)) p i) ∙ sym (after-slots ∙ ap (_&& laterZero b) q)
+          later-decides {n} {w} {u} q i j v =
+              v ∙ ap isZero (j ∙ ap₂ (λ x y. part b (16 + x * 4208) ((y - x) * 4208)) p i) ∙ sym (after-slots ∙ ap (_&& laterZero b) q)
