@@ -17,3 +17,4 @@ pub mod Streamed
 pub mod Feed
 pub mod Sizes
 pub mod Enough
+pub mod Members
