@@ -18,3 +18,4 @@ pub mod Feed
 pub mod Sizes
 pub mod Enough
 pub mod Members
+pub mod Ordered
