@@ -19,3 +19,4 @@ pub mod Sizes
 pub mod Enough
 pub mod Members
 pub mod Ordered
+pub mod Sendable
