@@ -16,9 +16,10 @@ use Rattle.wire.specs.Escape.{letterOf, escOne, escape}
 use Rattle.wire.specs.Limits.{mostText, mostMessage, widest}
 use Rattle.utf8.specs.Utf8.{isUtf8, utf8From, leadOf}
 use Rattle.utf8.specs.declared.Want.the-variants.{Lead}
-use Rattle.json.specs.Grammar.{classOf, headAt, wsAt}
+use Rattle.json.specs.Grammar.{classOf, headAt, nextAt, wsAt}
 use Rattle.json.specs.Tree.{Json, str, arr, obj, Items, nil, item, got, root, isText, itemsAt, treeAt}
 use Rattle.json.specs.declared.Class.the-variants.{Space}
+use Rattle.json.specs.declared.Next.the-variants.{More}
 use Rattle.json.proofs.Deeper.{deeper}
 use Rattle.digest.specs.Digest.{digest}
 use Rattle.numeral.specs.Decimal.{digits, decimal}
@@ -81,7 +82,14 @@ unfolding escape escOne letterOf all isPlainByte
 bare-names =
     (record { same = refl; plain = refl }, record { same = refl; plain = refl }, record { same = refl; plain = refl }, record { same = refl; plain = refl }, record { same = refl; plain = refl }, record { same = refl; plain = refl }, record { same = refl; plain = refl }, record { same = refl; plain = refl })
 
--- ---- places: from the last member on, what stands
+-- a string's member that begins at p; a member whose value x is no string
+abbrev quotedAt : (w v : List ℕ) (p : ℕ) → Entry
+quotedAt w v p = record { at = p; value = after w p; start = after w p + 1; size = after w p + length (quoted v) - after w p - 2 }
+
+abbrev plainAt : (w x : List ℕ) (p : ℕ) → Entry
+plainAt w x p = record { at = p; value = after w p; start = after w p; size = after w p + length x - after w p }
+
+-- ---- what stands from each member on
 module _ (i : List ℕ) (e : Event) (g : List ℕ) where
   abbrev sigText : List ℕ
   sigText = spelled sigName (quoted g) 125 []
@@ -134,4 +142,201 @@ module _ (i : List ℕ) (e : Event) (g s : List ℕ) (is : s ≡ eventMessage i 
 
   -- ---- the members
   abbrev id : Entry
-  id = record { at = 10; value = after idName 10; start = after idName 10 + 1; size = after idName 10 + length (quoted i) - after idName 10 - 2 }
+  id = quotedAt idName i 10
+
+  abbrev id-end : ℕ
+  id-end = id .value + length (quoted i)
+
+  id-read : Member s idName (quoted i) (pubkeyText i e g) 44 (id .at) (id .value) id-end close
+  id-read = member s idName (quoted i) (pubkeyText i e g) 44 (id .at) close (bare-names .0 .same) (bare-names .0 .plain) (tail object)
+
+  abbrev pubkey : Entry
+  pubkey = quotedAt pubkeyName (e .pubkey) (id-end + 1)
+
+  abbrev pubkey-end : ℕ
+  pubkey-end = pubkey .value + length (quoted (e .pubkey))
+
+  pubkey-read : Member s pubkeyName (quoted (e .pubkey)) (timeText i e g) 44 (pubkey .at) (pubkey .value) pubkey-end close
+  pubkey-read = member s pubkeyName (quoted (e .pubkey)) (timeText i e g) 44 (pubkey .at) close (bare-names .1 .same) (bare-names .1 .plain) (id-read .rest)
+
+  abbrev time : Entry
+  time = plainAt createdAtName (decimal (e .time)) (pubkey-end + 1)
+
+  abbrev time-end : ℕ
+  time-end = time .value + length (decimal (e .time))
+
+  time-read : Member s createdAtName (decimal (e .time)) (kindText i e g) 44 (time .at) (time .value) time-end close
+  time-read = member s createdAtName (decimal (e .time)) (kindText i e g) 44 (time .at) close (bare-names .2 .same) (bare-names .2 .plain) (pubkey-read .rest)
+
+  abbrev kind : Entry
+  kind = plainAt kindName (digits (e .kind)) (time-end + 1)
+
+  abbrev kind-end : ℕ
+  kind-end = kind .value + length (digits (e .kind))
+
+  kind-read : Member s kindName (digits (e .kind)) (tagsMember i e g) 44 (kind .at) (kind .value) kind-end close
+  kind-read = member s kindName (digits (e .kind)) (tagsMember i e g) 44 (kind .at) close (bare-names .3 .same) (bare-names .3 .plain) (time-read .rest)
+
+  abbrev tags : Entry
+  tags = plainAt tagsName (tagsText (e .tags)) (kind-end + 1)
+
+  abbrev tags-end : ℕ
+  tags-end = tags .value + length (tagsText (e .tags))
+
+  tags-here : Member s tagsName (tagsText (e .tags)) (contentText i e g) 44 (tags .at) (tags .value) tags-end close
+  tags-here = member s tagsName (tagsText (e .tags)) (contentText i e g) 44 (tags .at) close (bare-names .4 .same) (bare-names .4 .plain) (kind-read .rest)
+
+  abbrev content : Entry
+  content = quotedAt contentName (e .content) (tags-end + 1)
+
+  abbrev content-end : ℕ
+  content-end = content .value + length (quoted (e .content))
+
+  content-read : Member s contentName (quoted (e .content)) (sigText i e g) 44 (content .at) (content .value) content-end close
+  content-read = member s contentName (quoted (e .content)) (sigText i e g) 44 (content .at) close (bare-names .5 .same) (bare-names .5 .plain) (tags-here .rest)
+
+  abbrev sig : Entry
+  sig = quotedAt sigName g (content-end + 1)
+
+  abbrev sig-end : ℕ
+  sig-end = sig .value + length (quoted g)
+
+  sig-read : Member s sigName (quoted g) [] 125 (sig .at) (sig .value) sig-end close
+  sig-read = member s sigName (quoted g) [] 125 (sig .at) close (bare-names .6 .same) (bare-names .6 .plain) (content-read .rest)
+
+  -- ---- their values
+  id-string : isString i ≡ true
+  id-string = hex-string i id-hex
+
+  pubkey-is : spell.all isHex (e .pubkey) ≡ true
+  pubkey-is = pubkey-hex (e .pubkey) (limits .pubkey)
+
+  pubkey-string : isString (e .pubkey) ≡ true
+  pubkey-string = hex-string (e .pubkey) pubkey-is
+
+  sig-string : isString g ≡ true
+  sig-string = hex-string g sig-hex
+
+  -- a string is a tree, and begins with a quote
+  string-value : (v : List ℕ) (at n c : ℕ) → isString v ≡ true → classOf Space c ≡ false → Spelt s at (quoted v) n → getD s n 0 ≡ c
+      → treeAt s 6 at ≡ got (str (at + 1) (n - at - 2)) n
+  unfolding isString
+  string-value v at n c h d a z = string-read s 5 v at n (both (all isPlainByte v) _ h .0) a (rw z d)
+
+  string-tight : (v : List ℕ) (at n : ℕ) → Spelt s at (quoted v) n → Tight s at
+  unfolding quoted classOf
+  string-tight v at n a = rw (byte-is a)
+
+  tags-tight : Tight s (tags .value)
+  unfolding tagsText classOf
+  tags-tight = rw (byte-is (tags-here .value))
+
+  tags-stand : Stands (treeAt s 6) (λ t. tagsIn s (got t tags-end)) lent.isTags (tags .value) (e .tags) tags-end
+  unfolding classOf
+  tags-stand = tags-read s 3 (e .tags) (tags .value) tags-end (limits .tags) (tags-here .value) (rw (tags-here .next))
+
+  -- a quote comes after a comma
+  comma-next : (n : ℕ) {r : List ℕ} {m : ℕ} → getD s n 0 ≡ 44 → Spelt s (n + 1) (34 ∷ r) m → nextAt s n true ≡ More (n + 1)
+  unfolding classOf
+  comma-next n z a = next-more s true n z (rw (byte-is a))
+
+  long : 9 ≤ length s
+  long = spelt-inside s 0 (ascii "[\"EVENT\",") 9 begin (omega arith)
+
+  ends : close ≡ sig-end + 1
+  ends = omega (arith, sig-read .rest .end)
+
+  closed : getD s (sig-end + 1) 0 ≡ 93
+  closed = rw (← ends) (byte-is bracket)
+
+  sig-item : itemsAt (treeAt s 6) s true (length s - 6) (sig .at) ≡ got (text sig (string sig) nil) (sig-end + 1)
+  unfolding classOf
+  sig-item =
+      item-last s 6 true 6 (sig .at) (sig .value) sig-end (sig-end + 1) (string sig) (omega (arith, long))
+      (sig-read .head (string-tight g (sig .value) sig-end (sig-read .value)))
+      (string-value g (sig .value) sig-end 125 sig-string refl (sig-read .value) (sig-read .next)) (next-closed s sig-end (sig-read .next) (rw closed))
+
+  content-item : itemsAt (treeAt s 6) s true (length s - 5) (content .at) ≡ got (text content (string content) (text sig (string sig) nil)) (sig-end + 1)
+  unfolding classOf
+  content-item =
+      item-more s 6 true 5 (content .at) (content .value) content-end (content-end + 1) (sig-end + 1) (string content) _ (omega (arith, long))
+      (content-read .head (string-tight (e .content) (content .value) content-end (content-read .value)))
+      (string-value (e .content) (content .value) content-end 44 (limits .content) refl (content-read .value) (content-read .next))
+      (comma-next content-end (content-read .next) (content-read .rest)) sig-item
+
+  abbrev array : Json
+  array = tags-stand .tree
+
+  tags-item : itemsAt (treeAt s 6) s true (length s - 4) (tags .at) ≡ got (text tags array (text content (string content) (text sig (string sig) nil))) (sig-end + 1)
+  tags-item =
+      item-more s 6 true 4 (tags .at) (tags .value) tags-end (tags-end + 1) (sig-end + 1) array _ (omega (arith, long))
+      (tags-here .head tags-tight) (tags-stand .there) (comma-next tags-end (tags-here .next) (tags-here .rest)) content-item
+
+  kind-item : itemsAt (treeAt s 6) s true (length s - 3) (kind .at)
+      ≡ got (text kind (number kind) (text tags array (text content (string content) (text sig (string sig) nil)))) (sig-end + 1)
+  unfolding decimal
+  kind-item =
+      item-more s 6 true 3 (kind .at) (kind .value) kind-end (kind-end + 1) (sig-end + 1) (number kind) _ (omega (arith, long))
+      (kind-read .head (number-tight s (pos (e .kind)) (kind .value) kind-end (kind-read .value)))
+      (number-read s 5 (pos (e .kind)) (kind .value) kind-end (kind-read .value) (kind-read .next)) (comma-next kind-end (kind-read .next) (kind-read .rest)) tags-item
+
+  time-item : itemsAt (treeAt s 6) s true (length s - 2) (time .at)
+      ≡ got (text time (number time) (text kind (number kind) (text tags array (text content (string content) (text sig (string sig) nil))))) (sig-end + 1)
+  time-item =
+      item-more s 6 true 2 (time .at) (time .value) time-end (time-end + 1) (sig-end + 1) (number time) _ (omega (arith, long))
+      (time-read .head (number-tight s (e .time) (time .value) time-end (time-read .value)))
+      (number-read s 5 (e .time) (time .value) time-end (time-read .value) (time-read .next)) (comma-next time-end (time-read .next) (time-read .rest)) kind-item
+
+  pubkey-item : itemsAt (treeAt s 6) s true (length s - 1) (pubkey .at)
+      ≡ got (text pubkey (string pubkey) (text time (number time) (text kind (number kind) (text tags array (text content (string content) (text sig (string sig) nil)))))) (sig-end + 1)
+  unfolding classOf
+  pubkey-item =
+      item-more s 6 true 1 (pubkey .at) (pubkey .value) pubkey-end (pubkey-end + 1) (sig-end + 1) (string pubkey) _ (omega (arith, long))
+      (pubkey-read .head (string-tight (e .pubkey) (pubkey .value) pubkey-end (pubkey-read .value)))
+      (string-value (e .pubkey) (pubkey .value) pubkey-end 44 pubkey-string refl (pubkey-read .value) (pubkey-read .next))
+      (comma-next pubkey-end (pubkey-read .next) (pubkey-read .rest)) time-item
+
+  abbrev members : Items
+  members = objectOf id pubkey time kind tags content sig array
+
+  id-item : itemsAt (treeAt s 6) s true (length s - 0) (id .at) ≡ got members (sig-end + 1)
+  unfolding classOf
+  id-item =
+      item-more s 6 true 0 (id .at) (id .value) id-end (id-end + 1) (sig-end + 1) (string id) _ (omega (arith, long))
+      (id-read .head (string-tight i (id .value) id-end (id-read .value)))
+      (string-value i (id .value) id-end 44 id-string refl (id-read .value) (id-read .next)) (comma-next id-end (id-read .next) (id-read .rest)) pubkey-item
+
+  -- ---- the tree
+  object-tree : treeAt s 7 9 ≡ got (obj members) (sig-end + 1)
+  object-tree = object-read s 6 9 (sig-end + 1) members (byte-is object) (byte-is (tail object)) id-item
+
+  size : sig-end + 1 + 1 ≡ length s
+  size = omega (arith, ends, bracket .end)
+
+  object-item : itemsAt (treeAt s 7) s false (length s - 1) 9 ≡ got (item 9 9 (obj members) nil) (sig-end + 1 + 1)
+  unfolding classOf
+  object-item =
+      let z : getD s (sig-end + 1 + 1) 0 ≡ 0 = List·getD-eq-default s 0 (omega (arith, size)) in
+      item-last s 7 false 1 9 9 (sig-end + 1) (sig-end + 1 + 1) (obj members) (omega (arith, long)) refl object-tree (next-done s (sig-end + 1) closed (rw z))
+
+  word-comma : Spelt s 1 (quoted eventWord ++ (44 ∷ [])) 9
+  unfolding quoted escape escOne letterOf
+  word-comma = tail begin
+
+  word-spelt : Spelt s 1 (quoted eventWord) 8
+  unfolding quoted escape escOne letterOf
+  word-spelt = left (quoted eventWord) (44 ∷ []) word-comma
+
+  word-next : getD s 8 0 ≡ 44
+  unfolding quoted escape escOne letterOf
+  word-next = byte-is (right (quoted eventWord) (44 ∷ []) word-comma)
+
+  word-item : itemsAt (treeAt s 7) s false (length s - 0) 1 ≡ got (item 1 1 (str 2 5) (item 9 9 (obj members) nil)) (sig-end + 1 + 1)
+  unfolding classOf
+  word-item =
+      item-more s 7 false 0 1 1 8 9 (sig-end + 1 + 1) (str 2 5) _ (omega (arith, long)) refl
+      (string-read s 6 eventWord 1 8 (bare-names .7 .plain) word-spelt (rw word-next)) (next-more s false 8 word-next (rw (byte-is object))) object-item
+
+  tree : treeAt s 8 0 ≡ got (messageOf members) (sig-end + 1 + 1)
+  unfolding classOf
+  tree = array-many s 7 0 (sig-end + 1 + 1) _ (byte-is begin) (rw (byte-is (tail begin))) (rw (byte-is (tail begin))) (rw sub-zero at word-item)
