@@ -33,6 +33,7 @@ use Rattle.spell.proofs.Laws.{hex-escape}
 use Rattle.shape.specs.Shape.{idName, pubkeyName, createdAtName, kindName, tagsName, contentName, sigName, eventWord}
 use Rattle.shape.specs.Rows.{messageRow}
 use Rattle.text.specs.Event.{Event, quoted, tagsText, serialise, all, isPlainByte, isString, isTags, isTime, isFit}
+use Rattle.text.specs.Read.{read, readText}
 use Rattle.text.proofs.Pieces.{Spelt, all-of, left, right, tail, byte-is, both, spelt-inside}
 use Rattle.text.proofs.Limits.{Limits, limits-of}
 use Rattle.text.proofs.Rows.{pubkey-length}
@@ -60,7 +61,7 @@ use Rattle.table.proofs.Rows.{rows-in-order}
 use Rattle.reply.specs.Ascii.{ascii}
 use Rattle.reply.specs.Replies.{objectText}
 use Rattle.reply.specs.Laws.{eventMessage, Sendable}
-use Rattle.reply.proofs.Sizes.{quoted-length}
+use Rattle.reply.proofs.Sizes.{quoted-length, object-length}
 use Rattle.reply.proofs.Members.{decimal-utf8, number-tight, number-read, string-told, Member, member, item-more, item-last, next-closed, object-read}
 use Rattle.reply.proofs.Ordered.{Entry, text, string, number, objectOf, messageOf, Fine, partsAt, rows-none, parts-are}
 
@@ -340,3 +341,166 @@ module _ (i : List ℕ) (e : Event) (g s : List ℕ) (is : s ≡ eventMessage i 
   tree : treeAt s 8 0 ≡ got (messageOf members) (sig-end + 1 + 1)
   unfolding classOf
   tree = array-many s 7 0 (sig-end + 1 + 1) _ (byte-is begin) (rw (byte-is (tail begin))) (rw (byte-is (tail begin))) (rw sub-zero at word-item)
+
+  -- ---- what the parts say
+  id-told : Spells s (record { start = id .start; len = id .size }) i
+  id-told = string-told s i (id .value) id-end id-string (id-read .value)
+
+  pubkey-told : Spells s (record { start = pubkey .start; len = pubkey .size }) (e .pubkey)
+  pubkey-told = string-told s (e .pubkey) (pubkey .value) pubkey-end pubkey-string (pubkey-read .value)
+
+  tags-told : SpellsTags s (tags .value) (e .tags)
+  tags-told = tags-spelled s (e .tags) (tags .value) tags-end (limits .tags) (tags-here .value) (tags-here .next)
+
+  content-told : Spells s (record { start = content .start; len = content .size }) (e .content)
+  content-told = string-told s (e .content) (content .value) content-end (limits .content) (content-read .value)
+
+  sig-told : Spells s (record { start = sig .start; len = sig .size }) g
+  sig-told = string-told s g (sig .value) sig-end sig-string (sig-read .value)
+
+  -- ---- rows 4 to 8
+  allowed : {p : Span} {v : List ℕ} → Spells s p v → isString v ≡ true → refuses (part s (p .start) (p .len)) ≡ false
+  allowed t h = not-refused _ (t .utf8) (t .spelling) (rw (t .says) h)
+
+  hex-of : (k : ℕ) {p : Span} {v : List ℕ} → Spells s p v → length v ≡ k → spell.all isHex v ≡ true → isHexOf k (part s (p .start) (p .len)) ≡ true
+  unfolding isHexOf
+  hex-of k {p} {v} t l h = rw (t .says, eq-eqb (length v) k l, h)
+
+  -- the bytes of a value, and what they say
+  taken : (x : List ℕ) (at n : ℕ) → Spelt s at x n → part s at (n - at) ≡ x
+  taken x at n a = let z : n - at ≡ length x = omega (arith, a .end) in rw (z, a .is, take-append-seam x)
+
+  time-within : isWithin (Value (e .time)) (negℤ (pos widest)) (pos widest) ≡ true
+  unfolding isTime
+  time-within = limits .time
+
+  kind-wide : isWithin (Value (pos (e .kind))) (negℤ (pos widest)) (pos widest) ≡ true
+  unfolding isWithin
+  kind-wide = rw (le-ltb widest (e .kind) (omega (arith, limits .kind)))
+
+  kind-within : isWithin (Value (pos (e .kind))) (pos 0) (pos 65535) ≡ true
+  unfolding isWithin
+  kind-within = rw (le-ltb (e .kind) 0 (omega arith), le-ltb 65535 (e .kind) (limits .kind))
+
+  time-is : answerOf (wholeOf (part s (time .start) (time .size))) ≡ Value (e .time)
+  time-is = rw (taken (decimal (e .time)) (time .value) time-end (time-read .value)) (decimal-value (e .time) time-within)
+
+  kind-is : answerOf (wholeOf (part s (kind .start) (kind .size))) ≡ Value (pos (e .kind))
+  unfolding decimal
+  kind-is = rw (taken (digits (e .kind)) (kind .value) kind-end (kind-read .value)) (decimal-value (pos (e .kind)) kind-wide)
+
+  -- the tags by themselves may be as deep as a message
+  tags-tree : treeAt s 8 (tags .value) ≡ got array tags-end
+  tags-tree = deeper s 2 6 (tags .value) array tags-end (tags-stand .there)
+
+  tags-pass-here : (refusedIn s array ≡ false) × (wrongTags array ≡ false)
+  unfolding value4
+  tags-pass-here =
+      let (p, q) = tags-pass s (tags .value) (tags-told .utf8) (tags-told .array) (rw (tags-told .says) (limits .tags)) in
+      (rw tags-tree at p, rw tags-tree at q)
+
+  word-is : part s 2 5 ≡ eventWord
+  word-is = taken eventWord 2 7 (left eventWord (34 ∷ 44 ∷ []) (tail (tail begin)))
+
+  fine : Fine s id pubkey time kind tags content sig array (e .time) (e .kind)
+  fine = record {
+    word = word-is;
+    id-name = id-read .name;
+    pubkey-name = pubkey-read .name;
+    time-name = time-read .name;
+    kind-name = kind-read .name;
+    tags-name = tags-here .name;
+    content-name = content-read .name;
+    sig-name = sig-read .name;
+    id-clean = allowed id-told id-string;
+    pubkey-clean = allowed pubkey-told pubkey-string;
+    tags-clean = tags-pass-here .0;
+    content-clean = allowed content-told (limits .content);
+    sig-clean = allowed sig-told sig-string;
+    id-hex = hex-of 64 id-told id-length id-hex;
+    pubkey-hex = hex-of 64 pubkey-told (pubkey-length (e .pubkey) (limits .pubkey)) pubkey-is;
+    sig-hex = hex-of 128 sig-told sig-length sig-hex;
+    time-is = time-is;
+    time-within = time-within;
+    kind-is = kind-is;
+    kind-within = kind-within;
+    tags-array = tags-stand .fine;
+    tags-few = tags-pass-here .1;
+  }
+
+  -- ---- rows 1 to 3
+  hex-quoted : (v : List ℕ) → spell.all isHex v ≡ true → length (quoted v) ≡ length v + 2
+  hex-quoted v h = omega (arith, quoted-length v, ap length (hex-escape v h))
+
+  short : length (serialise e) ≤ mostText → length s ≤ mostMessage
+  short h =
+      let k = pubkey-length (e .pubkey) (limits .pubkey) in
+      let a : length (quoted i) ≡ 66 = omega (arith, hex-quoted i id-hex) in
+      let b : length (quoted (e .pubkey)) ≡ 66 = omega (arith, hex-quoted (e .pubkey) pubkey-is) in
+      let c : length (quoted g) ≡ 130 = omega (arith, hex-quoted g sig-hex) in
+      let o = object-length i g e a k b c in
+      let z : length s ≡ 9 + (length (objectText i e g) + 1) = ap length is ∙ simp length-append (omega arith) in
+      omega arith
+
+  -- fixed bytes w, a piece x, and what follows
+  pieces : (w x q : List ℕ) → utf8From Lead w ≡ true → utf8From Lead x ≡ true → utf8From Lead q ≡ true → utf8From Lead (w ++ (x ++ q)) ≡ true
+  pieces w x q a b c = utf8-append w (x ++ q) Lead a (utf8-append x q Lead b c)
+
+  object-utf8 : utf8From Lead (objectText i e g) ≡ true
+  unfolding objectText isUtf8 utf8From leadOf decimal
+  object-utf8 =
+      pieces (ascii "{\"id\":") (quoted i) _ refl (quoted-utf8 i id-string)
+      (pieces (ascii ",\"pubkey\":") (quoted (e .pubkey)) _ refl (quoted-utf8 (e .pubkey) pubkey-string)
+      (pieces (ascii ",\"created_at\":") (decimal (e .time)) _ refl (decimal-utf8 (e .time))
+      (pieces (ascii ",\"kind\":") (digits (e .kind)) _ refl (decimal-utf8 (pos (e .kind)))
+      (pieces (ascii ",\"tags\":") (tagsText (e .tags)) _ refl (tags-utf8 (e .tags) (limits .tags))
+      (pieces (ascii ",\"content\":") (quoted (e .content)) _ refl (quoted-utf8 (e .content) (limits .content))
+      (pieces (ascii ",\"sig\":") (quoted g) (ascii "}") refl (quoted-utf8 g sig-string) refl))))))
+
+  utf8 : isUtf8 s ≡ true
+  unfolding isUtf8 utf8From leadOf
+  utf8 = rw is (pieces (ascii "[\"EVENT\",") (objectText i e g) (ascii "]") refl object-utf8 refl)
+
+  root-is : root s ≡ got (messageOf members) (sig-end + 1 + 1)
+  unfolding classOf
+  root-is = rw (ws-none s 0 (rw (byte-is begin))) tree
+
+  -- ---- it is read, and judged to be the event
+  abbrev parts : EventParts
+  parts = partsAt id pubkey tags content sig (e .time) (e .kind)
+
+  row-0 : length (serialise e) ≤ mostText → messageRow s ≡ 0
+  unfolding messageRow
+  row-0 h =
+      rw (le-ltb mostMessage (length s) (short h), utf8, root-is, eq-eqb (sig-end + 1 + 1) (length s) size)
+      (rows-none s id pubkey time kind tags content sig array (e .time) (e .kind) fine)
+
+  reads : length (serialise e) ≤ mostText → readOf s ≡ message.Event parts
+  unfolding readOf
+  reads h = rw (row-0 h, root-is) (parts-are s id pubkey time kind tags content sig array (e .time) (e .kind) fine)
+
+  module _ (h : SignedEvent) (said : readText (h .0 .text) ≡ read e) (with-id : i ≡ hexOf (h .0 .id)) (with-sig : g ≡ hexOf (h .1)) where
+    told : Tells s parts h
+    told = record {
+      event = e;
+      text = said;
+      id = rw (← with-id) id-told;
+      pubkey = pubkey-told;
+      time = refl;
+      kind = refl;
+      tags = tags-told;
+      content = content-told;
+      sig = rw (← with-sig) sig-told;
+    }
+
+    judged : h .0 .id ≡ digest (h .0 .text) → length (h .1) ≡ 64 → all isByte (h .1) ≡ true → length (serialise e) ≤ mostText → judge (asMessage s) ≡ some h
+    judged hashed n k l = rows-in-order .2 s parts (reads l) .same-event ∙ judged-again s parts h hashed n k told
+
+pub sendable : Sendable
+sendable e sig f l n k =
+    let t = serialise e in
+    let d = digest t in
+    let a : length (hexOf d) ≡ 64 = omega (arith, hex-length d, digest-length t) in
+    let b : length (hexOf sig) ≡ 128 = omega (arith, hex-length sig, n) in
+    judged (hexOf d) e (hexOf sig) (eventMessage (hexOf d) e (hexOf sig)) refl (limits-of e f) a (hex-is d (digest-bytes t)) b (hex-is sig k)
+    (ofHeld (record { id = d; sig = sig; event = e })) (read-back e f l) refl refl refl n k l
