@@ -73,11 +73,17 @@ escape-hex (x ∷ l) = rw (digit-itself (x / 16), digit-itself (x % 16), escape-
 hex-quoted : (l : List ℕ) (n : ℕ) → length l ≡ n → length (quoted (hexOf l)) ≡ n + n + 2
 hex-quoted l n q = omega (arith, quoted-length (hexOf l), ap length (escape-hex l), hex-length l)
 
--- ---- an EVENT is 266 bytes longer than its text and the escaped subscription id
+-- ---- an event's object is 253 bytes longer than its text
+pub object-length : (i s : List ℕ) (e : Event) → length (quoted i) ≡ 66 → length (e .pubkey) ≡ 64 → length (quoted (e .pubkey)) ≡ 66 → length (quoted s) ≡ 130
+    → length (objectText i e s) ≡ length (serialise e) + 253
+unfolding objectText serialise
+object-length i s e a b c d = simp length-append (omega arith)
+
+-- an EVENT is 266 bytes longer than its text and the escaped subscription id
 event-length : (sub i s : List ℕ) (e : Event) → length (quoted i) ≡ 66 → length (e .pubkey) ≡ 64 → length (quoted (e .pubkey)) ≡ 66 → length (quoted s) ≡ 130
     → length (replyText (event sub i e s)) ≡ length (serialise e) + length (quoted sub) + 264
-unfolding replyText objectText serialise
-event-length sub i s e a b c d = simp length-append (omega arith)
+unfolding replyText
+event-length sub i s e a b c d = simp length-append (omega (arith, object-length i s e a b c d))
 
 part-length : (s : List ℕ) (i k : ℕ) → i + k ≤ length s → length (part s i k) ≡ k
 part-length s i k h = omega (arith, length-take k (drop i s), length-drop i s)

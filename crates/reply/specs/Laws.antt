@@ -1,18 +1,20 @@
--- What specs/Program, Replies and Lent mean, in the sentences of 01: proved in proofs/Which, Shown, Lines, Plain, Kept and Lent,
+-- What specs/Program, Replies and Lent mean, in the sentences of 01: proved in proofs/Which, Shown, Lines, Plain, Kept, Lent and Sendable,
 -- each under its own name in small letters (EarlyRow: early-row).
 use mathlib.Core.Path.{_≡_}
 use mathlib.Core.Bool.{Bool, true, false, cond}
 use mathlib.Core.Logic.{_↔_, _⊎_, _≢_}
+use mathlib.Core.Option.{some}
 use mathlib.Core.List.{List, [], _∷_, _++_, map}
 use Prim.Native.Nat.{ℕ, _≤_, _<_}
 use lib.Dec.{eqb}
 use lib.ListN.{length, take, drop}
-use Rattle.wire.specs.Limits.{hexLength, mostMessage}
+use Rattle.wire.specs.Limits.{hexLength, mostMessage, mostText}
 use Rattle.json.specs.Tree.{Json, Items, nil, Got, none, got, root}
 use Rattle.spell.specs.Spell.{isHexOf}
 use Rattle.shape.specs.Shape.{Word, event, req, close, other, Opened, opened, idName}
 use Rattle.shape.specs.Rows.{messageRow, wrongSubscription}
-use Rattle.text.specs.Event.{Event}
+use Rattle.digest.specs.Digest.{digest}
+use Rattle.text.specs.Event.{Event, serialise, isFit, all}
 use Rattle.text.specs.Read.{read, readText}
 use Rattle.message.specs.Parts.{memberOf, membersOf, spanIn, spanOf}
 use Rattle.message.specs.Read.{firstOf, readOf, namedOf}
@@ -28,11 +30,11 @@ use Rattle.event.specs.Answer.{hexOf, isLarge, serialised, serialisedRow, numbe
 use Rattle.event.specs.declared.Written.{Written}
 use Rattle.event.specs.declared.Written.the-variants as sent
 use Rattle.law.specs.Lists.{_∈_, any}
-use Rattle.table.specs.Layout.{tableSize, capacityOf, countOf, slotAt, idIn, sigIn, textIn}
+use Rattle.table.specs.Layout.{isByte, tableSize, capacityOf, countOf, slotAt, idIn, sigIn, textIn}
 use Rattle.law.specs.Table.{Offer, IdPremise, Settled}
 use Rattle.law.specs.Signature as signature
 use Rattle.law.specs.Machine.{judged, runOn, NoneLacksOn}
-use Rattle.table.specs.Events.{Signature, tableEvents, view}
+use Rattle.table.specs.Events.{Signature, tableEvents, ofHeld, view}
 use Rattle.table.specs.Sound.{sound}
 use Rattle.table.specs.Relay.{relay}
 use Rattle.table.specs.Offer as offers
@@ -43,7 +45,7 @@ use Rattle.query.specs.Answer.{answerList, filtersAt}
 use Rattle.query.specs.Laws.{Lowest}
 use Rattle.reply.specs.Ascii.{ascii}
 use Rattle.reply.specs.Replies as replies
-use Rattle.reply.specs.Replies.{Reply, ok, eose, closed, notice, replyText, reasonOf, isAccepted, verdictReason}
+use Rattle.reply.specs.Replies.{Reply, ok, eose, closed, notice, objectText, replyText, reasonOf, isAccepted, verdictReason}
 use Rattle.reply.specs.declared.ReplyParts.{ReplyParts}
 use Rattle.reply.specs.declared.ReplyParts.the-variants as parts
 use Rattle.reply.specs.Lent.{subscription8, replyOf, partsRow, replyRow, replied, repliedOut}
@@ -149,6 +151,17 @@ BadTable = (b m : List ℕ) (r : ReqParts) → readOf m ≡ message.Req r → so
 -- only an EVENT that is stored changes the table
 abbrev pub OnlyStored : Type 0
 OnlyStored = (b m : List ℕ) → (tableAfter b m ≡ b) ⊎ ((p : EventParts) × (readOf m ≡ message.Event p) × (answer b (asMessage m) ≡ Stored))
+
+-- ---- messages that are valid
+-- "EVENT: an object with id, pubkey, created_at, kind, tags, content, sig", spelled as in replies
+abbrev pub eventMessage : (id : List ℕ) → Event → (sig : List ℕ) → List ℕ
+eventMessage i e s = ascii "[\"EVENT\"," ++ (objectText i e s ++ ascii "]")
+
+-- "A valid event is one offered, as a message or as parts, that none of rows 1 to 10 refuses." Each event within the limits has such a message,
+-- with its text's hash as id and any 64 bytes as signature: no relay may refuse everything
+abbrev pub Sendable : Type 0
+Sendable = (e : Event) (sig : List ℕ) → isFit e ≡ true → length (serialise e) ≤ mostText → length sig ≡ 64 → all isByte sig ≡ true →
+    offers.judge (asMessage (eventMessage (hexOf (digest (serialise e))) e (hexOf sig))) ≡ some (ofHeld (record { id = digest (serialise e); sig = sig; event = e }))
 
 -- ---- lines
 abbrev pub isNewline : ℕ → Bool

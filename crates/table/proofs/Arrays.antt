@@ -34,23 +34,23 @@ use Rattle.table.specs.Relay.{SpellsTags}
 use Rattle.table.proofs.Strings.{ws-none, string-read, string-says}
 
 -- no white space stands at n
-abbrev Tight : List ℕ → ℕ → Type 0
+abbrev pub Tight : List ℕ → ℕ → Type 0
 Tight s n = classOf Space (getD s n 0) ≡ false
 
 -- ---- brackets and commas
 module _ (s : List ℕ) where
-  token-is : (b at : ℕ) → getD s at 0 ≡ b → Tight s (at + 1) → tokenAt s b at ≡ End (at + 1)
+  pub token-is : (b at : ℕ) → getD s at 0 ≡ b → Tight s (at + 1) → tokenAt s b at ≡ End (at + 1)
   unfolding tokenAt oneAt classOf
   token-is b at e w = rw (eq-eqb (getD s at 0) b e) (ap End (ws-none s (at + 1) w))
 
-  token-not : (b at : ℕ) → eqb (getD s at 0) b ≡ false → tokenAt s b at ≡ Bad
+  pub token-not : (b at : ℕ) → eqb (getD s at 0) b ≡ false → tokenAt s b at ≡ Bad
   unfolding tokenAt oneAt classOf
   token-not b at e = rw e
 
-  next-more : (n : ℕ) → getD s n 0 ≡ 44 → Tight s (n + 1) → nextAt s n false ≡ More (n + 1)
-  next-more n e w = rw (token-is 0x2C n e w)
+  pub next-more : (named : Bool) (n : ℕ) → getD s n 0 ≡ 44 → Tight s (n + 1) → nextAt s n named ≡ More (n + 1)
+  next-more named n e w = rw (token-is 0x2C n e w)
 
-  next-done : (n : ℕ) → getD s n 0 ≡ 93 → Tight s (n + 1) → nextAt s n false ≡ Done (n + 1)
+  pub next-done : (n : ℕ) → getD s n 0 ≡ 93 → Tight s (n + 1) → nextAt s n false ≡ Done (n + 1)
   next-done n e w = rw (token-not 0x2C n (rw e), token-is 0x5D n e w)
 
   array-none : (d at : ℕ) → getD s at 0 ≡ 91 → getD s (at + 1) 0 ≡ 93 → Tight s (at + 1 + 1) → treeAt s (suc d) at ≡ got (arr nil) (at + 1 + 1)
@@ -59,18 +59,18 @@ module _ (s : List ℕ) where
       let z : startAt s at ≡ Empty (at + 1 + 1) false = rw (token-is 0x5B at e (rw f), token-is 0x5D (at + 1) f w) in
       tree-open s d at (Empty (at + 1 + 1) false) (sym z)
 
-  array-many : (d at n : ℕ) (us : Items) → getD s at 0 ≡ 91 → Tight s (at + 1) → eqb (getD s (at + 1) 0) 93 ≡ false
+  pub array-many : (d at n : ℕ) (us : Items) → getD s at 0 ≡ 91 → Tight s (at + 1) → eqb (getD s (at + 1) 0) 93 ≡ false
       → itemsAt (treeAt s d) s false (length s) (at + 1) ≡ got us n → treeAt s (suc d) at ≡ got (arr us) n
   array-many d at n us e w f i =
       let z : startAt s at ≡ Many (at + 1) false = rw (token-is 0x5B at e w, token-not 0x5D (at + 1) f) in
       tree-open s d at (Many (at + 1) false) (sym z) ∙ rw i
 
 -- ---- members: x stands at a place as a tree that means it
-record Stands {A : Type 0} (value : ℕ → Got Json) (mean : Json → A) (ok : Json → Bool) (at : ℕ) (x : A) (n : ℕ) : Type 0 where
-  tree : Json
-  there : value at ≡ got tree n
-  means : mean tree ≡ x
-  fine : ok tree ≡ true
+pub record Stands {A : Type 0} (value : ℕ → Got Json) (mean : Json → A) (ok : Json → Bool) (at : ℕ) (x : A) (n : ℕ) : Type 0 where
+  pub tree : Json
+  pub there : value at ≡ got tree n
+  pub means : mean tree ≡ x
+  pub fine : ok tree ≡ true
 
 record StandAll {A : Type 0} (s : List ℕ) (value : ℕ → Got Json) (mean : Items → List A) (ok : Json → Bool) (f at : ℕ) (xs : List A) (n : ℕ) : Type 0 where
   items : Items
@@ -120,7 +120,7 @@ module _ {A : Type 0} (print : A → List ℕ) (begins : (x : A) → Begins (pri
         let b = members-begin y ys in
         let (p, q) = both (good x) _ g in
         let v = one x at m p (left (print x) (44 ∷ r) a) (rw (byte-is d)) in
-        let k = next-more s m (byte-is d) (rw (begins-byte b (tail d)) (b .dark)) in
+        let k = next-more s false m (byte-is d) (rw (begins-byte b (tail d)) (b .dark)) in
         let i = members-read y ys f (m + 1) n q (tail d) w (omega (arith, length-append (print x) (44 ∷ r))) in
         record { items = item at at (v .tree) (i .items); there = rw (v .there, k, i .there); means = cons at at (v .tree) (i .items) ∙ rw (v .means, i .means); fine = rw (v .fine) (i .fine) }
 
@@ -133,34 +133,35 @@ tag-begins : (t : Tag) → Begins (tagText t)
 unfolding tagText classOf
 tag-begins t = record { first = 91; rest = membersText quoted t; is = refl; dark = refl; opens = refl }
 
-module _ (s : List ℕ) where
-  string-stands : (v : List ℕ) (at n : ℕ) → isString v ≡ true → Spelt s at (quoted v) n → Tight s n → Stands (treeAt s 6) (stringOf s) shape.isString at v n
+-- with so many brackets open at once as they hold, and d more
+module _ (s : List ℕ) (d : ℕ) where
+  string-stands : (v : List ℕ) (at n : ℕ) → isString v ≡ true → Spelt s at (quoted v) n → Tight s n → Stands (treeAt s (suc d)) (stringOf s) shape.isString at v n
   unfolding isString
-  string-stands v at n h a w = record { tree = _; there = string-read s 5 v at n (both (all isPlainByte v) _ h .0) a w; means = string-says s v at n a; fine = refl }
+  string-stands v at n h a w = record { tree = _; there = string-read s d v at n (both (all isPlainByte v) _ h .0) a w; means = string-says s v at n a; fine = refl }
 
-  tag-stands : (t : Tag) (at n : ℕ) → isTag t ≡ true → Spelt s at (tagText t) n → Tight s n → Stands (treeAt s 7) (tagOf s) (isArrayOf shape.isString) at t n
+  tag-stands : (t : Tag) (at n : ℕ) → isTag t ≡ true → Spelt s at (tagText t) n → Tight s n → Stands (treeAt s (suc (suc d))) (tagOf s) (isArrayOf shape.isString) at t n
   unfolding isTag tagText stringsOf
   tag-stands [] at n h a w = absurd (let z : _≡_ {A = ℕ} 0 1 = cc in omega arith)
   tag-stands (v ∷ t) at n h a w =
       let b = members-begin quoted quoted-begins v t in
       let g = both (leb (length (v ∷ t)) 16) _ (both (leb 1 (length (v ∷ t))) _ h .1) .1 in
       let l = spelt-inside s at (91 ∷ membersText quoted (v ∷ t)) n a (omega arith) in
-      let i = members-read quoted quoted-begins s (treeAt s 6) (stringOf s) (stringsOf s) shape.isString isString refl (λ p v t ts. refl) string-stands v t (length s) (at + 1) n g (tail a) w (omega (arith, a .end)) in
+      let i = members-read quoted quoted-begins s (treeAt s (suc d)) (stringOf s) (stringsOf s) shape.isString isString refl (λ p v t ts. refl) string-stands v t (length s) (at + 1) n g (tail a) w (omega (arith, a .end)) in
       let e = begins-byte b (tail a) in
-      record { tree = arr (i .items); there = array-many s 6 at n (i .items) (byte-is a) (rw e (b .dark)) (rw e (b .opens)) (i .there); means = i .means; fine = i .fine }
+      record { tree = arr (i .items); there = array-many s (suc d) at n (i .items) (byte-is a) (rw e (b .dark)) (rw e (b .opens)) (i .there); means = i .means; fine = i .fine }
 
-  tags-read : (ts : List Tag) (at n : ℕ) → isTags ts ≡ true → Spelt s at (tagsText ts) n → Tight s n → Stands (treeAt s depth) (λ t. tagsIn s (got t n)) lent.isTags at ts n
+  pub tags-read : (ts : List Tag) (at n : ℕ) → isTags ts ≡ true → Spelt s at (tagsText ts) n → Tight s n → Stands (treeAt s (suc (suc (suc d)))) (λ t. tagsIn s (got t n)) lent.isTags at ts n
   unfolding isTags tagsText tagsOf membersText allItems
   tags-read [] at n h a w =
       let z : at + 1 + 1 ≡ n = omega (arith, a .end) in
-      record { tree = arr nil; there = rw (← z) (array-none s 7 at (byte-is a) (byte-is (tail a)) (rw z w)); means = refl; fine = refl }
+      record { tree = arr nil; there = rw (← z) (array-none s (suc (suc d)) at (byte-is a) (byte-is (tail a)) (rw z w)); means = refl; fine = refl }
   tags-read (t ∷ ts) at n h a w =
       let b = members-begin tagText tag-begins t ts in
       let g = both (leb (length (t ∷ ts)) 64) _ h .1 in
       let l = spelt-inside s at (91 ∷ membersText tagText (t ∷ ts)) n a (omega arith) in
-      let i = members-read tagText tag-begins s (treeAt s 7) (tagOf s) (tagsOf s) (isArrayOf shape.isString) isTag refl (λ p v t ts. refl) tag-stands t ts (length s) (at + 1) n g (tail a) w (omega (arith, a .end)) in
+      let i = members-read tagText tag-begins s (treeAt s (suc (suc d))) (tagOf s) (tagsOf s) (isArrayOf shape.isString) isTag refl (λ p v t ts. refl) tag-stands t ts (length s) (at + 1) n g (tail a) w (omega (arith, a .end)) in
       let e = begins-byte b (tail a) in
-      record { tree = arr (i .items); there = array-many s 7 at n (i .items) (byte-is a) (rw e (b .dark)) (rw e (b .opens)) (i .there); means = i .means; fine = i .fine }
+      record { tree = arr (i .items); there = array-many s (suc (suc d)) at n (i .items) (byte-is a) (rw e (b .dark)) (rw e (b .opens)) (i .there); means = i .means; fine = i .fine }
 
 -- ---- their bytes are UTF-8
 ends-lead : (w : Want) → ends w ≡ true → w ≡ Lead
@@ -168,12 +169,12 @@ ends-lead Lead e = refl
 ends-lead (Tail lo hi n) e = absurd (let z : _≡_ {A = ℕ} 0 1 = cc in omega arith)
 ends-lead Bad e = absurd (let z : _≡_ {A = ℕ} 0 1 = cc in omega arith)
 
-utf8-append : (p q : List ℕ) (w : Want) → utf8From w p ≡ true → utf8From Lead q ≡ true → utf8From w (p ++ q) ≡ true
+pub utf8-append : (p q : List ℕ) (w : Want) → utf8From w p ≡ true → utf8From Lead q ≡ true → utf8From w (p ++ q) ≡ true
 unfolding utf8From
 utf8-append [] q w e f = rw (ends-lead w e) f
 utf8-append (x ∷ p) q w e f = utf8-append p q (next w x) e f
 
-quoted-utf8 : (v : List ℕ) → isString v ≡ true → utf8From Lead (quoted v) ≡ true
+pub quoted-utf8 : (v : List ℕ) → isString v ≡ true → utf8From Lead (quoted v) ≡ true
 unfolding quoted isString isUtf8 utf8From
 quoted-utf8 v h = lead-low 34 (escape v ++ (34 ∷ [])) (lit< tt) (utf8-append (escape v) (34 ∷ []) Lead (utf8-escape v ∙ both (all isPlainByte v) _ h .1) (lead-low 34 [] (lit< tt) refl))
 
@@ -190,7 +191,7 @@ tag-utf8 : (t : Tag) → isTag t ≡ true → utf8From Lead (tagText t) ≡ true
 unfolding isTag tagText
 tag-utf8 t h = lead-low 91 (membersText quoted t) (lit< tt) (members-utf8 quoted isString quoted-utf8 t (both (leb (length t) 16) _ (both (leb 1 (length t)) _ h .1) .1))
 
-tags-utf8 : (ts : List Tag) → isTags ts ≡ true → isUtf8 (tagsText ts) ≡ true
+pub tags-utf8 : (ts : List Tag) → isTags ts ≡ true → isUtf8 (tagsText ts) ≡ true
 unfolding isTags tagsText isUtf8
 tags-utf8 ts h = lead-low 91 (membersText tagText ts) (lit< tt) (members-utf8 tagText isTag tag-utf8 ts (both (leb (length ts) 64) _ h .1))
 
@@ -198,7 +199,7 @@ tags-utf8 ts h = lead-low 91 (membersText tagText ts) (lit< tt) (members-utf8 ta
 pub tags-spelled : (s : List ℕ) (ts : List Tag) (at n : ℕ) → isTags ts ≡ true → Spelt s at (tagsText ts) n → getD s n 0 ≡ 44 → SpellsTags s at ts
 unfolding value2 value5 tagsAt classOf
 tags-spelled s ts at n h a c =
-    let r = tags-read s ts at n h a (rw c) in
+    let r = tags-read s 5 ts at n h a (rw c) in
     let z : n - at ≡ length (tagsText ts) = omega (arith, a .end) in
     let y : part s at (n - at) ≡ tagsText ts = rw (z, a .is) (take-append-seam (tagsText ts) (drop n s)) in
     record { utf8 = rw (r .there, y, tags-utf8 ts h); array = rw (r .there, r .fine); says = rw (r .there) (r .means) }

@@ -1,0 +1,506 @@
+-- Each event within the limits has a valid message: the one that spells it as replies do. Its bytes are taken apart member by member, so its
+-- tree is known; rows 1 to 8 do not hold of that tree, and its parts tell the event, so rows 9 and 10 do not hold either.
+use mathlib.Core.Bool.{true, false}
+use mathlib.Core.Path.{_≡_, refl, sym, ap, _∙_}
+use mathlib.Core.Option.{some}
+use mathlib.Core.List.{List, [], _∷_, _++_}
+use Prim.Native.Nat.{ℕ, suc, _+_, _-_, _≤_, _<_}
+use native.Mathlib.Nat.{sub-zero}
+use native.Mathlib.Omega.{arith}
+use borrow.Author.Tests.{le-ltb, eq-eqb}
+use lib.IntN.{pos, negℤ}
+use lib.ListN.{length, getD, drop, length-append, List·getD-eq-default}
+use lib.Seq.{take-append-seam}
+use Rattle.wire.specs.Bytes.{isHex}
+use Rattle.wire.specs.Escape.{letterOf, escOne, escape}
+use Rattle.wire.specs.Limits.{mostText, mostMessage, widest}
+use Rattle.utf8.specs.Utf8.{isUtf8, utf8From, leadOf}
+use Rattle.utf8.specs.declared.Want.the-variants.{Lead}
+use Rattle.json.specs.Grammar.{classOf, headAt, nextAt, wsAt}
+use Rattle.json.specs.Tree.{Json, str, arr, obj, Items, nil, item, got, root, isText, itemsAt, treeAt}
+use Rattle.json.specs.declared.Class.the-variants.{Space}
+use Rattle.json.specs.declared.Next.the-variants.{More}
+use Rattle.json.proofs.Deeper.{deeper}
+use Rattle.digest.specs.Digest.{digest}
+use Rattle.numeral.specs.Decimal.{digits, decimal}
+use Rattle.numeral.specs.Whole.{wholeOf, answerOf, isWithin}
+use Rattle.numeral.specs.declared.Whole.the-variants.{Value}
+use Rattle.numeral.proofs.Wholes.{decimal-value}
+use Rattle.rows.specs.Strings.{part, refusedIn}
+use Rattle.spell.specs.Spell.{decode, refuses, isHexOf}
+use Rattle.spell.specs.Spell as spell
+use Rattle.spell.proofs.Laws.{hex-escape}
+use Rattle.shape.specs.Shape.{idName, pubkeyName, createdAtName, kindName, tagsName, contentName, sigName, eventWord}
+use Rattle.shape.specs.Rows.{messageRow}
+use Rattle.text.specs.Event.{Event, quoted, tagsText, serialise, all, isPlainByte, isString, isTags, isTime, isFit}
+use Rattle.text.specs.Read.{read, readText}
+use Rattle.text.proofs.Pieces.{Spelt, all-of, left, right, tail, byte-is, both, spelt-inside}
+use Rattle.text.proofs.Limits.{Limits, limits-of}
+use Rattle.text.proofs.Rows.{pubkey-length}
+use Rattle.text.proofs.RoundTrip.{read-back}
+use Rattle.message.specs.Lent.{value4, onValue, wrongTags}
+use Rattle.message.specs.Lent as lent
+use Rattle.message.specs.Read.{readOf}
+use Rattle.message.specs.declared.Span.{Span}
+use Rattle.message.specs.declared.EventParts.{EventParts}
+use Rattle.message.specs.declared.Message.the-variants as message
+use Rattle.event.specs.Lent.{tagsIn}
+use Rattle.event.specs.Answer.{hexOf}
+use Rattle.event.proofs.Answers.{hex-length}
+use Rattle.table.specs.Layout.{isByte}
+use Rattle.table.specs.Events.{SignedEvent, ofHeld}
+use Rattle.table.specs.Offer.{asMessage, asParts, judge}
+use Rattle.table.specs.Relay.{Spells, SpellsTags, Tells}
+use Rattle.table.proofs.Hex.{hex-is, digest-length, digest-bytes}
+use Rattle.table.proofs.Refused.{not-refused}
+use Rattle.table.proofs.Again.{hex-string, tags-pass}
+use Rattle.table.proofs.Strings.{ws-none, string-read}
+use Rattle.table.proofs.Arrays.{Tight, Stands, next-more, next-done, array-many, tags-read, tags-spelled, utf8-append, quoted-utf8, tags-utf8}
+use Rattle.table.proofs.Passes.{pubkey-hex, judged-again}
+use Rattle.table.proofs.Rows.{rows-in-order}
+use Rattle.reply.specs.Ascii.{ascii}
+use Rattle.reply.specs.Replies.{objectText}
+use Rattle.reply.specs.Laws.{eventMessage, Sendable}
+use Rattle.reply.proofs.Sizes.{quoted-length, object-length}
+use Rattle.reply.proofs.Members.{decimal-utf8, number-tight, number-read, string-told, Member, member, item-more, item-last, next-closed, object-read}
+use Rattle.reply.proofs.Ordered.{Entry, text, string, number, objectOf, messageOf, Fine, partsAt, rows-none, parts-are}
+
+-- ---- the bytes of a member w with the value x, the byte c after it, and then r
+abbrev spelled : (w x : List ℕ) (c : ℕ) (r : List ℕ) → List ℕ
+spelled w x c r = 34 ∷ (w ++ (34 ∷ 58 ∷ (x ++ (c ∷ r))))
+
+-- where its value begins
+abbrev after : (w : List ℕ) (at : ℕ) → ℕ
+after w at = at + 1 + length w + 1 + 1
+
+-- the names stand for themselves
+record Bare (w : List ℕ) : Type 0 where
+  same : escape w ≡ w
+  plain : all isPlainByte w ≡ true
+
+bare-names : Bare idName × Bare pubkeyName × Bare createdAtName × Bare kindName × Bare tagsName × Bare contentName × Bare sigName × Bare eventWord
+unfolding escape escOne letterOf all isPlainByte
+bare-names =
+    (record { same = refl; plain = refl }, record { same = refl; plain = refl }, record { same = refl; plain = refl }, record { same = refl; plain = refl }, record { same = refl; plain = refl }, record { same = refl; plain = refl }, record { same = refl; plain = refl }, record { same = refl; plain = refl })
+
+-- a string's member that begins at p; a member whose value x is no string
+abbrev quotedAt : (w v : List ℕ) (p : ℕ) → Entry
+quotedAt w v p = record { at = p; value = after w p; start = after w p + 1; size = after w p + length (quoted v) - after w p - 2 }
+
+abbrev plainAt : (w x : List ℕ) (p : ℕ) → Entry
+plainAt w x p = record { at = p; value = after w p; start = after w p; size = after w p + length x - after w p }
+
+-- ---- what stands from each member on
+module _ (i : List ℕ) (e : Event) (g : List ℕ) where
+  abbrev sigText : List ℕ
+  sigText = spelled sigName (quoted g) 125 []
+
+  abbrev contentText : List ℕ
+  contentText = spelled contentName (quoted (e .content)) 44 sigText
+
+  abbrev tagsMember : List ℕ
+  tagsMember = spelled tagsName (tagsText (e .tags)) 44 contentText
+
+  abbrev kindText : List ℕ
+  kindText = spelled kindName (digits (e .kind)) 44 tagsMember
+
+  abbrev timeText : List ℕ
+  timeText = spelled createdAtName (decimal (e .time)) 44 kindText
+
+  abbrev pubkeyText : List ℕ
+  pubkeyText = spelled pubkeyName (quoted (e .pubkey)) 44 timeText
+
+  abbrev idText : List ℕ
+  idText = spelled idName (quoted i) 44 pubkeyText
+
+  object-is : objectText i e g ≡ 123 ∷ idText
+  unfolding objectText
+  object-is = refl
+
+  message-is : eventMessage i e g ≡ ascii "[\"EVENT\"," ++ ((123 ∷ idText) ++ (93 ∷ []))
+  message-is = ap (λ l. ascii "[\"EVENT\"," ++ (l ++ (93 ∷ []))) object-is
+
+-- ---- s is the message
+module _ (i : List ℕ) (e : Event) (g s : List ℕ) (is : s ≡ eventMessage i e g) (limits : Limits e) (id-length : length i ≡ 64) (id-hex : spell.all isHex i ≡ true)
+    (sig-length : length g ≡ 128) (sig-hex : spell.all isHex g ≡ true) where
+  abbrev close : ℕ
+  close = 9 + length (123 ∷ idText i e g)
+
+  whole : Spelt s 0 (ascii "[\"EVENT\"," ++ ((123 ∷ idText i e g) ++ (93 ∷ []))) (length s)
+  whole = all-of s _ (is ∙ message-is i e g)
+
+  begin : Spelt s 0 (ascii "[\"EVENT\",") 9
+  begin = left (ascii "[\"EVENT\",") ((123 ∷ idText i e g) ++ (93 ∷ [])) whole
+
+  behind : Spelt s 9 ((123 ∷ idText i e g) ++ (93 ∷ [])) (length s)
+  behind = right (ascii "[\"EVENT\",") ((123 ∷ idText i e g) ++ (93 ∷ [])) whole
+
+  object : Spelt s 9 (123 ∷ idText i e g) close
+  object = left (123 ∷ idText i e g) (93 ∷ []) behind
+
+  bracket : Spelt s close (93 ∷ []) (length s)
+  bracket = right (123 ∷ idText i e g) (93 ∷ []) behind
+
+  -- ---- the members
+  abbrev id : Entry
+  id = quotedAt idName i 10
+
+  abbrev id-end : ℕ
+  id-end = id .value + length (quoted i)
+
+  id-read : Member s idName (quoted i) (pubkeyText i e g) 44 (id .at) (id .value) id-end close
+  id-read = member s idName (quoted i) (pubkeyText i e g) 44 (id .at) close (bare-names .0 .same) (bare-names .0 .plain) (tail object)
+
+  abbrev pubkey : Entry
+  pubkey = quotedAt pubkeyName (e .pubkey) (id-end + 1)
+
+  abbrev pubkey-end : ℕ
+  pubkey-end = pubkey .value + length (quoted (e .pubkey))
+
+  pubkey-read : Member s pubkeyName (quoted (e .pubkey)) (timeText i e g) 44 (pubkey .at) (pubkey .value) pubkey-end close
+  pubkey-read = member s pubkeyName (quoted (e .pubkey)) (timeText i e g) 44 (pubkey .at) close (bare-names .1 .same) (bare-names .1 .plain) (id-read .rest)
+
+  abbrev time : Entry
+  time = plainAt createdAtName (decimal (e .time)) (pubkey-end + 1)
+
+  abbrev time-end : ℕ
+  time-end = time .value + length (decimal (e .time))
+
+  time-read : Member s createdAtName (decimal (e .time)) (kindText i e g) 44 (time .at) (time .value) time-end close
+  time-read = member s createdAtName (decimal (e .time)) (kindText i e g) 44 (time .at) close (bare-names .2 .same) (bare-names .2 .plain) (pubkey-read .rest)
+
+  abbrev kind : Entry
+  kind = plainAt kindName (digits (e .kind)) (time-end + 1)
+
+  abbrev kind-end : ℕ
+  kind-end = kind .value + length (digits (e .kind))
+
+  kind-read : Member s kindName (digits (e .kind)) (tagsMember i e g) 44 (kind .at) (kind .value) kind-end close
+  kind-read = member s kindName (digits (e .kind)) (tagsMember i e g) 44 (kind .at) close (bare-names .3 .same) (bare-names .3 .plain) (time-read .rest)
+
+  abbrev tags : Entry
+  tags = plainAt tagsName (tagsText (e .tags)) (kind-end + 1)
+
+  abbrev tags-end : ℕ
+  tags-end = tags .value + length (tagsText (e .tags))
+
+  tags-here : Member s tagsName (tagsText (e .tags)) (contentText i e g) 44 (tags .at) (tags .value) tags-end close
+  tags-here = member s tagsName (tagsText (e .tags)) (contentText i e g) 44 (tags .at) close (bare-names .4 .same) (bare-names .4 .plain) (kind-read .rest)
+
+  abbrev content : Entry
+  content = quotedAt contentName (e .content) (tags-end + 1)
+
+  abbrev content-end : ℕ
+  content-end = content .value + length (quoted (e .content))
+
+  content-read : Member s contentName (quoted (e .content)) (sigText i e g) 44 (content .at) (content .value) content-end close
+  content-read = member s contentName (quoted (e .content)) (sigText i e g) 44 (content .at) close (bare-names .5 .same) (bare-names .5 .plain) (tags-here .rest)
+
+  abbrev sig : Entry
+  sig = quotedAt sigName g (content-end + 1)
+
+  abbrev sig-end : ℕ
+  sig-end = sig .value + length (quoted g)
+
+  sig-read : Member s sigName (quoted g) [] 125 (sig .at) (sig .value) sig-end close
+  sig-read = member s sigName (quoted g) [] 125 (sig .at) close (bare-names .6 .same) (bare-names .6 .plain) (content-read .rest)
+
+  -- ---- their values
+  id-string : isString i ≡ true
+  id-string = hex-string i id-hex
+
+  pubkey-is : spell.all isHex (e .pubkey) ≡ true
+  pubkey-is = pubkey-hex (e .pubkey) (limits .pubkey)
+
+  pubkey-string : isString (e .pubkey) ≡ true
+  pubkey-string = hex-string (e .pubkey) pubkey-is
+
+  sig-string : isString g ≡ true
+  sig-string = hex-string g sig-hex
+
+  -- a string is a tree, and begins with a quote
+  string-value : (v : List ℕ) (at n c : ℕ) → isString v ≡ true → classOf Space c ≡ false → Spelt s at (quoted v) n → getD s n 0 ≡ c
+      → treeAt s 6 at ≡ got (str (at + 1) (n - at - 2)) n
+  unfolding isString
+  string-value v at n c h d a z = string-read s 5 v at n (both (all isPlainByte v) _ h .0) a (rw z d)
+
+  string-tight : (v : List ℕ) (at n : ℕ) → Spelt s at (quoted v) n → Tight s at
+  unfolding quoted classOf
+  string-tight v at n a = rw (byte-is a)
+
+  tags-tight : Tight s (tags .value)
+  unfolding tagsText classOf
+  tags-tight = rw (byte-is (tags-here .value))
+
+  tags-stand : Stands (treeAt s 6) (λ t. tagsIn s (got t tags-end)) lent.isTags (tags .value) (e .tags) tags-end
+  unfolding classOf
+  tags-stand = tags-read s 3 (e .tags) (tags .value) tags-end (limits .tags) (tags-here .value) (rw (tags-here .next))
+
+  -- a quote comes after a comma
+  comma-next : (n : ℕ) {r : List ℕ} {m : ℕ} → getD s n 0 ≡ 44 → Spelt s (n + 1) (34 ∷ r) m → nextAt s n true ≡ More (n + 1)
+  unfolding classOf
+  comma-next n z a = next-more s true n z (rw (byte-is a))
+
+  long : 9 ≤ length s
+  long = spelt-inside s 0 (ascii "[\"EVENT\",") 9 begin (omega arith)
+
+  ends : close ≡ sig-end + 1
+  ends = omega (arith, sig-read .rest .end)
+
+  closed : getD s (sig-end + 1) 0 ≡ 93
+  closed = rw (← ends) (byte-is bracket)
+
+  sig-item : itemsAt (treeAt s 6) s true (length s - 6) (sig .at) ≡ got (text sig (string sig) nil) (sig-end + 1)
+  unfolding classOf
+  sig-item =
+      item-last s 6 true 6 (sig .at) (sig .value) sig-end (sig-end + 1) (string sig) (omega (arith, long))
+      (sig-read .head (string-tight g (sig .value) sig-end (sig-read .value)))
+      (string-value g (sig .value) sig-end 125 sig-string refl (sig-read .value) (sig-read .next)) (next-closed s sig-end (sig-read .next) (rw closed))
+
+  content-item : itemsAt (treeAt s 6) s true (length s - 5) (content .at) ≡ got (text content (string content) (text sig (string sig) nil)) (sig-end + 1)
+  unfolding classOf
+  content-item =
+      item-more s 6 true 5 (content .at) (content .value) content-end (content-end + 1) (sig-end + 1) (string content) _ (omega (arith, long))
+      (content-read .head (string-tight (e .content) (content .value) content-end (content-read .value)))
+      (string-value (e .content) (content .value) content-end 44 (limits .content) refl (content-read .value) (content-read .next))
+      (comma-next content-end (content-read .next) (content-read .rest)) sig-item
+
+  abbrev array : Json
+  array = tags-stand .tree
+
+  tags-item : itemsAt (treeAt s 6) s true (length s - 4) (tags .at) ≡ got (text tags array (text content (string content) (text sig (string sig) nil))) (sig-end + 1)
+  tags-item =
+      item-more s 6 true 4 (tags .at) (tags .value) tags-end (tags-end + 1) (sig-end + 1) array _ (omega (arith, long))
+      (tags-here .head tags-tight) (tags-stand .there) (comma-next tags-end (tags-here .next) (tags-here .rest)) content-item
+
+  kind-item : itemsAt (treeAt s 6) s true (length s - 3) (kind .at)
+      ≡ got (text kind (number kind) (text tags array (text content (string content) (text sig (string sig) nil)))) (sig-end + 1)
+  unfolding decimal
+  kind-item =
+      item-more s 6 true 3 (kind .at) (kind .value) kind-end (kind-end + 1) (sig-end + 1) (number kind) _ (omega (arith, long))
+      (kind-read .head (number-tight s (pos (e .kind)) (kind .value) kind-end (kind-read .value)))
+      (number-read s 5 (pos (e .kind)) (kind .value) kind-end (kind-read .value) (kind-read .next)) (comma-next kind-end (kind-read .next) (kind-read .rest)) tags-item
+
+  time-item : itemsAt (treeAt s 6) s true (length s - 2) (time .at)
+      ≡ got (text time (number time) (text kind (number kind) (text tags array (text content (string content) (text sig (string sig) nil))))) (sig-end + 1)
+  time-item =
+      item-more s 6 true 2 (time .at) (time .value) time-end (time-end + 1) (sig-end + 1) (number time) _ (omega (arith, long))
+      (time-read .head (number-tight s (e .time) (time .value) time-end (time-read .value)))
+      (number-read s 5 (e .time) (time .value) time-end (time-read .value) (time-read .next)) (comma-next time-end (time-read .next) (time-read .rest)) kind-item
+
+  pubkey-item : itemsAt (treeAt s 6) s true (length s - 1) (pubkey .at)
+      ≡ got (text pubkey (string pubkey) (text time (number time) (text kind (number kind) (text tags array (text content (string content) (text sig (string sig) nil)))))) (sig-end + 1)
+  unfolding classOf
+  pubkey-item =
+      item-more s 6 true 1 (pubkey .at) (pubkey .value) pubkey-end (pubkey-end + 1) (sig-end + 1) (string pubkey) _ (omega (arith, long))
+      (pubkey-read .head (string-tight (e .pubkey) (pubkey .value) pubkey-end (pubkey-read .value)))
+      (string-value (e .pubkey) (pubkey .value) pubkey-end 44 pubkey-string refl (pubkey-read .value) (pubkey-read .next))
+      (comma-next pubkey-end (pubkey-read .next) (pubkey-read .rest)) time-item
+
+  abbrev members : Items
+  members = objectOf id pubkey time kind tags content sig array
+
+  id-item : itemsAt (treeAt s 6) s true (length s - 0) (id .at) ≡ got members (sig-end + 1)
+  unfolding classOf
+  id-item =
+      item-more s 6 true 0 (id .at) (id .value) id-end (id-end + 1) (sig-end + 1) (string id) _ (omega (arith, long))
+      (id-read .head (string-tight i (id .value) id-end (id-read .value)))
+      (string-value i (id .value) id-end 44 id-string refl (id-read .value) (id-read .next)) (comma-next id-end (id-read .next) (id-read .rest)) pubkey-item
+
+  -- ---- the tree
+  object-tree : treeAt s 7 9 ≡ got (obj members) (sig-end + 1)
+  object-tree = object-read s 6 9 (sig-end + 1) members (byte-is object) (byte-is (tail object)) id-item
+
+  size : sig-end + 1 + 1 ≡ length s
+  size = omega (arith, ends, bracket .end)
+
+  object-item : itemsAt (treeAt s 7) s false (length s - 1) 9 ≡ got (item 9 9 (obj members) nil) (sig-end + 1 + 1)
+  unfolding classOf
+  object-item =
+      let z : getD s (sig-end + 1 + 1) 0 ≡ 0 = List·getD-eq-default s 0 (omega (arith, size)) in
+      item-last s 7 false 1 9 9 (sig-end + 1) (sig-end + 1 + 1) (obj members) (omega (arith, long)) refl object-tree (next-done s (sig-end + 1) closed (rw z))
+
+  word-comma : Spelt s 1 (quoted eventWord ++ (44 ∷ [])) 9
+  unfolding quoted escape escOne letterOf
+  word-comma = tail begin
+
+  word-spelt : Spelt s 1 (quoted eventWord) 8
+  unfolding quoted escape escOne letterOf
+  word-spelt = left (quoted eventWord) (44 ∷ []) word-comma
+
+  word-next : getD s 8 0 ≡ 44
+  unfolding quoted escape escOne letterOf
+  word-next = byte-is (right (quoted eventWord) (44 ∷ []) word-comma)
+
+  word-item : itemsAt (treeAt s 7) s false (length s - 0) 1 ≡ got (item 1 1 (str 2 5) (item 9 9 (obj members) nil)) (sig-end + 1 + 1)
+  unfolding classOf
+  word-item =
+      item-more s 7 false 0 1 1 8 9 (sig-end + 1 + 1) (str 2 5) _ (omega (arith, long)) refl
+      (string-read s 6 eventWord 1 8 (bare-names .7 .plain) word-spelt (rw word-next)) (next-more s false 8 word-next (rw (byte-is object))) object-item
+
+  tree : treeAt s 8 0 ≡ got (messageOf members) (sig-end + 1 + 1)
+  unfolding classOf
+  tree = array-many s 7 0 (sig-end + 1 + 1) _ (byte-is begin) (rw (byte-is (tail begin))) (rw (byte-is (tail begin))) (rw sub-zero at word-item)
+
+  -- ---- what the parts say
+  id-told : Spells s (record { start = id .start; len = id .size }) i
+  id-told = string-told s i (id .value) id-end id-string (id-read .value)
+
+  pubkey-told : Spells s (record { start = pubkey .start; len = pubkey .size }) (e .pubkey)
+  pubkey-told = string-told s (e .pubkey) (pubkey .value) pubkey-end pubkey-string (pubkey-read .value)
+
+  tags-told : SpellsTags s (tags .value) (e .tags)
+  tags-told = tags-spelled s (e .tags) (tags .value) tags-end (limits .tags) (tags-here .value) (tags-here .next)
+
+  content-told : Spells s (record { start = content .start; len = content .size }) (e .content)
+  content-told = string-told s (e .content) (content .value) content-end (limits .content) (content-read .value)
+
+  sig-told : Spells s (record { start = sig .start; len = sig .size }) g
+  sig-told = string-told s g (sig .value) sig-end sig-string (sig-read .value)
+
+  -- ---- rows 4 to 8
+  allowed : {p : Span} {v : List ℕ} → Spells s p v → isString v ≡ true → refuses (part s (p .start) (p .len)) ≡ false
+  allowed t h = not-refused _ (t .utf8) (t .spelling) (rw (t .says) h)
+
+  hex-of : (k : ℕ) {p : Span} {v : List ℕ} → Spells s p v → length v ≡ k → spell.all isHex v ≡ true → isHexOf k (part s (p .start) (p .len)) ≡ true
+  unfolding isHexOf
+  hex-of k {p} {v} t l h = rw (t .says, eq-eqb (length v) k l, h)
+
+  -- the bytes of a value, and what they say
+  taken : (x : List ℕ) (at n : ℕ) → Spelt s at x n → part s at (n - at) ≡ x
+  taken x at n a = let z : n - at ≡ length x = omega (arith, a .end) in rw (z, a .is, take-append-seam x)
+
+  time-within : isWithin (Value (e .time)) (negℤ (pos widest)) (pos widest) ≡ true
+  unfolding isTime
+  time-within = limits .time
+
+  kind-wide : isWithin (Value (pos (e .kind))) (negℤ (pos widest)) (pos widest) ≡ true
+  unfolding isWithin
+  kind-wide = rw (le-ltb widest (e .kind) (omega (arith, limits .kind)))
+
+  kind-within : isWithin (Value (pos (e .kind))) (pos 0) (pos 65535) ≡ true
+  unfolding isWithin
+  kind-within = rw (le-ltb (e .kind) 0 (omega arith), le-ltb 65535 (e .kind) (limits .kind))
+
+  time-is : answerOf (wholeOf (part s (time .start) (time .size))) ≡ Value (e .time)
+  time-is = rw (taken (decimal (e .time)) (time .value) time-end (time-read .value)) (decimal-value (e .time) time-within)
+
+  kind-is : answerOf (wholeOf (part s (kind .start) (kind .size))) ≡ Value (pos (e .kind))
+  unfolding decimal
+  kind-is = rw (taken (digits (e .kind)) (kind .value) kind-end (kind-read .value)) (decimal-value (pos (e .kind)) kind-wide)
+
+  -- the tags by themselves may be as deep as a message
+  tags-tree : treeAt s 8 (tags .value) ≡ got array tags-end
+  tags-tree = deeper s 2 6 (tags .value) array tags-end (tags-stand .there)
+
+  tags-pass-here : (refusedIn s array ≡ false) × (wrongTags array ≡ false)
+  unfolding value4
+  tags-pass-here =
+      let (p, q) = tags-pass s (tags .value) (tags-told .utf8) (tags-told .array) (rw (tags-told .says) (limits .tags)) in
+      (rw tags-tree at p, rw tags-tree at q)
+
+  word-is : part s 2 5 ≡ eventWord
+  word-is = taken eventWord 2 7 (left eventWord (34 ∷ 44 ∷ []) (tail (tail begin)))
+
+  fine : Fine s id pubkey time kind tags content sig array (e .time) (e .kind)
+  fine = record {
+    word = word-is;
+    id-name = id-read .name;
+    pubkey-name = pubkey-read .name;
+    time-name = time-read .name;
+    kind-name = kind-read .name;
+    tags-name = tags-here .name;
+    content-name = content-read .name;
+    sig-name = sig-read .name;
+    id-clean = allowed id-told id-string;
+    pubkey-clean = allowed pubkey-told pubkey-string;
+    tags-clean = tags-pass-here .0;
+    content-clean = allowed content-told (limits .content);
+    sig-clean = allowed sig-told sig-string;
+    id-hex = hex-of 64 id-told id-length id-hex;
+    pubkey-hex = hex-of 64 pubkey-told (pubkey-length (e .pubkey) (limits .pubkey)) pubkey-is;
+    sig-hex = hex-of 128 sig-told sig-length sig-hex;
+    time-is = time-is;
+    time-within = time-within;
+    kind-is = kind-is;
+    kind-within = kind-within;
+    tags-array = tags-stand .fine;
+    tags-few = tags-pass-here .1;
+  }
+
+  -- ---- rows 1 to 3
+  hex-quoted : (v : List ℕ) → spell.all isHex v ≡ true → length (quoted v) ≡ length v + 2
+  hex-quoted v h = omega (arith, quoted-length v, ap length (hex-escape v h))
+
+  short : length (serialise e) ≤ mostText → length s ≤ mostMessage
+  short h =
+      let k = pubkey-length (e .pubkey) (limits .pubkey) in
+      let a : length (quoted i) ≡ 66 = omega (arith, hex-quoted i id-hex) in
+      let b : length (quoted (e .pubkey)) ≡ 66 = omega (arith, hex-quoted (e .pubkey) pubkey-is) in
+      let c : length (quoted g) ≡ 130 = omega (arith, hex-quoted g sig-hex) in
+      let o = object-length i g e a k b c in
+      let z : length s ≡ 9 + (length (objectText i e g) + 1) = ap length is ∙ simp length-append (omega arith) in
+      omega arith
+
+  -- fixed bytes w, a piece x, and what follows
+  pieces : (w x q : List ℕ) → utf8From Lead w ≡ true → utf8From Lead x ≡ true → utf8From Lead q ≡ true → utf8From Lead (w ++ (x ++ q)) ≡ true
+  pieces w x q a b c = utf8-append w (x ++ q) Lead a (utf8-append x q Lead b c)
+
+  object-utf8 : utf8From Lead (objectText i e g) ≡ true
+  unfolding objectText isUtf8 utf8From leadOf decimal
+  object-utf8 =
+      pieces (ascii "{\"id\":") (quoted i) _ refl (quoted-utf8 i id-string)
+      (pieces (ascii ",\"pubkey\":") (quoted (e .pubkey)) _ refl (quoted-utf8 (e .pubkey) pubkey-string)
+      (pieces (ascii ",\"created_at\":") (decimal (e .time)) _ refl (decimal-utf8 (e .time))
+      (pieces (ascii ",\"kind\":") (digits (e .kind)) _ refl (decimal-utf8 (pos (e .kind)))
+      (pieces (ascii ",\"tags\":") (tagsText (e .tags)) _ refl (tags-utf8 (e .tags) (limits .tags))
+      (pieces (ascii ",\"content\":") (quoted (e .content)) _ refl (quoted-utf8 (e .content) (limits .content))
+      (pieces (ascii ",\"sig\":") (quoted g) (ascii "}") refl (quoted-utf8 g sig-string) refl))))))
+
+  utf8 : isUtf8 s ≡ true
+  unfolding isUtf8 utf8From leadOf
+  utf8 = rw is (pieces (ascii "[\"EVENT\",") (objectText i e g) (ascii "]") refl object-utf8 refl)
+
+  root-is : root s ≡ got (messageOf members) (sig-end + 1 + 1)
+  unfolding classOf
+  root-is = rw (ws-none s 0 (rw (byte-is begin))) tree
+
+  -- ---- it is read, and judged to be the event
+  abbrev parts : EventParts
+  parts = partsAt id pubkey tags content sig (e .time) (e .kind)
+
+  row-0 : length (serialise e) ≤ mostText → messageRow s ≡ 0
+  unfolding messageRow
+  row-0 h =
+      rw (le-ltb mostMessage (length s) (short h), utf8, root-is, eq-eqb (sig-end + 1 + 1) (length s) size)
+      (rows-none s id pubkey time kind tags content sig array (e .time) (e .kind) fine)
+
+  reads : length (serialise e) ≤ mostText → readOf s ≡ message.Event parts
+  unfolding readOf
+  reads h = rw (row-0 h, root-is) (parts-are s id pubkey time kind tags content sig array (e .time) (e .kind) fine)
+
+  module _ (h : SignedEvent) (said : readText (h .0 .text) ≡ read e) (with-id : i ≡ hexOf (h .0 .id)) (with-sig : g ≡ hexOf (h .1)) where
+    told : Tells s parts h
+    told = record {
+      event = e;
+      text = said;
+      id = rw (← with-id) id-told;
+      pubkey = pubkey-told;
+      time = refl;
+      kind = refl;
+      tags = tags-told;
+      content = content-told;
+      sig = rw (← with-sig) sig-told;
+    }
+
+    judged : h .0 .id ≡ digest (h .0 .text) → length (h .1) ≡ 64 → all isByte (h .1) ≡ true → length (serialise e) ≤ mostText → judge (asMessage s) ≡ some h
+    judged hashed n k l = rows-in-order .2 s parts (reads l) .same-event ∙ judged-again s parts h hashed n k told
+
+pub sendable : Sendable
+sendable e sig f l n k =
+    let t = serialise e in
+    let d = digest t in
+    let a : length (hexOf d) ≡ 64 = omega (arith, hex-length d, digest-length t) in
+    let b : length (hexOf sig) ≡ 128 = omega (arith, hex-length sig, n) in
+    judged (hexOf d) e (hexOf sig) (eventMessage (hexOf d) e (hexOf sig)) refl (limits-of e f) a (hex-is d (digest-bytes t)) b (hex-is sig k)
+    (ofHeld (record { id = d; sig = sig; event = e })) (read-back e f l) refl refl refl n k l
