@@ -201,7 +201,7 @@ abbrev pub Exchanges : Type 0
 Exchanges = ExchangesOn tableEvents Signature relay
 
 -- every event within the limits, with any 64 bytes as its signature, can be offered as parts and is then valid: no relay may refuse
--- everything. Of messages: reply/proofs/Accepted has one that is valid
+-- everything. Of messages: reply/specs/Laws `Sendable`
 abbrev pub Offerable : Type 0
 Offerable = (e : Event) (sig : List ℕ) → isFit e ≡ true → length (serialise e) ≤ mostText → length sig ≡ 64 → all isByte sig ≡ true →
     (c : List ℕ) × (p : EventParts) × (judge (asParts c p) ≡ some (ofHeld (record { id = digest (serialise e); sig = sig; event = e })))
