@@ -123,13 +123,15 @@ fn replay() {
 const PUBKEY: &str = "5c83da77af1dec6d7289834998ad7aafbd9e2191396d75ec3cc27f5a77226f36";
 
 fn message(time: i64, kind: u32, d: &str, content: &str) -> Vec<u8> {
-    let text = format!("[0,\"{PUBKEY}\",{time},{kind},[[\"d\",\"{d}\"]],\"{content}\"]");
+    message_by(PUBKEY, time, kind, d, content)
+}
+
+fn message_by(pubkey: &str, time: i64, kind: u32, d: &str, content: &str) -> Vec<u8> {
+    let text = format!("[0,\"{pubkey}\",{time},{kind},[[\"d\",\"{d}\"]],\"{content}\"]");
     let id: String = plain_sha256::digest(text.as_bytes()).iter().map(|b| format!("{b:02x}")).collect();
     let sig = "0f".repeat(64);
-    format!(
-        "[\"EVENT\",{{\"id\":\"{id}\",\"pubkey\":\"{PUBKEY}\",\"created_at\":{time},\"kind\":{kind},\"tags\":[[\"d\",\"{d}\"]],\"content\":\"{content}\",\"sig\":\"{sig}\"}}]"
-    )
-    .into_bytes()
+    let head = format!("[\"EVENT\",{{\"id\":\"{id}\",\"pubkey\":\"{pubkey}\",\"created_at\":{time},\"kind\":{kind},");
+    (head + &format!("\"tags\":[[\"d\",\"{d}\"]],\"content\":\"{content}\",\"sig\":\"{sig}\"}}]")).into_bytes()
 }
 
 const SMALL: &str = "the shelf by the door has moved";
@@ -143,12 +145,16 @@ fn tile(k: usize) -> String {
     format!("floor-3/tile-{k:04}")
 }
 
-// The tiles from 1 on, of one pubkey and, unless regular, one kind.
+// The tiles from 1 on, of one pubkey and kind.
 fn table(held: usize, kind: u32, content: &str) -> Vec<u8> {
+    table_by(held, |k| message(1700000000, kind, &tile(k), content))
+}
+
+fn table_by(held: usize, event: impl Fn(usize) -> Vec<u8>) -> Vec<u8> {
     let mut t = vec![0u8; HEADER + 64 * SLOT];
     assert_eq!(plain_table::format(&mut t, 64), 0);
     for k in 0..held {
-        assert_eq!(plain_table::offer(&mut t, &message(1700000000, kind, &tile(k + 1), content)), 0);
+        assert_eq!(plain_table::offer(&mut t, &event(k + 1)), 0);
     }
     t
 }
@@ -220,6 +226,8 @@ pub fn run() {
         sound_timed(&format!("{name}, small texts, tiles"), &table(held, 30000, SMALL));
         sound_timed(&format!("{name}, full texts"), &table(held, 30000, &ascii));
     }
+    let many = table_by(64, |k| message_by(&format!("{}{k:02x}", &PUBKEY[2..]), 1700000000, 1, "", SMALL));
+    sound_timed("full, small texts, regular, of 64 pubkeys", &many);
     sound_timed("full, full texts of escapes", &table(64, 30000, &escapes));
     sound_timed("full, full texts of UTF-8", &table(64, 30000, &utf8));
     for (name, held) in [("empty", 0), ("half full", 32), ("full", 64)] {
