@@ -1,11 +1,12 @@
 -- An EVENT whose object has its seven members in the order listed under Shape, each as it should be: rows 4 to 8 do not hold, and its parts are
 -- the members' places. Over any text s: only what its names and values are is used.
 use mathlib.Core.Bool.{true, false}
-use mathlib.Core.Path.{_≡_, refl, ap, _∙_}
-use mathlib.Core.List.{List, _∷_, []}
+use mathlib.Core.Path.{_≡_, refl}
+use mathlib.Core.List.{List}
 use Prim.Native.Nat.{ℕ}
 use lib.IntN.{ℤ, pos, negℤ}
 use Rattle.wire.specs.Bytes.{sameBytes}
+use Rattle.wire.specs.Escape.{letterOf, escOne, escape}
 use Rattle.wire.specs.Limits.{widest}
 use Rattle.json.specs.Tree.{Json, num, str, arr, obj, Items, nil, item}
 use Rattle.numeral.specs.Whole.{wholeOf, answerOf, isWithin}
@@ -15,26 +16,37 @@ use Rattle.spell.specs.Spell as spell
 use Rattle.spell.specs.Spell.{charOf, charsFrom, bytesOf, joined, decode, isRefused, refuses, isHexOf}
 use Rattle.shape.specs.Shape.{anyItem, allItems, countItems, nameAt, idName, pubkeyName, createdAtName, kindName, tagsName, contentName, sigName, eventWord, eventMember, once, isEvent, event, wordOf, opened}
 use Rattle.shape.specs.Rows.{row5, row6, row7, row8, eventNumber, eventHex, eventCount, wrongTime, wrongSmall, wrongHex, wrongTag, treeRow}
+use Rattle.text.specs.Event.{all, isPlainByte}
 use Rattle.message.specs.Lent.{isTags, wrongTags}
 use Rattle.message.specs.Parts.{memberOf, bodyOf, eventOf}
 use Rattle.message.specs.Read.{partsOf}
 use Rattle.message.specs.declared.EventParts.{EventParts}
 use Rattle.message.specs.declared.Message.the-variants as message
 
--- ---- the names decode to themselves and none is refused
-record Plain (w : List ℕ) : Type 0 where
-  itself : decode w ≡ w
-  fine : refuses w ≡ false
+-- ---- the names, and the word EVENT, stand for themselves and are not refused
+pub record Plain (w : List ℕ) : Type 0 where
+  pub spelled : escape w ≡ w
+  pub decoded : decode w ≡ w
+  pub bytes : all isPlainByte w ≡ true
+  pub fine : refuses w ≡ false
 
-plain-names : Plain idName × Plain pubkeyName × Plain createdAtName × Plain kindName × Plain tagsName × Plain contentName × Plain sigName × Plain eventWord
-unfolding charOf charsFrom bytesOf joined decode isRefused spell.any refuses
+pub plain-names : Plain idName × Plain pubkeyName × Plain createdAtName × Plain kindName × Plain tagsName × Plain contentName × Plain sigName × Plain eventWord
+unfolding escape escOne letterOf all isPlainByte charOf charsFrom bytesOf joined decode isRefused spell.any refuses
 plain-names =
-    ( record { itself = refl; fine = refl }, record { itself = refl; fine = refl }, record { itself = refl; fine = refl }, record { itself = refl; fine = refl }
-    , record { itself = refl; fine = refl }, record { itself = refl; fine = refl }, record { itself = refl; fine = refl }, record { itself = refl; fine = refl })
+    (
+      record { spelled = refl; decoded = refl; bytes = refl; fine = refl },
+      record { spelled = refl; decoded = refl; bytes = refl; fine = refl },
+      record { spelled = refl; decoded = refl; bytes = refl; fine = refl },
+      record { spelled = refl; decoded = refl; bytes = refl; fine = refl },
+      record { spelled = refl; decoded = refl; bytes = refl; fine = refl },
+      record { spelled = refl; decoded = refl; bytes = refl; fine = refl },
+      record { spelled = refl; decoded = refl; bytes = refl; fine = refl },
+      record { spelled = refl; decoded = refl; bytes = refl; fine = refl }
+    )
 
 says : (s : List ℕ) (p : ℕ) {w : List ℕ} → Plain w → spelledAt s p ≡ w → nameAt s p ≡ w
 unfolding nameAt
-says s p d e = rw e (d .itself)
+says s p d e = rw e (d .decoded)
 
 clean : (s : List ℕ) (p : ℕ) {w : List ℕ} → Plain w → spelledAt s p ≡ w → refuses (spelledAt s p) ≡ false
 clean s p d e = rw e (d .fine)
@@ -109,7 +121,7 @@ module _ (s : List ℕ) (i k t n g c z : Entry) (array : Json) (time : ℤ) (kin
 
   first : wordOf (decode (part s 2 5)) ≡ event
   unfolding wordOf sameBytes
-  first = rw (f .word, plain-names .7 .itself)
+  first = rw (f .word, plain-names .7 .decoded)
 
   word-clean : refuses (part s 2 5) ≡ false
   word-clean = rw (f .word) (plain-names .7 .fine)
