@@ -1,25 +1,23 @@
 -- Each event within the limits has a valid message: the one that spells it as replies do. Its bytes are taken apart member by member, so its
 -- tree is known; rows 1 to 8 do not hold of that tree, and its parts tell the event, so rows 9 and 10 do not hold either.
 use mathlib.Core.Bool.{true, false}
-use mathlib.Core.Path.{_≡_, refl, sym, ap, _∙_}
+use mathlib.Core.Path.{_≡_, refl, ap, _∙_}
 use mathlib.Core.Option.{some}
 use mathlib.Core.List.{List, [], _∷_, _++_}
-use Prim.Native.Nat.{ℕ, suc, _+_, _-_, _≤_, _<_}
+use Prim.Native.Nat.{ℕ, _+_, _-_, _≤_, _<_}
 use native.Mathlib.Nat.{sub-zero}
 use native.Mathlib.Omega.{arith}
 use borrow.Author.Tests.{le-ltb, eq-eqb}
 use lib.IntN.{ℤ, pos, negℤ}
-use lib.ListN.{length, getD, drop, length-append, List·getD-eq-default}
+use lib.ListN.{length, getD, length-append, List·getD-eq-default}
 use lib.Seq.{take-append-seam}
 use Rattle.wire.specs.Bytes.{isHex}
 use Rattle.wire.specs.Escape.{letterOf, escOne, escape}
 use Rattle.wire.specs.Limits.{mostText, mostMessage, widest}
 use Rattle.utf8.specs.Utf8.{isUtf8, utf8From, leadOf}
 use Rattle.utf8.specs.declared.Want.the-variants.{Lead}
-use Rattle.json.specs.Grammar.{classOf, headAt, nextAt, wsAt}
-use Rattle.json.specs.Tree.{Json, num, str, obj, Items, nil, item, got, root, isText, itemsAt, treeAt}
-use Rattle.json.specs.declared.Class.the-variants.{Space}
-use Rattle.json.specs.declared.Next.the-variants.{More}
+use Rattle.json.specs.Grammar.{classOf}
+use Rattle.json.specs.Tree.{Json, num, str, obj, Items, nil, item, got, root, itemsAt, treeAt}
 use Rattle.json.proofs.Deeper.{deeper}
 use Rattle.digest.specs.Digest.{digest}
 use Rattle.numeral.specs.Decimal.{digits, decimal}
@@ -27,18 +25,18 @@ use Rattle.numeral.specs.Whole.{wholeOf, answerOf, isWithin}
 use Rattle.numeral.specs.declared.Whole.the-variants.{Value}
 use Rattle.numeral.proofs.Wholes.{decimal-value}
 use Rattle.rows.specs.Strings.{part, refusedIn}
-use Rattle.spell.specs.Spell.{decode, refuses, isHexOf}
+use Rattle.spell.specs.Spell.{refuses, isHexOf}
 use Rattle.spell.specs.Spell as spell
 use Rattle.spell.proofs.Laws.{hex-escape}
 use Rattle.shape.specs.Shape.{idName, pubkeyName, createdAtName, kindName, tagsName, contentName, sigName, eventWord}
 use Rattle.shape.specs.Rows.{messageRow}
-use Rattle.text.specs.Event.{Event, quoted, tagsText, serialise, all, isPlainByte, isString, isTags, isTime, isFit}
+use Rattle.text.specs.Event.{Event, quoted, tagsText, serialise, all, isPlainByte, isString, isTags, isTime}
 use Rattle.text.specs.Read.{read, readText}
 use Rattle.text.proofs.Pieces.{Spelt, all-of, left, right, tail, byte-is, both, spelt-inside}
 use Rattle.text.proofs.Limits.{Limits, limits-of}
 use Rattle.text.proofs.Rows.{pubkey-length}
 use Rattle.text.proofs.RoundTrip.{read-back}
-use Rattle.message.specs.Lent.{value4, onValue, wrongTags}
+use Rattle.message.specs.Lent.{value4, wrongTags}
 use Rattle.message.specs.Lent as lent
 use Rattle.message.specs.Read.{readOf}
 use Rattle.message.specs.declared.Span.{Span}
@@ -49,7 +47,7 @@ use Rattle.event.specs.Answer.{hexOf}
 use Rattle.event.proofs.Answers.{hex-length}
 use Rattle.table.specs.Layout.{isByte}
 use Rattle.table.specs.Events.{SignedEvent, ofHeld}
-use Rattle.table.specs.Offer.{asMessage, asParts, judge}
+use Rattle.table.specs.Offer.{asMessage, judge}
 use Rattle.table.specs.Relay.{Spells, SpellsTags, Tells}
 use Rattle.table.proofs.Hex.{hex-is, digest-length, digest-bytes}
 use Rattle.table.proofs.Refused.{not-refused}
@@ -63,7 +61,7 @@ use Rattle.reply.specs.Replies.{objectText}
 use Rattle.reply.specs.Laws.{eventMessage, Sendable}
 use Rattle.reply.proofs.Sizes.{quoted-length, object-length}
 use Rattle.reply.proofs.Members.{decimal-utf8, number-tight, number-read, string-told, Member, member, item-more, item-last, next-closed, object-read}
-use Rattle.reply.proofs.Ordered.{plain-names, Entry, text, string, number, objectOf, messageOf, Fine, partsAt, rows-none, parts-are}
+use Rattle.reply.proofs.Ordered.{verbatim-names, Entry, itemOf, string, number, objectOf, messageOf, Fine, partsAt, rows-none, parts-are}
 
 -- ---- the bytes of a member w with the value x, the byte c after it, and then r
 abbrev spelled : (w x : List ℕ) (c : ℕ) (r : List ℕ) → List ℕ
@@ -139,7 +137,7 @@ module _ (i : List ℕ) (e : Event) (g s : List ℕ) (is : s ≡ eventMessage i 
   id-end = id .value + length (quoted i)
 
   id-read : Member s idName (quoted i) (pubkeyText i e g) 44 (id .at) (id .value) id-end close
-  id-read = member s idName (quoted i) (pubkeyText i e g) 44 (id .at) close (plain-names .0 .spelled) (plain-names .0 .bytes) (tail object)
+  id-read = member s idName (quoted i) (pubkeyText i e g) 44 (id .at) close (verbatim-names .0 .spelled) (verbatim-names .0 .bytes) (tail object)
 
   abbrev pubkey : Entry
   pubkey = quotedAt pubkeyName (e .pubkey) (id-end + 1)
@@ -148,7 +146,7 @@ module _ (i : List ℕ) (e : Event) (g s : List ℕ) (is : s ≡ eventMessage i 
   pubkey-end = pubkey .value + length (quoted (e .pubkey))
 
   pubkey-read : Member s pubkeyName (quoted (e .pubkey)) (timeText i e g) 44 (pubkey .at) (pubkey .value) pubkey-end close
-  pubkey-read = member s pubkeyName (quoted (e .pubkey)) (timeText i e g) 44 (pubkey .at) close (plain-names .1 .spelled) (plain-names .1 .bytes) (id-read .rest)
+  pubkey-read = member s pubkeyName (quoted (e .pubkey)) (timeText i e g) 44 (pubkey .at) close (verbatim-names .1 .spelled) (verbatim-names .1 .bytes) (id-read .rest)
 
   abbrev time : Entry
   time = plainAt createdAtName (decimal (e .time)) (pubkey-end + 1)
@@ -157,7 +155,7 @@ module _ (i : List ℕ) (e : Event) (g s : List ℕ) (is : s ≡ eventMessage i 
   time-end = time .value + length (decimal (e .time))
 
   time-read : Member s createdAtName (decimal (e .time)) (kindText i e g) 44 (time .at) (time .value) time-end close
-  time-read = member s createdAtName (decimal (e .time)) (kindText i e g) 44 (time .at) close (plain-names .2 .spelled) (plain-names .2 .bytes) (pubkey-read .rest)
+  time-read = member s createdAtName (decimal (e .time)) (kindText i e g) 44 (time .at) close (verbatim-names .2 .spelled) (verbatim-names .2 .bytes) (pubkey-read .rest)
 
   abbrev kind : Entry
   kind = plainAt kindName (digits (e .kind)) (time-end + 1)
@@ -166,7 +164,7 @@ module _ (i : List ℕ) (e : Event) (g s : List ℕ) (is : s ≡ eventMessage i 
   kind-end = kind .value + length (digits (e .kind))
 
   kind-read : Member s kindName (digits (e .kind)) (tagsMember i e g) 44 (kind .at) (kind .value) kind-end close
-  kind-read = member s kindName (digits (e .kind)) (tagsMember i e g) 44 (kind .at) close (plain-names .3 .spelled) (plain-names .3 .bytes) (time-read .rest)
+  kind-read = member s kindName (digits (e .kind)) (tagsMember i e g) 44 (kind .at) close (verbatim-names .3 .spelled) (verbatim-names .3 .bytes) (time-read .rest)
 
   abbrev tags : Entry
   tags = plainAt tagsName (tagsText (e .tags)) (kind-end + 1)
@@ -175,7 +173,7 @@ module _ (i : List ℕ) (e : Event) (g s : List ℕ) (is : s ≡ eventMessage i 
   tags-end = tags .value + length (tagsText (e .tags))
 
   tags-here : Member s tagsName (tagsText (e .tags)) (contentText i e g) 44 (tags .at) (tags .value) tags-end close
-  tags-here = member s tagsName (tagsText (e .tags)) (contentText i e g) 44 (tags .at) close (plain-names .4 .spelled) (plain-names .4 .bytes) (kind-read .rest)
+  tags-here = member s tagsName (tagsText (e .tags)) (contentText i e g) 44 (tags .at) close (verbatim-names .4 .spelled) (verbatim-names .4 .bytes) (kind-read .rest)
 
   abbrev content : Entry
   content = quotedAt contentName (e .content) (tags-end + 1)
@@ -184,7 +182,7 @@ module _ (i : List ℕ) (e : Event) (g s : List ℕ) (is : s ≡ eventMessage i 
   content-end = content .value + length (quoted (e .content))
 
   content-read : Member s contentName (quoted (e .content)) (sigText i e g) 44 (content .at) (content .value) content-end close
-  content-read = member s contentName (quoted (e .content)) (sigText i e g) 44 (content .at) close (plain-names .5 .spelled) (plain-names .5 .bytes) (tags-here .rest)
+  content-read = member s contentName (quoted (e .content)) (sigText i e g) 44 (content .at) close (verbatim-names .5 .spelled) (verbatim-names .5 .bytes) (tags-here .rest)
 
   abbrev sig : Entry
   sig = quotedAt sigName g (content-end + 1)
@@ -193,7 +191,7 @@ module _ (i : List ℕ) (e : Event) (g s : List ℕ) (is : s ≡ eventMessage i 
   sig-end = sig .value + length (quoted g)
 
   sig-read : Member s sigName (quoted g) [] 125 (sig .at) (sig .value) sig-end close
-  sig-read = member s sigName (quoted g) [] 125 (sig .at) close (plain-names .6 .spelled) (plain-names .6 .bytes) (content-read .rest)
+  sig-read = member s sigName (quoted g) [] 125 (sig .at) close (verbatim-names .6 .spelled) (verbatim-names .6 .bytes) (content-read .rest)
 
   -- ---- their values
   id-string : isString i ≡ true
@@ -257,7 +255,7 @@ module _ (i : List ℕ) (e : Event) (g s : List ℕ) (is : s ≡ eventMessage i 
   number-more {p = p} {n = n} k z us h m i = member-more k (num p (n - p)) us h m (number-tight s z p n (m .value)) (number-read s 5 z p n (m .value) (m .next)) i
 
   abbrev fromSig : Items
-  fromSig = text sig (string sig) nil
+  fromSig = itemOf sig (string sig) nil
 
   sig-item : itemsAt (treeAt s 6) s true (length s - 6) (sig .at) ≡ got fromSig end
   unfolding classOf isString
@@ -268,32 +266,32 @@ module _ (i : List ℕ) (e : Event) (g s : List ℕ) (is : s ≡ eventMessage i 
       (next-closed s sig-end (sig-read .next) (rw closed))
 
   abbrev fromContent : Items
-  fromContent = text content (string content) fromSig
+  fromContent = itemOf content (string content) fromSig
 
   content-item : itemsAt (treeAt s 6) s true (length s - 5) (content .at) ≡ got fromContent end
   content-item = string-more 5 (e .content) fromSig (omega arith) (limits .content) content-read sig-item
 
   abbrev fromTags : Items
-  fromTags = text tags array fromContent
+  fromTags = itemOf tags array fromContent
 
   tags-item : itemsAt (treeAt s 6) s true (length s - 4) (tags .at) ≡ got fromTags end
   tags-item = member-more 4 array fromContent (omega arith) tags-here tags-tight (tags-stand .there) content-item
 
   abbrev fromKind : Items
-  fromKind = text kind (number kind) fromTags
+  fromKind = itemOf kind (number kind) fromTags
 
   kind-item : itemsAt (treeAt s 6) s true (length s - 3) (kind .at) ≡ got fromKind end
   unfolding decimal
   kind-item = number-more 3 (pos (e .kind)) fromTags (omega arith) kind-read tags-item
 
   abbrev fromTime : Items
-  fromTime = text time (number time) fromKind
+  fromTime = itemOf time (number time) fromKind
 
   time-item : itemsAt (treeAt s 6) s true (length s - 2) (time .at) ≡ got fromTime end
   time-item = number-more 2 (e .time) fromKind (omega arith) time-read kind-item
 
   abbrev fromPubkey : Items
-  fromPubkey = text pubkey (string pubkey) fromTime
+  fromPubkey = itemOf pubkey (string pubkey) fromTime
 
   pubkey-item : itemsAt (treeAt s 6) s true (length s - 1) (pubkey .at) ≡ got fromPubkey end
   pubkey-item = string-more 1 (e .pubkey) fromTime (omega arith) pubkey-string pubkey-read time-item
@@ -333,7 +331,7 @@ module _ (i : List ℕ) (e : Event) (g s : List ℕ) (is : s ≡ eventMessage i 
   unfolding classOf
   word-item =
       item-more s 7 false 0 1 1 8 9 (end + 1) (str 2 5) _ (omega (arith, long)) refl
-      (string-read s 6 eventWord 1 8 (plain-names .7 .bytes) word-spelt (rw word-next)) (next-more s false 8 word-next (rw (byte-is object))) object-item
+      (string-read s 6 eventWord 1 8 (verbatim-names .7 .bytes) word-spelt (rw word-next)) (next-more s false 8 word-next (rw (byte-is object))) object-item
 
   tree : treeAt s 8 0 ≡ got (messageOf members) (end + 1)
   unfolding classOf
