@@ -2,6 +2,7 @@
 -- Which, Shown: which replies a message gets. Lines, Plain: the program's lines. Kept: its table stays sound, and demand 3 holds of it.
 -- Lent: a reply given as parts. Worked: replies by computation. Respond, Streamed: one message answered at once, or a reply at a time.
 -- Feed: the program as a state that bytes are fed to. Sizes, Enough: how long replies are, and an output that is never too short.
+-- Members, Ordered, Sendable: each event within the limits has a valid message.
 pub mod Starred
 pub mod Example
 pub mod Plain

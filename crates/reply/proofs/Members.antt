@@ -5,18 +5,18 @@ use mathlib.Core.List.{List, [], _∷_, _++_, append-assoc}
 use Prim.Native.Nat.{ℕ, suc, _+_, _-_, _≤_, _<_}
 use native.Mathlib.Nat.{sub-zero}
 use native.Mathlib.Omega.{arith}
-use borrow.Author.Tests.{le-leb, leb-true, eq-eqb, eqb-true, eqb-false, ne-eqb}
+use borrow.Author.Tests.{le-leb, leb-true, eqb-true, ne-eqb}
 use lib.Dec.{leb, eqb}
 use lib.IntN.{ℤ, pos, negsuc}
 use lib.ListN.{length, getD, drop, length-append}
 use lib.Seq.{take-append-seam}
 use Rattle.wire.specs.Escape.{escape}
-use Rattle.utf8.specs.Utf8.{isUtf8, utf8From}
+use Rattle.utf8.specs.Utf8.{utf8From}
 use Rattle.utf8.specs.declared.Want.the-variants.{Lead}
-use Rattle.json.specs.Grammar.{classOf, run, past, oneAt, tokenAt, digitsAt, intAt, fracAt, expAt, numberAt, stringAt, scalarAt, wsAt, headAt, nextAt, startAt}
-use Rattle.json.specs.Tree.{Json, num, str, obj, Items, nil, item, got, bind, itemsAt, treeAt}
-use Rattle.json.specs.declared.Class.the-variants.{Space, Digit, Byte}
-use Rattle.json.specs.declared.Out.the-variants.{End, Bad}
+use Rattle.json.specs.Grammar.{classOf, run, past, oneAt, digitsAt, intAt, fracAt, expAt, numberAt, stringAt, scalarAt, headAt, nextAt, startAt}
+use Rattle.json.specs.Tree.{Json, num, obj, Items, nil, item, got, itemsAt, treeAt}
+use Rattle.json.specs.declared.Class.the-variants.{Digit, Byte}
+use Rattle.json.specs.declared.Out.the-variants.{End}
 use Rattle.json.specs.declared.Start.the-variants.{Leaf, Many}
 use Rattle.json.specs.declared.Next.the-variants.{More, Done}
 use Rattle.json.proofs.Ends.{one-of, one-not}
@@ -26,17 +26,14 @@ use Rattle.numeral.specs.Whole.{isDigit, allDigits, isEmpty, isNatural}
 use Rattle.numeral.proofs.Digits.{digits-all}
 use Rattle.numeral.proofs.Wholes.{natural-digits}
 use Rattle.rows.specs.Strings.{part, spelledAt}
-use Rattle.spell.specs.Spell.{decode}
-use Rattle.spell.proofs.Laws.{decode-escape}
 use Rattle.text.specs.Event.{quoted, all, isPlainByte, isString}
 use Rattle.text.proofs.Pieces.{Spelt, first-of, left, right, tail, byte-is, both, spelt-inside}
 use Rattle.text.proofs.Strings.{utf8-escape}
 use Rattle.event.proofs.Decoded.{lead-low}
-use Rattle.message.specs.declared.Span.{Span}
 use Rattle.message.specs.Lent.{isInside}
 use Rattle.table.specs.Relay.{Spells}
 use Rattle.table.proofs.Strings.{ws-none, string-here, string-says, escape-spelling}
-use Rattle.table.proofs.Arrays.{Tight, token-is, token-not, next-more}
+use Rattle.table.proofs.Arrays.{Tight, token-is, token-not}
 
 -- ---- digits
 digit-bounds : (x : ℕ) → isDigit x ≡ true → (48 ≤ x) × (x ≤ 57)

@@ -1,11 +1,12 @@
 -- An EVENT whose object has its seven members in the order listed under Shape, each as it should be: rows 4 to 8 do not hold, and its parts are
 -- the members' places. Over any text s: only what its names and values are is used.
 use mathlib.Core.Bool.{true, false}
-use mathlib.Core.Path.{_≡_, refl, ap, _∙_}
-use mathlib.Core.List.{List, _∷_, []}
+use mathlib.Core.Path.{_≡_, refl}
+use mathlib.Core.List.{List}
 use Prim.Native.Nat.{ℕ}
 use lib.IntN.{ℤ, pos, negℤ}
 use Rattle.wire.specs.Bytes.{sameBytes}
+use Rattle.wire.specs.Escape.{letterOf, escOne, escape}
 use Rattle.wire.specs.Limits.{widest}
 use Rattle.json.specs.Tree.{Json, num, str, arr, obj, Items, nil, item}
 use Rattle.numeral.specs.Whole.{wholeOf, answerOf, isWithin}
@@ -14,29 +15,39 @@ use Rattle.rows.specs.Strings.{part, spelledAt, refusedIn}
 use Rattle.spell.specs.Spell as spell
 use Rattle.spell.specs.Spell.{charOf, charsFrom, bytesOf, joined, decode, isRefused, refuses, isHexOf}
 use Rattle.shape.specs.Shape.{anyItem, allItems, countItems, nameAt, idName, pubkeyName, createdAtName, kindName, tagsName, contentName, sigName, eventWord, eventMember, once, isEvent, event, wordOf, opened}
-use Rattle.shape.specs.Rows.{row5, row6, row7, row8, eventNumber, eventHex, eventCount, wrongTime, wrongSmall, wrongHex, wrongTag, treeRow}
+use Rattle.shape.specs.Rows.{row5, row6, row7, row8, eventNumber, eventHex, eventCount, wrongTime, wrongSmall, wrongHex, treeRow}
+use Rattle.text.specs.Event.{all, isPlainByte}
 use Rattle.message.specs.Lent.{isTags, wrongTags}
 use Rattle.message.specs.Parts.{memberOf, bodyOf, eventOf}
 use Rattle.message.specs.Read.{partsOf}
 use Rattle.message.specs.declared.EventParts.{EventParts}
 use Rattle.message.specs.declared.Message.the-variants as message
 
--- ---- the names decode to themselves and none is refused
-record Plain (w : List ℕ) : Type 0 where
-  itself : decode w ≡ w
-  fine : refuses w ≡ false
+-- ---- the names, and the word EVENT, stand for themselves and are not refused
+pub record Verbatim (w : List ℕ) : Type 0 where
+  pub spelled : escape w ≡ w
+  pub decoded : decode w ≡ w
+  pub bytes : all isPlainByte w ≡ true
+  pub fine : refuses w ≡ false
 
-plain-names : Plain idName × Plain pubkeyName × Plain createdAtName × Plain kindName × Plain tagsName × Plain contentName × Plain sigName × Plain eventWord
-unfolding charOf charsFrom bytesOf joined decode isRefused spell.any refuses
-plain-names =
-    ( record { itself = refl; fine = refl }, record { itself = refl; fine = refl }, record { itself = refl; fine = refl }, record { itself = refl; fine = refl }
-    , record { itself = refl; fine = refl }, record { itself = refl; fine = refl }, record { itself = refl; fine = refl }, record { itself = refl; fine = refl })
+pub verbatim-names : Verbatim idName × Verbatim pubkeyName × Verbatim createdAtName × Verbatim kindName × Verbatim tagsName × Verbatim contentName × Verbatim sigName × Verbatim eventWord
+unfolding escape escOne letterOf all isPlainByte charOf charsFrom bytesOf joined decode isRefused spell.any refuses
+verbatim-names = (
+  record { spelled = refl; decoded = refl; bytes = refl; fine = refl },
+  record { spelled = refl; decoded = refl; bytes = refl; fine = refl },
+  record { spelled = refl; decoded = refl; bytes = refl; fine = refl },
+  record { spelled = refl; decoded = refl; bytes = refl; fine = refl },
+  record { spelled = refl; decoded = refl; bytes = refl; fine = refl },
+  record { spelled = refl; decoded = refl; bytes = refl; fine = refl },
+  record { spelled = refl; decoded = refl; bytes = refl; fine = refl },
+  record { spelled = refl; decoded = refl; bytes = refl; fine = refl },
+)
 
-says : (s : List ℕ) (p : ℕ) {w : List ℕ} → Plain w → spelledAt s p ≡ w → nameAt s p ≡ w
+says : (s : List ℕ) (p : ℕ) {w : List ℕ} → Verbatim w → spelledAt s p ≡ w → nameAt s p ≡ w
 unfolding nameAt
-says s p d e = rw e (d .itself)
+says s p d e = rw e (d .decoded)
 
-clean : (s : List ℕ) (p : ℕ) {w : List ℕ} → Plain w → spelledAt s p ≡ w → refuses (spelledAt s p) ≡ false
+clean : (s : List ℕ) (p : ℕ) {w : List ℕ} → Verbatim w → spelledAt s p ≡ w → refuses (spelledAt s p) ≡ false
 clean s p d e = rw e (d .fine)
 
 -- ---- a member begins at `at` and its value at `value`; what the value holds stands from `start` on
@@ -49,8 +60,8 @@ pub record Entry : Type 0 where
 abbrev pub held : List ℕ → Entry → List ℕ
 held s m = part s (m .start) (m .size)
 
-abbrev pub text : Entry → Json → Items → Items
-text m t ts = item (m .at) (m .value) t ts
+abbrev pub itemOf : Entry → Json → Items → Items
+itemOf m t ts = item (m .at) (m .value) t ts
 
 abbrev pub string : Entry → Json
 string m = str (m .start) (m .size)
@@ -60,7 +71,7 @@ number m = num (m .start) (m .size)
 
 abbrev pub objectOf : (id pubkey time kind tags content sig : Entry) → Json → Items
 objectOf i k t n g c z array =
-    text i (string i) (text k (string k) (text t (number t) (text n (number n) (text g array (text c (string c) (text z (string z) nil))))))
+    itemOf i (string i) (itemOf k (string k) (itemOf t (number t) (itemOf n (number n) (itemOf g array (itemOf c (string c) (itemOf z (string z) nil))))))
 
 -- the word EVENT and the object
 abbrev pub messageOf : Items → Json
@@ -109,36 +120,36 @@ module _ (s : List ℕ) (i k t n g c z : Entry) (array : Json) (time : ℤ) (kin
 
   first : wordOf (decode (part s 2 5)) ≡ event
   unfolding wordOf sameBytes
-  first = rw (f .word, plain-names .7 .itself)
+  first = rw (f .word, verbatim-names .7 .decoded)
 
   word-clean : refuses (part s 2 5) ≡ false
-  word-clean = rw (f .word) (plain-names .7 .fine)
+  word-clean = rw (f .word) (verbatim-names .7 .fine)
 
   id-says : nameAt s (i .at) ≡ idName
-  id-says = says s (i .at) (plain-names .0) (f .id-name)
+  id-says = says s (i .at) (verbatim-names .0) (f .id-name)
 
   pubkey-says : nameAt s (k .at) ≡ pubkeyName
-  pubkey-says = says s (k .at) (plain-names .1) (f .pubkey-name)
+  pubkey-says = says s (k .at) (verbatim-names .1) (f .pubkey-name)
 
   time-says : nameAt s (t .at) ≡ createdAtName
-  time-says = says s (t .at) (plain-names .2) (f .time-name)
+  time-says = says s (t .at) (verbatim-names .2) (f .time-name)
 
   kind-says : nameAt s (n .at) ≡ kindName
-  kind-says = says s (n .at) (plain-names .3) (f .kind-name)
+  kind-says = says s (n .at) (verbatim-names .3) (f .kind-name)
 
   tags-say : nameAt s (g .at) ≡ tagsName
-  tags-say = says s (g .at) (plain-names .4) (f .tags-name)
+  tags-say = says s (g .at) (verbatim-names .4) (f .tags-name)
 
   content-says : nameAt s (c .at) ≡ contentName
-  content-says = says s (c .at) (plain-names .5) (f .content-name)
+  content-says = says s (c .at) (verbatim-names .5) (f .content-name)
 
   sig-says : nameAt s (z .at) ≡ sigName
-  sig-says = says s (z .at) (plain-names .6) (f .sig-name)
+  sig-says = says s (z .at) (verbatim-names .6) (f .sig-name)
 
   no-4 : refusedIn s whole ≡ false
   unfolding refusedIn
   no-4 =
-      let (a, b, d, e, h, l, m, o) = plain-names in
+      let (a, b, d, e, h, l, m, o) = verbatim-names in
       rw (
         word-clean,
         clean s (i .at) a (f .id-name),

@@ -1,25 +1,23 @@
 -- Each event within the limits has a valid message: the one that spells it as replies do. Its bytes are taken apart member by member, so its
 -- tree is known; rows 1 to 8 do not hold of that tree, and its parts tell the event, so rows 9 and 10 do not hold either.
 use mathlib.Core.Bool.{true, false}
-use mathlib.Core.Path.{_≡_, refl, sym, ap, _∙_}
+use mathlib.Core.Path.{_≡_, refl, ap, _∙_}
 use mathlib.Core.Option.{some}
 use mathlib.Core.List.{List, [], _∷_, _++_}
-use Prim.Native.Nat.{ℕ, suc, _+_, _-_, _≤_, _<_}
+use Prim.Native.Nat.{ℕ, _+_, _-_, _≤_, _<_}
 use native.Mathlib.Nat.{sub-zero}
 use native.Mathlib.Omega.{arith}
 use borrow.Author.Tests.{le-ltb, eq-eqb}
-use lib.IntN.{pos, negℤ}
-use lib.ListN.{length, getD, drop, length-append, List·getD-eq-default}
+use lib.IntN.{ℤ, pos, negℤ}
+use lib.ListN.{length, getD, length-append, List·getD-eq-default}
 use lib.Seq.{take-append-seam}
 use Rattle.wire.specs.Bytes.{isHex}
 use Rattle.wire.specs.Escape.{letterOf, escOne, escape}
 use Rattle.wire.specs.Limits.{mostText, mostMessage, widest}
 use Rattle.utf8.specs.Utf8.{isUtf8, utf8From, leadOf}
 use Rattle.utf8.specs.declared.Want.the-variants.{Lead}
-use Rattle.json.specs.Grammar.{classOf, headAt, nextAt, wsAt}
-use Rattle.json.specs.Tree.{Json, str, arr, obj, Items, nil, item, got, root, isText, itemsAt, treeAt}
-use Rattle.json.specs.declared.Class.the-variants.{Space}
-use Rattle.json.specs.declared.Next.the-variants.{More}
+use Rattle.json.specs.Grammar.{classOf}
+use Rattle.json.specs.Tree.{Json, num, str, obj, Items, nil, item, got, root, itemsAt, treeAt}
 use Rattle.json.proofs.Deeper.{deeper}
 use Rattle.digest.specs.Digest.{digest}
 use Rattle.numeral.specs.Decimal.{digits, decimal}
@@ -27,18 +25,18 @@ use Rattle.numeral.specs.Whole.{wholeOf, answerOf, isWithin}
 use Rattle.numeral.specs.declared.Whole.the-variants.{Value}
 use Rattle.numeral.proofs.Wholes.{decimal-value}
 use Rattle.rows.specs.Strings.{part, refusedIn}
-use Rattle.spell.specs.Spell.{decode, refuses, isHexOf}
+use Rattle.spell.specs.Spell.{refuses, isHexOf}
 use Rattle.spell.specs.Spell as spell
 use Rattle.spell.proofs.Laws.{hex-escape}
 use Rattle.shape.specs.Shape.{idName, pubkeyName, createdAtName, kindName, tagsName, contentName, sigName, eventWord}
 use Rattle.shape.specs.Rows.{messageRow}
-use Rattle.text.specs.Event.{Event, quoted, tagsText, serialise, all, isPlainByte, isString, isTags, isTime, isFit}
+use Rattle.text.specs.Event.{Event, quoted, tagsText, serialise, all, isPlainByte, isString, isTags, isTime}
 use Rattle.text.specs.Read.{read, readText}
 use Rattle.text.proofs.Pieces.{Spelt, all-of, left, right, tail, byte-is, both, spelt-inside}
 use Rattle.text.proofs.Limits.{Limits, limits-of}
 use Rattle.text.proofs.Rows.{pubkey-length}
 use Rattle.text.proofs.RoundTrip.{read-back}
-use Rattle.message.specs.Lent.{value4, onValue, wrongTags}
+use Rattle.message.specs.Lent.{value4, wrongTags}
 use Rattle.message.specs.Lent as lent
 use Rattle.message.specs.Read.{readOf}
 use Rattle.message.specs.declared.Span.{Span}
@@ -49,7 +47,7 @@ use Rattle.event.specs.Answer.{hexOf}
 use Rattle.event.proofs.Answers.{hex-length}
 use Rattle.table.specs.Layout.{isByte}
 use Rattle.table.specs.Events.{SignedEvent, ofHeld}
-use Rattle.table.specs.Offer.{asMessage, asParts, judge}
+use Rattle.table.specs.Offer.{asMessage, judge}
 use Rattle.table.specs.Relay.{Spells, SpellsTags, Tells}
 use Rattle.table.proofs.Hex.{hex-is, digest-length, digest-bytes}
 use Rattle.table.proofs.Refused.{not-refused}
@@ -63,7 +61,7 @@ use Rattle.reply.specs.Replies.{objectText}
 use Rattle.reply.specs.Laws.{eventMessage, Sendable}
 use Rattle.reply.proofs.Sizes.{quoted-length, object-length}
 use Rattle.reply.proofs.Members.{decimal-utf8, number-tight, number-read, string-told, Member, member, item-more, item-last, next-closed, object-read}
-use Rattle.reply.proofs.Ordered.{Entry, text, string, number, objectOf, messageOf, Fine, partsAt, rows-none, parts-are}
+use Rattle.reply.proofs.Ordered.{verbatim-names, Entry, itemOf, string, number, objectOf, messageOf, Fine, partsAt, rows-none, parts-are}
 
 -- ---- the bytes of a member w with the value x, the byte c after it, and then r
 abbrev spelled : (w x : List ℕ) (c : ℕ) (r : List ℕ) → List ℕ
@@ -72,16 +70,6 @@ spelled w x c r = 34 ∷ (w ++ (34 ∷ 58 ∷ (x ++ (c ∷ r))))
 -- where its value begins
 abbrev after : (w : List ℕ) (at : ℕ) → ℕ
 after w at = at + 1 + length w + 1 + 1
-
--- the names stand for themselves
-record Bare (w : List ℕ) : Type 0 where
-  same : escape w ≡ w
-  plain : all isPlainByte w ≡ true
-
-bare-names : Bare idName × Bare pubkeyName × Bare createdAtName × Bare kindName × Bare tagsName × Bare contentName × Bare sigName × Bare eventWord
-unfolding escape escOne letterOf all isPlainByte
-bare-names =
-    (record { same = refl; plain = refl }, record { same = refl; plain = refl }, record { same = refl; plain = refl }, record { same = refl; plain = refl }, record { same = refl; plain = refl }, record { same = refl; plain = refl }, record { same = refl; plain = refl }, record { same = refl; plain = refl })
 
 -- a string's member that begins at p; a member whose value x is no string
 abbrev quotedAt : (w v : List ℕ) (p : ℕ) → Entry
@@ -149,7 +137,7 @@ module _ (i : List ℕ) (e : Event) (g s : List ℕ) (is : s ≡ eventMessage i 
   id-end = id .value + length (quoted i)
 
   id-read : Member s idName (quoted i) (pubkeyText i e g) 44 (id .at) (id .value) id-end close
-  id-read = member s idName (quoted i) (pubkeyText i e g) 44 (id .at) close (bare-names .0 .same) (bare-names .0 .plain) (tail object)
+  id-read = member s idName (quoted i) (pubkeyText i e g) 44 (id .at) close (verbatim-names .0 .spelled) (verbatim-names .0 .bytes) (tail object)
 
   abbrev pubkey : Entry
   pubkey = quotedAt pubkeyName (e .pubkey) (id-end + 1)
@@ -158,7 +146,7 @@ module _ (i : List ℕ) (e : Event) (g s : List ℕ) (is : s ≡ eventMessage i 
   pubkey-end = pubkey .value + length (quoted (e .pubkey))
 
   pubkey-read : Member s pubkeyName (quoted (e .pubkey)) (timeText i e g) 44 (pubkey .at) (pubkey .value) pubkey-end close
-  pubkey-read = member s pubkeyName (quoted (e .pubkey)) (timeText i e g) 44 (pubkey .at) close (bare-names .1 .same) (bare-names .1 .plain) (id-read .rest)
+  pubkey-read = member s pubkeyName (quoted (e .pubkey)) (timeText i e g) 44 (pubkey .at) close (verbatim-names .1 .spelled) (verbatim-names .1 .bytes) (id-read .rest)
 
   abbrev time : Entry
   time = plainAt createdAtName (decimal (e .time)) (pubkey-end + 1)
@@ -167,7 +155,7 @@ module _ (i : List ℕ) (e : Event) (g s : List ℕ) (is : s ≡ eventMessage i 
   time-end = time .value + length (decimal (e .time))
 
   time-read : Member s createdAtName (decimal (e .time)) (kindText i e g) 44 (time .at) (time .value) time-end close
-  time-read = member s createdAtName (decimal (e .time)) (kindText i e g) 44 (time .at) close (bare-names .2 .same) (bare-names .2 .plain) (pubkey-read .rest)
+  time-read = member s createdAtName (decimal (e .time)) (kindText i e g) 44 (time .at) close (verbatim-names .2 .spelled) (verbatim-names .2 .bytes) (pubkey-read .rest)
 
   abbrev kind : Entry
   kind = plainAt kindName (digits (e .kind)) (time-end + 1)
@@ -176,7 +164,7 @@ module _ (i : List ℕ) (e : Event) (g s : List ℕ) (is : s ≡ eventMessage i 
   kind-end = kind .value + length (digits (e .kind))
 
   kind-read : Member s kindName (digits (e .kind)) (tagsMember i e g) 44 (kind .at) (kind .value) kind-end close
-  kind-read = member s kindName (digits (e .kind)) (tagsMember i e g) 44 (kind .at) close (bare-names .3 .same) (bare-names .3 .plain) (time-read .rest)
+  kind-read = member s kindName (digits (e .kind)) (tagsMember i e g) 44 (kind .at) close (verbatim-names .3 .spelled) (verbatim-names .3 .bytes) (time-read .rest)
 
   abbrev tags : Entry
   tags = plainAt tagsName (tagsText (e .tags)) (kind-end + 1)
@@ -185,7 +173,7 @@ module _ (i : List ℕ) (e : Event) (g s : List ℕ) (is : s ≡ eventMessage i 
   tags-end = tags .value + length (tagsText (e .tags))
 
   tags-here : Member s tagsName (tagsText (e .tags)) (contentText i e g) 44 (tags .at) (tags .value) tags-end close
-  tags-here = member s tagsName (tagsText (e .tags)) (contentText i e g) 44 (tags .at) close (bare-names .4 .same) (bare-names .4 .plain) (kind-read .rest)
+  tags-here = member s tagsName (tagsText (e .tags)) (contentText i e g) 44 (tags .at) close (verbatim-names .4 .spelled) (verbatim-names .4 .bytes) (kind-read .rest)
 
   abbrev content : Entry
   content = quotedAt contentName (e .content) (tags-end + 1)
@@ -194,7 +182,7 @@ module _ (i : List ℕ) (e : Event) (g s : List ℕ) (is : s ≡ eventMessage i 
   content-end = content .value + length (quoted (e .content))
 
   content-read : Member s contentName (quoted (e .content)) (sigText i e g) 44 (content .at) (content .value) content-end close
-  content-read = member s contentName (quoted (e .content)) (sigText i e g) 44 (content .at) close (bare-names .5 .same) (bare-names .5 .plain) (tags-here .rest)
+  content-read = member s contentName (quoted (e .content)) (sigText i e g) 44 (content .at) close (verbatim-names .5 .spelled) (verbatim-names .5 .bytes) (tags-here .rest)
 
   abbrev sig : Entry
   sig = quotedAt sigName g (content-end + 1)
@@ -203,7 +191,7 @@ module _ (i : List ℕ) (e : Event) (g s : List ℕ) (is : s ≡ eventMessage i 
   sig-end = sig .value + length (quoted g)
 
   sig-read : Member s sigName (quoted g) [] 125 (sig .at) (sig .value) sig-end close
-  sig-read = member s sigName (quoted g) [] 125 (sig .at) close (bare-names .6 .same) (bare-names .6 .plain) (content-read .rest)
+  sig-read = member s sigName (quoted g) [] 125 (sig .at) close (verbatim-names .6 .spelled) (verbatim-names .6 .bytes) (content-read .rest)
 
   -- ---- their values
   id-string : isString i ≡ true
@@ -218,107 +206,114 @@ module _ (i : List ℕ) (e : Event) (g s : List ℕ) (is : s ≡ eventMessage i 
   sig-string : isString g ≡ true
   sig-string = hex-string g sig-hex
 
-  -- a string is a tree, and begins with a quote
-  string-value : (v : List ℕ) (at n c : ℕ) → isString v ≡ true → classOf Space c ≡ false → Spelt s at (quoted v) n → getD s n 0 ≡ c
-      → treeAt s 6 at ≡ got (str (at + 1) (n - at - 2)) n
-  unfolding isString
-  string-value v at n c h d a z = string-read s 5 v at n (both (all isPlainByte v) _ h .0) a (rw z d)
+  tags-stand : Stands (treeAt s 6) (λ t. tagsIn s (got t tags-end)) lent.isTags (tags .value) (e .tags) tags-end
+  unfolding classOf
+  tags-stand = tags-read s 3 (e .tags) (tags .value) tags-end (limits .tags) (tags-here .value) (rw (tags-here .next))
 
-  string-tight : (v : List ℕ) (at n : ℕ) → Spelt s at (quoted v) n → Tight s at
-  unfolding quoted classOf
-  string-tight v at n a = rw (byte-is a)
+  abbrev array : Json
+  array = tags-stand .tree
 
   tags-tight : Tight s (tags .value)
   unfolding tagsText classOf
   tags-tight = rw (byte-is (tags-here .value))
 
-  tags-stand : Stands (treeAt s 6) (λ t. tagsIn s (got t tags-end)) lent.isTags (tags .value) (e .tags) tags-end
-  unfolding classOf
-  tags-stand = tags-read s 3 (e .tags) (tags .value) tags-end (limits .tags) (tags-here .value) (rw (tags-here .next))
+  string-tight : (v : List ℕ) (at n : ℕ) → Spelt s at (quoted v) n → Tight s at
+  unfolding quoted classOf
+  string-tight v at n a = rw (byte-is a)
 
-  -- a quote comes after a comma
-  comma-next : (n : ℕ) {r : List ℕ} {m : ℕ} → getD s n 0 ≡ 44 → Spelt s (n + 1) (34 ∷ r) m → nextAt s n true ≡ More (n + 1)
-  unfolding classOf
-  comma-next n z a = next-more s true n z (rw (byte-is a))
+  -- ---- the items, from the last on; all end where the object does
+  abbrev end : ℕ
+  end = sig-end + 1
 
   long : 9 ≤ length s
   long = spelt-inside s 0 (ascii "[\"EVENT\",") 9 begin (omega arith)
 
-  ends : close ≡ sig-end + 1
+  ends : close ≡ end
   ends = omega (arith, sig-read .rest .end)
 
-  closed : getD s (sig-end + 1) 0 ≡ 93
+  closed : getD s end 0 ≡ 93
   closed = rw (← ends) (byte-is bracket)
 
-  sig-item : itemsAt (treeAt s 6) s true (length s - 6) (sig .at) ≡ got (text sig (string sig) nil) (sig-end + 1)
+  -- a member, and a comma and a quote after it
+  member-more : {w x r : List ℕ} {at v n : ℕ} (k : ℕ) (t : Json) (us : Items) → k < 9 → Member s w x (34 ∷ r) 44 at v n close → Tight s v → treeAt s 6 v ≡ got t n
+      → itemsAt (treeAt s 6) s true (length s - (k + 1)) (n + 1) ≡ got us end → itemsAt (treeAt s 6) s true (length s - k) at ≡ got (item at v t us) end
   unfolding classOf
+  member-more {at = at} {v = v} {n = n} k t us h m w y i =
+      item-more s 6 true k at v n (n + 1) end t us (omega (arith, long)) (m .head w) y (next-more s true n (m .next) (rw (byte-is (m .rest)))) i
+
+  string-more : {w r : List ℕ} {at p n : ℕ} (k : ℕ) (v : List ℕ) (us : Items) → k < 9 → isString v ≡ true → Member s w (quoted v) (34 ∷ r) 44 at p n close
+      → itemsAt (treeAt s 6) s true (length s - (k + 1)) (n + 1) ≡ got us end
+      → itemsAt (treeAt s 6) s true (length s - k) at ≡ got (item at p (str (p + 1) (n - p - 2)) us) end
+  unfolding classOf isString
+  string-more {p = p} {n = n} k v us h g m i =
+      member-more k (str (p + 1) (n - p - 2)) us h m (string-tight v p n (m .value))
+      (string-read s 5 v p n (both (all isPlainByte v) _ g .0) (m .value) (rw (m .next))) i
+
+  number-more : {w r : List ℕ} {at p n : ℕ} (k : ℕ) (z : ℤ) (us : Items) → k < 9 → Member s w (decimal z) (34 ∷ r) 44 at p n close
+      → itemsAt (treeAt s 6) s true (length s - (k + 1)) (n + 1) ≡ got us end
+      → itemsAt (treeAt s 6) s true (length s - k) at ≡ got (item at p (num p (n - p)) us) end
+  number-more {p = p} {n = n} k z us h m i = member-more k (num p (n - p)) us h m (number-tight s z p n (m .value)) (number-read s 5 z p n (m .value) (m .next)) i
+
+  abbrev fromSig : Items
+  fromSig = itemOf sig (string sig) nil
+
+  sig-item : itemsAt (treeAt s 6) s true (length s - 6) (sig .at) ≡ got fromSig end
+  unfolding classOf isString
   sig-item =
-      item-last s 6 true 6 (sig .at) (sig .value) sig-end (sig-end + 1) (string sig) (omega (arith, long))
+      item-last s 6 true 6 (sig .at) (sig .value) sig-end end (string sig) (omega (arith, long))
       (sig-read .head (string-tight g (sig .value) sig-end (sig-read .value)))
-      (string-value g (sig .value) sig-end 125 sig-string refl (sig-read .value) (sig-read .next)) (next-closed s sig-end (sig-read .next) (rw closed))
+      (string-read s 5 g (sig .value) sig-end (both (all isPlainByte g) _ sig-string .0) (sig-read .value) (rw (sig-read .next)))
+      (next-closed s sig-end (sig-read .next) (rw closed))
 
-  content-item : itemsAt (treeAt s 6) s true (length s - 5) (content .at) ≡ got (text content (string content) (text sig (string sig) nil)) (sig-end + 1)
-  unfolding classOf
-  content-item =
-      item-more s 6 true 5 (content .at) (content .value) content-end (content-end + 1) (sig-end + 1) (string content) _ (omega (arith, long))
-      (content-read .head (string-tight (e .content) (content .value) content-end (content-read .value)))
-      (string-value (e .content) (content .value) content-end 44 (limits .content) refl (content-read .value) (content-read .next))
-      (comma-next content-end (content-read .next) (content-read .rest)) sig-item
+  abbrev fromContent : Items
+  fromContent = itemOf content (string content) fromSig
 
-  abbrev array : Json
-  array = tags-stand .tree
+  content-item : itemsAt (treeAt s 6) s true (length s - 5) (content .at) ≡ got fromContent end
+  content-item = string-more 5 (e .content) fromSig (omega arith) (limits .content) content-read sig-item
 
-  tags-item : itemsAt (treeAt s 6) s true (length s - 4) (tags .at) ≡ got (text tags array (text content (string content) (text sig (string sig) nil))) (sig-end + 1)
-  tags-item =
-      item-more s 6 true 4 (tags .at) (tags .value) tags-end (tags-end + 1) (sig-end + 1) array _ (omega (arith, long))
-      (tags-here .head tags-tight) (tags-stand .there) (comma-next tags-end (tags-here .next) (tags-here .rest)) content-item
+  abbrev fromTags : Items
+  fromTags = itemOf tags array fromContent
 
-  kind-item : itemsAt (treeAt s 6) s true (length s - 3) (kind .at)
-      ≡ got (text kind (number kind) (text tags array (text content (string content) (text sig (string sig) nil)))) (sig-end + 1)
+  tags-item : itemsAt (treeAt s 6) s true (length s - 4) (tags .at) ≡ got fromTags end
+  tags-item = member-more 4 array fromContent (omega arith) tags-here tags-tight (tags-stand .there) content-item
+
+  abbrev fromKind : Items
+  fromKind = itemOf kind (number kind) fromTags
+
+  kind-item : itemsAt (treeAt s 6) s true (length s - 3) (kind .at) ≡ got fromKind end
   unfolding decimal
-  kind-item =
-      item-more s 6 true 3 (kind .at) (kind .value) kind-end (kind-end + 1) (sig-end + 1) (number kind) _ (omega (arith, long))
-      (kind-read .head (number-tight s (pos (e .kind)) (kind .value) kind-end (kind-read .value)))
-      (number-read s 5 (pos (e .kind)) (kind .value) kind-end (kind-read .value) (kind-read .next)) (comma-next kind-end (kind-read .next) (kind-read .rest)) tags-item
+  kind-item = number-more 3 (pos (e .kind)) fromTags (omega arith) kind-read tags-item
 
-  time-item : itemsAt (treeAt s 6) s true (length s - 2) (time .at)
-      ≡ got (text time (number time) (text kind (number kind) (text tags array (text content (string content) (text sig (string sig) nil))))) (sig-end + 1)
-  time-item =
-      item-more s 6 true 2 (time .at) (time .value) time-end (time-end + 1) (sig-end + 1) (number time) _ (omega (arith, long))
-      (time-read .head (number-tight s (e .time) (time .value) time-end (time-read .value)))
-      (number-read s 5 (e .time) (time .value) time-end (time-read .value) (time-read .next)) (comma-next time-end (time-read .next) (time-read .rest)) kind-item
+  abbrev fromTime : Items
+  fromTime = itemOf time (number time) fromKind
 
-  pubkey-item : itemsAt (treeAt s 6) s true (length s - 1) (pubkey .at)
-      ≡ got (text pubkey (string pubkey) (text time (number time) (text kind (number kind) (text tags array (text content (string content) (text sig (string sig) nil)))))) (sig-end + 1)
-  unfolding classOf
-  pubkey-item =
-      item-more s 6 true 1 (pubkey .at) (pubkey .value) pubkey-end (pubkey-end + 1) (sig-end + 1) (string pubkey) _ (omega (arith, long))
-      (pubkey-read .head (string-tight (e .pubkey) (pubkey .value) pubkey-end (pubkey-read .value)))
-      (string-value (e .pubkey) (pubkey .value) pubkey-end 44 pubkey-string refl (pubkey-read .value) (pubkey-read .next))
-      (comma-next pubkey-end (pubkey-read .next) (pubkey-read .rest)) time-item
+  time-item : itemsAt (treeAt s 6) s true (length s - 2) (time .at) ≡ got fromTime end
+  time-item = number-more 2 (e .time) fromKind (omega arith) time-read kind-item
+
+  abbrev fromPubkey : Items
+  fromPubkey = itemOf pubkey (string pubkey) fromTime
+
+  pubkey-item : itemsAt (treeAt s 6) s true (length s - 1) (pubkey .at) ≡ got fromPubkey end
+  pubkey-item = string-more 1 (e .pubkey) fromTime (omega arith) pubkey-string pubkey-read time-item
 
   abbrev members : Items
   members = objectOf id pubkey time kind tags content sig array
 
-  id-item : itemsAt (treeAt s 6) s true (length s - 0) (id .at) ≡ got members (sig-end + 1)
-  unfolding classOf
-  id-item =
-      item-more s 6 true 0 (id .at) (id .value) id-end (id-end + 1) (sig-end + 1) (string id) _ (omega (arith, long))
-      (id-read .head (string-tight i (id .value) id-end (id-read .value)))
-      (string-value i (id .value) id-end 44 id-string refl (id-read .value) (id-read .next)) (comma-next id-end (id-read .next) (id-read .rest)) pubkey-item
+  id-item : itemsAt (treeAt s 6) s true (length s - 0) (id .at) ≡ got members end
+  id-item = string-more 0 i fromPubkey (omega arith) id-string id-read pubkey-item
 
   -- ---- the tree
-  object-tree : treeAt s 7 9 ≡ got (obj members) (sig-end + 1)
-  object-tree = object-read s 6 9 (sig-end + 1) members (byte-is object) (byte-is (tail object)) id-item
+  object-tree : treeAt s 7 9 ≡ got (obj members) end
+  object-tree = object-read s 6 9 end members (byte-is object) (byte-is (tail object)) id-item
 
-  size : sig-end + 1 + 1 ≡ length s
+  size : end + 1 ≡ length s
   size = omega (arith, ends, bracket .end)
 
-  object-item : itemsAt (treeAt s 7) s false (length s - 1) 9 ≡ got (item 9 9 (obj members) nil) (sig-end + 1 + 1)
+  object-item : itemsAt (treeAt s 7) s false (length s - 1) 9 ≡ got (item 9 9 (obj members) nil) (end + 1)
   unfolding classOf
   object-item =
-      let z : getD s (sig-end + 1 + 1) 0 ≡ 0 = List·getD-eq-default s 0 (omega (arith, size)) in
-      item-last s 7 false 1 9 9 (sig-end + 1) (sig-end + 1 + 1) (obj members) (omega (arith, long)) refl object-tree (next-done s (sig-end + 1) closed (rw z))
+      let z : getD s (end + 1) 0 ≡ 0 = List·getD-eq-default s 0 (omega (arith, size)) in
+      item-last s 7 false 1 9 9 end (end + 1) (obj members) (omega (arith, long)) refl object-tree (next-done s end closed (rw z))
 
   word-comma : Spelt s 1 (quoted eventWord ++ (44 ∷ [])) 9
   unfolding quoted escape escOne letterOf
@@ -332,15 +327,15 @@ module _ (i : List ℕ) (e : Event) (g s : List ℕ) (is : s ≡ eventMessage i 
   unfolding quoted escape escOne letterOf
   word-next = byte-is (right (quoted eventWord) (44 ∷ []) word-comma)
 
-  word-item : itemsAt (treeAt s 7) s false (length s - 0) 1 ≡ got (item 1 1 (str 2 5) (item 9 9 (obj members) nil)) (sig-end + 1 + 1)
+  word-item : itemsAt (treeAt s 7) s false (length s - 0) 1 ≡ got (item 1 1 (str 2 5) (item 9 9 (obj members) nil)) (end + 1)
   unfolding classOf
   word-item =
-      item-more s 7 false 0 1 1 8 9 (sig-end + 1 + 1) (str 2 5) _ (omega (arith, long)) refl
-      (string-read s 6 eventWord 1 8 (bare-names .7 .plain) word-spelt (rw word-next)) (next-more s false 8 word-next (rw (byte-is object))) object-item
+      item-more s 7 false 0 1 1 8 9 (end + 1) (str 2 5) _ (omega (arith, long)) refl
+      (string-read s 6 eventWord 1 8 (verbatim-names .7 .bytes) word-spelt (rw word-next)) (next-more s false 8 word-next (rw (byte-is object))) object-item
 
-  tree : treeAt s 8 0 ≡ got (messageOf members) (sig-end + 1 + 1)
+  tree : treeAt s 8 0 ≡ got (messageOf members) (end + 1)
   unfolding classOf
-  tree = array-many s 7 0 (sig-end + 1 + 1) _ (byte-is begin) (rw (byte-is (tail begin))) (rw (byte-is (tail begin))) (rw sub-zero at word-item)
+  tree = array-many s 7 0 (end + 1) _ (byte-is begin) (rw (byte-is (tail begin))) (rw (byte-is (tail begin))) (rw sub-zero at word-item)
 
   -- ---- what the parts say
   id-told : Spells s (record { start = id .start; len = id .size }) i
@@ -461,7 +456,7 @@ module _ (i : List ℕ) (e : Event) (g s : List ℕ) (is : s ≡ eventMessage i 
   unfolding isUtf8 utf8From leadOf
   utf8 = rw is (pieces (ascii "[\"EVENT\",") (objectText i e g) (ascii "]") refl object-utf8 refl)
 
-  root-is : root s ≡ got (messageOf members) (sig-end + 1 + 1)
+  root-is : root s ≡ got (messageOf members) (end + 1)
   unfolding classOf
   root-is = rw (ws-none s 0 (rw (byte-is begin))) tree
 
@@ -472,7 +467,7 @@ module _ (i : List ℕ) (e : Event) (g s : List ℕ) (is : s ≡ eventMessage i 
   row-0 : length (serialise e) ≤ mostText → messageRow s ≡ 0
   unfolding messageRow
   row-0 h =
-      rw (le-ltb mostMessage (length s) (short h), utf8, root-is, eq-eqb (sig-end + 1 + 1) (length s) size)
+      rw (le-ltb mostMessage (length s) (short h), utf8, root-is, eq-eqb (end + 1) (length s) size)
       (rows-none s id pubkey time kind tags content sig array (e .time) (e .kind) fine)
 
   reads : length (serialise e) ≤ mostText → readOf s ≡ message.Event parts

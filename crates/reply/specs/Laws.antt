@@ -153,7 +153,7 @@ abbrev pub OnlyStored : Type 0
 OnlyStored = (b m : List ℕ) → (tableAfter b m ≡ b) ⊎ ((p : EventParts) × (readOf m ≡ message.Event p) × (answer b (asMessage m) ≡ Stored))
 
 -- ---- messages that are valid
--- "EVENT: an object with id, pubkey, created_at, kind, tags, content, sig", spelled as in replies
+-- "EVENT: two elements, the second an object with id, pubkey, created_at, kind, tags, content, sig": the object spelled as in replies
 abbrev pub eventMessage : (id : List ℕ) → Event → (sig : List ℕ) → List ℕ
 eventMessage i e s = ascii "[\"EVENT\"," ++ (objectText i e s ++ ascii "]")
 
