@@ -5,10 +5,11 @@ use mathlib.Core.List.{List}
 use Prim.Native.Nat.{ℕ, _+_, _-_, _<_}
 use native.Mathlib.Omega.{arith}
 use native.Mathlib.Decide.{decLt}
+use lib.Bits.{bitXor}
 use lib.Dec.{eqb}
 use lib.ListN.{length, getD, set}
 use lib.Seq.{getD-set-same, getD-set-other}
-use borrow.Author.Tests.{eqb-false}
+use borrow.Author.Tests.{eqb-true, eqb-false}
 use Rattle.wire.specs.Bytes.{sameBytes}
 use Rattle.wire.specs.Field.{fieldAt}
 use Rattle.wire.proofs.Bytes.{same-equal}
@@ -18,7 +19,7 @@ use Rattle.law.specs.Lists.{any}
 use Rattle.event.proofs.Decoded.{or-neither}
 use Rattle.table.specs.Layout.{slotAt, kindIn, idIn}
 use Rattle.slots.specs.Slots.{hasKeyIn, pubkeyIn, dBytesIn, sameIdIn, sameKeyIn, clash, from}
-use Rattle.slots.specs.Marks.{idMark, keyMark, Marked, Unlike}
+use Rattle.slots.specs.Marks.{idMark, lastOf, keyMark, Marked, Unlike}
 use Rattle.slots.proofs.Bytes.{is-false}
 use Rattle.slots.proofs.Walk.{any-none}
 
@@ -48,13 +49,30 @@ unlike-more {ids} {keys} {i} {j} h u e =
         go (yes y) = o x p y z
         go (no y) = let k : x ≡ j = omega arith in eqb-false (getD l j 0) (getD l i 0) w (ap (λ m. getD l m 0) (sym k) ∙ sym z)
 
+-- ---- the mark of a slot whose kind is x, with a key and without
+module _ (s : List ℕ) {x : ℕ} (k : x ≡ kindIn s) where
+  pub mark-keyed : {l m : ℕ} → hasKeyIn (classOf x) ≡ true → l ≡ lastOf (dBytesIn s) → m ≡ lastOf (pubkeyIn s) → bitXor (bitXor l m) x ≡ keyMark s
+  unfolding keyMark
+  mark-keyed h p q =
+      let g : hasKeyIn (classOf (kindIn s)) ≡ true = ap (λ z. hasKeyIn (classOf z)) (sym k) ∙ h in
+      rw g (ap₂ bitXor (ap₂ bitXor p q) k)
+
+  pub mark-plain : {l : ℕ} → hasKeyIn (classOf x) ≡ false → l ≡ idMark s → l ≡ keyMark s
+  unfolding keyMark
+  mark-plain h p =
+      let g : hasKeyIn (classOf (kindIn s)) ≡ false = ap (λ z. hasKeyIn (classOf z)) (sym k) ∙ h in
+      rw g p
+
 -- ---- two slots
 alike : (s t : List ℕ) → sameKeyIn s t ≡ true → keyMark t ≡ keyMark s
 unfolding sameKeyIn keyMark
 alike s t e =
-    let p = both (hasKeyIn (classOf (kindIn t))) _ (both (eqb (kindIn t) (kindIn s)) _ e .1) .1 in
+    let (a, f) = both (eqb (kindIn t) (kindIn s)) _ e in
+    let (h, p) = both (hasKeyIn (classOf (kindIn t))) _ f in
     let q = both (sameBytes (pubkeyIn t) (pubkeyIn s)) (sameBytes (dBytesIn t) (dBytesIn s)) p in
-    rw (same-equal (pubkeyIn t) (pubkeyIn s) (q .0), same-equal (dBytesIn t) (dBytesIn s) (q .1))
+    let k = eqb-true (kindIn t) (kindIn s) a in
+    let g : hasKeyIn (classOf (kindIn s)) ≡ true = ap (λ z. hasKeyIn (classOf z)) (sym k) ∙ h in
+    rw (h, g, same-equal (pubkeyIn t) (pubkeyIn s) (q .0), same-equal (dBytesIn t) (dBytesIn s) (q .1), k)
 
 module _ {b : List ℕ} {c : ℕ} {ids keys : List ℕ} (m : Marked b c ids keys) (i j : ℕ) (h : i < c) (k : j < c) where
   pub ids-differ : (getD ids i 0 ≡ getD ids j 0 → ⊥) → false ≡ sameIdIn (slotAt b i) (slotAt b j)

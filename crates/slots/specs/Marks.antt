@@ -1,13 +1,15 @@
 -- Numbers of four bytes that slots with one id, or with one key, have alike: slots whose marks differ need not be compared.
 use mathlib.Core.Path.{_≡_}
+use mathlib.Core.Bool.{cond}
 use mathlib.Core.List.{List}
 use Prim.Native.Nat.{ℕ, _-_, _<_}
 use lib.Bits.{bitXor}
 use lib.ListN.{length, getD}
 use Rattle.wire.specs.Limits.{mostSlots}
 use Rattle.wire.specs.Field.{fieldAt}
-use Rattle.table.specs.Layout.{slotAt, idIn}
-use Rattle.slots.specs.Slots.{pubkeyIn, dBytesIn}
+use Rattle.text.specs.Kinds.{classOf}
+use Rattle.table.specs.Layout.{slotAt, idIn, kindIn}
+use Rattle.slots.specs.Slots.{hasKeyIn, pubkeyIn, dBytesIn}
 
 -- the id's first bytes
 unfoldable pub idMark : List ℕ → ℕ
@@ -17,9 +19,9 @@ idMark s = fieldAt (idIn s) 0 4
 unfoldable pub lastOf : List ℕ → ℕ
 lastOf d = fieldAt d (length d - 4) 4
 
--- the last bytes of d and of the pubkey
+-- of a slot with a key: the last bytes of d and of the pubkey, and the kind; of any other its id's, which tells it from the others
 unfoldable pub keyMark : List ℕ → ℕ
-keyMark s = bitXor (lastOf (dBytesIn s)) (lastOf (pubkeyIn s))
+keyMark s = cond (hasKeyIn (classOf (kindIn s))) (bitXor (bitXor (lastOf (dBytesIn s)) (lastOf (pubkeyIn s))) (kindIn s)) (idMark s)
 
 -- the rows hold the marks of slots 0 to c-1 of the table b
 pub record Marked (b : List ℕ) (c : ℕ) (ids keys : List ℕ) : Type 0 where

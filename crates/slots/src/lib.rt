@@ -217,11 +217,15 @@ fn last(d: &[u8]) -> u32
     wire::le_at(d, d.len() - 4, 4) as u32
 }
 
-// A number that slots with one key have alike.
+// A number that slots with one key have alike. A slot without a key has its id's, which tells it from the others.
 fn key_mark(s: &[u8]) -> u32
     ensures { λ r. ⌜ r ≡ keyMark (now (s .entry)) ⌝ }
 {
-    last(d_of(s)) ^ last(wire::piece(text_of(s), 4, 64))
+    let kind = wire::le_at(s, 104, 2);
+    if keyed(kind as u16) {
+        return (last(d_of(s)) ^ last(wire::piece(text_of(s), 4, 64))) ^ kind as u32;
+    }
+    id_mark(s)
 }
 
 // The marks of slots 0 to c-1.
