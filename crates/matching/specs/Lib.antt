@@ -1,0 +1,2 @@
+-- What the steps of matching and of a REQ's answer give.
+pub mod Hits
