@@ -1,1 +1,35 @@
 // Matching: whether an event matches a filter, and the answer of a REQ, in code.
+mod matcher;
+
+use message::Bound;
+
+// The members of a list that may be absent: where they stand in a row of numbers, and how many numbers they are there.
+pub(crate) enum Members {
+    Absent,
+    In(usize, usize),
+}
+
+// A # condition: its letter, and where its members stand in the row.
+pub(crate) struct Needed {
+    pub letter: u8,
+    pub from: usize,
+    pub len: usize,
+}
+
+// A filter whose list members were found.
+pub(crate) struct Known {
+    pub ids: Members,
+    pub authors: Members,
+    pub kinds: Members,
+    pub since: Bound,
+    pub until: Bound,
+    pub limit: Bound,
+    pub conditions: [Needed; 4],
+    pub n: usize,
+}
+
+// A tag's second string, between its quotes, if the tag is named as wanted.
+pub(crate) enum Second {
+    Is(usize, usize),
+    Not,
+}
