@@ -1,4 +1,5 @@
 // Matching: whether an event matches a filter, and the answer of a REQ, in code.
+mod found;
 mod matcher;
 
 use message::Bound;
@@ -14,6 +15,12 @@ pub(crate) struct Needed {
     pub letter: u8,
     pub from: usize,
     pub len: usize,
+}
+
+// The # conditions of a filter: the first n.
+pub(crate) struct Conditions {
+    pub list: [Needed; 4],
+    pub n: usize,
 }
 
 // A filter whose list members were found.

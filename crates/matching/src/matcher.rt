@@ -150,7 +150,7 @@ pub(crate) fn listed(l: Members, v: &[u8], m: &[u8], row: &[usize]) -> bool
 }
 
 // A kind that is not negative, and 0 for one that is.
-fn kind_of(kind: i64) -> u64
+pub(crate) fn kind_of(kind: i64) -> u64
     ensures { λ r. ⌜ r ≡ natural kind ⌝ }
 {
     if kind < 0 {
