@@ -1,7 +1,8 @@
 -- What finding the members of a list hands on.
 use mathlib.Core.Path.{_≡_}
 use mathlib.Core.Bool.{Bool, true, false, cond}
-use mathlib.Core.List.{List}
+use mathlib.Core.Option.{Option}
+use mathlib.Core.List.{List, map}
 use Prim.Native.Nat.{ℕ, _+_, _-_, _≤_}
 use lib.ListN.{length, getD, take, drop}
 use Rattle.wire.specs.Bytes.{part}
@@ -21,12 +22,34 @@ use Rattle.message.specs.Lists.{within}
 use Rattle.message.specs.declared.Listed.{Listed}
 use Rattle.message.specs.declared.Listed.the-variants.{Absent, At}
 use Rattle.event.specs.Lent.{natural}
+use Rattle.query.specs.Filter.{conditionsIn}
+use Rattle.matching.specs.declared.Members.{Members}
+use Rattle.matching.specs.declared.Members.the-variants as members
+use Rattle.matching.specs.declared.Needed.{Needed}
+use Rattle.matching.specs.Found.{given, conditionBy}
 
 -- what a list says stands in the row from a place on, in n numbers of at most so many; what stands before it stays
 pub record Finds {X : Type 0} (means : List ℕ → List X) (whole : List X) (most : ℕ) (before : List ℕ) (at n : ℕ) (row : List ℕ) : Type 0 where
   pub few : n ≤ most
   pub is : means (part row at n) ≡ whole
   pub same : take at row ≡ take at before
+  pub long : length row ≡ length before
+
+-- the same of a list that may be absent
+abbrev pub reach : Members → ℕ
+reach members.Absent = 0
+reach (members.In a n) = a + n
+
+pub record FindsMembers {X : Type 0} (means : List ℕ → List X) (whole : Option (List X)) (most : ℕ) (before : List ℕ) (at : ℕ) (l : Members) (row : List ℕ) : Type 0 where
+  pub inside : reach l ≤ at + most
+  pub is : given means row l ≡ whole
+  pub same : take at row ≡ take at before
+  pub long : length row ≡ length before
+
+-- the conditions that a filter's object has, the first n of a list; their members stand in the row from 80 on
+pub record FindsConditions (m : List ℕ) (l : Listed) (before : List ℕ) (list : List Needed) (n : ℕ) (row : List ℕ) : Type 0 where
+  pub is : map (conditionBy m row) (take n list) ≡ conditionsIn m l
+  pub same : take 80 row ≡ take 80 before
   pub long : length row ≡ length before
 
 -- ---- the number at a place, if it is not negative; otherwise 0
