@@ -1,2 +1,4 @@
 -- What the steps of matching and of a REQ's answer give.
 pub mod Hits
+pub mod Pass
+pub mod Order
