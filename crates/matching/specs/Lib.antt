@@ -3,3 +3,5 @@ pub mod Found
 pub mod Steps
 pub mod Finds
 pub mod Hits
+pub mod Pass
+pub mod Order

@@ -1,6 +1,10 @@
-// Matching: whether an event matches a filter, and the answer of a REQ, in code.
+// Matching: whether an event matches a filter, and the answer of a REQ, in code. The definitions stand in query/specs and, for the steps of
+// the code, in specs/.
 mod found;
+mod held;
+mod lent;
 mod matcher;
+mod order;
 
 use message::Bound;
 
