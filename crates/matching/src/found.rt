@@ -16,10 +16,17 @@ ghost use Rattle.message.specs.Lent.{value5, onValue, valueAt, someSmall, inLis
 ghost use Rattle.query.specs.Filter.{stringsIn, numbersIn, ifListed, filterOf};
 ghost use Rattle.matching.specs.Found.{spelledBy, numbersBy, filterBy};
 ghost use Rattle.matching.specs.Finds.{smallFrom, smallAt, letterOf, firstNamed, nextNamed, valuePlace, Finds, FindsMembers, FindsConditions};
-use crate::{Conditions, Known, Members, Needed};
+use crate::Conditions;
+use crate::Known;
+use crate::Members;
+use crate::Needed;
 use crate::matcher;
-use json::{Kind, Next, Out, Start};
-use message::{Listed, Span};
+use json::Kind;
+use json::Next;
+use json::Out;
+use json::Start;
+use message::Listed;
+use message::Span;
 use numeral::Whole;
 
 // The string at a place, between its quotes; nothing where there is none.
@@ -143,13 +150,7 @@ fn first_named(m: &[u8], at: usize) -> Listed
     match json::begin(m, at) {
         Start::Leaf => Listed::Absent,
         Start::Empty(_, _) => Listed::Absent,
-        Start::Many(i, named) => {
-            if named {
-                Listed::At(i)
-            } else {
-                Listed::Absent
-            }
-        }
+        Start::Many(i, named) => { if named { Listed::At(i) } else { Listed::Absent } }
     }
 }
 

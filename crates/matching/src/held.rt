@@ -17,9 +17,9 @@ ghost use Rattle.query.specs.Match.{isListed, conditionHolds};
 ghost use Rattle.query.specs.Answer.{matchesSlot};
 ghost use Rattle.matching.specs.Found.{spelledBy, given, conditionBy, filterBy};
 ghost use Rattle.matching.specs.Hits.{Filled};
-use crate::matcher;
 use crate::Known;
 use crate::Members;
+use crate::matcher;
 
 // Whether the id of the slot s, in hex, is in the list.
 fn id_listed(s: &[u8], ids: Members, m: &[u8], row: &[usize]) -> bool
@@ -70,7 +70,15 @@ fn slot_matched(table: &[u8], k: usize, m: &[u8], row: &[usize], f: Known) -> bo
 }
 
 // The bytes of filter number j: 1 for each of the first c slots that matches, else 0.
-pub(crate) fn fill(table: &[u8], c: usize, m: &[u8], row: &[usize], f: Known, j: usize, hits: &mut [u8])
+pub(crate) fn fill(
+    table: &[u8],
+    c: usize,
+    m: &[u8],
+    row: &[usize],
+    f: Known,
+    j: usize,
+    hits: &mut [u8],
+)
     requires { ⌜ sound (now table) ≡ true ⌝ }
     requires { ⌜ (c ≤ countOf (now table)) × (c ≤ mostSlots) × (j < mostFilters) × (c * 4 ≤ length (now hits)) ⌝ }
     ensures { λ _. ⌜ Filled (now (table .entry)) (filterBy (now (m .entry)) (now (row .entry)) f) j c (now (hits .entry)) (now (hits .exit)) ⌝ }

@@ -1,5 +1,9 @@
 // Matching: whether an event matches a filter, and the answer of a REQ, in code. The definitions stand in query/specs and, for the steps of
 // the code, in specs/.
+ghost use mathlib.Core.Path.{_≡_};
+ghost use Rattle.query.specs.Answer.{listingRow, listed, listedRow, numberOf};
+
+mod answers;
 mod found;
 mod held;
 mod lent;
@@ -43,4 +47,27 @@ pub(crate) struct Known {
 pub(crate) enum Second {
     Is(usize, usize),
     Not,
+}
+
+// The slots that a REQ with the first n filters is answered with, newest first: how many were written to the row, or the row of 01 that
+// refuses: 2 and 4 to 8 of the filters, then 11, then 13.
+pub fn answer(
+    table: &[u8],
+    m: &[u8],
+    fs: [message::FilterParts; 4],
+    n: usize,
+    row: &mut [u16],
+) -> query::Listing
+    ensures { λ r. ⌜ r ≡ listed (now (table .entry)) (now (m .entry)) fs n (now (row .entry)) ⌝ }
+    ensures { λ r. ⌜ numberOf r ≡ listingRow (now (table .entry)) (now (m .entry)) fs n (now (row .entry)) ⌝ }
+    ensures { λ _. ⌜ now (row .exit) ≡ listedRow (now (table .entry)) (now (m .entry)) fs n (now (row .entry)) ⌝ }
+{
+    let r = lent::filters_row(m, fs, n);
+    if r != 0 {
+        return query::Listing::Refused(r);
+    }
+    if !slots::sound(table) {
+        return query::Listing::Refused(11);
+    }
+    answers::answered(table, m, fs, n, row)
 }

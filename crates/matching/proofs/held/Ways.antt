@@ -64,8 +64,8 @@ module _ (s m row : List ℕ) {l : Members} where
   id-given {a} {n} e small h {w} {o} p q put x =
       let z : length w ≡ 32 = ap length p ∙ length-take 32 s ∙ omega arith in
       let y : decode o ≡ hexOf (part s 0 32) =
-        ap decode (hex-whole w q z put ∙ ap hexOf p)
-        ∙ hex-itself (hexOf (part s 0 32)) (hex-is (part s 0 32) (bytes-are (part s 0 32) (first-bytes 32 s (λ i. small i .fits)))) in
+      ap decode (hex-whole w q z put ∙ ap hexOf p)
+      ∙ hex-itself (hexOf (part s 0 32)) (hex-is (part s 0 32) (bytes-are (part s 0 32) (first-bytes 32 s (λ i. small i .fits)))) in
       x ∙ ap₂ (λ k v. isListed (given (spelledBy m) row k) v) (sym e) y
 
 -- ---- the tags

@@ -21,16 +21,20 @@ loop-holds c = (omega arith, refl, filled-none _ _ _ _)
 loop-again : tie.Need-loop-again Inv-loop μ-loop
 loop-again c =
     let l = c .before .before .before .loop in
-    let p = c .before .before .before .before .before .before .before .before .pre .1 in
-    (omega (arith, c .before .before .loop-test .taken), simp length-set (l .inv .1),
-    filled-more (l .inv .2) (p .2) (omega (arith, c .before .before .loop-test .taken, l .inv .1, p .2, p .3)) (c .before .slot-matched .ensures) 1 (sym (c .if1 .taken)))
+    let p = c .before .before .before .before .before .before .before .before .pre .1 in (
+      omega (arith, c .before .before .loop-test .taken),
+      simp length-set (l .inv .1),
+      filled-more (l .inv .2) (p .2) (omega (arith, c .before .before .loop-test .taken, l .inv .1, p .2, p .3)) (c .before .slot-matched .ensures) 1 (sym (c .if1 .taken)),
+    )
 
 loop-again-2 : tie.Need-loop-again-2 Inv-loop μ-loop
 loop-again-2 c =
     let l = c .before .before .before .loop in
-    let p = c .before .before .before .before .before .before .before .before .pre .1 in
-    (omega (arith, c .before .before .loop-test .taken), simp length-set (l .inv .1),
-    filled-more (l .inv .2) (p .2) (omega (arith, c .before .before .loop-test .taken, l .inv .1, p .2, p .3)) (c .before .slot-matched .ensures) 0 (sym (c .if1 .left)))
+    let p = c .before .before .before .before .before .before .before .before .pre .1 in (
+      omega (arith, c .before .before .loop-test .taken),
+      simp length-set (l .inv .1),
+      filled-more (l .inv .2) (p .2) (omega (arith, c .before .before .loop-test .taken, l .inv .1, p .2, p .3)) (c .before .slot-matched .ensures) 0 (sym (c .if1 .left)),
+    )
 
 returns : tie.Need-returns Inv-loop μ-loop
 returns c =
