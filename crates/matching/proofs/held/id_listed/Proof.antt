@@ -1,0 +1,20 @@
+-- The hex of 32 bytes spells itself.
+use borrow.Author.Needs.{needs}
+use Rattle.matching.proofs.held.Ways.{id-given}
+use Rattle.matching.proofs.held.id_listed.Statement.{statement}
+use Rattle.matching.proofs.held.id_listed.Tie as tie
+
+returns-2 : tie.Need-returns-2
+returns-2 c =
+    let c2 = c .before .before in
+    let c3 = c2 .before in
+    let c4 = c3 .before in
+    let c7 = c4 .before .before .before in
+    let c11 = c7 .before .before .before .before in
+    id-given _ _ _ (c7 .ids .given .1) (c11 .shared-slice-known .given) (c11 .before .pre) (c4 .piece .ensures) (c2 .hex2 .given) (c3 .put-hex .ensures) (c .listed .ensures)
+
+pub id-listed-spec : {M : Type 1} → statement M
+id-listed-spec =
+    tie.close
+    (tie.spec (λ c. search needs) (λ c. search needs) (λ c. search needs) (λ c κs. search needs) (λ c κs. search needs) (λ c. search needs)
+    (λ c κs. search needs) (λ c. search needs) returns-2)

@@ -1,0 +1,2 @@
+-- Laws of the row of lent filters.
+pub mod Rows

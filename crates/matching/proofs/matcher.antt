@@ -1,0 +1,5 @@
+-- Places: elements passed one by one. Lists: members found beforehand. Tags: a # condition over the tree. Ways: the rest of a filter.
+pub mod Places
+pub mod Lists
+pub mod Tags
+pub mod Ways

@@ -1,0 +1,10 @@
+use borrow.Author.Needs.{needs}
+use mathlib.Core.Path.{ap, _∙_}
+use Rattle.matching.specs.Steps.{placed}
+use Rattle.matching.proofs.matcher.next.Statement.{statement}
+use Rattle.matching.proofs.matcher.next.Tie as tie
+
+pub next-spec : {M : Type 1} → statement M
+next-spec =
+    tie.close
+    (tie.spec (λ c κs. search needs) (λ c κs. search needs) (λ c. c .place .ensures ∙ ap placed (c .before .next .ensures)))

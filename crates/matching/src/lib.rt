@@ -1,0 +1,73 @@
+// Matching: whether an event matches a filter, and the answer of a REQ, in code. The definitions stand in query/specs and, for the steps of
+// the code, in specs/.
+ghost use mathlib.Core.Path.{_≡_};
+ghost use Rattle.query.specs.Answer.{listingRow, listed, listedRow, numberOf};
+
+mod answers;
+mod found;
+mod held;
+mod lent;
+mod matcher;
+mod order;
+
+use message::Bound;
+
+// The members of a list that may be absent: where they stand in a row of numbers, and how many numbers they are there.
+pub(crate) enum Members {
+    Absent,
+    In(usize, usize),
+}
+
+// A # condition: its letter, and where its members stand in the row.
+pub(crate) struct Needed {
+    pub letter: u8,
+    pub from: usize,
+    pub len: usize,
+}
+
+// The # conditions of a filter: the first n.
+pub(crate) struct Conditions {
+    pub list: [Needed; 4],
+    pub n: usize,
+}
+
+// A filter whose list members were found.
+pub(crate) struct Known {
+    pub ids: Members,
+    pub authors: Members,
+    pub kinds: Members,
+    pub since: Bound,
+    pub until: Bound,
+    pub limit: Bound,
+    pub conditions: [Needed; 4],
+    pub n: usize,
+}
+
+// A tag's second string, between its quotes, if the tag is named as wanted.
+pub(crate) enum Second {
+    Is(usize, usize),
+    Not,
+}
+
+// The slots that a REQ with the first n filters is answered with, newest first: how many were written to the row, or the row of 01 that
+// refuses: 2 and 4 to 8 of the filters, then 11, then 13.
+pub fn answer(
+    table: &[u8],
+    m: &[u8],
+    fs: [message::FilterParts; 4],
+    n: usize,
+    row: &mut [u16],
+) -> query::Listing
+    ensures { λ r. ⌜ r ≡ listed (now (table .entry)) (now (m .entry)) fs n (now (row .entry)) ⌝ }
+    ensures { λ r. ⌜ numberOf r ≡ listingRow (now (table .entry)) (now (m .entry)) fs n (now (row .entry)) ⌝ }
+    ensures { λ _. ⌜ now (row .exit) ≡ listedRow (now (table .entry)) (now (m .entry)) fs n (now (row .entry)) ⌝ }
+{
+    let r = lent::filters_row(m, fs, n);
+    if r != 0 {
+        return query::Listing::Refused(r);
+    }
+    if !slots::sound(table) {
+        return query::Listing::Refused(11);
+    }
+    answers::answered(table, m, fs, n, row)
+}
