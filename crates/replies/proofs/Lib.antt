@@ -1,0 +1,2 @@
+-- Laws of the writers of replies.
+pub mod Written

@@ -1,0 +1,36 @@
+-- A law for each way out.
+use borrow.Author.Needs.{needs}
+use Rattle.replies.proofs.Written.{event-refused, event-large, event-passes}
+use Rattle.replies.proofs.event_row.Statement.{statement}
+use Rattle.replies.proofs.event_row.Tie as tie
+
+returns : tie.Need-returns
+returns c =
+    let c1 = c .before in
+    let c2 = c1 .before in
+    let c3 = c2 .before in
+    event-refused _ _ _ (c1 .lower-row .ensures) (c3 .subscription-row .ensures) (c2 .event-row .ensures) (c .if1 .taken)
+
+returns-2 : tie.Need-returns-2
+returns-2 c =
+    let c1 = c .before in
+    let c2 = c1 .before in
+    let c3 = c2 .before in
+    let c4 = c3 .before in
+    let c5 = c4 .before in
+    event-large _ _ _ (c3 .lower-row .ensures) (c5 .subscription-row .ensures) (c4 .event-row .ensures) (c2 .if1 .left) (c1 .text-len .ensures) (c .if2 .taken)
+
+returns-3 : tie.Need-returns-3
+returns-3 c =
+    let c1 = c .before in
+    let c2 = c1 .before in
+    let c3 = c2 .before in
+    let c4 = c3 .before in
+    let c5 = c4 .before in
+    event-passes _ _ _ (c3 .lower-row .ensures) (c5 .subscription-row .ensures) (c4 .event-row .ensures) (c2 .if1 .left) (c1 .text-len .ensures) (c .if2 .left)
+
+pub event-row-spec : {M : Type 1} → statement M
+event-row-spec =
+    tie.close
+    (tie.spec (λ c κs. search needs) (λ c κs. search needs) (λ c κs. search needs) returns (λ c κs. search needs)
+    returns-2 returns-3)

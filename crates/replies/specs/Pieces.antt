@@ -1,0 +1,43 @@
+-- What private functions hand on: the three pieces of an EVENT, and whether a text has room.
+use mathlib.Core.Path.{_≡_}
+use mathlib.Core.Bool.{Bool, true, false}
+use mathlib.Core.List.{List, _++_}
+use Prim.Native.Nat.{ℕ, _≤_, _<_}
+use Rattle.numeral.specs.Decimal.{digits, decimal}
+use Rattle.text.specs.Event.{Event, quoted, tagsText}
+use Rattle.message.specs.declared.Span.{Span}
+use Rattle.message.specs.declared.EventParts.{EventParts}
+use Rattle.reply.specs.Ascii.{ascii}
+use Rattle.reply.specs.declared.ReplyParts.{ReplyParts}
+use Rattle.reply.specs.declared.ReplyParts.the-variants.{Ok, Event as EventOf, Eose, Closed, Notice}
+
+-- ---- the EVENT of the event e, for the subscription id sub, with the id i and the signature s, in pieces
+unfoldable pub frontText : (sub i : List ℕ) → Event → List ℕ
+frontText sub i e = ascii "[\"EVENT\"," ++ (quoted sub ++ (ascii ",{\"id\":" ++ (quoted i ++ (ascii ",\"pubkey\":" ++ quoted (e .pubkey)))))
+
+unfoldable pub middleText : Event → List ℕ
+middleText e = ascii ",\"created_at\":" ++ (decimal (e .time) ++ (ascii ",\"kind\":" ++ (digits (e .kind) ++ (ascii ",\"tags\":" ++ tagsText (e .tags)))))
+
+unfoldable pub backText : Event → (s : List ℕ) → List ℕ
+backText e s = ascii ",\"content\":" ++ (quoted (e .content) ++ (ascii ",\"sig\":" ++ (quoted s ++ ascii "}]")))
+
+-- ---- the parts by what they are of
+abbrev pub okParts : Span → Bool → Span → ReplyParts
+okParts i accepted r = Ok i accepted r
+
+abbrev pub eventParts : Span → EventParts → ReplyParts
+eventParts s p = EventOf s p
+
+abbrev pub eoseParts : Span → ReplyParts
+eoseParts s = Eose s
+
+abbrev pub closedParts : Span → Span → ReplyParts
+closedParts s r = Closed s r
+
+abbrev pub noticeParts : Span → ReplyParts
+noticeParts r = Notice r
+
+-- whether n bytes have room
+pub record Room (n room : ℕ) (r : Bool) : Type 0 where
+  pub yes : r ≡ true → n ≤ room
+  pub no : r ≡ false → room < n

@@ -1,0 +1,3 @@
+-- Laws of the writers of EVENTs.
+pub mod Pieces
+pub mod Answers

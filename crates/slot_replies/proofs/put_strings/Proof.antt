@@ -1,0 +1,26 @@
+-- Four puts in a row; the parts lie where the text was read.
+use native.Mathlib.Omega.{arith}
+use borrow.Author.Needs.{needs}
+use Rattle.text.proofs.Places.{bounds}
+use Rattle.slot_replies.proofs.Pieces.{strings-put}
+use Rattle.slot_replies.proofs.put_strings.Statement.{statement}
+use Rattle.slot_replies.proofs.put_strings.Tie as tie
+
+returns : tie.Need-returns
+returns c =
+    let c2 = c .before .before in
+    let c3 = c2 .before in
+    let c7 = c3 .before .before .before .before in
+    let c12 = c7 .before .before .before .before .before in
+    let c13 = c12 .before in
+    let c17 = c13 .before .before .before .before in
+    let c22 = c17 .before .before .before .before .before in
+    strings-put _ _ (c22 .pre) (c13 .piece .ensures) (c3 .piece2 .ensures) (c17 .put .ensures) (c12 .put2 .ensures) (c7 .put3 .ensures) (c2 .put4 .ensures)
+
+pub put-strings-spec : {M : Type 1} → statement M
+put-strings-spec =
+    tie.close
+    (tie.spec (λ c. omega (arith, bounds _ _ (c .before .before .pre .is) .between)) (λ c. omega (arith, bounds _ _ (c .before .before .pre .is) .between))
+    (λ c. omega (arith, bounds _ _ (c .before .before .pre .is) .between)) (λ c. omega (arith, bounds _ _ (c .before .before .pre .is) .ends, bounds _ _ (c .before .before .pre .is) .small))
+    (λ c. search needs) (λ c κs. search needs) (λ c κs. search needs) (λ c κs. search needs) (λ c. search needs) (λ c κs. search needs)
+    (λ c κs. search needs) (λ c κs. search needs) (λ c. search needs) returns)

@@ -1,0 +1,2 @@
+-- What the writers of EVENTs hand on to each other.
+pub mod Slot

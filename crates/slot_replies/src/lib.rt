@@ -1,0 +1,156 @@
+// EVENT replies of held slots, written into lent bytes. The text of a slot is copied, never decoded. Every row is tested before the first
+// byte is written.
+ghost use mathlib.Core.Path.{_≡_};
+ghost use Prim.Native.Nat.{_+_};
+ghost use lib.ListN.{length};
+ghost use Rattle.wire.specs.Put.{Puts};
+ghost use Rattle.wire.specs.Escape.{escape};
+ghost use Rattle.spell.specs.Spell.{decode};
+ghost use Rattle.text.specs.Event.{quoted};
+ghost use Rattle.event.specs.Answer.{hexOf, numberOf};
+ghost use Rattle.table.specs.Layout.{lengthIn};
+ghost use Rattle.table.specs.Format.{shownRow};
+ghost use Rattle.reply.specs.Respond.{slotEvent, slotEventRow, slotEventOut};
+ghost use Rattle.replies.specs.Pieces.{Room};
+ghost use Rattle.slot_replies.specs.Slot.{numbersOf, stringsOf, ReadAs, frontText, backText, heldText};
+use event::Written;
+use message::Span;
+use slots::Shown;
+use text::Text;
+use text::TextAnswer;
+
+// A string as spelled, decoded and escaped between quotes.
+fn put_quoted(out: &mut [u8], at: usize, p: &[u8]) -> usize
+    ensures { λ r. ⌜ Puts (now (out .entry)) at (quoted (decode (now (p .entry)))) r (now (out .exit)) ⌝ }
+{
+    let a = wire::put(out, at, b"\"");
+    let c = spell::put_escaped(out, a, p);
+    wire::put(out, c, b"\"")
+}
+
+// Bytes in hex, between quotes.
+fn put_hex(out: &mut [u8], at: usize, s: &[u8]) -> usize
+    ensures { λ r. ⌜ Puts (now (out .entry)) at (quoted (hexOf (now (s .entry)))) r (now (out .exit)) ⌝ }
+{
+    let a = wire::put(out, at, b"\"");
+    let c = event::put_hex(out, a, s);
+    wire::put(out, c, b"\"")
+}
+
+// ["EVENT",SUB,{"id":ID
+fn put_front(out: &mut [u8], at: usize, sub: &[u8], id: &[u8]) -> usize
+    ensures { λ r. ⌜ Puts (now (out .entry)) at (frontText (decode (now (sub .entry))) (hexOf (now (id .entry)))) r (now (out .exit)) ⌝ }
+{
+    let a = wire::put(out, at, b"[\"EVENT\",");
+    let b = put_quoted(out, a, sub);
+    let c = wire::put(out, b, b",{\"id\":");
+    put_hex(out, c, id)
+}
+
+// ,"pubkey":PUBKEY,"created_at":TIME,"kind":KIND of the text that was read.
+fn put_numbers(out: &mut [u8], at: usize, t: &[u8], x: Text) -> usize
+    requires { ⌜ ReadAs (now t) x ⌝ }
+    ensures { λ r. ⌜ Puts (now (out .entry)) at (numbersOf (now (t .entry))) r (now (out .exit)) ⌝ }
+{
+    let time = x.time;
+    let kind = x.kind as u64;
+    let a = wire::put(out, at, b",\"pubkey\":");
+    let b = wire::put(out, a, wire::piece(t, 3, 66));
+    let c = wire::put(out, b, b",\"created_at\":");
+    let d = numeral::put_decimal(out, c, time);
+    let e = wire::put(out, d, b",\"kind\":");
+    numeral::put_natural(out, e, kind)
+}
+
+// ,"tags":TAGS,"content":CONTENT copied from it.
+fn put_strings(out: &mut [u8], at: usize, t: &[u8], x: Text) -> usize
+    requires { ⌜ ReadAs (now t) x ⌝ }
+    ensures { λ r. ⌜ Puts (now (out .entry)) at (stringsOf (now (t .entry))) r (now (out .exit)) ⌝ }
+{
+    let tags = x.tags;
+    let content = x.content;
+    let len = x.content_len;
+    let tags_len = content - 2 - tags;
+    let quote = content - 1;
+    let quoted_len = len + 2;
+    let a = wire::put(out, at, b",\"tags\":");
+    let b = wire::put(out, a, wire::piece(t, tags, tags_len));
+    let c = wire::put(out, b, b",\"content\":");
+    wire::put(out, c, wire::piece(t, quote, quoted_len))
+}
+
+// ,"sig":SIG}]
+fn put_back(out: &mut [u8], at: usize, sig: &[u8]) -> usize
+    ensures { λ r. ⌜ Puts (now (out .entry)) at (backText (hexOf (now (sig .entry)))) r (now (out .exit)) ⌝ }
+{
+    let a = wire::put(out, at, b",\"sig\":");
+    let b = put_hex(out, a, sig);
+    wire::put(out, b, b"}]")
+}
+
+// The EVENT of a slot; nothing where its text does not read.
+fn put_slot(out: &mut [u8], at: usize, sub: &[u8], s: &[u8]) -> usize
+    ensures { λ r. ⌜ Puts (now (out .entry)) at (heldText (decode (now (sub .entry))) (now (s .entry))) r (now (out .exit)) ⌝ }
+{
+    let n = wire::le_at(s, 106, 2) as usize;
+    let t = wire::piece(s, 112, n);
+    match text::read_text(t) {
+        TextAnswer::Read(x) => {
+            let a = put_front(out, at, sub, wire::piece(s, 0, 32));
+            let b = put_numbers(out, a, t, x);
+            let c = put_strings(out, b, t, x);
+            put_back(out, c, wire::piece(s, 32, 64))
+        }
+        TextAnswer::TooLarge => wire::put(out, at, b""),
+        TextAnswer::WrongShape => wire::put(out, at, b""),
+    }
+}
+
+// Whether the EVENT of a sound slot has room: it is 266 bytes longer than its text and the subscription id. By subtraction: the sum may be
+// more than a number holds.
+fn slot_fits(s: &[u8], sub: &[u8], room: usize) -> bool
+    ensures { λ r. ⌜ Room (lengthIn (now (s .entry)) + length (escape (decode (now (sub .entry)))) + 266) room r ⌝ }
+{
+    let n = spell::escaped_len(sub);
+    let k = wire::le_at(s, 106, 2);
+    if room < 266 {
+        return false;
+    }
+    let rest = room - 266;
+    if (rest as u64) < k {
+        return false;
+    }
+    n <= rest - k as usize
+}
+
+// Row 11 or 14, or 0 where the slot is held.
+fn shown_row(table: &[u8], slot: usize) -> u8
+    ensures { λ r. ⌜ r ≡ shownRow (now (table .entry)) slot ⌝ }
+{
+    match slots::shown_at(table, slot) {
+        Shown::At(_, _) => 0,
+        Shown::Refused(row) => row,
+    }
+}
+
+// The EVENT of a held slot, for the subscription id that stands at `sub` in m, from the start of `out`.
+pub fn slot_event(table: &[u8], slot: usize, m: &[u8], sub: Span, out: &mut [u8]) -> Written
+    ensures { λ r. ⌜ r ≡ slotEvent (now (table .entry)) slot (now (m .entry)) sub (now (out .entry)) ⌝ }
+    ensures { λ r. ⌜ numberOf r ≡ slotEventRow (now (table .entry)) slot (now (m .entry)) sub (now (out .entry)) ⌝ }
+    ensures { λ _. ⌜ now (out .exit) ≡ slotEventOut (now (table .entry)) slot (now (m .entry)) sub (now (out .entry)) ⌝ }
+{
+    let row = message::subscription_row(m, sub);
+    if row != 0 {
+        return Written::Refused(row);
+    }
+    let later = shown_row(table, slot);
+    if later != 0 {
+        return Written::Refused(later);
+    }
+    let s = slots::slot(table, slot);
+    let id = wire::piece(m, sub.start, sub.len);
+    if slot_fits(s, id, out.len()) {
+        return Written::Wrote(put_slot(out, 0, id, s));
+    }
+    Written::Refused(13)
+}
