@@ -1,7 +1,7 @@
 // Matching: whether an event matches a filter, and the answer of a REQ, in code. The definitions stand in query/specs and, for the steps of
 // the code, in specs/.
 ghost use mathlib.Core.Path.{_≡_};
-ghost use Rattle.query.specs.Answer.{listingRow, listed, listedRow, numberOf};
+ghost use Rattle.query.specs.Answer.{matchedRow, matched, matchNumber, listingRow, listed, listedRow, numberOf};
 
 mod answers;
 mod found;
@@ -9,6 +9,7 @@ mod held;
 mod lent;
 mod matcher;
 mod order;
+mod several;
 
 use message::Bound;
 
@@ -70,4 +71,33 @@ pub fn answer(
         return query::Listing::Refused(11);
     }
     answers::answered(table, m, fs, n, row)
+}
+
+// 01, row 9: "serialised text over 4,096 bytes".
+const TEXT: usize = 4096;
+
+// Whether the event of the parts p over b matches some of the first n filters, whose places lie in m; or the row of 01 that refuses: 2 and 4 to 8
+// of the event and of the filters, then 9.
+pub fn matched(
+    b: &[u8],
+    p: message::EventParts,
+    m: &[u8],
+    fs: [message::FilterParts; 4],
+    n: usize,
+) -> query::Matched
+    ensures { λ r. ⌜ r ≡ matched (now (b .entry)) p (now (m .entry)) fs n ⌝ }
+    ensures { λ r. ⌜ matchNumber r ≡ matchedRow (now (b .entry)) p (now (m .entry)) fs n ⌝ }
+{
+    let row = message::lower_row(message::event_row(b, p), lent::filters_row(m, fs, n));
+    if row != 0 {
+        return query::Matched::Refused(row);
+    }
+    let body = p.body;
+    if TEXT < event::text_len(b, body) {
+        return query::Matched::Refused(9);
+    }
+    if several::some_match(b, p, m, fs, n) {
+        return query::Matched::Matches;
+    }
+    query::Matched::Differs
 }
