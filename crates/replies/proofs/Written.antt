@@ -1,22 +1,21 @@
 -- The pieces of a reply in a row, how long it is, its rows, and what is answered.
 use mathlib.Core.Path.{_≡_, refl, sym, ap, _∙_}
-use mathlib.Core.Bool.{Bool, true, false, cond, not, _&&_, _||_, or-false, false≢true}
+use mathlib.Core.Bool.{Bool, true, false, cond, not, _||_, or-false, false≢true}
 use mathlib.Core.List.{List, [], _∷_, _++_, append-assoc}
-use Prim.Native.Nat.{ℕ, _+_, _^_, _≤_, _<_, min}
+use Prim.Native.Nat.{ℕ, _+_, _^_, _≤_, _<_}
 use native.Mathlib.Omega.{arith}
 use borrow.Author.Tests.{lt-ltb, le-ltb, eq-eqb, ne-eqb, eqb-true, eqb-false, ltb-false}
 use lib.Dec.{eqb, ltb}
-use lib.ListN.{length, drop, length-append}
+use lib.ListN.{length, length-append}
 use lib.Signed.{mag}
 use mir.Syntax.{w64}
 use mir.Val.{toZ, ofZ}
-use Rattle.wire.specs.Limits.{mostText, hexLength, sigLength}
+use Rattle.wire.specs.Limits.{mostText, hexLength}
 use Rattle.wire.specs.Put.{Puts}
 use Rattle.wire.specs.Escape.{escape}
-use Rattle.wire.proofs.Laws.{puts-then, puts-whole}
+use Rattle.wire.proofs.Laws.{puts-then}
 use Rattle.numeral.specs.Decimal.{digits, decimal}
 use Rattle.numeral.proofs.Ways.{back}
-use Rattle.rows.specs.Strings.{part}
 use Rattle.spell.specs.Spell.{decode, isHexOf}
 use Rattle.spell.proofs.Laws.{hex-escape}
 use Rattle.text.specs.Event.{Event, quoted, tagsText, serialise}
@@ -27,17 +26,16 @@ use Rattle.message.specs.declared.EventParts.{EventParts}
 use Rattle.message.specs.Lent.{lowest, lowerRow, bytesOf, isSpelled, string2, string4, string5, string7, subscription8, stringRow, hexRow, subscriptionRow, event2, event4, event5, event7, body5, body6, body7, body8, eventRow}
 use Rattle.message.proofs.Ranks.{lowest-lower}
 use Rattle.event.specs.Lent.{said, natural, tagsAt, eventOf, textOf}
-use Rattle.event.specs.Answer.{orElse, isLarge, answered, numberOf}
+use Rattle.event.specs.Answer.{orElse, isLarge, numberOf}
 use Rattle.event.specs.Walk.{lengthOf}
 use Rattle.event.specs.declared.Written.{Written}
 use Rattle.event.specs.declared.Written.the-variants.{Wrote, Refused}
 use Rattle.event.proofs.Answers.{refused, passed, too-short, room-for}
 use Rattle.event.proofs.Strings.{quoted-put}
 use Rattle.reply.specs.Ascii.{ascii}
-use Rattle.reply.specs.Replies.{Reply, ok, event, eose, closed, notice, truth, objectText, replyText}
-use Rattle.reply.specs.Lent.{replyOf, okRow, eventReplyRow, eoseRow, closedRow, noticeRow, partsRow, shortRow, outputAfter, replyRow, replied, repliedOut}
+use Rattle.reply.specs.Replies.{event, truth, objectText, replyText}
+use Rattle.reply.specs.Lent.{replyOf, okRow, eventReplyRow, eoseRow, closedRow, noticeRow, partsRow, shortRow, replyRow, replied, repliedOut}
 use Rattle.reply.specs.declared.ReplyParts.{ReplyParts}
-use Rattle.reply.specs.declared.ReplyParts.the-variants as parts
 use Rattle.reply.proofs.Sizes.{quoted-length}
 use Rattle.replies.specs.Pieces.{frontText, middleText, backText, okParts, eventParts, eoseParts, closedParts, noticeParts, Room}
 

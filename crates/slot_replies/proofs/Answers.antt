@@ -1,10 +1,10 @@
 -- How long the EVENT of a slot is, and what is answered.
-use mathlib.Core.Path.{_≡_, refl, sym, ap, _∙_}
-use mathlib.Core.Bool.{Bool, true, false, cond, false≢true}
+use mathlib.Core.Path.{_≡_, sym, ap, _∙_}
+use mathlib.Core.Bool.{Bool, true, false, false≢true}
 use mathlib.Core.List.{List}
 use Prim.Native.Nat.{ℕ, _+_, _-_, _≤_, _<_}
 use native.Mathlib.Omega.{arith}
-use borrow.Author.Tests.{lt-ltb, eq-eqb, leb-true, leb-false}
+use borrow.Author.Tests.{lt-ltb, leb-true, leb-false}
 use lib.Dec.{leb}
 use lib.ListN.{length}
 use Rattle.wire.specs.Put.{Puts}
@@ -20,12 +20,10 @@ use Rattle.event.specs.declared.Written.{Written}
 use Rattle.event.specs.declared.Written.the-variants.{Wrote, Refused}
 use Rattle.event.proofs.Answers.{Outcome, refused, passed, too-short, room-for}
 use Rattle.table.specs.Layout.{countOf, slotAt, lengthIn}
-use Rattle.table.specs.Sound.{sound}
 use Rattle.table.specs.Format.{shownRow}
 use Rattle.table.proofs.Shown.{shown-if}
 use Rattle.slots.specs.Shown.{numberOf as shownNumber}
 use Rattle.slots.specs.declared.Shown.{Shown}
-use Rattle.slots.specs.declared.Shown.the-variants as shown
 use Rattle.reply.specs.Lent.{eoseRow, shortRow}
 use Rattle.reply.specs.Respond.{slotText, slotEventRow, slotEvent, slotEventOut}
 use Rattle.reply.proofs.Sizes.{slot-length}

@@ -23,7 +23,7 @@ use Rattle.event.specs.Answer.{hexOf}
 use Rattle.event.proofs.Answers.{escape-hex}
 use Rattle.table.specs.Layout.{idIn, sigIn, lengthIn, textIn}
 use Rattle.reply.specs.Ascii.{ascii}
-use Rattle.reply.specs.Replies.{event, objectText, replyText}
+use Rattle.reply.specs.Replies.{objectText, replyText}
 use Rattle.reply.specs.Program.{eventIn}
 use Rattle.reply.specs.Respond.{firstText}
 use Rattle.slot_replies.specs.Slot.{numbersText, stringsText, numbersOf, stringsOf, ReadAs, frontText, backText, heldText}
