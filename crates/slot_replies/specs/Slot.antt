@@ -1,17 +1,23 @@
 -- What private functions hand on: the EVENT of a slot's bytes in pieces. Id and signature in hex, the rest as the slot's text spells it.
 use mathlib.Core.Path.{_≡_}
-use mathlib.Core.List.{List, [], _++_}
-use Prim.Native.Nat.{ℕ}
+use mathlib.Core.Bool.{cond}
+use mathlib.Core.List.{List, [], _∷_, _++_}
+use Prim.Native.Nat.{ℕ, _+_, _-_}
+use lib.Dec.{ltb}
+use lib.ListN.{length}
+use Rattle.wire.specs.Escape.{escape}
 use Rattle.numeral.specs.Decimal.{digits, decimal}
 use Rattle.text.specs.Event.{Event, quoted, tagsText}
 use Rattle.text.specs.Read.{Read, tooLarge, wrongShape, read, readText}
 use Rattle.text.specs.Answer.{answerOf}
 use Rattle.text.specs.declared.Text.{Text}
 use Rattle.text.specs.declared.TextAnswer.the-variants as answer
-use Rattle.table.specs.Layout.{textIn}
+use Rattle.table.specs.Layout.{slotAt, lengthIn, textIn}
 use Rattle.reply.specs.Ascii.{ascii}
 use Rattle.reply.specs.Program.{eventIn}
 use Rattle.reply.specs.Respond.{firstText}
+use Rattle.slot_replies.specs.declared.Left.{Left}
+use Rattle.slot_replies.specs.declared.Left.the-variants.{Room, Short}
 
 unfoldable pub frontText : (sub i : List ℕ) → List ℕ
 frontText sub i = ascii "[\"EVENT\"," ++ (quoted sub ++ (ascii ",{\"id\":" ++ quoted i))
@@ -44,3 +50,13 @@ pub record ReadAs (t : List ℕ) (x : Text) : Type 0 where
 -- the EVENT of the slot s; nothing where its text does not read
 unfoldable pub heldText : (sub s : List ℕ) → List ℕ
 heldText sub s = firstText (eventIn sub s (readText (textIn s)))
+
+-- ---- the EVENTs of the slots ks, each a line, whatever bytes are lent: `written (eventsOf b sub ks)` of reply/specs/Program
+-- how many bytes that is if the table is sound and holds them: each line is 267 bytes longer than the slot's text and the subscription id escaped
+unfoldable pub linesSize : (b sub : List ℕ) → List ℕ → ℕ
+linesSize b sub [] = 0
+linesSize b sub (k ∷ ks) = lengthIn (slotAt b k) + length (escape sub) + 267 + linesSize b sub ks
+
+-- what n bytes leave of a room
+unfoldable pub leftIn : (room n : ℕ) → Left
+leftIn room n = cond (ltb room n) Short (Room (room - n))

@@ -19,6 +19,12 @@ use slots::Shown;
 use text::Text;
 use text::TextAnswer;
 
+// What lines leave of a room: so many bytes, or there are too few.
+pub enum Left {
+    Room(usize),
+    Short,
+}
+
 // A string as spelled, decoded and escaped between quotes.
 fn put_quoted(out: &mut [u8], at: usize, p: &[u8]) -> usize
     ensures { λ r. ⌜ Puts (now (out .entry)) at (quoted (decode (now (p .entry)))) r (now (out .exit)) ⌝ }
