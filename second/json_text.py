@@ -38,11 +38,19 @@ class NotJson(Exception):
     pass
 
 
+ASCII = re.compile(rb"[\x00-\x7f]+")
+
+
 def characters(data):
     """The characters that the bytes spell (RFC 3629, section 3)."""
     out = []
     i = 0
     while i < len(data):
+        run = ASCII.match(data, i)
+        if run:
+            out.append(run.group().decode("ascii"))
+            i = run.end()
+            continue
         lead = data[i]
         if lead not in TAILS:
             raise NotUtf8
@@ -50,7 +58,7 @@ def characters(data):
         run = data[i + 1 : i + 1 + len(tails)]
         if len(run) < len(tails) or not all(low <= b <= high for b, (low, high) in zip(run, tails)):
             raise NotUtf8
-        code = lead & (0x3F >> len(tails)) if tails else lead
+        code = lead & (0x3F >> len(tails))
         for b in run:
             code = code << 6 | b & 0x3F
         out.append(chr(code))
@@ -66,11 +74,12 @@ def parse(text):
     return value
 
 
+SPACE = re.compile("[\x20\x09\x0a\x0d]*")
+
+
 def skip(text, i):
     """Section 2: ws. The place after it."""
-    while text[i : i + 1] in ("\x20", "\x09", "\x0a", "\x0d"):
-        i += 1
-    return i
+    return SPACE.match(text, i).end()
 
 
 def read_value(text, i, depth):
@@ -129,6 +138,7 @@ def read_number(text, i):
     return ("number", found.group()), found.end()
 
 
+UNESCAPED = re.compile(r'[^"\\\x00-\x1f]+')
 ESCAPED = {'"': '"', "\\": "\\", "/": "/", "b": "\b", "f": "\f", "n": "\n", "r": "\r", "t": "\t"}
 FOUR_HEX = re.compile(r"[0-9A-Fa-f]{4}")
 
@@ -139,25 +149,28 @@ def read_string(text, i):
         raise NotJson
     i += 1
     out = []
+    high = ""  # a high surrogate that was the last thing read, escaped
     while text[i : i + 1] != '"':
-        c = text[i : i + 1]
-        if c == "" or c < "\x20":
-            raise NotJson
-        if c != "\\":
-            out.append(c)
-            i += 1
+        plain = UNESCAPED.match(text, i)
+        c = ""
+        if plain:
+            out.append(plain.group())
+            i = plain.end()
+        elif text[i : i + 1] != "\\":
+            raise NotJson  # the text's end, or a control character
         elif text[i + 1 : i + 2] in ESCAPED:
             out.append(ESCAPED[text[i + 1]])
             i += 2
         elif text[i + 1 : i + 2] == "u" and FOUR_HEX.match(text, i + 2):
-            unit = int(text[i + 2 : i + 6], 16)
-            if out and is_high(out[-1]) and is_low(chr(unit)):
-                out[-1] = chr(0x10000 + ((ord(out[-1]) - 0xD800) << 10) + unit - 0xDC00)
+            c = chr(int(text[i + 2 : i + 6], 16))
+            if high and is_low(c):
+                out[-1] = chr(0x10000 + ((ord(high) - 0xD800) << 10) + ord(c) - 0xDC00)
             else:
-                out.append(chr(unit))
+                out.append(c)
             i += 6
         else:
             raise NotJson
+        high = c if is_high(c) else ""
     return "".join(out), i + 1
 
 
@@ -183,6 +196,9 @@ def strings(value):
             yield from strings(item)
 
 
+FORBIDDEN = re.compile("[\x00-\x07\x0b\x0e-\x1f\ud800-\udfff]")
+
+
 def allowed(s):
     """01, row 4: no unpaired surrogate, none below U+0020 other than 08, 09, 0A, 0C, 0D."""
-    return all((c >= "\x20" or c in "\x08\x09\x0a\x0c\x0d") and not (is_high(c) or is_low(c)) for c in s)
+    return not FORBIDDEN.search(s)

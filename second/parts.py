@@ -139,18 +139,27 @@ def event_answer(buffer, id_start, id_length, *rest):
     return [0, 9 if len(text) > TEXT_BYTES else 0 if said == sha256(text) else 10]
 
 
-def filter_answer(buffer, ids, authors, kinds, since, until, limit, conditions):
-    faults = set()
+def filter_part(buffer, ids, authors, kinds, since, until, limit, conditions):
+    """The faults of a filter's parts, and the filter they mean, if every part says something."""
+    faults, fields = set(), {}
     for name, place in (("ids", ids), ("authors", authors), ("kinds", kinds)):
         if place is not None:
-            faults |= value_part(buffer, place, FILTER[name], list_rows(name))[0]
+            wrong, fields[name] = value_part(buffer, place, FILTER[name], list_rows(name))
+            faults |= wrong
     for name, number in (("since", since), ("until", until), ("limit", limit)):
         if number is not None:
+            fields[name] = str(number)
             faults |= number_part(name, number)
     if conditions is not None:
         # The place of a filter's object; its members with # are the conditions, and the others are tested too.
-        faults |= value_part(buffer, conditions, FILTER, lambda f: rows_of(f, counts_of_filter(f)))[0]
-    return [lowest(faults)]
+        wrong, inner = value_part(buffer, conditions, FILTER, lambda f: rows_of(f, counts_of_filter(f)))
+        faults |= wrong
+        fields.update((name, inner[name]) for name in inner or () if name[0] == "#")
+    return faults, fields
+
+
+def filter_answer(buffer, *parts):
+    return [lowest(filter_part(buffer, *parts)[0])]
 
 
 # Messages: the places of their parts, in bytes.

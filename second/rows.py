@@ -136,7 +136,7 @@ def good_number(spelled, limits):
 
 def good_hex(s, length):
     """01, "Hex"."""
-    return len(s) == length and all(c in "0123456789abcdef" for c in s)
+    return len(s) == length and not re.search("[^0-9a-f]", s)
 
 
 def within(count, limits):
@@ -194,7 +194,9 @@ def read_message(line):
 
 # Spellings: no white space, seven escapes, numbers in shortest decimal.
 
-ESCAPES = {"\n": "\\n", '"': '\\"', "\\": "\\\\", "\r": "\\r", "\t": "\\t", "\b": "\\b", "\f": "\\f"}
+ESCAPES = str.maketrans(
+    {"\n": "\\n", '"': '\\"', "\\": "\\\\", "\r": "\\r", "\t": "\\t", "\b": "\\b", "\f": "\\f"}
+)
 
 
 def spelled(inner, form):
@@ -202,7 +204,7 @@ def spelled(inner, form):
         return "[" + ",".join(spelled(one, form[0]) for one in inner) + "]"
     if form == NUMBER:
         return str(int(inner))
-    return '"' + "".join(ESCAPES.get(c, c) for c in inner) + '"'
+    return '"' + inner.translate(ESCAPES) + '"'
 
 
 def spelled_record(fields, forms):

@@ -4,6 +4,7 @@ Exits 1 on a difference.
 """
 
 import hashlib
+import io
 import json
 import random
 import struct
@@ -15,6 +16,7 @@ import cases_event
 import cases_message
 import cases_parts
 import cases_table
+import relay
 from answer import ANSWERS, lines
 from cases import stdin
 from json_text import NotUtf8, characters
@@ -325,8 +327,44 @@ def test_table():
             same("exchange", relay.pairs(), pairs)
 
 
+# From 01 and its readings: lines, and the whole output. {e} stands for a made event's object, {id} for its id.
+NOTICE = '["NOTICE","invalid: %s"]\n'
+RELAY = [
+    ("", ""),
+    ("\n", NOTICE % "not JSON"),
+    ('{}\n["REQ","s",{}]\n["CLOSE","s"]\n\n', NOTICE % "wrong shape" + '["EOSE","s"]\n' + NOTICE % "not JSON"),
+    ('["REQ","s",{}]', '["EOSE","s"]\n'),
+    ('["CLOSE","s"]\r\n\r\n', NOTICE % "not JSON"),
+    ('\0\n["CLOSE","\udcff"]', NOTICE % "not JSON" + NOTICE % "not UTF-8"),
+    ("[" * 9 + "]" * 9, NOTICE % "not JSON"),
+    ("x" * 8193 + "\n[]", NOTICE % "message too long" + NOTICE % "wrong shape"),
+    ("x" * 8192 + "\n", NOTICE % "not JSON"),
+    ("x" * 200000, NOTICE % "message too long"),
+    ('["REQ","a\\/\\u0062\\n",{}]', '["EOSE","a/b\\n"]\n'),
+    ('["REQ","s"]', '["CLOSED","s","invalid: count or length"]\n'),
+    ('["REQ","s",{"limit":-0}]', '["CLOSED","s","invalid: number"]\n'),
+    ('["REQ","",{"limit":-0}]', NOTICE % "number"),
+    ('["REQ","s",{"a":1}]', NOTICE % "wrong shape"),
+    ('["CLOSE",""]', NOTICE % "count or length"),
+    ('["EVENT",{e}]\n["REQ","s",{}]', '["OK","{id}",true,""]\n["EVENT","s",{e}]\n["EOSE","s"]\n'),
+    ('["REQ","s",{"limit":0}]\n["EVENT",{e}]\n["REQ","s",{"limit":0},{"since":1}]',
+     '["EOSE","s"]\n["OK","{id}",true,""]\n["EOSE","s"]\n'),
+    ('["EVENT",{e}]\n["EVENT",{e}]',
+     '["OK","{id}",true,""]\n["OK","{id}",true,"duplicate: already have this event"]\n'),
+]
+
+
+def test_relay():
+    event = cases_event.offer(cases_event.made(kind=1)).removeprefix('["EVENT",').removesuffix("]")
+    for text, want in RELAY:
+        text, want = (s.replace("{e}", event).replace("{id}", json.loads(event)["id"]) for s in (text, want))
+        one = relay.Relay()
+        got = b"".join(map(one.replies, relay.messages(io.BytesIO(raw(text)))))
+        same("relay %r" % text[:300], got.decode(), want)
+
+
 if __name__ == "__main__":
-    for test in (test_digest, test_utf8, test_json, test_messages, test_events, test_parts, test_table):
+    for test in (test_digest, test_utf8, test_json, test_messages, test_events, test_parts, test_table, test_relay):
         test()
     print("selftest: %d differences" % len(failures))
     sys.exit(1 if failures else 0)

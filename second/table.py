@@ -26,6 +26,7 @@ class Event(NamedTuple):
     kind: int
     key: tuple  # None if it has none
     d: tuple  # place and length of d in the text
+    fields: dict  # as rows.py reads them
 
     def slot(self):
         fields = self.time.to_bytes(8, "little", signed=True)
@@ -50,7 +51,7 @@ def event_of(identity, sig, fields):
         at, length = d_place(fields["tags"])
         before = "[0," + "".join(spelled(fields[name], EVENT[name]) + "," for name in ("pubkey", "created_at", "kind"))
         d = (len(before) + at, length) if length else (0, 0)
-    return Event(identity, sig, text_of(fields), int(fields["created_at"]), kind, key, d)
+    return Event(identity, sig, text_of(fields), int(fields["created_at"]), kind, key, d, fields)
 
 
 def d_of(tags):
@@ -143,6 +144,20 @@ def formatted(table, capacity):
     return 0, header + bytes(capacity * SLOT) + table[end:]
 
 
+def verdict(events, capacity, event):
+    """01, "Verdicts of an offer": the answer in words, and the slot that the event fills, or None."""
+    if class_answer(b"", event.kind) == ["ephemeral"]:
+        return "0 ephemeral", None
+    if event.id in [e.id for e in events]:
+        return "0 duplicate", None
+    place = len(events)
+    if event.key in [e.key for e in events if e.key]:
+        place = [e.key for e in events].index(event.key)
+        if events[place].age() < event.age():
+            return "0 older", None
+    return ("12 refused", None) if place == capacity else ("0 stored", place)
+
+
 def offer(table, event):
     """The answer in words, and the table afterwards, for an Event or the row that refuses one."""
     if isinstance(event, int):
@@ -150,21 +165,13 @@ def offer(table, event):
     events = held(table)
     if events is None:
         return ["11 refused"], table
-    if class_answer(b"", event.kind) == ["ephemeral"]:
-        return ["0 ephemeral"], table
-    if event.id in [e.id for e in events]:
-        return ["0 duplicate"], table
-    place = len(events)
-    if event.key in [e.key for e in events if e.key]:
-        place = [e.key for e in events].index(event.key)
-        if events[place].age() < event.age():
-            return ["0 older"], table
-    if place == numbers_of(table)[0]:
-        return ["12 refused"], table
+    answer, place = verdict(events, numbers_of(table)[0], event)
+    if place is None:
+        return [answer], table
     count = max(len(events), place + 1)
     at = HEADER + place * SLOT
     after = table[:4] + count.to_bytes(4, "little") + table[8:at] + event.slot() + table[at + SLOT :]
-    return ["0 stored"], after
+    return [answer], after
 
 
 def shown(table, slot):
