@@ -3,6 +3,7 @@
 import re
 import sys
 
+import relay
 from parts import LINE_BYTES, parts_answer
 from rows import Refused, canonical, offered, read_json, read_message, read_text, row_of, text_of
 from sha256 import sha256
@@ -57,6 +58,9 @@ ANSWERS = {
     "table_cases": Program().answer,  # what a line answers goes by the lines before it
 }
 
+# Programs whose lines have no answer of their own: all that they write.
+OUTPUTS = {"relay": relay.output, "relay_cases": relay.runs}
+
 
 def lines(data):
     """0A ends a line; a last line without it counts if it is not empty."""
@@ -64,7 +68,11 @@ def lines(data):
     return out if out[-1] else out[:-1]
 
 
+def stdout(name, data):
+    if name in OUTPUTS:
+        return OUTPUTS[name](data)
+    return b"".join(ANSWERS[name](line) + b"\n" for line in lines(data))
+
+
 if __name__ == "__main__":
-    answer = ANSWERS[sys.argv[1]]
-    for line in lines(sys.stdin.buffer.read()):
-        sys.stdout.buffer.write(answer(line) + b"\n")
+    sys.stdout.buffer.write(stdout(sys.argv[1], sys.stdin.buffer.read()))

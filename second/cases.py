@@ -7,9 +7,10 @@ import cases_event
 import cases_json
 import cases_message
 import cases_parts
+import cases_relay
 import cases_table
 
-# The lines, and what stands after the last one: two files end without 0A.
+# The lines, and what stands after the last one: three files end without 0A.
 CASES = {
     "digest_cases": (cases_digest.lines, b"\n"),
     "json_cases": (cases_json.lines, b""),
@@ -17,6 +18,8 @@ CASES = {
     "event_cases": (cases_event.lines, b"\n"),
     "parts_cases": (cases_parts.lines, b"\n"),
     "table_cases": (cases_table.lines, b"\n"),
+    "relay": (cases_relay.relay_lines, b""),
+    "relay_cases": (cases_relay.lines, b"\n"),
 }
 
 

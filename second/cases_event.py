@@ -1,6 +1,7 @@
 """Lines for event_cases: messages offered, and after `T ` texts read back. (row, line) where the row is plain."""
 
 import random
+from functools import cache
 
 from cases_message import A, EVENT_FAULTS, GOOD, event, event_with, many, req
 from rows import text_of
@@ -21,8 +22,11 @@ def made(pubkey=A, created_at=0, kind=0, tags=(), content=""):
 STARRED = made(created_at=-7200, kind=1, tags=[["d", "t\n1"]], content='a"b')  # 01, "Cases on either side"
 
 
+digest = cache(sha256)
+
+
 def id_of(fields):
-    return sha256(text_of(fields))
+    return digest(text_of(fields))
 
 
 def spelled_fields(fields, string, id=None):

@@ -1,6 +1,6 @@
 #!/bin/sh
 # Are the stored stdin and stdout of each case program what cases.py and answer.py write? Exits 1 if not.
-# Looks at the programs NAME_cases that crates.txt lists (a line `NAME: DEPS`), then runs selftest.py.
+# Looks at the programs relay and NAME_cases that crates.txt lists (a line `NAME: DEPS`), then runs selftest.py.
 here=$(cd "$(dirname "$0")" && pwd) || exit 1
 root=$here/..
 export PYTHONDONTWRITEBYTECODE=1
@@ -9,7 +9,7 @@ trap 'rm -rf "$work"' EXIT
 failed=0
 
 [ -f "$root/crates.txt" ] || { echo "no crates.txt"; exit 1; }
-listed=$(sed -n 's/^\([A-Za-z0-9_]*_cases\):.*/\1/p' "$root/crates.txt")
+listed=$(sed -n -e 's/^\([A-Za-z0-9_]*_cases\):.*/\1/p' -e 's/^\(relay\):.*/\1/p' "$root/crates.txt")
 
 for name in $listed; do
   folder=$root/crates/$name
@@ -20,7 +20,7 @@ for name in $listed; do
     echo "$name: stdout is not what answer.py writes"
     failed=1
   else
-    echo "$name: stdin and stdout as written, $(wc -l <"$work/stdout" | tr -d ' ') cases"
+    echo "$name: stdin and stdout as written, $(wc -l <"$work/stdout" | tr -d ' ') lines"
   fi
 done
 

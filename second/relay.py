@@ -4,6 +4,7 @@ The digest is hashlib's here, for long inputs; selftest.py compares sha256.py wi
 """
 
 import hashlib
+import io
 import sys
 
 from query import answer
@@ -124,6 +125,32 @@ def messages(stream):
         while rest and not rest.endswith(b"\n"):
             rest = stream.readline(65536)
         yield line.removesuffix(b"\n")
+
+
+def output(data):
+    """What the program writes, of its whole input."""
+    relay = Relay()
+    return b"".join(map(relay.replies, messages(io.BytesIO(data))))
+
+
+def fed(line):
+    """The bytes that a line of relay_cases feeds: L bytes and 0A, P bytes, R a byte so many times."""
+    if line[:1] == b"L":
+        return line[1:] + b"\n"
+    return line[1:] if line[:1] == b"P" else line[1:2] * int(line[2:])
+
+
+def runs(data):
+    """What relay_cases prints: the output of each run, from N to E, then a line E. How the input is cut makes no difference."""
+    out, given = [], []
+    for line in data.split(b"\n"):
+        if line == b"E":
+            out.append(output(b"".join(given)) + b"E\n")
+        elif line[:1] == b"N":
+            given = []
+        elif line:
+            given.append(fed(line))
+    return b"".join(out)
 
 
 def main():

@@ -4,7 +4,6 @@ Exits 1 on a difference.
 """
 
 import hashlib
-import io
 import json
 import random
 import struct
@@ -15,6 +14,7 @@ import cases_digest
 import cases_event
 import cases_message
 import cases_parts
+import cases_relay
 import cases_table
 import relay
 from answer import ANSWERS, lines
@@ -358,9 +358,10 @@ def test_relay():
     event = cases_event.offer(cases_event.made(kind=1)).removeprefix('["EVENT",').removesuffix("]")
     for text, want in RELAY:
         text, want = (s.replace("{e}", event).replace("{id}", json.loads(event)["id"]) for s in (text, want))
-        one = relay.Relay()
-        got = b"".join(map(one.replies, relay.messages(io.BytesIO(raw(text)))))
-        same("relay %r" % text[:300], got.decode(), want)
+        same("relay %r" % text[:300], relay.output(raw(text)).decode(), want)
+    for want, _, given in cases_relay.runs():
+        if want is not None:
+            same("run %r" % given[:4], relay.output(b"".join(map(relay.fed, given))).decode(), want)
 
 
 if __name__ == "__main__":

@@ -1,0 +1,273 @@
+"""Lines for relay_cases: runs of the relay, each over a fresh table. A run is (answer, how large the pieces are, what is fed); the answer
+is plain from how the run is made, else None. What is fed are lines of relay_cases: L and bytes that 0A ends, P and bytes alone, R, a byte
+and how often.
+"""
+
+import random
+
+from cases_event import MAX_TIME, made, offer, spelled_fields
+from cases_message import A, EVENT_FAULTS, FILTER_FAULTS, SUB_FAULTS, broken, event, random_lines, random_message, req, written
+from spell import damaged, hexes, plain, raw, spell, words
+
+B = "b" * 64
+REASONS = {
+    1: "invalid: message too long",
+    2: "invalid: not UTF-8",
+    3: "invalid: not JSON",
+    4: "invalid: string not allowed",
+    5: "invalid: wrong shape",
+    6: "invalid: number",
+    7: "invalid: hex",
+    8: "invalid: count or length",
+    9: "invalid: event too large",
+    10: "invalid: id does not match",
+    12: "error: no room",
+}
+DUPLICATE, OLDER = "duplicate: already have this event", "duplicate: have a newer version"
+CUTS = (0, 0, 0, 1, 2, 7, 100, 8192, 8193)
+
+
+def notice(row):
+    return '["NOTICE","%s"]\n' % REASONS[row]
+
+
+def closed(sub, row):
+    return '["CLOSED","%s","%s"]\n' % (sub, REASONS[row])
+
+
+def refused(id, row):
+    return '["OK","%s",false,"%s"]\n' % (id, REASONS[row])
+
+
+def taken(id, reason=""):
+    return '["OK","%s",true,"%s"]\n' % (id, reason)
+
+
+def eose(sub="s"):
+    return '["EOSE","%s"]\n' % sub
+
+
+def fed(text):
+    return b"L" + raw(text)
+
+
+def run(pairs, cut=0):
+    """Lines with what each is answered."""
+    pairs = list(pairs)
+    return "".join(want for want, _ in pairs), cut, [fed(text) for _, text in pairs]
+
+
+def sent(fields):
+    """What a REQ sends of an event."""
+    return '["EVENT","s",{%s}]\n' % ",".join('"%s":%s' % pair for pair in spelled_fields(fields, plain).items())
+
+
+def id_in(fields):
+    return spelled_fields(fields, plain)["id"][1:-1]
+
+
+def tile(n, time=0, content=""):
+    return made(created_at=time, kind=30000, tags=[["d", "tile-%d" % n]], content=content)
+
+
+FOUR = ["{}", '["REQ","s",{}]', '["CLOSE","s"]', ""]
+FOUR_SAY = '["NOTICE","invalid: wrong shape"]\n["EOSE","s"]\n["NOTICE","invalid: not JSON"]\n'
+
+
+# The ends of lines and of the input.
+
+
+def ends():
+    for cut in CUTS:
+        yield FOUR_SAY, cut, [fed(text) for text in FOUR]
+        yield "", cut, []
+        yield notice(3), cut, [fed("")]
+        yield notice(3) * 3, cut, [fed("")] * 3
+        yield "", cut, [b"P"]
+        yield eose(), cut, [b"P" + raw(req("{}"))]
+        yield eose() * 2, cut, [fed(req("{}")), b"P" + raw(req("{}"))]
+        yield eose() + notice(3), cut, [b"P" + raw(req("{}")[:5]), fed(req("{}")[5:]), b"P "]
+        yield eose() * 2 + notice(3), cut, [fed(req("{}") + "\r"), fed("\r" + req("{}")), fed("\r")]
+        yield notice(3) * 3, cut, [fed("\x00"), fed(req("{}") + "\x00"), b"P\x00"]
+        yield notice(2) + notice(2), cut, [b"L\xff", b"P[\xc0\x80"]
+        yield notice(5), cut, [b"P0"]
+
+
+def long_lines():
+    """8,192 bytes are a message; one more, or a million, is one reply."""
+    close, ask = raw('["CLOSE","s"]'), raw(req("{}"))
+    for cut in CUTS:
+        yield "", cut, [b"P" + close, b"R %d" % (8192 - len(close)), b"L"]
+        yield notice(1), cut, [b"P" + close, b"R %d" % (8193 - len(close)), b"L"]
+        yield eose(), cut, [b"R %d" % (8192 - len(ask)), b"P" + ask]
+        yield notice(1), cut, [b"R %d" % (8193 - len(ask)), b"P" + ask]
+        yield notice(1) + eose(), cut, [b"R 8193", fed(""), b"P" + ask]
+        # what follows the 8,192nd byte is no message of its own
+        yield notice(1) * 2, cut, [b"R 8192", fed(req("{}")), b"R 8193", b"P" + ask]
+    for size in (8191, 8192, 8193, 8194, 16000, 16384, 16386, 65535, 65536, 1000000):
+        row = 3 if size <= 8192 else 1
+        for cut in (0, 1, 1000) if size < 65536 else (0, 8192):
+            yield notice(row) + eose(), cut, [b"RA%d" % size, fed(""), fed(req("{}"))]
+            yield eose() + notice(row), cut, [fed(req("{}")), b"RA%d" % size]
+            yield notice(row), cut, [b"R\x00%d" % size, fed("")]
+
+
+# Each row of the table of numbers, in each of its forms.
+
+
+def rows():
+    good = made(kind=1)
+    values = spelled_fields(good, plain)
+    for row, name, value in EVENT_FAULTS:
+        text = event({**values, name: value}.items())
+        named = row > 5 and name != "id"
+        yield run([(refused(id_in(good), row) if named else notice(row), text)])
+    for row, name, value in FILTER_FAULTS:
+        want = closed("s", row) if row > 5 else notice(row)
+        yield run([(want, req('{"%s":%s}' % (name, value)))])
+        yield run([(want, req("{}", '{"%s":%s}' % (name, value)))])
+        # a REQ whose own subscription id is past its bounds names nothing
+        for long in ("", "x" * 65):
+            yield run([(notice(row), req('{"%s":%s}' % (name, value), sub=plain(long)))])
+    for row, sub in SUB_FAULTS:
+        yield run([(notice(row), req("{}", sub=sub)), (notice(row), '["CLOSE",%s]' % sub)])
+    for count in (0, 5):
+        yield run([(closed("s", 8), req(*["{}"] * count))])
+    for size in (4016, 4017):
+        one = made(content="x" * size)
+        yield run([(taken(id_in(one)) if size == 4016 else refused(id_in(one), 9), offer(one))])
+        yield run([(refused(B, 10 if size == 4016 else 9), offer(one, id=B))])
+    yield run([(refused(B, 10), offer(good, id=B)), (eose(), req("{}"))])
+    # the id is spelled with escapes, and said without
+    rng = random.Random(20)
+    for _ in range(12):
+        string = lambda s: spell(rng, s)
+        wrong = {**spelled_fields(good, string, B), "kind": "65536"}
+        yield run([(refused(B, 6), event(wrong.items())), (refused(B, 10), offer(good, string, B)), (taken(id_in(good)), offer(good, string))])
+    for spelled, said in (('"\\u0073"', "s"), ('"\\/\\u0022\\n"', '/\\"\\n'), ('"\\ud83d\\ude00"', "\U0001f600"), ('"\u00e9"', "\u00e9")):
+        asked = [(eose(said), req("{}", sub=spelled)), (closed(said, 6), req('{"limit":-1}', sub=spelled)), ("", '["CLOSE",%s]' % spelled)]
+        yield run(asked)
+    for count in (64, 65):
+        sub = "\u00e9" * count
+        yield run([(eose(sub) if count == 64 else notice(8), req("{}", sub=plain(sub)))])
+
+
+# Verdicts, and a full table.
+
+
+def verdicts():
+    one, newer, older = tile(1), tile(1, 1), tile(1, -7200)
+    flash = made(kind=20000, created_at=5)
+    yield run(
+        [
+            (taken(id_in(one)), offer(one)),
+            (taken(id_in(one), DUPLICATE), offer(one)),
+            (taken(id_in(older), OLDER), offer(older)),
+            (taken(id_in(flash)), offer(flash)),
+            (sent(one) + eose(), req("{}")),
+            (taken(id_in(newer)), offer(newer)),
+            (taken(id_in(one), OLDER), offer(one)),
+            (sent(newer) + eose(), req("{}")),
+        ]
+    )
+    full = [tile(n, n) for n in range(8)]
+    stranger, again = made(kind=1), tile(3, 100)
+    newest_first = sorted(full, key=lambda fields: -int(fields["created_at"]))
+    yield run(
+        [(taken(id_in(fields)), offer(fields)) for fields in full]
+        + [
+            (taken(id_in(full[0]), DUPLICATE), offer(full[0])),
+            (refused(id_in(stranger), 12), offer(stranger)),
+            (taken(id_in(flash)), offer(flash)),
+            ("".join(map(sent, newest_first)) + eose(), req("{}")),
+            (taken(id_in(again)), offer(again)),
+            (sent(again) + eose(), req('{"limit":1}')),
+            (refused(id_in(stranger), 12), offer(stranger)),
+            (taken(id_in(full[3]), OLDER), offer(full[3])),
+            (eose(), req('{"limit":0}')),
+            (eose(), req('{"since":101}')),
+            (sent(again) + eose(), req('{"since":100}', '{"ids":["%s"]}' % id_in(again))),
+        ]
+    )
+    before = made(created_at=-1, kind=1)
+    yield run([(taken(id_in(before)), offer(before)), (eose(), req('{"since":0}')), (sent(before) + eose(), req('{"since":-1,"until":-1}'))])
+
+
+# Random runs: events of few keys, what is asked of them, and lines that are broken in many ways.
+
+
+def random_fields(rng):
+    kind = rng.choice([0, 1, 1, 3, 44, 9999, 10000, 19999, 20000, 30000, 30000, 30000, 39999, 40000])
+    tags = rng.choice([[], [["d"]], [["d", ""]], [["d", "a"]], [["d", "a\n"]], [["e", "x"], ["e", "y", "z"]], [["E", "x"], ["t"]]])
+    time = rng.choice([0, 0, 1, 2, -1, -7200, 1700000000, MAX_TIME, -MAX_TIME])
+    inner = rng.choice(["", "", words(rng, 6), "x" * rng.randrange(10, 60)])
+    return made(rng.choice([A, A, B]), time, kind, tags, inner)
+
+
+def random_condition(rng, name, events):
+    one = rng.choice(events)
+    if name == "ids":
+        return "[%s]" % ",".join(plain(id_in(rng.choice(events))) for _ in range(rng.randrange(1, 4)))
+    if name == "authors":
+        return rng.choice(['["%s"]' % A, '["%s"]' % B, '["%s","%s"]' % (A, B), '["%s"]' % ("c" * 64)])
+    if name == "kinds":
+        return "[%s]" % ",".join(rng.choice(events)["kind"] for _ in range(rng.randrange(1, 4)))
+    if name == "limit":
+        return str(rng.choice([0, 1, 2, 3, 8, 65535]))
+    if name in ("since", "until"):
+        return str(max(-MAX_TIME, min(MAX_TIME, int(one["created_at"]) + rng.choice([-1, 0, 0, 1]))))
+    values = [tag[1] for tag in one["tags"] if len(tag) > 1] or ["x"]
+    return "[%s]" % ",".join(spell(rng, value) for value in values)
+
+
+def random_filter(rng, events):
+    names = rng.sample("ids authors kinds since until limit limit #d #e #E".split(), rng.choice([0, 0, 1, 1, 1, 2, 3]))
+    return "{%s}" % ",".join('"%s":%s' % (name, random_condition(rng, name, events)) for name in dict.fromkeys(names))
+
+
+def random_text(rng, events, strays):
+    way = rng.randrange(20)
+    if way < 9:
+        string = plain if rng.randrange(4) else lambda s: spell(rng, s)
+        wrong = {"id": hexes(rng, 64)} if rng.randrange(15) == 0 else {}
+        return raw(offer(rng.choice(events), string, **wrong))
+    if way < 16:
+        sub = rng.choice(['"s"', '"s"', spell(rng, "s" + words(rng, 3))])
+        return raw(req(*[random_filter(rng, events) for _ in range(rng.choice([1, 1, 1, 2, 4]))], sub=sub))
+    if way == 16:
+        return damaged(rng, raw(offer(rng.choice(events))))
+    if way == 17:
+        head, objects = random_message(rng)
+        return written(rng, head, broken(rng, objects) if objects else objects)
+    return rng.choice(strays)
+
+
+def random_runs(rng, count):
+    strays = [line for line in random_lines(rng) if len(line) < 400 and b"\n" not in line]
+    for _ in range(count):
+        events = [random_fields(rng) for _ in range(rng.choice([3, 6, 12, 20]))]
+        texts = [random_text(rng, events, strays).replace(b"\n", b" ") for _ in range(rng.choice([5, 12, 25, 40]))]
+        last = b"LP"[rng.randrange(2) :][:1]
+        yield None, rng.choice(CUTS), [b"L" + text for text in texts[:-1]] + [last + texts[-1]]
+
+
+def runs():
+    for part in (ends, long_lines, rows, verdicts):
+        yield from part()
+    yield from random_runs(random.Random(21), 500)
+
+
+def lines():
+    out = []
+    for _, cut, given in runs():
+        out += [b"N%d" % cut] + given + [b"E"]
+    return out
+
+
+def relay_lines():
+    """The stored input of the program relay itself: 01's four lines, then one long run, whose last line has no 0A."""
+    rng = random.Random(22)
+    out = [raw(text) for text in FOUR] + [b"x" * size for size in (8192, 8193, 16000, 1000000)]
+    for _, _, given in list(random_runs(rng, 40)):
+        out += [line[1:] for line in given]
+    return out + [raw(req("{}"))]

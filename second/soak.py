@@ -1,0 +1,42 @@
+"""soak.py PROGRAM [LINES] [SEED]: generated lines, a thousand to each fresh run, through PROGRAM and through relay.py.
+
+Prints the first input on which they differ and exits 1. A million lines take some ten minutes.
+"""
+
+import random
+import subprocess
+import sys
+
+from cases_message import random_lines
+from cases_relay import random_fields, random_text
+from relay import output
+
+RUN = 1000
+
+
+def one_run(rng, strays):
+    """Lines about few events or many, so that tables fill slowly or at once; some lines too long, at times a last one without 0A."""
+    events = [random_fields(rng) for _ in range(rng.choice([4, 8, 12, 40]))]
+    pool = [random_text(rng, events, strays).replace(b"\n", b" ") for _ in range(400)]
+    lines = [rng.choice(pool) for _ in range(RUN)]
+    lines[rng.randrange(RUN)] = b" " * rng.choice([8191, 8192, 8193, 20000])
+    return b"\n".join(lines) + rng.choice([b"\n", b""])
+
+
+def main(program, count=1000000, seed=1):
+    rng = random.Random(seed)
+    strays = [line for line in random_lines(rng) if b"\n" not in line]
+    written = 0
+    for turn in range(count // RUN):
+        given = one_run(rng, strays)
+        got = subprocess.run([program], input=given, stdout=subprocess.PIPE, check=True).stdout
+        want = output(given)
+        written += len(want)
+        if got != want:
+            sys.stdout.buffer.write(given)
+            sys.exit("run %d of seed %d differs" % (turn, seed))
+    print("%d lines, %d bytes of replies, no difference" % (count // RUN * RUN, written))
+
+
+if __name__ == "__main__":
+    main(sys.argv[1], *map(int, sys.argv[2:]))
