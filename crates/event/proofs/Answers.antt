@@ -195,19 +195,15 @@ module _ (b : List ℕ) (p : Body) {r : ℕ} (e : r ≡ bodyRow b p) where
 rows-refused : (b : List ℕ) (p : EventParts) (t : List ℕ) {x : ℕ} → x ≡ offeredRow b p → (x ≡ 0 → ⊥) → Tested b p (Refused x) t
 rows-refused b p t e n = record { says = simp (ne-eqb (offeredRow b p) 0 (λ q. n (e ∙ q)), e); there = λ z. absurd (n (e ∙ z)) }
 
-module _ (b : List ℕ) (p : EventParts) {r : ℕ} (e : r ≡ eventRow b p) where
-  pub parts-refused : (t : List ℕ) → (r ≡ 0 → ⊥) → Tested b p (Refused r) t
-  unfolding offeredRow
-  parts-refused t n = rows-refused b p t (e ∙ rw (ne-eqb (eventRow b p) 0 (λ q. n (e ∙ q)))) n
-
-  module _ (z : r ≡ 0) {d t : List ℕ} {n : ℕ} (room : length t ≡ 4097) (l : Puts d 0 (textOf b (p .body)) n t) {x : Identified} (f : x ≡ hashedOf (take n t)) where
+module _ (b : List ℕ) (p : EventParts) (z : eventRow b p ≡ 0) where
+  module _ {d t : List ℕ} {n : ℕ} (room : length t ≡ 4097) (l : Puts d 0 (textOf b (p .body)) n t) {x : Identified} (f : x ≡ hashedOf (take n t)) where
     row-is : x .row ≡ cond (isLarge b (p .body)) 9 0
     unfolding hashedOf isLarge
     row-is = ap (λ (y : Identified). y .row) (prefix-hashed room l f)
 
     pub large-offered : (x .row ≡ 0 → ⊥) → Tested b p (Refused (x .row)) t
     unfolding offeredRow
-    large-offered n = rows-refused b p t (rw (eq-eqb (eventRow b p) 0 (sym e ∙ z)) (go (isLarge b (p .body)) row-is)) n
+    large-offered n = rows-refused b p t (rw (eq-eqb (eventRow b p) 0 z) (go (isLarge b (p .body)) row-is)) n
       where
         go : (t : Bool) → x .row ≡ cond t 9 0 → x .row ≡ cond t 9 (cond (hasId b p) 0 10)
         go true q = q
@@ -227,7 +223,7 @@ module _ (b : List ℕ) (p : EventParts) {r : ℕ} (e : r ≡ eventRow b p) wher
 
       row-offered : {t : Bool} → t ≡ sameBytes (said b (p .id)) (hexOf (x .id)) → cond t 0 10 ≡ offeredRow b p
       unfolding offeredRow hasId
-      row-offered q = rw (eq-eqb (eventRow b p) 0 (sym e ∙ z), not-large, q, id-is)
+      row-offered q = rw (eq-eqb (eventRow b p) 0 z, not-large, q, id-is)
 
       pub other-id : false ≡ sameBytes (said b (p .id)) (hexOf (x .id)) → Tested b p (Refused 10) t
       other-id q = rows-refused b p t (row-offered q) (λ q. omega arith)
@@ -243,6 +239,15 @@ module _ (b : List ℕ) (p : EventParts) {r : ℕ} (e : r ≡ eventRow b p) wher
 -- ---- an event offered: its row, and its text
 abbrev pub AsOffered : List ℕ → EventParts → List ℕ → Written → List ℕ → Type 0
 AsOffered b p out w o = (w ≡ offered b p out) × ((numberOf w ≡ offeredTextRow b p out) × (o ≡ offeredOut b p out))
+
+module _ (b : List ℕ) (p : EventParts) {r : ℕ} (e : r ≡ eventRow b p) (n : r ≡ 0 → ⊥) where
+  pub early-row : r ≡ offeredRow b p
+  unfolding offeredRow
+  early-row = e ∙ rw (ne-eqb (eventRow b p) 0 (λ q. n (e ∙ q)))
+
+  pub early-refused : (out : List ℕ) → AsOffered b p out (Refused r) out
+  unfolding offered offeredOut offeredTextRow
+  early-refused out = refused (textOf b (p .body)) out (offeredRow b p) (shortRow (textOf b (p .body)) out) early-row n
 
 module _ (b : List ℕ) (p : EventParts) {w : Written} {t : List ℕ} (k : Tested b p w t) {x : ℕ} where
   module _ (e : w ≡ Refused x) where

@@ -40,9 +40,9 @@ pub body-complete : (b : List ℕ) (p : Body) {r : ℕ} → r ≡ bodyRow b p �
 unfolding bodyRow
 body-complete b p e z = in-body b p (five (body2 b p) (body4 b p) (body5 b p) (body6 p) (body7 b p) (body8 b p) (sym e ∙ z))
 
-pub event-complete : (b : List ℕ) (p : EventParts) {r : ℕ} → r ≡ eventRow b p → r ≡ 0 → firstOf (startAt b (p .body .tags)) ≡ firstTag b (p .body .tags)
+pub event-complete : (b : List ℕ) (p : EventParts) → eventRow b p ≡ 0 → firstOf (startAt b (p .body .tags)) ≡ firstTag b (p .body .tags)
 unfolding eventRow event5
-event-complete b p e z =
-    let (k, x) = or-neither (string5 b (p .id)) _ (five (event2 b p) (event4 b p) (event5 b p) (body6 (p .body)) (event7 b p) (body8 b (p .body)) (sym e ∙ z)) in
+event-complete b p z =
+    let (k, x) = or-neither (string5 b (p .id)) _ (five (event2 b p) (event4 b p) (event5 b p) (body6 (p .body)) (event7 b p) (body8 b (p .body)) z) in
     let (v, y) = or-neither (body5 b (p .body)) _ x in
     in-body b (p .body) v

@@ -9,4 +9,5 @@ mod Order
 pub mod Answers
 pub mod Decoded
 mod Complete
+pub mod Sent
 pub mod Fit

@@ -4,4 +4,5 @@ pub mod Lent
 pub mod Walk
 pub mod Order
 pub mod Answer
+pub mod Sent
 pub mod Cases

@@ -9,10 +9,13 @@ ghost use Rattle.json.specs.Tree.{endOf, treeAt, itemsAt};
 ghost use Rattle.wire.specs.Bytes.{sameBytes};
 ghost use Rattle.spell.specs.Spell.{decode};
 ghost use Rattle.text.specs.Event.{quoted, tagsText};
+ghost use Rattle.message.specs.Lent.{eventRow};
+ghost use Rattle.message.specs.declared.Message.the-variants.{Event};
 ghost use Rattle.event.specs.Lent.{said, natural, tagsAt, textOf};
 ghost use Rattle.event.specs.Walk.{tagDepth, stringDepth, puts, Counts, mostLength, lengthOf, Does, firstOf, firstTag, Tested, frontText, backText, stringText, stringsText, oneTagText, allTagsText};
 ghost use Rattle.event.specs.Answer.{hexDigit, hexOf, hashedOf, shortRow, answered, writtenOut, numberOf, serialisedRow, serialised, serialisedOut, identified};
 ghost use Rattle.event.specs.Answer.{offeredRow, offeredTextRow, offered, offeredOut};
+ghost use Rattle.event.specs.Sent.{unreadRow, sentRowOf, sentTextOf, sentOutOf, sentRow, sentText, sentOut, sentTextNumber};
 ghost use Rattle.event.specs.Order.{isLower, isNewer};
 
 // The most brackets and braces open at once in the tags' array, in a tag and in what a tag holds.
@@ -37,6 +40,12 @@ struct Reached {
 // What serialising answers: how many bytes it wrote, or the row that refuses the parts.
 pub enum Written {
     Wrote(usize),
+    Refused(u8),
+}
+
+// The event of a message: its parts, and how many bytes its text has; or the row that refuses the message.
+pub enum SentText {
+    Wrote(message::EventParts, usize),
     Refused(u8),
 }
 
@@ -509,15 +518,12 @@ fn spells_id(b: &[u8], s: message::Span, id: [u8; 32]) -> bool
     spell::spells(wire::piece(b, s.start, s.len), &hex)
 }
 
-// Rows 2 and 4 to 10 of an event that is offered as parts; where none holds, its text stands at the start of `t`.
-fn tested(b: &[u8], p: message::EventParts, t: &mut [u8]) -> Written
+// Rows 9 and 10 of an event whose parts rows 2 and 4 to 8 let pass; where neither holds, its text stands at the start of `t`.
+fn rest(b: &[u8], p: message::EventParts, t: &mut [u8]) -> Written
     requires { ⌜ length (now t) ≡ 4097 ⌝ }
+    requires { ⌜ eventRow (now b) p ≡ 0 ⌝ }
     ensures { λ r. ⌜ Tested (now (b .entry)) p r (now (t .exit)) ⌝ }
 {
-    let row = message::event_row(b, p);
-    if row != 0 {
-        return Written::Refused(row);
-    }
     let given = p.id;
     let body = p.body;
     let known = begun(b, body.tags);
@@ -534,27 +540,86 @@ fn tested(b: &[u8], p: message::EventParts, t: &mut [u8]) -> Written
     Written::Refused(10)
 }
 
-// Rows 2 and 4 to 10 of an event that is offered as parts.
-pub fn offered_row(b: &[u8], p: message::EventParts) -> u8
-    ensures { λ r. ⌜ r ≡ offeredRow (now (b .entry)) p ⌝ }
-{
-    let mut t = [0u8; 4097];
-    match tested(b, p, &mut t) {
-        Written::Wrote(_) => 0,
-        Written::Refused(row) => row,
-    }
-}
-
-// The same rows, then 13; where none holds, the event's text from the start of `out`. It is serialised once and hashed once.
-pub fn offered_text(b: &[u8], p: message::EventParts, out: &mut [u8]) -> Written
+// The same rows, then 13; where none holds, the text from the start of `out`. It is serialised once and hashed once.
+fn rest_text(b: &[u8], p: message::EventParts, out: &mut [u8]) -> Written
+    requires { ⌜ eventRow (now b) p ≡ 0 ⌝ }
     ensures { λ r. ⌜ r ≡ offered (now (b .entry)) p (now (out .entry)) ⌝ }
     ensures { λ r. ⌜ numberOf r ≡ offeredTextRow (now (b .entry)) p (now (out .entry)) ⌝ }
     ensures { λ _. ⌜ now (out .exit) ≡ offeredOut (now (b .entry)) p (now (out .entry)) ⌝ }
 {
     let mut t = [0u8; 4097];
-    match tested(b, p, &mut t) {
+    match rest(b, p, &mut t) {
         Written::Wrote(n) => give(&t[..n], out),
         Written::Refused(row) => Written::Refused(row),
+    }
+}
+
+// Rows 2 and 4 to 10 of an event that is offered as parts.
+pub fn offered_row(b: &[u8], p: message::EventParts) -> u8
+    ensures { λ r. ⌜ r ≡ offeredRow (now (b .entry)) p ⌝ }
+{
+    let early = message::event_row(b, p);
+    if early != 0 {
+        return early;
+    }
+    let mut t = [0u8; 4097];
+    match rest(b, p, &mut t) {
+        Written::Wrote(_) => 0,
+        Written::Refused(row) => row,
+    }
+}
+
+// The same rows, then 13; where none holds, the event's text from the start of `out`.
+pub fn offered_text(b: &[u8], p: message::EventParts, out: &mut [u8]) -> Written
+    ensures { λ r. ⌜ r ≡ offered (now (b .entry)) p (now (out .entry)) ⌝ }
+    ensures { λ r. ⌜ numberOf r ≡ offeredTextRow (now (b .entry)) p (now (out .entry)) ⌝ }
+    ensures { λ _. ⌜ now (out .exit) ≡ offeredOut (now (b .entry)) p (now (out .entry)) ⌝ }
+{
+    let row = message::event_row(b, p);
+    if row != 0 {
+        return Written::Refused(row);
+    }
+    rest_text(b, p, out)
+}
+
+// The row of a message that the reader refused: "gives 5 also if it isn't an EVENT", after rows 1 to 4.
+fn unread_row(m: &[u8], row: u8) -> u8
+    ensures { λ r. ⌜ r ≡ unreadRow (now (m .entry)) row ⌝ }
+{
+    if row <= 4 {
+        return row;
+    }
+    if message::is_event(m) {
+        return row;
+    }
+    5
+}
+
+// The event of a message that the reader took.
+fn sent_event(m: &[u8], p: message::EventParts, out: &mut [u8]) -> SentText
+    requires { ⌜ eventRow (now m) p ≡ 0 ⌝ }
+    ensures { λ r. ⌜ r ≡ sentTextOf (now (m .entry)) (now (out .entry)) (Event p) ⌝ }
+    ensures { λ r. ⌜ sentTextNumber r ≡ sentRowOf (now (m .entry)) (now (out .entry)) (Event p) ⌝ }
+    ensures { λ _. ⌜ now (out .exit) ≡ sentOutOf (now (m .entry)) (now (out .entry)) (Event p) ⌝ }
+{
+    match rest_text(m, p, out) {
+        Written::Wrote(n) => SentText::Wrote(p, n),
+        Written::Refused(row) => SentText::Refused(row),
+    }
+}
+
+// Rows 1 to 10 of an event that is offered as a message, then 13; where none holds, its parts, and its text from the start of `out`. Rows 2 and 4
+// to 8 are tested once: the parts of a message that the reader took pass them.
+pub fn sent_text(m: &[u8], out: &mut [u8]) -> SentText
+    ensures { λ r. ⌜ r ≡ sentText (now (m .entry)) (now (out .entry)) ⌝ }
+    ensures { λ r. ⌜ sentTextNumber r ≡ sentRow (now (m .entry)) (now (out .entry)) ⌝ }
+    ensures { λ _. ⌜ now (out .exit) ≡ sentOut (now (m .entry)) (now (out .entry)) ⌝ }
+{
+    match message::read(m) {
+        message::Message::Event(p) => sent_event(m, p, out),
+        message::Message::Req(_) => SentText::Refused(5),
+        message::Message::Close(_) => SentText::Refused(5),
+        message::Message::Refused(row) => SentText::Refused(unread_row(m, row)),
     }
 }
 

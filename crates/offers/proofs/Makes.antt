@@ -99,10 +99,16 @@ module _ (a k n : ℕ) (s : n ≡ a + k) {d : List ℕ} (e : d ≡ replicate n 0
       ap₂ (λ x z. x ++ (y ++ z)) t u ∙ ap (λ z. replicate a 0 ++ z) (append-nil y)
 
 -- what of a slot is lent for the text, and the slot when it came back as y
-abbrev lentPart : List ℕ → List ℕ
+abbrev pub lentPart : List ℕ → List ℕ
 lentPart d = part d textPlace (slotSize - textPlace)
 
-abbrev given : List ℕ → List ℕ → List ℕ
+blank : {d : List ℕ} → d ≡ replicate slotSize 0 → lentPart d ≡ replicate mostText 0
+blank zs = part-zeros textPlace mostText slotSize (omega arith) zs
+
+pub lent-most : {d : List ℕ} → d ≡ replicate slotSize 0 → mostText ≤ length (lentPart d)
+lent-most zs = omega (arith, ap length (blank zs), length-replicate {A = ℕ} mostText 0)
+
+abbrev pub given : List ℕ → List ℕ → List ℕ
 given d y = putMid textPlace (slotSize - textPlace) d y
 
 d-if : (c : Class) (v : Event) → (ifAddressable c (textOf v .d) ≡ dIfAddressable c v .at) × (ifAddressable c (textOf v .«d_len») ≡ dIfAddressable c v .len)
@@ -167,11 +173,8 @@ module _ (b : List ℕ) (p : EventParts) where
 
   -- what a slot d of zeros came back as, its place for the text having been lent
   module _ (d : List ℕ) (zs : d ≡ replicate slotSize 0) {w : Written} (a : w ≡ offered b p (lentPart d)) (q : numberOf w ≡ offeredTextRow b p (lentPart d)) where
-    blank : lentPart d ≡ replicate mostText 0
-    blank = part-zeros textPlace mostText slotSize (omega arith) zs
-
     row-is : numberOf w ≡ offeredRow b p
-    row-is = q ∙ row-alone-most b p (lentPart d) (omega (arith, ap length blank, length-replicate {A = ℕ} mostText 0))
+    row-is = q ∙ row-alone-most b p (lentPart d) (lent-most zs)
 
     not-wrote : (x r n : ℕ) → x ≡ 0 → answered x n ≡ written.Refused r → ⊥
     not-wrote x r n h f = let g = sym (ap (λ t. answered t n) h) ∙ f in let y : _≡_ {A = ℕ} 0 1 = cc in omega arith
@@ -207,7 +210,7 @@ module _ (b : List ℕ) (p : EventParts) where
             let t = lent.textOf b (p .body) in
             let m = offered-small b p row-none in
             let s : mostText ≡ length t + (mostText - length t) = omega arith in
-            o ∙ ap (λ x. writtenOut x t (lentPart d)) text-row ∙ ap (t ++_) (rest-zeros (length t) (mostText - length t) mostText s blank)
+            o ∙ ap (λ x. writtenOut x t (lentPart d)) text-row ∙ ap (t ++_) (rest-zeros (length t) (mostText - length t) mostText s (blank zs))
 
         came-back : given d y ≡ replicate textPlace 0 ++ textBytes (lent.textOf b (p .body))
         came-back = lent-zeros textPlace mostText slotSize (omega arith) zs y ∙ ap (λ z. replicate textPlace 0 ++ z) text-is

@@ -1,7 +1,7 @@
 // Offers to a table (01, "The table"), as a message and as parts: the rows and the verdict, and the one slot and the count that a store
 // writes. The definitions are table/specs/Offer; what the code goes by on the way stands in specs/.
 ghost use mathlib.Core.Path.{_≡_};
-ghost use mathlib.Core.Bool.{true, cond, _||_};
+ghost use mathlib.Core.Bool.{true};
 ghost use Prim.Native.Nat.{ℕ, _≤_};
 ghost use lib.Dec.{leb};
 ghost use lib.ListN.{length, replicate};
@@ -13,7 +13,6 @@ ghost use Rattle.text.specs.Event.{Event};
 ghost use Rattle.text.specs.Read.{read, readText};
 ghost use Rattle.text.specs.Answer.{textOf};
 ghost use Rattle.text.specs.Kinds.{isEphemeral, classOf};
-ghost use Rattle.message.specs.Read.{isEvent};
 ghost use Rattle.event.specs.Lent.{said};
 ghost use Rattle.event.specs.Answer.{offeredRow};
 ghost use Rattle.law.specs.Lists.{any, find};
@@ -107,30 +106,18 @@ fn make_slot(out: &mut [u8], b: &[u8], p: message::EventParts) -> u8
     }
 }
 
-// The row of a message that the reader refused: "gives 5 also if it isn't an EVENT", after rows 1 to 4.
-fn refused_row(m: &[u8], row: u8) -> u8
-    ensures { λ r. ⌜ r ≡ cond (leb row 4 || isEvent (now (m .entry))) row 5 ⌝ }
-{
-    if row <= 4 {
-        return row;
-    }
-    if message::is_event(m) {
-        return row;
-    }
-    5
-}
-
-// The slot that the event of a message would fill, in bytes that are zero; or the lowest of rows 1 to 10.
+// The same, of the event of a message, or the lowest of rows 1 to 10: the reader tests its parts, and nobody tests them again.
 fn make_from(out: &mut [u8], m: &[u8]) -> u8
     requires { ⌜ now out ≡ replicate slotSize 0 ⌝ }
     ensures { λ r. ⌜ r ≡ messageOfferRow (now (m .entry)) ⌝ }
     ensures { λ r. ⌜ (r ≡ 0 → now (out .exit) ≡ slotBytes (heldOf (now (m .entry)) (partsOf (now (m .entry))))) ⌝ }
 {
-    match message::read(m) {
-        message::Message::Event(p) => make_slot(out, m, p),
-        message::Message::Req(_) => 5,
-        message::Message::Close(_) => 5,
-        message::Message::Refused(row) => refused_row(m, row),
+    match event::sent_text(m, &mut out[TEXT..SLOT]) {
+        event::SentText::Wrote(p, n) => {
+            put_fields(out, m, p, n);
+            0
+        }
+        event::SentText::Refused(row) => row,
     }
 }
 

@@ -1,26 +1,20 @@
--- The row that testing tells, or the text that it left in the buffer.
+-- A row of the parts, or what the rest answers.
+use mathlib.Core.Path.{sym, _∙_}
 use borrow.Author.Needs.{needs}
-use Rattle.event.proofs.Answers.{text-inside, text-length, then-given, rows-first}
+use Rattle.event.proofs.Answers.{early-refused}
 use Rattle.event.proofs.offered_text.Statement.{statement}
 use Rattle.event.proofs.offered_text.Tie as tie
 
-array-share-prefix-t : tie.Need-array-share-prefix-t
-array-share-prefix-t c = let c1 = c .before in text-inside _ _ (c1 .before .before .before .tested .ensures) (c1 .n .given .1)
-
-slice-aggregate-give : tie.Need-slice-aggregate-give
-slice-aggregate-give c = let c2 = c .before .before in text-length _ _ (c2 .before .before .before .tested .ensures) (c2 .n .given .1)
-
 returns : tie.Need-returns
-returns c =
-    let c2 = c .before .before in
-    let c6 = c2 .before .before .before .before in
-    then-given _ _ (c6 .before .before .before .tested .ensures) (c6 .n .given .1) _ (c2 .give .ensures .0) (c2 .give .ensures .1)
+returns c = early-refused _ _ (c .before .event-row .ensures) (c .if1 .taken) _
+
+rest-text-requires : tie.Need-rest-text-requires
+rest-text-requires c κs = sym (c .before .before .event-row .ensures) ∙ c .before .if1 .left
 
 returns-2 : tie.Need-returns-2
-returns-2 c = let c1 = c .before in rows-first _ _ (c1 .before .before .before .tested .ensures) (c1 .row .given .1) _
+returns-2 c = c .before .before .rest-text .ensures
 
 pub offered-text-spec : {M : Type 1} → statement M
 offered-text-spec =
     tie.close
-    (tie.spec (λ c. search needs) (λ c κs. search needs) (λ c. search needs) array-share-prefix-t slice-aggregate-give
-    (λ c κs. search needs) (λ c. search needs) (λ c. search needs) returns returns-2)
+    (tie.spec (λ c κs. search needs) returns rest-text-requires (λ c. search needs) returns-2)

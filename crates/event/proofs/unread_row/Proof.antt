@@ -5,8 +5,8 @@ use lib.Dec.{leb}
 use borrow.Author.Needs.{needs}
 use borrow.Author.Tests.{le-leb, lt-leb}
 use Rattle.message.specs.Read.{isEvent}
-use Rattle.offers.proofs.refused_row.Statement.{statement}
-use Rattle.offers.proofs.refused_row.Tie as tie
+use Rattle.event.proofs.unread_row.Statement.{statement}
+use Rattle.event.proofs.unread_row.Tie as tie
 
 returns : tie.Need-returns
 returns c =
@@ -25,5 +25,5 @@ returns-3 c =
     let a = c2 .before .before .args in
     sym (ap₂ (λ t u. cond (t || u) (a .row) 5) (lt-leb (a .row) 4 (c2 .if1 .left)) (sym (c .before .is-event .ensures) ∙ c .if2 .left))
 
-pub refused-row-spec : {M : Type 1} → statement M
-refused-row-spec = tie.close (tie.spec returns (λ c κs. search needs) returns-2 returns-3)
+pub unread-row-spec : {M : Type 1} → statement M
+unread-row-spec = tie.close (tie.spec returns (λ c κs. search needs) returns-2 returns-3)

@@ -1,0 +1,144 @@
+-- An event offered as a message, by what the reader answers.
+use mathlib.Core.Path.{_≡_, refl, sym, ap, _∙_}
+use mathlib.Core.Bool.{Bool, true, false, cond, _||_}
+use mathlib.Core.List.{List}
+use Prim.Native.Nat.{ℕ, zero, suc}
+use native.Mathlib.Omega.{arith}
+use borrow.Author.Tests.{eqb-false, eq-eqb, ne-eqb}
+use lib.Dec.{eqb, leb}
+use lib.ListN.{length}
+use Rattle.json.specs.Tree.{Json, Got, none, got, root}
+use Rattle.shape.specs.Shape.{Word, event, req, close, other, opened}
+use Rattle.shape.specs.Rows.{messageRow}
+use Rattle.message.specs.Lent.{eventRow}
+use Rattle.message.specs.Read.{isEvent, partsOf, inRoot, readOf}
+use Rattle.message.specs.declared.Span.{Span}
+use Rattle.message.specs.declared.EventParts.{EventParts}
+use Rattle.message.specs.declared.ReqParts.{ReqParts}
+use Rattle.message.specs.declared.Message.{Message}
+use Rattle.message.specs.declared.Message.the-variants as message
+use Rattle.message.proofs.Passes.{event-passes}
+use Rattle.event.specs.Lent.{textOf}
+use Rattle.event.specs.Answer.{offeredTextRow, offered, offeredOut}
+use Rattle.event.specs.Sent.{unreadRow, sentRowOf, sentAs, sentTextOf, sentOutOf, sentRow, sentText, sentOut, sentTextNumber}
+use Rattle.event.specs.declared.Written.{Written}
+use Rattle.event.specs.declared.Written.the-variants as written
+use Rattle.event.specs.declared.SentText.{SentText}
+use Rattle.event.specs.declared.SentText.the-variants as sent
+use Rattle.event.proofs.Answers.{AsOffered, wrote-is, refused-is}
+
+-- what is promised where the reader answers x, and of the message m
+abbrev pub AsRead : List ℕ → List ℕ → Message → SentText → List ℕ → Type 0
+AsRead m out x s o = (s ≡ sentTextOf m out x) × ((sentTextNumber s ≡ sentRowOf m out x) × (o ≡ sentOutOf m out x))
+
+abbrev pub AsSent : List ℕ → List ℕ → SentText → List ℕ → Type 0
+AsSent m out s o = (s ≡ sentText m out) × ((sentTextNumber s ≡ sentRow m out) × (o ≡ sentOut m out))
+
+-- ---- an EVENT, whose text was asked for
+module _ (m out : List ℕ) (p : EventParts) {w : Written} {o : List ℕ} (k : AsOffered m p out w o) where
+  pub event-wrote : {n : ℕ} → w ≡ written.Wrote n → AsRead m out (message.Event p) (sent.Wrote p n) o
+  unfolding offered
+  event-wrote e =
+      let r = offeredTextRow m p out in
+      let (z, l) = wrote-is r (length (textOf m (p .body))) (sym e ∙ k .0) in
+      (rw (eq-eqb r 0 z, l), (sym z, k .1 .1))
+
+  pub event-refused : {x : ℕ} → w ≡ written.Refused x → AsRead m out (message.Event p) (sent.Refused x) o
+  unfolding offered
+  event-refused e =
+      let r = offeredTextRow m p out in
+      let (y, n) = refused-is r (length (textOf m (p .body))) (sym e ∙ k .0) in
+      (simp (ne-eqb r 0 (λ q. n (y ∙ q)), y), (y, k .1 .1))
+
+-- ---- a message
+-- the parts of one that was read pass rows 2 and 4 to 8
+pub passes : (m : List ℕ) {x : Message} {p : EventParts} → x ≡ readOf m → x ≡ message.Event p → eventRow m p ≡ 0
+passes m {p = p} a e = event-passes m p (sym a ∙ e)
+
+module _ (m out : List ℕ) {x : Message} (a : x ≡ readOf m) where
+  as-sent : {y : Message} {s : SentText} {o : List ℕ} → x ≡ y → AsRead m out y s o → AsSent m out s o
+  unfolding sentText sentRow sentOut
+  as-sent {y} e k =
+      let z : y ≡ readOf m = sym e ∙ a in
+      (k .0 ∙ ap (sentTextOf m out) z, (k .1 .0 ∙ ap (sentRowOf m out) z, k .1 .1 ∙ ap (sentOutOf m out) z))
+
+  pub from-event : {p : EventParts} {s : SentText} {o : List ℕ} → x ≡ message.Event p → AsRead m out (message.Event p) s o → AsSent m out s o
+  from-event e k = as-sent e k
+
+  pub from-req : {p : ReqParts} → x ≡ message.Req p → AsSent m out (sent.Refused 5) out
+  from-req e = as-sent e (refl, (refl, refl))
+
+  pub from-close : {p : Span} → x ≡ message.Close p → AsSent m out (sent.Refused 5) out
+  from-close e = as-sent e (refl, (refl, refl))
+
+  pub from-refused : {r n : ℕ} → x ≡ message.Refused r → n ≡ unreadRow m r → AsSent m out (sent.Refused n) out
+  from-refused e f = as-sent e (ap sent.Refused f, (f, refl))
+
+-- ---- what an answer says of the message
+module _ (q : EventParts) (l : ℕ) where
+  as-wrote : (r : ℕ) {p : EventParts} {n : ℕ} → sentAs r q l ≡ sent.Wrote p n → (r ≡ 0) × ((q ≡ p) × (l ≡ n))
+  as-wrote zero e = (refl, (cc, cc))
+  as-wrote (suc r) {p} {n} e =
+      absurd (let f : sent.Refused (suc r) ≡ sent.Wrote p n = sym (rw (ne-eqb (suc r) 0 (λ q. omega arith))) ∙ e in let z : _≡_ {A = ℕ} 0 1 = cc in omega arith)
+
+  as-refused : (r : ℕ) {x : ℕ} → sentAs r q l ≡ sent.Refused x → x ≡ 0 → ⊥
+  as-refused zero e z = let y : _≡_ {A = ℕ} 0 1 = cc in omega arith
+  as-refused (suc r) {x} e z =
+      let f : sent.Refused (suc r) ≡ sent.Refused x = sym (rw (ne-eqb (suc r) 0 (λ q. omega arith))) ∙ e in
+      let y : suc r ≡ x = cc in
+      omega arith
+
+module _ (m : List ℕ) where
+  -- the reader refuses by some row
+  pub some-row : {r : ℕ} → readOf m ≡ message.Refused r → r ≡ 0 → ⊥
+  unfolding readOf
+  some-row {r} e z = go (eqb (messageRow m) 0) refl e
+    where
+      tree : (g : Got Json) → inRoot m g ≡ message.Refused r → ⊥
+      tree none f = let y : _≡_ {A = ℕ} 3 r = cc in omega arith
+      tree (got t k) f = word (opened m t .first) f
+        where
+          word : (w : Word) → partsOf m w (opened m t .rest) ≡ message.Refused r → ⊥
+          word event f = let y : _≡_ {A = ℕ} 0 1 = cc in omega arith
+          word req f = let y : _≡_ {A = ℕ} 0 1 = cc in omega arith
+          word close f = let y : _≡_ {A = ℕ} 0 1 = cc in omega arith
+          word other f = let y : _≡_ {A = ℕ} 5 r = cc in omega arith
+
+      go : (t : Bool) → eqb (messageRow m) 0 ≡ t → cond t (inRoot m (root m)) (message.Refused (messageRow m)) ≡ message.Refused r → ⊥
+      go true q f = tree (root m) f
+      go false q f = let y : messageRow m ≡ r = cc in eqb-false (messageRow m) 0 q (y ∙ z)
+
+  module _ (out : List ℕ) where
+    -- an event is written: it was read, and its text was asked for
+    pub sent-wrote : {p : EventParts} {n : ℕ} → sentText m out ≡ sent.Wrote p n → (readOf m ≡ message.Event p) × AsOffered m p out (written.Wrote n) (sentOut m out)
+    unfolding sentText sentOut offered
+    sent-wrote {p} {n} = go (readOf m) refl
+      where
+        moved : {q : EventParts} {o : List ℕ} → q ≡ p → AsOffered m q out (written.Wrote n) o → AsOffered m p out (written.Wrote n) o
+        moved h k = rw h at k
+
+        go : (x : Message) → readOf m ≡ x → sentTextOf m out x ≡ sent.Wrote p n
+            → (x ≡ message.Event p) × AsOffered m p out (written.Wrote n) (sentOutOf m out x)
+        go (message.Event q) e f =
+            let r = offeredTextRow m q out in
+            let (z, (h, l)) = as-wrote q (length (textOf m (q .body))) r f in
+            let k : AsOffered m q out (written.Wrote n) (offeredOut m q out) = (rw (eq-eqb r 0 z, l), (sym z, refl)) in
+            (ap message.Event h, moved h k)
+        go (message.Req q) e f = absurd (let y : _≡_ {A = ℕ} 0 1 = cc in omega arith)
+        go (message.Close q) e f = absurd (let y : _≡_ {A = ℕ} 0 1 = cc in omega arith)
+        go (message.Refused r) e f = absurd (let y : _≡_ {A = ℕ} 0 1 = cc in omega arith)
+
+    -- a refusal has a row
+    pub sent-refused : {r : ℕ} → sentText m out ≡ sent.Refused r → r ≡ 0 → ⊥
+    unfolding sentText
+    sent-refused {r} f z = go (readOf m) refl f
+      where
+        unread : {x : ℕ} → (x ≡ 0 → ⊥) → (t : Bool) → cond t x 5 ≡ r → ⊥
+        unread n true e = n (e ∙ z)
+        unread n false e = omega arith
+
+        go : (x : Message) → readOf m ≡ x → sentTextOf m out x ≡ sent.Refused r → ⊥
+        go (message.Event q) e f = as-refused q (length (textOf m (q .body))) (offeredTextRow m q out) f z
+        go (message.Req q) e f = let y : _≡_ {A = ℕ} 5 r = cc in omega arith
+        go (message.Close q) e f = let y : _≡_ {A = ℕ} 5 r = cc in omega arith
+        go (message.Refused x) e f = unread (some-row e) (leb x 4 || isEvent m) cc

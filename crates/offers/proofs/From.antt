@@ -1,0 +1,127 @@
+-- The slot made from a message, by what the reader answers of it.
+use mathlib.Core.Path.{_≡_, refl, sym, ap, ap₂, _∙_}
+use mathlib.Core.Bool.{Bool, true, false, cond, _||_}
+use mathlib.Core.Logic.{inl, inr}
+use mathlib.Core.List.{List}
+use Prim.Native.Nat.{ℕ, _≤_, _<_}
+use native.Mathlib.Omega.{arith}
+use lib.Dec.{eqb}
+use lib.ListN.{length, replicate}
+use borrow.Author.Tests.{eqb-true, eqb-false, eq-eqb, le-leb, lt-leb}
+use Rattle.wire.specs.Limits.{mostText, sigLength}
+use Rattle.wire.specs.Bytes.{part}
+use Rattle.wire.specs.Put.{Puts}
+use Rattle.text.specs.Event.{Event}
+use Rattle.text.specs.Read.{read, readText}
+use Rattle.text.specs.Answer.{textOf}
+use Rattle.shape.specs.Shape.{Word, event, req, close, other, opened}
+use Rattle.shape.specs.Rows.{messageRow}
+use Rattle.rows.specs.Rows.{row1, row2, row3, row4, onRoot, textRow}
+use Rattle.json.specs.Tree.{Json, Got, none, got, root}
+use Rattle.message.specs.Read.{isEventWord, isEvent, inRoot, readOf}
+use Rattle.message.specs.Read as reader
+use Rattle.message.specs.declared.Message.{Message}
+use Rattle.message.specs.declared.Message.the-variants as message
+use Rattle.message.specs.declared.EventParts.{EventParts}
+use Rattle.message.proofs.Reading.{row-read}
+use Rattle.message.proofs.Order.{Late, rows-first, rows-late, text-clean}
+use Rattle.event.specs.Lent.{said}
+use Rattle.event.specs.Sent.{unreadRow, sentRowOf, sentRow, sentText, sentOut, sentTextNumber}
+use Rattle.event.specs.declared.SentText.{SentText}
+use Rattle.event.specs.declared.SentText.the-variants as sent
+use Rattle.event.specs.declared.Written.the-variants as written
+use Rattle.event.proofs.Answers.{AsOffered, row-alone-most}
+use Rattle.event.proofs.Sent.{some-row, sent-wrote, sent-refused}
+use Rattle.table.specs.Layout.{slotSize, textPlace, slotBytes}
+use Rattle.table.specs.Offer.{messageOfferRow, partsIn, partsOf, heldOf}
+use Rattle.table.proofs.Rows.{message-rows, event-rows}
+use Rattle.offers.specs.Slot.{headOf}
+use Rattle.offers.proofs.Makes.{lentPart, given, lent-most, both-short, made}
+
+module _ (m : List ℕ) where
+  read-row : {x : Message} → readOf m ≡ x → messageRow m ≡ reader.rowOf x
+  read-row e = sym (row-read m) ∙ ap reader.rowOf e
+
+  -- a message that was read and is no EVENT
+  not-event : (x : Message) → ((p : EventParts) → x ≡ message.Event p → ⊥) → readOf m ≡ x → messageRow m ≡ 0 → isEvent m ≡ false
+  unfolding readOf isEvent
+  not-event x n e z = go (root m) (sym (ap (λ t. cond t (inRoot m (root m)) (message.Refused (messageRow m))) (eq-eqb (messageRow m) 0 z)) ∙ e)
+    where
+      go : (g : Got Json) → inRoot m g ≡ x → onRoot (λ t. isEventWord (opened m t .first)) g ≡ false
+      go none f = refl
+      go (got t k) f = word (opened m t .first) f
+        where
+          word : (w : Word) → reader.partsOf m w (opened m t .rest) ≡ x → isEventWord w ≡ false
+          word event f = absurd (n _ (sym f))
+          word req f = refl
+          word close f = refl
+          word other f = refl
+
+  five : isEvent m ≡ false → messageRow m ≡ 0 → 5 ≡ messageOfferRow m
+  five e z = sym (message-rows m .no-event (text-clean m z) e)
+
+  -- ---- a message that the reader refused
+  text-most : textRow m ≤ 4
+  unfolding textRow
+  text-most = go (row1 m) (row2 m) (row3 m) (row4 m)
+    where
+      go : (a b c d : Bool) → cond a 1 (cond b 2 (cond c 3 (cond d 4 0))) ≤ 4
+      go true b c d = omega arith
+      go false true c d = omega arith
+      go false false true d = omega arith
+      go false false false true = omega arith
+      go false false false false = omega arith
+
+  unread : {r : ℕ} → readOf m ≡ message.Refused r → unreadRow m r ≡ messageOfferRow m
+  unread {r} e = go (read-row e) (some-row m e) (eqb (textRow m) 0) refl (isEvent m) refl
+    where
+      late : messageRow m ≡ r → (r ≡ 0 → ⊥) → Late (messageRow m) → 4 < r
+      late w o (inl z) = absurd (o (sym w ∙ z))
+      late w o (inr z) = omega arith
+
+      go : messageRow m ≡ r → (r ≡ 0 → ⊥) → (t : Bool) → eqb (textRow m) 0 ≡ t → (v : Bool) → isEvent m ≡ v → unreadRow m r ≡ messageOfferRow m
+      go w o false q v u =
+          let k = eqb-false (textRow m) 0 q in
+          let z : textRow m ≡ r = sym (rows-first m k) ∙ w in
+          ap (λ t. cond (t || isEvent m) r 5) (le-leb r 4 (omega (arith, text-most))) ∙ sym z ∙ sym (message-rows m .text k)
+      go w o true q true u =
+          let k = eqb-true (textRow m) 0 q in
+          ap₂ (λ t v. cond (t || v) r 5) (lt-leb r 4 (late w o (rows-late m k))) u ∙ sym w ∙ sym (message-rows m .refused k u (λ z. o (sym w ∙ z)))
+      go w o true q false u =
+          let k = eqb-true (textRow m) 0 q in
+          ap₂ (λ t v. cond (t || v) r 5) (lt-leb r 4 (late w o (rows-late m k))) u ∙ sym (message-rows m .no-event k u)
+
+  -- ---- an output that has room for every text does not change the row
+  sent-row : (out : List ℕ) → mostText ≤ length out → sentRow m out ≡ messageOfferRow m
+  unfolding sentRow
+  sent-row out h = go (readOf m) refl
+    where
+      go : (x : Message) → readOf m ≡ x → sentRowOf m out x ≡ messageOfferRow m
+      go (message.Event p) e = row-alone-most m p out h ∙ sym (event-rows m p e .as-parts)
+      go (message.Req r) e = five (not-event (message.Req r) (λ p q. let y : _≡_ {A = ℕ} 0 1 = cc in omega arith) e (read-row e)) (read-row e)
+      go (message.Close s) e = five (not-event (message.Close s) (λ p q. let y : _≡_ {A = ℕ} 0 1 = cc in omega arith) e (read-row e)) (read-row e)
+      go (message.Refused r) e = unread e
+
+  -- ---- the slot made from a message, o at exit; d is what was lent, zeros
+  abbrev Made : ℕ → List ℕ → Type 0
+  Made r o = (r ≡ messageOfferRow m) × (r ≡ 0 → o ≡ slotBytes (heldOf m (partsOf m)))
+
+  module _ (d : List ℕ) (zs : d ≡ replicate slotSize 0) {s : SentText} (a : s ≡ sentText m (lentPart d)) where
+    pub from-refused : {r : ℕ} {o : List ℕ} → sentTextNumber s ≡ sentRow m (lentPart d) → s ≡ sent.Refused r → Made r o
+    from-refused q e =
+        (sym (ap sentTextNumber e) ∙ q ∙ sent-row (lentPart d) (lent-most zs), λ z. absurd (sent-refused m (lentPart d) (sym a ∙ e) z))
+
+    module _ {p : EventParts} {n : ℕ} (e : s ≡ sent.Wrote p n) where
+      told : (readOf m ≡ message.Event p) × AsOffered m p (lentPart d) (written.Wrote n) (sentOut m (lentPart d))
+      told = sent-wrote m (lentPart d) (sym a ∙ e)
+
+      pub from-short : (length (said m (p .id)) ≤ sigLength) × (length (said m (p .sig)) ≤ sigLength)
+      from-short = let (f, (w, (q, y))) = told in both-short m p d zs w q refl
+
+      pub from-event : {y : List ℕ} → y ≡ sentOut m (lentPart d) → {r : ℕ} {u : List ℕ}
+          → ((v : Event) → readText (part (given d y) textPlace n) ≡ read v → Puts (given d y) 0 (headOf m p n (textOf v)) r u) → Made 0 u
+      unfolding partsOf
+      from-event o g =
+          let (f, (w, (q, y))) = told in
+          let (k, l) = made m p d zs w q refl (o ∙ y) g in
+          (k ∙ sym (event-rows m p f .as-parts), λ z. l z ∙ ap (λ x. slotBytes (heldOf m (partsIn x))) (sym f))
