@@ -1,3 +1,4 @@
 -- Laws of the writers of EVENTs.
 pub mod Pieces
 pub mod Answers
+pub mod Lines

@@ -2,7 +2,7 @@
 // byte is written.
 ghost use mathlib.Core.Path.{_≡_};
 ghost use Prim.Native.Nat.{_+_};
-ghost use lib.ListN.{length};
+ghost use lib.ListN.{length, getD};
 ghost use Rattle.wire.specs.Put.{Puts};
 ghost use Rattle.wire.specs.Escape.{escape};
 ghost use Rattle.spell.specs.Spell.{decode};
@@ -10,9 +10,10 @@ ghost use Rattle.text.specs.Event.{quoted};
 ghost use Rattle.event.specs.Answer.{hexOf, numberOf};
 ghost use Rattle.table.specs.Layout.{lengthIn};
 ghost use Rattle.table.specs.Format.{shownRow};
+ghost use Rattle.reply.specs.Program.{eventsOf, written};
 ghost use Rattle.reply.specs.Respond.{slotEvent, slotEventRow, slotEventOut};
 ghost use Rattle.replies.specs.Pieces.{Room};
-ghost use Rattle.slot_replies.specs.Slot.{numbersOf, stringsOf, ReadAs, frontText, backText, heldText};
+ghost use Rattle.slot_replies.specs.Slot.{numbersOf, stringsOf, ReadAs, frontText, backText, heldText, heldLine, linesSize, leftIn, sizes, fittedIn};
 use event::Written;
 use message::Span;
 use slots::Shown;
@@ -159,4 +160,97 @@ pub fn slot_event(table: &[u8], slot: usize, m: &[u8], sub: Span, out: &mut [u8]
         return Written::Wrote(put_slot(out, 0, id, s));
     }
     Written::Refused(13)
+}
+
+// ---- the EVENTs of many slots, each a line
+// How many lines fit whole, from the first on, and what they leave of the room.
+struct Fitted {
+    lines: usize,
+    left: usize,
+}
+
+// A slot number of a row; 0 past its end.
+fn number(ks: &[u16], i: usize) -> usize
+    ensures { λ r. ⌜ r ≡ getD (now (ks .entry)) i 0 ⌝ }
+{
+    if i < ks.len() {
+        return ks[i] as usize;
+    }
+    0
+}
+
+// The EVENT of a slot, ended with 0A; nothing where its text does not read.
+fn put_line(out: &mut [u8], at: usize, sub: &[u8], s: &[u8]) -> usize
+    ensures { λ r. ⌜ Puts (now (out .entry)) at (heldLine (decode (now (sub .entry))) (now (s .entry))) r (now (out .exit)) ⌝ }
+{
+    let n = put_slot(out, at, sub, s);
+    if n == at {
+        return n;
+    }
+    wire::put(out, n, b"\n")
+}
+
+// The EVENTs of the slots ks, each ended with 0A, from `at` on; nothing of a slot whose text does not read. `sub` is the subscription id as
+// spelled.
+pub fn put_events(out: &mut [u8], at: usize, table: &[u8], sub: &[u8], ks: &[u16]) -> usize
+    ensures { λ r. ⌜ Puts (now (out .entry)) at (written (eventsOf (now (table .entry)) (decode (now (sub .entry))) (now (ks .entry)))) r (now (out .exit)) ⌝ }
+{
+    if out.len() < at {
+        return out.len();
+    }
+    let mut o = at;
+    let mut i = 0;
+    while i < ks.len() {
+        let k = number(ks, i);
+        let s = slots::slot(table, k);
+        o = put_line(out, o, sub, s);
+        i += 1;
+    }
+    o
+}
+
+// What the line of a sound slot leaves of a room: it is 267 bytes longer than the slot's text and the subscription id, which has n bytes
+// when escaped. By subtraction: the sum may be more than a number holds.
+fn line_left(s: &[u8], n: usize, room: usize) -> Left
+    ensures { λ r. ⌜ r ≡ leftIn room (lengthIn (now (s .entry)) + n + 267) ⌝ }
+{
+    let size = wire::le_at(s, 106, 2) as usize + 267;
+    if room < size {
+        return Left::Short;
+    }
+    let rest = room - size;
+    if rest < n {
+        return Left::Short;
+    }
+    Left::Room(rest - n)
+}
+
+// The lines of the slots ks that fit, for a subscription id that has n bytes when escaped.
+fn fit_lines(table: &[u8], n: usize, ks: &[u16], room: usize) -> Fitted
+    ensures { λ r. ⌜ r ≡ fittedIn 0 room (sizes (now (table .entry)) n (now (ks .entry))) ⌝ }
+{
+    let mut left = room;
+    let mut i = 0;
+    while i < ks.len() {
+        let k = number(ks, i);
+        let s = slots::slot(table, k);
+        let Left::Room(x) = line_left(s, n, left) else {
+            return Fitted { lines: i, left };
+        };
+        left = x;
+        i += 1;
+    }
+    Fitted { lines: i, left }
+}
+
+// What the lines of the slots ks leave of a room, if the table is sound and holds the slots.
+pub fn events_left(table: &[u8], sub: &[u8], ks: &[u16], room: usize) -> Left
+    ensures { λ r. ⌜ r ≡ leftIn room (linesSize (now (table .entry)) (decode (now (sub .entry))) (now (ks .entry))) ⌝ }
+{
+    let n = spell::escaped_len(sub);
+    let f = fit_lines(table, n, ks, room);
+    if f.lines < ks.len() {
+        return Left::Short;
+    }
+    Left::Room(f.left)
 }
