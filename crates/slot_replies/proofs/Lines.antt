@@ -22,7 +22,7 @@ use Rattle.reply.specs.Program.{eventIn, eventsOf, written}
 use Rattle.reply.specs.Respond.{firstText, slotLine}
 use Rattle.reply.proofs.Lines.{written-append}
 use Rattle.reply.proofs.Sizes.{line-length}
-use Rattle.slot_replies.specs.Slot.{heldText, heldLine, linesSize, leftIn, sizes, stopped, fittedIn}
+use Rattle.slot_replies.specs.Slot.{heldText, heldLine, linesSize, leftIn, lineSize, sizes, stopped, fittedIn}
 use Rattle.slot_replies.specs.declared.Left.the-variants.{Room, Short}
 use Rattle.slot_replies.specs.declared.Fitted.{Fitted}
 use Rattle.slot_replies.proofs.Answers.{length-is}
@@ -163,7 +163,7 @@ module _ (b ks : List ℕ) (n i l : ℕ) where
 -- what all leave
 module _ (b sub : List ℕ) where
   abbrev size-of : ℕ → ℕ
-  size-of k = lengthIn (slotAt b k) + length (escape sub) + 267
+  size-of k = lineSize b (length (escape sub)) k
 
   abbrev each : List ℕ → List ℕ
   each ks = sizes b (length (escape sub)) ks

@@ -1,6 +1,7 @@
 // EVENT replies of held slots, written into lent bytes. The text of a slot is copied, never decoded. Every row is tested before the first
 // byte is written.
 ghost use mathlib.Core.Path.{_≡_};
+ghost use mathlib.Core.Bool.{true};
 ghost use Prim.Native.Nat.{_+_};
 ghost use lib.ListN.{length, getD};
 ghost use Rattle.wire.specs.Put.{Puts};
@@ -9,13 +10,15 @@ ghost use Rattle.spell.specs.Spell.{decode};
 ghost use Rattle.text.specs.Event.{quoted};
 ghost use Rattle.event.specs.Answer.{hexOf, numberOf};
 ghost use Rattle.table.specs.Layout.{lengthIn};
+ghost use Rattle.table.specs.Sound.{sound};
 ghost use Rattle.table.specs.Format.{shownRow};
 ghost use Rattle.reply.specs.Program.{eventsOf, written};
-ghost use Rattle.reply.specs.Respond.{slotEvent, slotEventRow, slotEventOut};
+ghost use Rattle.reply.specs.Respond.{slotEvent, slotEventRow, slotEventOut, eventsRow, sentEvents, sentEventsOut, sentNumber};
 ghost use Rattle.replies.specs.Pieces.{Room};
-ghost use Rattle.slot_replies.specs.Slot.{numbersOf, stringsOf, ReadAs, frontText, backText, heldText, heldLine, linesSize, leftIn, sizes, fittedIn};
+ghost use Rattle.slot_replies.specs.Slot.{numbersOf, stringsOf, ReadAs, frontText, backText, heldText, heldLine, linesSize, leftIn, sizes, fittedIn, heldLen, fitRow, sentLines, sentLinesOut};
 use event::Written;
 use message::Span;
+use reply::Sent;
 use slots::Shown;
 use text::Text;
 use text::TextAnswer;
@@ -253,4 +256,74 @@ pub fn events_left(table: &[u8], sub: &[u8], ks: &[u16], room: usize) -> Left
         return Left::Short;
     }
     Left::Room(f.left)
+}
+
+// How many of the slots ks are held, from the first on.
+fn held_len(table: &[u8], ks: &[u16]) -> usize
+    ensures { λ r. ⌜ r ≡ heldLen (now (table .entry)) (now (ks .entry)) ⌝ }
+{
+    let c = wire::le_at(table, 4, 4) as usize;
+    let mut i = 0;
+    while i < ks.len() {
+        let k = number(ks, i);
+        if c <= k {
+            return i;
+        }
+        i += 1;
+    }
+    i
+}
+
+// Row 13 where slots are held and the line of none fits; then 14 where not all are held; else 0.
+fn fit_row(lines: usize, held: usize, all: usize) -> u8
+    ensures { λ r. ⌜ r ≡ fitRow lines held all ⌝ }
+{
+    if held == 0 {
+        if all == 0 {
+            return 0;
+        }
+        return 14;
+    }
+    if lines == 0 {
+        return 13;
+    }
+    if held < all {
+        return 14;
+    }
+    0
+}
+
+// As many lines as fit, of a sound table. `sub` is the subscription id as spelled.
+fn send(table: &[u8], ks: &[u16], sub: &[u8], out: &mut [u8]) -> Sent
+    requires { ⌜ sound (now table) ≡ true ⌝ }
+    ensures { λ r. ⌜ r ≡ sentLines (now (table .entry)) (decode (now (sub .entry))) (now (ks .entry)) (now (out .entry)) ⌝ }
+    ensures { λ _. ⌜ now (out .exit) ≡ sentLinesOut (now (table .entry)) (decode (now (sub .entry))) (now (ks .entry)) (now (out .entry)) ⌝ }
+{
+    let n = spell::escaped_len(sub);
+    let held = held_len(table, ks);
+    let f = fit_lines(table, n, &ks[..held], out.len());
+    let lines = f.lines;
+    let row = fit_row(lines, held, ks.len());
+    if row != 0 {
+        return Sent::Refused(row);
+    }
+    Sent::Wrote(put_events(out, 0, table, sub, &ks[..lines]), lines)
+}
+
+// As many whole EVENTs of the slots ks as fit, each ended with 0A, from the start of `out`; for the subscription id that stands at `sub` in
+// m. The table is tested once.
+pub fn events(table: &[u8], ks: &[u16], m: &[u8], sub: Span, out: &mut [u8]) -> Sent
+    ensures { λ r. ⌜ r ≡ sentEvents (now (table .entry)) (now (ks .entry)) (now (m .entry)) sub (now (out .entry)) ⌝ }
+    ensures { λ r. ⌜ sentNumber r ≡ eventsRow (now (table .entry)) (now (ks .entry)) (now (m .entry)) sub (now (out .entry)) ⌝ }
+    ensures { λ _. ⌜ now (out .exit) ≡ sentEventsOut (now (table .entry)) (now (ks .entry)) (now (m .entry)) sub (now (out .entry)) ⌝ }
+{
+    let row = message::subscription_row(m, sub);
+    if row != 0 {
+        return Sent::Refused(row);
+    }
+    if slots::sound(table) {
+        let id = wire::piece(m, sub.start, sub.len);
+        return send(table, ks, id, out);
+    }
+    Sent::Refused(11)
 }
