@@ -2,17 +2,18 @@
 use mathlib.Core.Path.{_≡_, refl, sym, ap, ap₂, _∙_}
 use mathlib.Core.Bool.{Bool, true, false, not, cond, _||_, false≢true}
 use mathlib.Core.Logic.{_↔_, _≢_}
-use mathlib.Core.List.{List, [], _∷_, _++_, map, map-append}
+use mathlib.Core.List.{List, [], _∷_, _++_, map, map-append, nil≢cons, head-eq-of-cons-eq, tail-eq-of-cons-eq}
+use mathlib.Core.Option.{some}
 use Prim.Native.Nat.{ℕ, _≤_, _<_}
 use native.Mathlib.Omega.{arith}
 use lib.Dec.{T, eqb}
 use lib.ListN.{length}
-use Rattle.law.specs.Lists.{any}
-use Rattle.law.specs.Table.{IdPremise, isNoRoom, noRoom, refused}
-use Rattle.law.specs.Machine.{RelayOn, runOn, answersOn, lacksOn, NoneLacksOn}
+use Rattle.law.specs.Lists.{_∈_, any}
+use Rattle.law.specs.Table.{IdPremise, isNoRoom, noRoom, refused, isStored as isStoredVerdict}
+use Rattle.law.specs.Machine.{RelayOn, StoredBy, runOn, answersOn, lacksOn, NoneLacksOn}
 use Rattle.table.specs.Layout.{capacityOf, countOf}
-use Rattle.table.specs.Events.{Signature, tableEvents, view}
-use Rattle.table.specs.Offer.{Offering, answer, numberOf, isStored, next}
+use Rattle.table.specs.Events.{Signature, SignedEvent, tableEvents, view}
+use Rattle.table.specs.Offer.{Offering, judge, answer, numberOf, isStored, next}
 use Rattle.table.specs.Relay.{relay, verdictOf}
 use Rattle.table.specs.declared.Offered.{Offered}
 use Rattle.table.specs.declared.Offered.the-variants.{Ephemeral, Duplicate, Older, Stored, Refused}
@@ -21,7 +22,7 @@ use Rattle.table.proofs.Formatted.{formatted-capacity}
 use Rattle.table.proofs.Stored.{length-view}
 use Rattle.table.proofs.Valid.{valid-hashed}
 use Rattle.table.proofs.WrongRelays.{stores-something, takes-something, stores-later, counts, answers-differ, two-ids}
-use Rattle.offers.specs.Demand3.{Call, InTurn, left, Session, atEnd, offersOf, validOf, lacksRoom, heldIn, isFresh, relayOf, HeldAtEnd, HeldAfterEach, AnyOrder, RoomRunsOut, RelaysEndAlike, Demand3OfCalls, Keeps, NoneOfThese}
+use Rattle.offers.specs.Demand3.{Call, InTurn, left, Session, atEnd, offersOf, validOf, lacksRoom, heldIn, isFresh, relayOf, HeldAtEnd, HeldAfterEach, AnyOrder, RoomRunsOut, RelaysEndAlike, Brought, SignatureBrought, SignatureStays, Demand3OfCalls, Keeps, NoneOfThese}
 
 -- ---- calls in turn are a run
 run : (b : List ℕ) (cs : List Call) → InTurn b cs → left b cs ≡ runOn tableEvents Signature relay b (offersOf cs)
@@ -120,9 +121,82 @@ end-alike hs es ls ks fs ms s t x ids r u =
     (demand-3 .relays-agree (relayOf hs es ls s) (relayOf ks fs ms t) x ids (none (room s ∙ ap (lacksOn tableEvents Signature relay (s .table)) p) r)
     (none (room t ∙ ap (lacksOn tableEvents Signature relay (t .table)) q) u))
 
+-- ---- signatures
+-- a part of the offers is a part of the calls
+pub record Parted (cs : List Call) (bs : List Offering) (o : Offering) : Type 0 where
+  pub before : List Call
+  pub call : Call
+  pub later : List Call
+  pub splits : cs ≡ before ++ (call ∷ later)
+  pub offers : offersOf before ≡ bs
+  pub offer : call .offer ≡ o
+
+parted : (cs : List Call) (bs : List Offering) (o : Offering) (ls : List Offering) → offersOf cs ≡ bs ++ (o ∷ ls) → Parted cs bs o
+parted [] [] o ls q = absurd (nil≢cons q)
+parted [] (b ∷ bs) o ls q = absurd (nil≢cons q)
+parted (c ∷ cs) [] o ls q = record { before = []; call = c; later = cs; splits = refl; offers = refl; offer = head-eq-of-cons-eq q }
+parted (c ∷ cs) (b ∷ bs) o ls q =
+    let r = parted cs bs o ls (tail-eq-of-cons-eq q) in
+    record {
+      before = c ∷ r .before;
+      call = r .call;
+      later = r .later;
+      splits = ap (c ∷_) (r .splits);
+      offers = ap₂ _∷_ (head-eq-of-cons-eq q) (r .offers);
+      offer = r .offer;
+    }
+
+-- what a call promises that stands behind others
+behind : (b : List ℕ) (cs : List Call) (c : Call) (ds : List Call) → InTurn b (cs ++ (c ∷ ds)) → c .answer ≡ answer (left b cs) (c .offer)
+behind b [] c ds t = t .0 .answers
+behind b (d ∷ cs) c ds t = behind (d .exit) cs c ds (t .1)
+
+was-stored : (a : Offered) → isStoredVerdict (verdictOf a) ≡ true → a ≡ Stored
+was-stored Ephemeral e = absurd (false≢true e)
+was-stored Duplicate e = absurd (false≢true e)
+was-stored Older e = absurd (false≢true e)
+was-stored Stored e = refl
+was-stored (Refused r) e = absurd (go (eqb r 12) e)
+  where
+    go : (t : Bool) → isStoredVerdict (cond t noRoom refused) ≡ true → ⊥
+    go true q = false≢true q
+    go false q = false≢true q
+
+brought : SignatureBrought
+brought cs s x h =
+    let w = demand-3 .signature-stored (s .table) (offersOf cs) x (isFresh s) (rw (ends s) at h) in
+    let r = parted cs (w .before) (w .offer) (w .later) (w .splits) in
+    let t = rw (r .splits) at (s .calls) in
+    let l : left (s .table) (r .before) ≡ runOn tableEvents Signature relay (s .table) (w .before) =
+    run (s .table) (r .before) (beginning (s .table) (r .before) (r .call ∷ r .later) t)
+    ∙ ap (runOn tableEvents Signature relay (s .table)) (r .offers) in
+    let a : r .call .answer ≡ answer (runOn tableEvents Signature relay (s .table) (w .before)) (w .offer) =
+    behind (s .table) (r .before) (r .call) (r .later) t ∙ ap₂ answer l (r .offer) in
+    record {
+      before = r .before;
+      call = r .call;
+      later = r .later;
+      splits = r .splits;
+      brings = ap judge (r .offer) ∙ w .brings;
+      says = was-stored (r .call .answer) (ap (λ v. isStoredVerdict (verdictOf v)) a ∙ ap isStoredVerdict (w .says));
+    }
+
+stays : SignatureStays
+stays cs ds s e first last h k =
+    demand-3 .signature-stays (s .table) (offersOf cs) (offersOf ds) e first last (isFresh s)
+    (rw (run (s .table) cs (beginning (s .table) cs ds (s .calls))) at h)
+    (rw (ends s ∙ ap (runOn tableEvents Signature relay (s .table)) (split cs ds)) at k)
+
 pub demand-3-of-calls : Demand3OfCalls
-demand-3-of-calls =
-    record { held-at-end = at-end; held-after-each = after-each; any-order = any-order; relays-end-alike = end-alike; room-runs-out = runs-out }
+demand-3-of-calls = record {
+  held-at-end = at-end;
+  held-after-each = after-each;
+  any-order = any-order;
+  relays-end-alike = end-alike;
+  room-runs-out = runs-out;
+  signature-brought = brought;
+  signature-stays = stays;
+}
 
 -- ---- the wrong relays
 not-stored : (a : Offered) → numberOf a ≢ 0 → isStored a ≡ false

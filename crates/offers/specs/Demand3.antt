@@ -4,21 +4,23 @@ use mathlib.Core.Path.{_≡_, sym, _∙_}
 use mathlib.Core.Bool.{Bool, true, false}
 use mathlib.Core.Logic.{_↔_, _≢_}
 use mathlib.Core.List.{List, [], _∷_, _++_, map}
+use mathlib.Core.Option.{some}
 use Prim.Native.Nat.{ℕ, _≤_, _<_}
 use lib.Dec.{eqb}
 use lib.ListN.{length}
 use Rattle.digest.specs.Digest.{digest}
 use Rattle.text.specs.Event.{Event, serialise}
-use Rattle.law.specs.Lists.{any}
+use Rattle.law.specs.Lists.{_∈_, any}
 use Rattle.law.specs.Table.{Offer, Table, IdPremise, SameValid, SameHeld, Settled, slotsNeeded}
 use Rattle.law.specs.Machine.{RelayOn, ExchangeOn, judged}
 use Rattle.law.specs.Machine as law
 use Rattle.table.specs.Layout.{countOf}
-use Rattle.table.specs.Events.{Signature, tableEvents, view}
-use Rattle.table.specs.Offer.{Offering, isValid, offeredOf, answer, numberOf, next}
+use Rattle.table.specs.Events.{Signature, SignedEvent, tableEvents, view}
+use Rattle.table.specs.Offer.{Offering, isValid, offeredOf, judge, answer, numberOf, next}
 use Rattle.table.specs.Format.{formatRow, formatted}
 use Rattle.table.specs.Relay.{Fresh, relay}
 use Rattle.table.specs.declared.Offered.{Offered}
+use Rattle.table.specs.declared.Offered.the-variants.{Stored}
 use Rattle.offers.specs.Row.{offerRow}
 
 -- ---- calls
@@ -95,6 +97,25 @@ abbrev pub RoomRunsOut : Type 0
 RoomRunsOut = (cs : List Call) (s : Session cs) → IdPremise tableEvents (validOf cs) →
     (lacksRoom cs ≡ true) ↔ (s .capacity < slotsNeeded tableEvents (validOf cs))
 
+-- ---- signatures
+-- the call that brought what is held, event and signature
+pub record Brought (cs : List Call) (x : SignedEvent) : Type 0 where
+  pub before : List Call
+  pub call : Call
+  pub later : List Call
+  pub splits : cs ≡ before ++ (call ∷ later)
+  pub brings : judge (call .offer) ≡ some x
+  pub says : call .answer ≡ Stored
+
+-- what is held was stored: with its event, its signature too
+abbrev pub SignatureBrought : Type 0
+SignatureBrought = (cs : List Call) (s : Session cs) (x : SignedEvent) → x ∈ view (atEnd s) → Brought cs x
+
+-- 01: "the signature first stored stays"
+abbrev pub SignatureStays : Type 0
+SignatureStays = (cs ds : List Call) (s : Session (cs ++ ds)) (e : tableEvents .Event) (first last : Signature) →
+    (e, first) ∈ view (left (s .table) cs) → (e, last) ∈ view (atEnd s) → last ≡ first
+
 -- ---- two relays
 abbrev pub isFresh : {cs : List Call} (s : Session cs) → Fresh (s .table)
 isFresh s = record { capacity = s .capacity; buffer = s .buffer; passes = sym (s .answers) ∙ s .passes; is = s .leaves }
@@ -120,6 +141,8 @@ pub record Demand3OfCalls : Type 0 where
   pub any-order : AnyOrder
   pub relays-end-alike : RelaysEndAlike
   pub room-runs-out : RoomRunsOut
+  pub signature-brought : SignatureBrought
+  pub signature-stays : SignatureStays
 
 -- ---- 01, "How far each promise must reach: .. Check it against these": whatever answers and leaves tables as promised is none of them
 module _ (says : List ℕ → Offering → Offered) (exit : List ℕ → Offering → List ℕ) where
