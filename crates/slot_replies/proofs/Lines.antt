@@ -112,7 +112,8 @@ left-room : (l m x : ℕ) → m ≤ l → x ≡ l - m → Room x ≡ leftIn l m
 unfolding leftIn
 left-room l m x h e = rw (le-ltb l m h, e) refl
 
-short-is : (l m : ℕ) → Short ≡ leftIn l m → l < m
+-- what an answer says of the sizes
+pub short-is : (l m : ℕ) → Short ≡ leftIn l m → l < m
 unfolding leftIn
 short-is l m = go (ltb l m) refl
   where
@@ -120,7 +121,7 @@ short-is l m = go (ltb l m) refl
     go true e q = ltb-true l m e
     go false e q = absurd (let y : _≡_ {A = ℕ} 0 1 = cc in omega arith)
 
-room-is : (l m x : ℕ) → Room x ≡ leftIn l m → (m ≤ l) × (x ≡ l - m)
+pub room-is : (l m x : ℕ) → Room x ≡ leftIn l m → (m ≤ l) × (x ≡ l - m)
 unfolding leftIn
 room-is l m x = go (ltb l m) refl
   where
