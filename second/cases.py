@@ -7,6 +7,7 @@ import cases_event
 import cases_json
 import cases_message
 import cases_parts
+import cases_query
 import cases_table
 
 # The lines, and what stands after the last one: two files end without 0A.
@@ -17,6 +18,7 @@ CASES = {
     "event_cases": (cases_event.lines, b"\n"),
     "parts_cases": (cases_parts.lines, b"\n"),
     "table_cases": (cases_table.lines, b"\n"),
+    "query_cases": (cases_query.lines, b"\n"),
 }
 
 
