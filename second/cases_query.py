@@ -233,7 +233,7 @@ def letters():
 
 
 def fitting_tags():
-    """A fitting tag at the beginning, in the middle, at the end; others of its name before it and behind; a member at each place."""
+    """A fitting tag at the beginning, in the middle, at the end, with others of its name; a member at each place."""
     places = (0, 1, 2, 31, 62, 63)
     events = []
     for at in places:
@@ -253,8 +253,8 @@ def fitting_tags():
         asked.both(None, filters_of({"#e": strings(value)}))
         asked.both(None, filters_of({"#e": strings(value), "since": str(at)}))
     # Names of tags, strings behind the second, one string.
-    tricky = [[["", "e"]], [["ee", "yes"]], [["#e", "yes"]], [["e", "x", "yes"]], [["x", "e", "yes"]], [["e"], ["yes"]], [["yes", "e"]],
-              [["e", "yes "]]]
+    tricky = [[["", "e"]], [["ee", "yes"]], [["#e", "yes"]], [["e", "x", "yes"]], [["x", "e", "yes"]], [["e"], ["yes"]],
+              [["yes", "e"]], [["e", "yes "]]]
     yield from asked.flush()
     yield from filled(8, [made(A, n, 1, tags) for n, tags in enumerate(tricky)])
     asked.both(listing([]), filters_of({"#e": strings("yes")}))
@@ -417,15 +417,17 @@ def unsound_tables():
 FAR = (65535, 65536, 65537, 10**6, 2**32, 2**63 - 1, 2**63, 2**64 - 65536, 2**64 - 2, 2**64 - 1)
 # (row, which part, the text that stands at its place)
 BAD_LISTS = [
-    (5, "ids", "x"), (5, "ids", ""), (5, "ids", "{}"), (5, "ids", '"%s"' % A), (5, "ids", "[1]"), (5, "ids", "["), (7, "ids", '["a"]'),
-    (7, "ids", '[""]'), (7, "ids", strings(A.upper())), (7, "ids", strings(A[1:])), (7, "ids", strings(A + "a")), (8, "ids", "[]"),
-    (8, "ids", strings(*[A] * 17)), (7, "ids", strings(*[A] * 16, "x")), (4, "ids", '["\\ud800"]'), (4, "ids", '["\\u0001"]'),
-    (5, "ids", '["\x01"]'), (2, "ids", '["\udcff"]'), (2, "ids", '["\udced\udca0\udc80"]'), (5, "ids", '["%s' % A), (5, "ids", '["\\x"]'),
-    (5, "ids", '["%s",]' % A), (5, "ids", '[["%s"]]' % A), (5, "ids", "null"),
-    (7, "authors", '["a"]'), (8, "authors", "[]"), (8, "authors", strings(*[A] * 17)), (5, "authors", "[true]"), (2, "authors", '["\udcc0"]'),
-    (6, "kinds", "[65536]"), (6, "kinds", "[-1]"), (6, "kinds", "[-0]"), (6, "kinds", "[1.0]"), (6, "kinds", "[1e3]"), (5, "kinds", "[01]"),
-    (5, "kinds", '["1"]'), (8, "kinds", "[]"), (8, "kinds", "[" + ",".join(["1"] * 17) + "]"), (6, "kinds", "[" + "1," * 16 + "-0]"),
-    (6, "kinds", "[" + "9" * 400 + "]"), (5, "kinds", "[1"), (5, "kinds", "1"),
+    (5, "ids", "x"), (5, "ids", ""), (5, "ids", "{}"), (5, "ids", '"%s"' % A), (5, "ids", "[1]"), (5, "ids", "["),
+    (7, "ids", '["a"]'), (7, "ids", '[""]'), (7, "ids", strings(A.upper())), (7, "ids", strings(A[1:])),
+    (7, "ids", strings(A + "a")), (8, "ids", "[]"), (8, "ids", strings(*[A] * 17)), (7, "ids", strings(*[A] * 16, "x")),
+    (4, "ids", '["\\ud800"]'), (4, "ids", '["\\u0001"]'), (5, "ids", '["\x01"]'), (2, "ids", '["\udcff"]'),
+    (2, "ids", '["\udced\udca0\udc80"]'), (5, "ids", '["%s' % A), (5, "ids", '["\\x"]'), (5, "ids", '["%s",]' % A),
+    (5, "ids", '[["%s"]]' % A), (5, "ids", "null"),
+    (7, "authors", '["a"]'), (8, "authors", "[]"), (8, "authors", strings(*[A] * 17)), (5, "authors", "[true]"),
+    (2, "authors", '["\udcc0"]'),
+    (6, "kinds", "[65536]"), (6, "kinds", "[-1]"), (6, "kinds", "[-0]"), (6, "kinds", "[1.0]"), (6, "kinds", "[1e3]"),
+    (5, "kinds", "[01]"), (5, "kinds", '["1"]'), (8, "kinds", "[]"), (8, "kinds", "[" + "1," * 16 + "1]"),
+    (6, "kinds", "[" + "1," * 16 + "-0]"), (6, "kinds", "[" + "9" * 400 + "]"), (5, "kinds", "[1"), (5, "kinds", "1"),
     (5, "conditions", "[]"), (5, "conditions", "{"), (5, "conditions", '{"a":1}'), (5, "conditions", '{"#ab":["x"]}'),
     (5, "conditions", '{"#":["x"]}'), (5, "conditions", '{"#1":["x"]}'), (5, "conditions", '{"#e":["x"],"#\\u0065":["y"]}'),
     (5, "conditions", '{"#e":"x"}'), (8, "conditions", '{"#e":[]}'), (8, "conditions", '{"#e":%s}' % strings(*["x"] * 17)),
@@ -489,9 +491,9 @@ def hostile_filters():
 
 # (row, which of an event's eleven numbers, its value)
 BAD_EVENTS = [
-    (7, 1, 63), (7, 1, 0), (7, 3, 63), (7, 10, 127), (5, 0, 65536), (5, 9, 2**64 - 1), (5, 8, 65537), (5, 8, 2**64 - 1), (5, 1, 2**64 - 1),
-    (6, 4, MAX_TIME + 1), (6, 4, -MAX_TIME - 1), (6, 4, -(2**63)), (6, 5, 65536), (6, 5, -1), (6, 5, 2**63 - 1), (5, 6, 65535),
-    (5, 6, 2**64 - 1), (5, 2, 2**63), (5, 7, 2**64 - 1),
+    (7, 1, 63), (7, 1, 0), (7, 3, 63), (7, 10, 127), (5, 0, 65536), (5, 9, 2**64 - 1), (5, 8, 65537), (5, 8, 2**64 - 1),
+    (5, 1, 2**64 - 1), (6, 4, MAX_TIME + 1), (6, 4, -MAX_TIME - 1), (6, 4, -(2**63)), (6, 5, 65536), (6, 5, -1),
+    (6, 5, 2**63 - 1), (5, 6, 65535), (5, 6, 2**64 - 1), (5, 2, 2**63), (5, 7, 2**64 - 1),
 ]
 
 
@@ -503,8 +505,8 @@ def hostile_events():
     largest, large = [lent.event(made(content="x" * size)) for size in (4016, 4017)]
     everything, wrong = [None] * 7, [None, None, None, None, None, -1, None]
     all_of_a = Filter(ids=strings(A)).lend(lent)
-    texts = ['"\\ud800"', '"\udcff"', "[[]]", "[[1]]", '[["\\u0000"]]', '[["e","\\ud800"]]', '[["e","\udcff"]]', "[" + '["e"],' * 64 + '["e"]]',
-             "[[" + '"e",' * 16 + '"e"]]', "[", "{}", '[["e"]', "[]"]
+    texts = ['"\\ud800"', '"\udcff"', "[[]]", "[[1]]", '[["\\u0000"]]', '[["e","\\ud800"]]', '[["e","\udcff"]]',
+             "[" + '["e"],' * 64 + '["e"]]', "[[" + '"e",' * 16 + '"e"]]', "[", "{}", '[["e"]', "[]"]
     places = [lent.add(raw(text)) for text in texts]
     yield lent.set()
     for row, at, value in BAD_EVENTS:
@@ -526,8 +528,9 @@ def hostile_events():
     yield b"differs", line(b"E", *one.numbers, 1, *all_of_a)
     # Messages that are something else, or refused.
     lent = Lent()
-    texts = [b"", b"{}", b'["CLOSE","s"]', b'["REQ","s"]', b'["REQ","s",{}]', b'["REQ","s",{"limit":-0}]', b'["EVENT",{}]', b"\xff",
-             b'["REQ","",{}]', b'["REQ","s",{},{},{},{},{"since":1.0}]', b'["REQ","s",{"#e":["\\ud800"]}]', b'["REQ","s",{"#e":[]}]']
+    texts = [b"", b"{}", b'["CLOSE","s"]', b'["REQ","s"]', b'["REQ","s",{}]', b'["REQ","s",{"limit":-0}]', b'["EVENT",{}]',
+             b"\xff", b'["REQ","",{}]', b'["REQ","s",{},{},{},{},{"since":1.0}]', b'["REQ","s",{"#e":["\\ud800"]}]',
+             b'["REQ","s",{"#e":[]}]']
     one = lent.event(EVENTS[3])
     large = lent.event(made(content="x" * 4017))
     spots = [(lent.add(text), len(text)) for text in texts]
