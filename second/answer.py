@@ -3,11 +3,12 @@
 import re
 import sys
 
+import query
 import relay
+import table
 from parts import LINE_BYTES, parts_answer
 from rows import Refused, canonical, offered, read_json, read_message, read_text, row_of, text_of
 from sha256 import sha256
-from table import Program
 
 LINE = re.compile(rb"(-|([0-9a-f]{2})+)( [0-9]+(,[0-9]+)*)?")
 LENGTH = re.compile(rb"0|[1-9][0-9]{0,3}")
@@ -55,7 +56,8 @@ ANSWERS = {
     "message_cases": message_answer,
     "event_cases": event_answer,
     "parts_cases": parts_answer,
-    "table_cases": Program().answer,  # what a line answers goes by the lines before it
+    "table_cases": table.Program().answer,  # what a line answers goes by the lines before it
+    "query_cases": query.Program().answer,
 }
 
 # Programs whose lines have no answer of their own: all that they write.

@@ -7,6 +7,7 @@ import cases_event
 import cases_json
 import cases_message
 import cases_parts
+import cases_query
 import cases_relay
 import cases_table
 
@@ -18,6 +19,7 @@ CASES = {
     "event_cases": (cases_event.lines, b"\n"),
     "parts_cases": (cases_parts.lines, b"\n"),
     "table_cases": (cases_table.lines, b"\n"),
+    "query_cases": (cases_query.lines, b"\n"),
     "relay": (cases_relay.relay_lines, b""),
     "relay_cases": (cases_relay.lines, b"\n"),
 }

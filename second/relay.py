@@ -119,7 +119,7 @@ class Relay:
 
 
 def messages(stream):
-    """The lines without their 0A, a last one without it too if it is not empty; of an overlong one a beginning that is too long."""
+    """The lines without their 0A, a last one without it too; of an overlong one a beginning that is too long."""
     while line := stream.readline(MESSAGE_BYTES + 2):
         rest = line
         while rest and not rest.endswith(b"\n"):

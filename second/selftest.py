@@ -14,8 +14,10 @@ import cases_digest
 import cases_event
 import cases_message
 import cases_parts
+import cases_query
 import cases_relay
 import cases_table
+import query
 import relay
 from answer import ANSWERS, lines
 from cases import stdin
@@ -327,6 +329,51 @@ def test_table():
             same("exchange", relay.pairs(), pairs)
 
 
+def library_matches(wanted, identity, event):
+    """A filter and a held text read by json, the conditions as NIP-01 gives them."""
+    _, pubkey, time, kind, tags, _ = event
+    singles = {"ids": identity, "authors": pubkey, "kinds": kind}
+    if any(singles[name] not in wanted[name] for name in singles if name in wanted):
+        return False
+    if not wanted.get("since", time) <= time <= wanted.get("until", time):
+        return False
+    second_strings = {name: {tag[1] for tag in tags if len(tag) > 1 and "#" + tag[0] == name} for name in wanted}
+    return all(second_strings[name] & set(wanted[name]) for name in wanted if name[0] == "#")
+
+
+def library_answer(table, filters):
+    """A slot is listed if for some filter it is among the newest matches up to the limit: fewer are newer than the limit."""
+    count = int.from_bytes(table[4:8], "little")
+    slots = [table[16 + 4208 * k : 16 + 4208 * (k + 1)] for k in range(count)]
+    events = [json.loads(slot[112 : 112 + int.from_bytes(slot[106:108], "little")]) for slot in slots]
+    ages = [(-event[2], slot[:32].hex()) for slot, event in zip(slots, events)]
+    out = set()
+    for wanted in filters:
+        found = [k for k in range(count) if library_matches(wanted, ages[k][1], events[k])]
+        out |= {k for k in found if sum(ages[i] < ages[k] for i in found) < wanted.get("limit", count)}
+    return sorted(out, key=lambda k: ages[k])
+
+
+def test_query():
+    program = query.Program()
+    for want, line in cases_query.labelled():
+        answer = program.answer(line)
+        want = (want or b"").split(b" ")
+        same("query %r" % line[:200], answer.split(b" ")[: len(want)] if want != [b""] else [b""], want)
+        if line[:1] == b"R" and answer.startswith(b"0 "):
+            fill, _, at, length = map(int, line.split(b" ")[1:])
+            slots = library_answer(program.table(), json.loads(program.lent[at : at + length])[2:])
+            shown = [int(n) for n in answer.split(b" ")[2:]]
+            same("listed %r" % line[:200], shown + [fill] * (len(slots) - len(shown)), slots)
+        if line[:1] == b"W" and answer in (b"matches", b"differs"):
+            at, length, asked, asked_length = map(int, line.split(b" ")[1:])
+            event = json.loads(program.lent[at : at + length])[1]
+            body = [0] + [event[name] for name in ("pubkey", "created_at", "kind", "tags", "content")]
+            filters = json.loads(program.lent[asked : asked + asked_length])[2:]
+            fits = any(library_matches(wanted, event["id"], body) for wanted in filters)
+            same("met %r" % line[:200], answer, b"matches" if fits else b"differs")
+
+
 # From 01 and its readings: lines, and the whole output. {e} stands for a made event's object, {id} for its id.
 NOTICE = '["NOTICE","invalid: %s"]\n'
 RELAY = [
@@ -365,7 +412,7 @@ def test_relay():
 
 
 if __name__ == "__main__":
-    for test in (test_digest, test_utf8, test_json, test_messages, test_events, test_parts, test_table, test_relay):
+    for test in (test_digest, test_utf8, test_json, test_messages, test_events, test_parts, test_table, test_query, test_relay):
         test()
     print("selftest: %d differences" % len(failures))
     sys.exit(1 if failures else 0)

@@ -1,5 +1,7 @@
 """SHA-256, from FIPS 180-4. Words are numbers below 2^32, additions are modulo 2^32 (section 3.2)."""
 
+from functools import lru_cache
+
 WORD = 0xFFFFFFFF
 
 
@@ -77,6 +79,7 @@ def compressed(state, block):
     return [(x + y) & WORD for x, y in zip(state, (a, b, c, d, e, f, g, h))]
 
 
+@lru_cache(maxsize=4096)
 def sha256(message):
     """The digest of a message of whole bytes, in lower-case hex."""
     data = padded(message)

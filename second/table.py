@@ -130,7 +130,7 @@ def held(table):
     keys = [e.key for e in events if e.key]
     if len({e.id for e in events}) < count or len(set(keys)) < len(keys):
         return None
-    return None if any(table[HEADER + count * SLOT : HEADER + capacity * SLOT]) else events
+    return None if table[HEADER + count * SLOT : HEADER + capacity * SLOT].strip(b"\0") else events
 
 
 def formatted(table, capacity):
