@@ -32,7 +32,7 @@ use Rattle.replies.proofs.Written.{eose-row}
 use Rattle.slot_replies.specs.Slot.{heldText}
 
 -- ---- room
-length-is : (s : List ℕ) {k : ℕ} → Field s 106 2 k → k ≡ lengthIn s
+pub length-is : (s : List ℕ) {k : ℕ} → Field s 106 2 k → k ≡ lengthIn s
 unfolding lengthIn
 length-is s f = f .is
 

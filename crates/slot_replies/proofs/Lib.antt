@@ -1,3 +1,5 @@
 -- Laws of the writers of EVENTs.
 pub mod Pieces
 pub mod Answers
+pub mod Lines
+pub mod Batches

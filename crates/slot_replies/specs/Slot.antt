@@ -1,9 +1,9 @@
 -- What private functions hand on: the EVENT of a slot's bytes in pieces. Id and signature in hex, the rest as the slot's text spells it.
 use mathlib.Core.Path.{_≡_}
-use mathlib.Core.Bool.{cond}
-use mathlib.Core.List.{List, [], _∷_, _++_}
-use Prim.Native.Nat.{ℕ, _+_, _-_}
-use lib.Dec.{ltb}
+use mathlib.Core.Bool.{cond, _&&_}
+use mathlib.Core.List.{List, [], _∷_, _++_, map}
+use Prim.Native.Nat.{ℕ, suc, _+_, _-_}
+use lib.Dec.{eqb, ltb}
 use lib.ListN.{length}
 use Rattle.wire.specs.Escape.{escape}
 use Rattle.numeral.specs.Decimal.{digits, decimal}
@@ -12,12 +12,16 @@ use Rattle.text.specs.Read.{Read, tooLarge, wrongShape, read, readText}
 use Rattle.text.specs.Answer.{answerOf}
 use Rattle.text.specs.declared.Text.{Text}
 use Rattle.text.specs.declared.TextAnswer.the-variants as answer
-use Rattle.table.specs.Layout.{slotAt, lengthIn, textIn}
+use Rattle.table.specs.Layout.{countOf, slotAt, lengthIn, textIn}
 use Rattle.reply.specs.Ascii.{ascii}
-use Rattle.reply.specs.Program.{eventIn}
-use Rattle.reply.specs.Respond.{firstText}
+use Rattle.reply.specs.Program.{eventIn, written}
+use Rattle.reply.specs.Lent.{outputAfter}
+use Rattle.reply.specs.Respond.{firstText, fitting, slotLines, fittingText, noneFits, allHeld}
+use Rattle.reply.specs.declared.Sent.{Sent}
+use Rattle.reply.specs.declared.Sent.the-variants.{Wrote, Refused}
 use Rattle.slot_replies.specs.declared.Left.{Left}
 use Rattle.slot_replies.specs.declared.Left.the-variants.{Room, Short}
+use Rattle.slot_replies.specs.declared.Fitted.{Fitted}
 
 unfoldable pub frontText : (sub i : List ℕ) → List ℕ
 frontText sub i = ascii "[\"EVENT\"," ++ (quoted sub ++ (ascii ",{\"id\":" ++ quoted i))
@@ -51,6 +55,10 @@ pub record ReadAs (t : List ℕ) (x : Text) : Type 0 where
 unfoldable pub heldText : (sub s : List ℕ) → List ℕ
 heldText sub s = firstText (eventIn sub s (readText (textIn s)))
 
+-- as a line, which 0A ends
+unfoldable pub heldLine : (sub s : List ℕ) → List ℕ
+heldLine sub s = written (eventIn sub s (readText (textIn s)))
+
 -- ---- the EVENTs of the slots ks, each a line, whatever bytes are lent: `written (eventsOf b sub ks)` of reply/specs/Program
 -- how many bytes that is if the table is sound and holds them: each line is 267 bytes longer than the slot's text and the subscription id escaped
 unfoldable pub linesSize : (b sub : List ℕ) → List ℕ → ℕ
@@ -60,3 +68,41 @@ linesSize b sub (k ∷ ks) = lengthIn (slotAt b k) + length (escape sub) + 267 +
 -- what n bytes leave of a room
 unfoldable pub leftIn : (room n : ℕ) → Left
 leftIn room n = cond (ltb room n) Short (Room (room - n))
+
+-- how long each of these lines is, for a subscription id that has n bytes when escaped
+abbrev pub lineSize : (b : List ℕ) (n k : ℕ) → ℕ
+lineSize b n k = lengthIn (slotAt b k) + n + 267
+
+abbrev pub sizes : (b : List ℕ) (n : ℕ) → List ℕ → List ℕ
+sizes b n ks = map (lineSize b n) ks
+
+-- how many of these sizes a room has, from the first on, with the i before them, and what they leave of it
+abbrev pub stopped : (i room : ℕ) → Fitted
+stopped i room = record { lines = i; left = room }
+
+unfoldable pub fittedIn : (i room : ℕ) → List ℕ → Fitted
+fittedIn i room [] = stopped i room
+fittedIn i room (x ∷ xs) = cond (ltb room x) (stopped i room) (fittedIn (i + 1) (room - x) xs)
+
+-- ---- as many as fit, of a sound table
+-- how many of the slots ks are held, from the first on
+unfoldable pub heldLen : (b : List ℕ) → List ℕ → ℕ
+heldLen b [] = 0
+heldLen b (k ∷ ks) = cond (ltb k (countOf b)) (suc (heldLen b ks)) 0
+
+-- of `all` slots `held` are held, from the first on, and the lines of so many of these fit: row 13, then 14
+unfoldable pub fitRow : (lines held all : ℕ) → ℕ
+fitRow lines held all = cond (ltb 0 held && eqb lines 0) 13 (cond (ltb held all) 14 0)
+
+-- the rows of `eventsRow` behind 11, what is answered where no row before them holds, and the output then
+abbrev pub linesRow : (b sub ks out : List ℕ) → ℕ
+linesRow b sub ks out = cond (noneFits (length out) (slotLines b sub ks)) 13 (cond (allHeld b ks) 0 14)
+
+abbrev pub sentBy : (row n k : ℕ) → Sent
+sentBy row n k = cond (eqb row 0) (Wrote n k) (Refused row)
+
+unfoldable pub sentLines : (b sub ks out : List ℕ) → Sent
+sentLines b sub ks out = sentBy (linesRow b sub ks out) (length (fittingText b sub ks out)) (fitting (length out) (slotLines b sub ks))
+
+unfoldable pub sentLinesOut : (b sub ks out : List ℕ) → List ℕ
+sentLinesOut b sub ks out = outputAfter (linesRow b sub ks out) (fittingText b sub ks out) out

@@ -1,20 +1,24 @@
 // EVENT replies of held slots, written into lent bytes. The text of a slot is copied, never decoded. Every row is tested before the first
 // byte is written.
 ghost use mathlib.Core.Path.{_≡_};
+ghost use mathlib.Core.Bool.{true};
 ghost use Prim.Native.Nat.{_+_};
-ghost use lib.ListN.{length};
+ghost use lib.ListN.{length, getD};
 ghost use Rattle.wire.specs.Put.{Puts};
 ghost use Rattle.wire.specs.Escape.{escape};
 ghost use Rattle.spell.specs.Spell.{decode};
 ghost use Rattle.text.specs.Event.{quoted};
 ghost use Rattle.event.specs.Answer.{hexOf, numberOf};
 ghost use Rattle.table.specs.Layout.{lengthIn};
+ghost use Rattle.table.specs.Sound.{sound};
 ghost use Rattle.table.specs.Format.{shownRow};
-ghost use Rattle.reply.specs.Respond.{slotEvent, slotEventRow, slotEventOut};
+ghost use Rattle.reply.specs.Program.{eventsOf, written};
+ghost use Rattle.reply.specs.Respond.{slotEvent, slotEventRow, slotEventOut, eventsRow, sentEvents, sentEventsOut, sentNumber};
 ghost use Rattle.replies.specs.Pieces.{Room};
-ghost use Rattle.slot_replies.specs.Slot.{numbersOf, stringsOf, ReadAs, frontText, backText, heldText};
+ghost use Rattle.slot_replies.specs.Slot.{numbersOf, stringsOf, ReadAs, frontText, backText, heldText, heldLine, linesSize, leftIn, sizes, fittedIn, heldLen, fitRow, sentLines, sentLinesOut};
 use event::Written;
 use message::Span;
+use reply::Sent;
 use slots::Shown;
 use text::Text;
 use text::TextAnswer;
@@ -159,4 +163,167 @@ pub fn slot_event(table: &[u8], slot: usize, m: &[u8], sub: Span, out: &mut [u8]
         return Written::Wrote(put_slot(out, 0, id, s));
     }
     Written::Refused(13)
+}
+
+// ---- the EVENTs of many slots, each a line
+// How many lines fit whole, from the first on, and what they leave of the room.
+struct Fitted {
+    lines: usize,
+    left: usize,
+}
+
+// A slot number of a row; 0 past its end.
+fn number(ks: &[u16], i: usize) -> usize
+    ensures { λ r. ⌜ r ≡ getD (now (ks .entry)) i 0 ⌝ }
+{
+    if i < ks.len() {
+        return ks[i] as usize;
+    }
+    0
+}
+
+// The EVENT of a slot, ended with 0A; nothing where its text does not read.
+fn put_line(out: &mut [u8], at: usize, sub: &[u8], s: &[u8]) -> usize
+    ensures { λ r. ⌜ Puts (now (out .entry)) at (heldLine (decode (now (sub .entry))) (now (s .entry))) r (now (out .exit)) ⌝ }
+{
+    let n = put_slot(out, at, sub, s);
+    if n == at {
+        return n;
+    }
+    wire::put(out, n, b"\n")
+}
+
+// The EVENTs of the slots ks, each ended with 0A, from `at` on; nothing of a slot whose text does not read. `sub` is the subscription id as
+// spelled.
+pub fn put_events(out: &mut [u8], at: usize, table: &[u8], sub: &[u8], ks: &[u16]) -> usize
+    ensures { λ r. ⌜ Puts (now (out .entry)) at (written (eventsOf (now (table .entry)) (decode (now (sub .entry))) (now (ks .entry)))) r (now (out .exit)) ⌝ }
+{
+    if out.len() < at {
+        return out.len();
+    }
+    let mut o = at;
+    let mut i = 0;
+    while i < ks.len() {
+        let k = number(ks, i);
+        let s = slots::slot(table, k);
+        o = put_line(out, o, sub, s);
+        i += 1;
+    }
+    o
+}
+
+// What the line of a sound slot leaves of a room: it is 267 bytes longer than the slot's text and the subscription id, which has n bytes
+// when escaped. By subtraction: the sum may be more than a number holds.
+fn line_left(s: &[u8], n: usize, room: usize) -> Left
+    ensures { λ r. ⌜ r ≡ leftIn room (lengthIn (now (s .entry)) + n + 267) ⌝ }
+{
+    let size = wire::le_at(s, 106, 2) as usize + 267;
+    if room < size {
+        return Left::Short;
+    }
+    let rest = room - size;
+    if rest < n {
+        return Left::Short;
+    }
+    Left::Room(rest - n)
+}
+
+// The lines of the slots ks that fit, for a subscription id that has n bytes when escaped.
+fn fit_lines(table: &[u8], n: usize, ks: &[u16], room: usize) -> Fitted
+    ensures { λ r. ⌜ r ≡ fittedIn 0 room (sizes (now (table .entry)) n (now (ks .entry))) ⌝ }
+{
+    let mut left = room;
+    let mut i = 0;
+    while i < ks.len() {
+        let k = number(ks, i);
+        let s = slots::slot(table, k);
+        let Left::Room(x) = line_left(s, n, left) else {
+            return Fitted { lines: i, left };
+        };
+        left = x;
+        i += 1;
+    }
+    Fitted { lines: i, left }
+}
+
+// What the lines of the slots ks leave of a room, if the table is sound and holds the slots.
+pub fn events_left(table: &[u8], sub: &[u8], ks: &[u16], room: usize) -> Left
+    ensures { λ r. ⌜ r ≡ leftIn room (linesSize (now (table .entry)) (decode (now (sub .entry))) (now (ks .entry))) ⌝ }
+{
+    let n = spell::escaped_len(sub);
+    let f = fit_lines(table, n, ks, room);
+    if f.lines < ks.len() {
+        return Left::Short;
+    }
+    Left::Room(f.left)
+}
+
+// How many of the slots ks are held, from the first on.
+fn held_len(table: &[u8], ks: &[u16]) -> usize
+    ensures { λ r. ⌜ r ≡ heldLen (now (table .entry)) (now (ks .entry)) ⌝ }
+{
+    let c = wire::le_at(table, 4, 4) as usize;
+    let mut i = 0;
+    while i < ks.len() {
+        let k = number(ks, i);
+        if c <= k {
+            return i;
+        }
+        i += 1;
+    }
+    i
+}
+
+// Row 13 where slots are held and the line of none fits; then 14 where not all are held; else 0.
+fn fit_row(lines: usize, held: usize, all: usize) -> u8
+    ensures { λ r. ⌜ r ≡ fitRow lines held all ⌝ }
+{
+    if held == 0 {
+        if all == 0 {
+            return 0;
+        }
+        return 14;
+    }
+    if lines == 0 {
+        return 13;
+    }
+    if held < all {
+        return 14;
+    }
+    0
+}
+
+// As many lines as fit, of a sound table. `sub` is the subscription id as spelled.
+fn send(table: &[u8], ks: &[u16], sub: &[u8], out: &mut [u8]) -> Sent
+    requires { ⌜ sound (now table) ≡ true ⌝ }
+    ensures { λ r. ⌜ r ≡ sentLines (now (table .entry)) (decode (now (sub .entry))) (now (ks .entry)) (now (out .entry)) ⌝ }
+    ensures { λ _. ⌜ now (out .exit) ≡ sentLinesOut (now (table .entry)) (decode (now (sub .entry))) (now (ks .entry)) (now (out .entry)) ⌝ }
+{
+    let n = spell::escaped_len(sub);
+    let held = held_len(table, ks);
+    let f = fit_lines(table, n, &ks[..held], out.len());
+    let lines = f.lines;
+    let row = fit_row(lines, held, ks.len());
+    if row != 0 {
+        return Sent::Refused(row);
+    }
+    Sent::Wrote(put_events(out, 0, table, sub, &ks[..lines]), lines)
+}
+
+// As many whole EVENTs of the slots ks as fit, each ended with 0A, from the start of `out`; for the subscription id that stands at `sub` in
+// m. The table is tested once.
+pub fn events(table: &[u8], ks: &[u16], m: &[u8], sub: Span, out: &mut [u8]) -> Sent
+    ensures { λ r. ⌜ r ≡ sentEvents (now (table .entry)) (now (ks .entry)) (now (m .entry)) sub (now (out .entry)) ⌝ }
+    ensures { λ r. ⌜ sentNumber r ≡ eventsRow (now (table .entry)) (now (ks .entry)) (now (m .entry)) sub (now (out .entry)) ⌝ }
+    ensures { λ _. ⌜ now (out .exit) ≡ sentEventsOut (now (table .entry)) (now (ks .entry)) (now (m .entry)) sub (now (out .entry)) ⌝ }
+{
+    let row = message::subscription_row(m, sub);
+    if row != 0 {
+        return Sent::Refused(row);
+    }
+    if slots::sound(table) {
+        let id = wire::piece(m, sub.start, sub.len);
+        return send(table, ks, id, out);
+    }
+    Sent::Refused(11)
 }

@@ -1,0 +1,37 @@
+-- A law for each way out.
+use mathlib.Core.Path.{sym, _∙_}
+use borrow.Author.Needs.{needs}
+use Rattle.slot_replies.proofs.Batches.{name-refused, table-refused, events-sent}
+use Rattle.slot_replies.proofs.events.Statement.{statement}
+use Rattle.slot_replies.proofs.events.Tie as tie
+
+send-requires : tie.Need-send-requires
+send-requires c κs =
+    let c2 = c .before .before in
+    sym (c2 .before .sound .ensures) ∙ c2 .if2 .taken
+
+returns : tie.Need-returns
+returns c = name-refused _ _ _ _ _ (c .before .subscription-row .ensures) (c .if1 .taken)
+
+returns-2 : tie.Need-returns-2
+returns-2 c =
+    let c2 = c .before .before in
+    let c4 = c2 .before .before in
+    let c5 = c4 .before in
+    let c6 = c5 .before in
+    let c7 = c6 .before in
+    let c8 = c7 .before in
+    events-sent _ _ _ _ _ (c8 .subscription-row .ensures) (c7 .if1 .left) (c6 .sound .ensures) (c5 .if2 .taken) (c4 .piece .ensures) (c2 .send .ensures)
+
+returns-3 : tie.Need-returns-3
+returns-3 c =
+    let c1 = c .before in
+    let c2 = c1 .before in
+    let c3 = c2 .before in
+    table-refused _ _ _ _ _ (c3 .subscription-row .ensures) (c2 .if1 .left) (c1 .sound .ensures) (c .if2 .left)
+
+pub events-spec : {M : Type 1} → statement M
+events-spec =
+    tie.close
+    (tie.spec (λ c κs. search needs) returns (λ c κs. search needs) (λ c κs. search needs) send-requires
+    (λ c. search needs) returns-2 returns-3)

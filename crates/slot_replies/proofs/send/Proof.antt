@@ -1,0 +1,44 @@
+-- A row refuses, or the lines that fit are put.
+use mathlib.Core.Path.{sym}
+use borrow.Author.Needs.{needs}
+use lib.Seq.{length-take-le}
+use Rattle.slot_replies.proofs.Batches.{held-few, lines-few, lines-refused, lines-sent}
+use Rattle.slot_replies.proofs.send.Statement.{statement}
+use Rattle.slot_replies.proofs.send.Tie as tie
+
+slice-aggregate-fit-lines : tie.Need-slice-aggregate-fit-lines
+slice-aggregate-fit-lines c = sym (length-take-le _ _ (held-few _ _ (c .before .held-len .ensures)))
+
+slice-aggregate-put-events : tie.Need-slice-aggregate-put-events
+slice-aggregate-put-events c =
+    let c4 = c .before .before .before .before in
+    let c6 = c4 .before .before in
+    let c7 = c6 .before in
+    let a = c7 .before .before .before .before .before .args in
+    sym (length-take-le _ _ (lines-few (a .table .now) (a .ks .now) _ (c6 .held-len .result) (c7 .escaped-len .result) (c4 .fit-lines .ensures)))
+
+returns : tie.Need-returns
+returns c =
+    let c1 = c .before in
+    let c2 = c1 .before in
+    let c4 = c2 .before .before in
+    let c5 = c4 .before in
+    let c10 = c5 .before .before .before .before .before in
+    lines-refused _ _ _ _ (c10 .pre) (c5 .escaped-len .ensures) (c4 .held-len .ensures) (c2 .fit-lines .ensures) (c1 .fit-row .ensures) (c .if1 .taken)
+
+returns-2 : tie.Need-returns-2
+returns-2 c =
+    let c2 = c .before .before in
+    let c5 = c2 .before .before .before in
+    let c6 = c5 .before in
+    let c7 = c6 .before in
+    let c9 = c7 .before .before in
+    let c10 = c9 .before in
+    let c15 = c10 .before .before .before .before .before in
+    lines-sent _ _ _ _ (c15 .pre) (c10 .escaped-len .ensures) (c9 .held-len .ensures) (c7 .fit-lines .ensures) (c6 .fit-row .ensures) (c5 .if1 .left) (c2 .put-events .ensures)
+
+pub send-spec : {M : Type 1} → statement M
+send-spec =
+    tie.close
+    (tie.spec (λ c κs. search needs) (λ c κs. search needs) slice-aggregate-fit-lines (λ c κs. search needs)
+    (λ c κs. search needs) returns slice-aggregate-put-events (λ c κs. search needs) (λ c. search needs) returns-2)
