@@ -71,7 +71,7 @@ false-put row e x y = rw e (puts-then x y)
 
 refused-length : (row : ℕ) → length (verdictText (Refused row)) ≡ 6 + length (quoted (reasonOf row))
 unfolding verdictText
-refused-length row = simp length-append
+refused-length row = simp length-append (omega arith)
 
 pub verdict-length : {a : Offered} (b : Offered) (n : ℕ) → a ≡ b → n ≡ length (verdictText b) → n ≤ 41 → (n ≡ length (verdictText a)) × (n ≤ 41)
 verdict-length b n e q h = (rw e q, h)
@@ -121,6 +121,9 @@ pub eose-length : (s : List ℕ) → length (eoseLine s) ≡ 12 + length (escape
 unfolding eoseLine replyText
 eose-length s = simp length-append (omega (arith, quoted-length s))
 
+room-as : {x y room : ℕ} {r : Bool} → x ≡ y → Room x room r → Room y room r
+room-as e w = rw e at w
+
 -- ---- the reply to a refusal, by what it names
 module _ (m : List ℕ) (row : ℕ) {n : Named} where
   module _ {d o : List ℕ} {r : ℕ} where
@@ -137,25 +140,22 @@ module _ (m : List ℕ) (row : ℕ) {n : Named} where
     none-put e x = rw e x
 
   module _ {k : ℕ} (l : (k ≡ length (quoted (reasonOf row))) × (k ≤ 29)) {room : ℕ} {r : Bool} where
-    room-as : {x y : ℕ} → x ≡ y → Room x room r → Room y room r
-    room-as e w = rw e at w
-
     pub id-room : (p : Span) → n ≡ Id p → {h : ℕ} → h ≡ length (escape (said m p)) → Room (16 + k + h) room r → Room (length (namingText m n row)) room r
-    unfolding namingText
+    unfolding namingText okText
     id-room p e {h} f w = room-as (is ∙ sym (ap (λ x. length (namingText m x row)) e)) w
       where
         is : 16 + k + h ≡ length (okText (said m p) (Refused row))
         is = omega (arith, f, l .0, ok-length (said m p) (Refused row), refused-length row, quoted-length (said m p))
 
     pub sub-room : (p : Span) → n ≡ Subscription p → {h : ℕ} → h ≡ length (escape (said m p)) → Room (14 + k + h) room r → Room (length (namingText m n row)) room r
-    unfolding namingText
+    unfolding namingText closedText
     sub-room p e {h} f w = room-as (is ∙ sym (ap (λ x. length (namingText m x row)) e)) w
       where
         is : 14 + k + h ≡ length (closedText (said m p) row)
         is = omega (arith, f, l .0, closed-length (said m p) row, quoted-length (said m p))
 
     pub none-room : n ≡ Nothing → Room (11 + k + 0) room r → Room (length (namingText m n row)) room r
-    unfolding namingText
+    unfolding namingText noticeText
     none-room e w = room-as (is ∙ sym (ap (λ x. length (namingText m x row)) e)) w
       where
         is : 11 + k + 0 ≡ length (noticeText row)

@@ -11,14 +11,15 @@ use lib.Seq.{take-append-seam}
 use Rattle.wire.specs.Limits.{hexLength}
 use Rattle.wire.specs.Put.{Puts}
 use Rattle.wire.specs.Escape.{letterOf, escOne, escape}
-use Rattle.wire.proofs.Laws.{puts-then, puts-whole}
+use Rattle.wire.proofs.Laws.{puts-none, puts-then, puts-whole}
 use Rattle.json.specs.Tree.{Json, Items, Got, none, got, root}
-use Rattle.shape.specs.Shape.{Word, event, req, close, other, opened}
+use Rattle.shape.specs.Shape.{Word, event, req, close, other, opened, idName}
 use Rattle.shape.specs.Rows.{messageRow, wrongSubscription}
 use Rattle.rows.specs.Strings.{part}
 use Rattle.spell.specs.Spell.{decode, isHexOf}
 use Rattle.text.specs.Event.{quoted}
 use Rattle.message.specs.Parts as parts
+use Rattle.message.specs.Parts.{spanOf, memberOf, membersOf, spanIn}
 use Rattle.message.specs.Read.{firstOf, readOf, namedIn, namedRoot, isEarly, namedOf}
 use Rattle.message.specs.declared.EventParts.{EventParts}
 use Rattle.message.specs.declared.Filters.{Filters}
@@ -57,13 +58,10 @@ use Rattle.replies.specs.Pieces.{Room}
 use Rattle.slot_replies.specs.Slot.{linesSize, leftIn}
 use Rattle.slot_replies.specs.declared.Left.{Left}
 use Rattle.slot_replies.specs.declared.Left.the-variants as left
+use Rattle.slot_replies.proofs.Lines.{lines-size}
 use Rattle.responses.specs.Line.{verdictText, okText, closedText, namedFor, namingText, ended, eoseLine, answerText, AllHeld, Said}
 use Rattle.responses.specs.Refused.{refusedText, refusedRow, refusedReply, refusedOut}
 use Rattle.responses.proofs.Lines.{ok-length, eose-length, naming-is}
-
--- to be had from slot_replies
-lines-size : (b sub ks : List ℕ) → AllHeld b ks → length (written (eventsOf b sub ks)) ≡ linesSize b sub ks
-lines-size b sub ks a = ?
 
 -- ---- what is answered
 said-short : (t out : List ℕ) → length out < length t → Said t out (sent.Refused 13) out
@@ -128,8 +126,8 @@ named-hex m p = early (isEarly (messageRow m))
     sub s false e = clash cc
 
     word : (w : Word) (ts : Items) → namedIn m w ts ≡ names.Id p → isHexOf hexLength (part m (p .start) (p .len)) ≡ true
-    word event ts e = hex _ _ refl e
-    word req ts e = sub _ (wrongSubscription m (firstOf ts)) e
+    word event ts e = let s = spanIn (memberOf m idName (membersOf (firstOf ts))) in hex s (isHexOf hexLength (part m (s .start) (s .len))) refl e
+    word req ts e = sub (spanOf (firstOf ts)) (wrongSubscription m (firstOf ts)) e
     word close ts e = clash cc
     word other ts e = clash cc
 
@@ -222,7 +220,7 @@ module _ (b : List ℕ) (m : List ℕ) (s : Span) (ks : List ℕ) (held : AllHel
   sub = said m s
 
   size : linesSize b (decode id) ks ≡ length (written (eventsOf b sub ks))
-  size = ap (λ x. linesSize b (decode x) ks) ei ∙ sym (lines-size b sub ks held)
+  size = ap (λ x. linesSize b (decode x) ks) ei ∙ sym (lines-size b sub ks (held .is-sound) (held .held))
 
   text-length : length (answerText b sub ks) ≡ length (written (eventsOf b sub ks)) + length (eoseLine sub)
   unfolding answerText
@@ -351,4 +349,4 @@ unfolding response written
 responds-close b m out p e =
     let (x, y) = read-close b m p e in
     let z : response b m ≡ [] = ap written x in
-    responds b m out (said-as (sym z) (record { answer = refl; bytes = refl })) (table-stays b m out y)
+    responds b m out (said-as (sym z) (said-put [] out (omega arith) (puts-none out 0 (omega arith)))) (table-stays b m out y)

@@ -5,17 +5,14 @@ ghost use Prim.Native.Nat.{_+_, _≤_};
 ghost use lib.ListN.{length};
 ghost use Rattle.wire.specs.Put.{Puts};
 ghost use Rattle.wire.specs.Escape.{escape};
-ghost use Rattle.spell.specs.Spell.{decode};
 ghost use Rattle.text.specs.Event.{quoted};
 ghost use Rattle.message.specs.Read.{readOf};
 ghost use Rattle.message.specs.declared.Message.the-variants as message;
 ghost use Rattle.event.specs.Lent.{said};
 ghost use Rattle.event.specs.Answer.{numberOf};
 ghost use Rattle.reply.specs.Replies.{reasonOf};
-ghost use Rattle.reply.specs.Program.{eventsOf, written};
 ghost use Rattle.reply.specs.Respond.{response, responded, respondRow, respondedOut, respondedTable};
 ghost use Rattle.replies.specs.Pieces.{Room};
-ghost use Rattle.slot_replies.specs.Slot.{linesSize, leftIn};
 ghost use Rattle.responses.specs.Refused.{refusedReply, refusedRow, refusedOut};
 ghost use Rattle.responses.specs.Line.{verdictText, okText, closedText, noticeText, namedFor, namingText, ended, eoseLine, answerText, AllHeld, Said};
 use event::Written;
@@ -30,18 +27,6 @@ use table::Offered;
 
 // No OK to an EVENT that was read is longer, its 0A included.
 const LONGEST_OK: usize = 116;
-
-fn put_events(out: &mut [u8], at: usize, table: &[u8], sub: &[u8], ks: &[u16]) -> usize
-    ensures { λ r. ⌜ Puts (now (out .entry)) at (written (eventsOf (now (table .entry)) (decode (now (sub .entry))) (now (ks .entry)))) r (now (out .exit)) ⌝ }
-{
-    at
-}
-
-fn events_left(table: &[u8], sub: &[u8], ks: &[u16], room: usize) -> Left
-    ensures { λ r. ⌜ r ≡ leftIn room (linesSize (now (table .entry)) (decode (now (sub .entry))) (now (ks .entry))) ⌝ }
-{
-    Left::Short
-}
 
 // ---- pieces of a reply
 // The reply text of a row, between quotes; rows 0, 13 and later have none.
@@ -275,10 +260,10 @@ fn put_answer(table: &[u8], m: &[u8], sub: Span, ks: &[u16], out: &mut [u8]) -> 
     ensures { λ r. ⌜ Said (answerText (now (table .entry)) (said (now (m .entry)) sub) (now (ks .entry))) (now (out .entry)) r (now (out .exit)) ⌝ }
 {
     let id = wire::piece(m, sub.start, sub.len);
-    match events_left(table, id, ks, out.len()) {
+    match slot_replies::events_left(table, id, ks, out.len()) {
         Left::Room(room) => {
             if has_room(room, 12, spell::escaped_len(id)) {
-                let a = put_events(out, 0, table, id, ks);
+                let a = slot_replies::put_events(out, 0, table, id, ks);
                 return Written::Wrote(put_eose(out, a, m, sub));
             }
             Written::Refused(13)
