@@ -17,13 +17,13 @@ use Rattle.message.specs.declared.Named.{Named}
 use Rattle.message.specs.declared.Named.the-variants.{Id, Subscription, Nothing}
 use Rattle.event.specs.Lent.{said}
 use Rattle.table.specs.declared.Offered.{Offered}
-use Rattle.table.specs.declared.Offered.the-variants.{Ephemeral, Duplicate, Older, Stored, Refused}
+use Rattle.table.specs.declared.Offered.the-variants.{Refused}
 use Rattle.reply.specs.Ascii.{ascii}
-use Rattle.reply.specs.Replies.{ok, eose, closed, notice, replyText, truth, isAccepted, verdictReason, reasonOf}
+use Rattle.reply.specs.Replies.{notice, replyText, truth, isAccepted, verdictReason, reasonOf}
 use Rattle.reply.specs.Program.{refusalNaming, refusal}
 use Rattle.reply.proofs.Sizes.{quoted-length, reason-short}
 use Rattle.replies.specs.Pieces.{Room}
-use Rattle.responses.specs.Line.{verdictText, okText, closedText, noticeText, namedFor, namingText, ended, eoseLine}
+use Rattle.responses.specs.Line.{verdictText, okText, closedText, noticeText, namedFor, namingText, eoseLine}
 use Rattle.responses.specs.Refused.{refusedText}
 
 -- ---- reasons

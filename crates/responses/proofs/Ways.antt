@@ -1,5 +1,5 @@
 -- A law for each way out.
-use mathlib.Core.Path.{_≡_, refl, sym, ap, ap₂, _∙_}
+use mathlib.Core.Path.{_≡_, refl, sym, ap, _∙_}
 use mathlib.Core.Bool.{Bool, true, false, cond, false≢true}
 use mathlib.Core.List.{List, [], _∷_, _++_, append-nil}
 use Prim.Native.Nat.{ℕ, _+_, _-_, _≤_, _<_}
@@ -25,6 +25,7 @@ use Rattle.message.specs.declared.EventParts.{EventParts}
 use Rattle.message.specs.declared.Filters.{Filters}
 use Rattle.message.specs.declared.ReqParts.{ReqParts}
 use Rattle.message.specs.declared.Span.{Span}
+use Rattle.message.specs.declared.Message.{Message}
 use Rattle.message.specs.declared.Message.the-variants as message
 use Rattle.message.specs.declared.Named.{Named}
 use Rattle.message.specs.declared.Named.the-variants as names
@@ -34,9 +35,8 @@ use Rattle.event.specs.Answer.{numberOf}
 use Rattle.event.specs.declared.Written.{Written}
 use Rattle.event.specs.declared.Written.the-variants as sent
 use Rattle.event.proofs.Answers.{number-is}
-use Rattle.table.specs.Layout.{countOf}
 use Rattle.table.specs.Sound.{sound}
-use Rattle.table.specs.Offer.{asMessage, asParts, partsOf, answer, next, verdictOn, isStored, storedIn, heldOf, judge}
+use Rattle.table.specs.Offer.{asMessage, asParts, partsOf, answer, next, verdictOn}
 use Rattle.table.specs.declared.Offered.{Offered}
 use Rattle.table.specs.declared.Offered.the-variants as offered
 use Rattle.table.proofs.Bytes.{clauses}
@@ -47,7 +47,7 @@ use Rattle.query.specs.declared.Listing.the-variants as listing
 use Rattle.query.proofs.Tables.{answer-means}
 use Rattle.query.proofs.ReadFilters.{read-listing}
 use Rattle.reply.specs.Replies.{Reply, eose, closed, replyText, reasonOf}
-use Rattle.reply.specs.Lent.{shortRow, outputAfter}
+use Rattle.reply.specs.Lent.{shortRow}
 use Rattle.reply.specs.Program.{refusal, eventsOf, requestReplies, repliesTo, tableAfter, written}
 use Rattle.reply.specs.Respond.{response, respondRow, responded, respondedOut, respondedTable}
 use Rattle.reply.proofs.Lines.{written-append}
@@ -59,7 +59,7 @@ use Rattle.slot_replies.specs.Slot.{linesSize, leftIn}
 use Rattle.slot_replies.specs.declared.Left.{Left}
 use Rattle.slot_replies.specs.declared.Left.the-variants as left
 use Rattle.slot_replies.proofs.Lines.{lines-size}
-use Rattle.responses.specs.Line.{verdictText, okText, closedText, namedFor, namingText, ended, eoseLine, answerText, AllHeld, Said}
+use Rattle.responses.specs.Line.{verdictText, okText, namedFor, namingText, ended, eoseLine, answerText, AllHeld, Said}
 use Rattle.responses.specs.Refused.{refusedText, refusedRow, refusedReply, refusedOut}
 use Rattle.responses.proofs.Lines.{ok-length, eose-length, naming-is}
 
@@ -199,53 +199,64 @@ module _ (b m : List ℕ) (p : EventParts) (e : readOf m ≡ message.Event p) wh
         )
 
 -- ---- EVENTs and EOSE
-left-room : (room n l : ℕ) → left.Room l ≡ leftIn room n → (n ≤ room) × (l ≡ room - n)
-unfolding leftIn
-left-room room n l e = go (ltb room n) refl e
-  where
-    go : (t : Bool) → ltb room n ≡ t → left.Room l ≡ cond t left.Short (left.Room (room - n)) → (n ≤ room) × (l ≡ room - n)
-    go true q z = absurd (let y : _≡_ {A = ℕ} 0 1 = cc in omega arith)
-    go false q z = (ltb-false room n q, cc)
+-- what is left of a room, by what was answered
+module _ (room n : ℕ) {x : Left} (a : x ≡ leftIn room n) where
+  left-room : {l : ℕ} → x ≡ left.Room l → (n ≤ room) × (l ≡ room - n)
+  unfolding leftIn
+  left-room {l} e = go (ltb room n) refl (sym e ∙ a)
+    where
+      go : (t : Bool) → ltb room n ≡ t → left.Room l ≡ cond t left.Short (left.Room (room - n)) → (n ≤ room) × (l ≡ room - n)
+      go true q z = absurd (let y : _≡_ {A = ℕ} 0 1 = cc in omega arith)
+      go false q z = (ltb-false room n q, cc)
 
-left-short : (room n : ℕ) → left.Short ≡ leftIn room n → room < n
-unfolding leftIn
-left-short room n e = go (ltb room n) refl e
-  where
-    go : (t : Bool) → ltb room n ≡ t → left.Short ≡ cond t left.Short (left.Room (room - n)) → room < n
-    go true q z = ltb-true room n q
-    go false q z = absurd (let y : _≡_ {A = ℕ} 0 1 = cc in omega arith)
+  left-short : x ≡ left.Short → room < n
+  unfolding leftIn
+  left-short e = go (ltb room n) refl (sym e ∙ a)
+    where
+      go : (t : Bool) → ltb room n ≡ t → left.Short ≡ cond t left.Short (left.Room (room - n)) → room < n
+      go true q z = ltb-true room n q
+      go false q z = absurd (let y : _≡_ {A = ℕ} 0 1 = cc in omega arith)
 
-module _ (b : List ℕ) (m : List ℕ) (s : Span) (ks : List ℕ) (held : AllHeld b ks) (out : List ℕ) {id : List ℕ} (ei : id ≡ part m (s .start) (s .len)) where
-  abbrev sub : List ℕ
-  sub = said m s
+module _ (b m : List ℕ) (s : Span) (ks : List ℕ) (held : AllHeld b ks) (out : List ℕ) {id : List ℕ} (ei : id ≡ part m (s .start) (s .len)) {x : Left}
+    (a : x ≡ leftIn (length out) (linesSize b (decode id) ks)) where
+  abbrev text : List ℕ
+  text = answerText b (said m s) ks
 
-  size : linesSize b (decode id) ks ≡ length (written (eventsOf b sub ks))
-  size = ap (λ x. linesSize b (decode x) ks) ei ∙ sym (lines-size b sub ks (held .is-sound) (held .held))
+  abbrev events : List ℕ
+  events = written (eventsOf b (said m s) ks)
 
-  text-length : length (answerText b sub ks) ≡ length (written (eventsOf b sub ks)) + length (eoseLine sub)
+  size : linesSize b (decode id) ks ≡ length events
+  size = ap (λ w. linesSize b (decode w) ks) ei ∙ sym (lines-size b (said m s) ks (held .is-sound) (held .held))
+
+  text-length : length text ≡ length events + length (eoseLine (said m s))
   unfolding answerText
-  text-length = length-append (written (eventsOf b sub ks)) (eoseLine sub)
+  text-length = length-append events (eoseLine (said m s))
 
-  pub events-short : left.Short ≡ leftIn (length out) (linesSize b (decode id) ks) → Said (answerText b sub ks) out (sent.Refused 13) out
-  events-short e = said-short (answerText b sub ks) out (omega (arith, text-length, size, left-short (length out) (linesSize b (decode id) ks) e))
+  pub events-short : x ≡ left.Short → Said text out (sent.Refused 13) out
+  events-short e = said-short text out (omega (arith, text-length, size, left-short (length out) (linesSize b (decode id) ks) a e))
 
-  module _ {l n : ℕ} {f : Bool} (e : left.Room l ≡ leftIn (length out) (linesSize b (decode id) ks)) (en : n ≡ length (escape (decode id))) (room : Room (12 + n) l f) where
-    eose-is : 12 + n ≡ length (eoseLine sub)
-    eose-is = omega (arith, en, ap (λ x. length (escape (decode x))) ei, eose-length sub)
+  module _ {l n : ℕ} {f : Bool} (e : x ≡ left.Room l) (en : n ≡ length (escape (decode id))) (room : Room (12 + n) l f) where
+    eose-is : 12 + n ≡ length (eoseLine (said m s))
+    eose-is = omega (arith, en, ap (λ w. length (escape (decode w))) ei, eose-length (said m s))
 
-    pub eose-short : f ≡ false → Said (answerText b sub ks) out (sent.Refused 13) out
+    pub eose-short : f ≡ false → Said text out (sent.Refused 13) out
     eose-short q =
-        let (h, z) = left-room (length out) (linesSize b (decode id) ks) l e in
-        said-short (answerText b sub ks) out (omega (arith, text-length, size, eose-is, room .no q))
+        let (h, z) = left-room (length out) (linesSize b (decode id) ks) a e in
+        said-short text out (omega (arith, text-length, size, eose-is, room .no q))
 
-    pub answer-put : f ≡ true → {o₁ o₂ : List ℕ} {a r : ℕ} → Puts out 0 (written (eventsOf b (decode id) ks)) a o₁ → Puts o₁ a (eoseLine sub) r o₂ → Said (answerText b sub ks) out (sent.Wrote r) o₂
+    pub answer-put : f ≡ true → {o₁ o₂ : List ℕ} {k r : ℕ} → Puts out 0 (written (eventsOf b (decode id) ks)) k o₁ → Puts o₁ k (eoseLine (said m s)) r o₂ → Said text out (sent.Wrote r) o₂
     unfolding answerText
-    answer-put q x y =
-        let (h, z) = left-room (length out) (linesSize b (decode id) ks) l e in
-        said-put (answerText b sub ks) out (omega (arith, text-length, size, eose-is, room .yes q)) (puts-then (rw ei at x) y)
+    answer-put q y w =
+        let (h, z) = left-room (length out) (linesSize b (decode id) ks) a e in
+        said-put text out (omega (arith, text-length, size, eose-is, room .yes q)) (puts-then (rw ei at y) w)
 
 -- ---- a REQ
-module _ (b m : List ℕ) (q : ReqParts) (e : readOf m ≡ message.Req q) {fs : Filters} (ef : fs ≡ parts.filtersAt m (q .filters)) (row : List ℕ) (wide : length row ≡ 64) where
+-- its filters, as values, are tested and lent; x is what is answered of them
+module _ (b m : List ℕ) (q : ReqParts) (e : readOf m ≡ message.Req q) {fs : Filters} (ef : fs ≡ parts.filtersAt m (q .filters)) (row : List ℕ) (wide : length row ≡ 64)
+    {x : Listing} (a : x ≡ listed b m (fs .parts) (fs .n) row) where
+  abbrev sub : List ℕ
+  sub = said m (q .subscription)
+
   abbrev ks : List ℕ
   ks = answerList b (filtersAt m (q .filters))
 
@@ -258,64 +269,54 @@ module _ (b m : List ℕ) (q : ReqParts) (e : readOf m ≡ message.Req q) {fs : 
       let t = filters-taken m q e in
       rw ef (read-listing b m q e (parts.filtersAt m (q .filters) .parts) (parts.filtersAt m (q .filters) .n) (t .few) (t .all) row)
 
-  record Told (k : ℕ) : Type 0 where
-    is-sound : sound b ≡ true
-    none : listingRow b m (fs .parts) (fs .n) row ≡ 0
-    many : k ≡ length ks
-
   sound-row : sound b ≡ true → listingRow b m (fs .parts) (fs .n) row ≡ 0
-  sound-row s = lent .1 ∙ rw (s, le-ltb (length row) (length ks) (omega (arith, few s))) refl
+  sound-row s = lent .1 ∙ rw (s, le-ltb (length row) (length ks) (omega (arith, few s)))
 
-  unsound-row : sound b ≡ false → listingRow b m (fs .parts) (fs .n) row ≡ 11
-  unsound-row s = lent .1 ∙ rw s refl
-
-  told : (k : ℕ) → listing.Count k ≡ listed b m (fs .parts) (fs .n) row → Told k
+  sound-told : sound b ≡ true → x ≡ listing.Count (length ks)
   unfolding listed
-  told k z = go (sound b) refl
-    where
-      go : (s : Bool) → sound b ≡ s → Told k
-      go true s =
-          let y : listing.Count k ≡ listing.Count (length ks) = rw (sound-row s, lent .0) at z in
-          record { is-sound = s; none = sound-row s; many = cc }
-      go false s =
-          let y : listing.Count k ≡ listing.Refused 11 = rw (unsound-row s) at z in
-          absurd (let x : _≡_ {A = ℕ} 0 1 = cc in omega arith)
+  sound-told s = a ∙ rw (sound-row s, lent .0)
 
-  module _ {k : ℕ} {row′ : List ℕ} (z : listing.Count k ≡ listed b m (fs .parts) (fs .n) row) (y : row′ ≡ listedRow b m (fs .parts) (fs .n) row) where
-    taken : take k row′ ≡ ks
-    unfolding listedRow
-    taken = let t = told k z in rw (y, t .none, lent .0, t .many) (take-append-seam ks (drop (length ks) row))
+  unsound-told : sound b ≡ false → x ≡ listing.Refused 11
+  unfolding listed
+  unsound-told s = a ∙ rw (lent .1, s)
+
+  module _ {k : ℕ} (z : x ≡ listing.Count k) where
+    told : (sound b ≡ true) × (k ≡ length ks)
+    told = go (sound b) refl
+      where
+        go : (t : Bool) → sound b ≡ t → (sound b ≡ true) × (k ≡ length ks)
+        go true s = (s, let y = sound-told s in cc)
+        go false s = absurd (let y = unsound-told s in let w : _≡_ {A = ℕ} 0 1 = cc in omega arith)
 
     pub row-room : k ≤ 64
-    row-room = let t = told k z in omega (arith, few (t .is-sound), t .many)
+    row-room = let (s, n) = told in omega (arith, few s)
 
-    pub all-held : AllHeld b (take k row′)
-    all-held = rw taken (record { is-sound = told k z .is-sound; held = answers-held b (filtersAt m (q .filters)) })
+    module _ {row′ : List ℕ} (y : row′ ≡ listedRow b m (fs .parts) (fs .n) row) where
+      taken : take k row′ ≡ ks
+      unfolding listedRow
+      taken = let (s, n) = told in rw (y, sound-row s, lent .0, n) (take-append-seam ks (drop (length ks) row))
 
-    answer-line : response b m ≡ answerText b (said m (q .subscription)) ks
-    unfolding response answerText repliesTo requestReplies eoseLine
-    answer-line =
-        let t = told k z in
-        rw (e, t .is-sound)
-        (written-append (eventsOf b (said m (q .subscription)) ks) (eose (said m (q .subscription)) ∷ []) ∙ ap (written (eventsOf b (said m (q .subscription)) ks) ++_) (one-written (eose (said m (q .subscription)))))
+      pub all-held : AllHeld b (take k row′)
+      all-held = rw taken (record { is-sound = told .0; held = answers-held b (filtersAt m (q .filters)) })
 
-    pub request-said : {out o : List ℕ} {r : Written} → Said (answerText b (said m (q .subscription)) (take k row′)) out r o → Said (response b m) out r o
-    request-said s = said-as (ap (answerText b (said m (q .subscription))) taken ∙ sym answer-line) s
+      answer-line : response b m ≡ answerText b sub ks
+      unfolding response answerText repliesTo requestReplies eoseLine
+      answer-line = rw (e, told .0) (written-append (eventsOf b sub ks) (eose sub ∷ []) ∙ ap (written (eventsOf b sub ks) ++_) (one-written (eose sub)))
 
-  pub request-refused : {k : ℕ} {out o : List ℕ} {r : Written} → listing.Refused k ≡ listed b m (fs .parts) (fs .n) row
-      → Said (ended (namingText m (names.Subscription (q .subscription)) k)) out r o → Said (response b m) out r o
-  unfolding listed response namingText
-  request-refused {k} {out} {o} {r} z s = go (sound b) refl
+      pub request-said : {out o : List ℕ} {r : Written} → Said (answerText b sub (take k row′)) out r o → Said (response b m) out r o
+      request-said s = said-as (ap (answerText b sub) taken ∙ sym answer-line) s
+
+  -- only row 11 refuses: CLOSED
+  pub request-refused : {k : ℕ} → x ≡ listing.Refused k → {out o : List ℕ} {r : Written} → Said (ended (namingText m (names.Subscription (q .subscription)) k)) out r o → Said (response b m) out r o
+  unfolding response namingText
+  request-refused {k} z {out} {o} {r} s = go (sound b) refl
     where
       go : (t : Bool) → sound b ≡ t → Said (response b m) out r o
-      go true t =
-          let y : listing.Refused k ≡ listing.Count (length ks) = rw (sound-row t, lent .0) at z in
-          absurd (let x : _≡_ {A = ℕ} 0 1 = cc in omega arith)
+      go true t = absurd (let y = sound-told t in let w : _≡_ {A = ℕ} 0 1 = cc in omega arith)
       go false t =
-          let y : listing.Refused k ≡ listing.Refused 11 = rw (unsound-row t) at z in
-          let x : k ≡ 11 = cc in
-          let w : response b m ≡ ended (replyText (closed (said m (q .subscription)) (reasonOf 11))) = ap written (bad-table b m q e t .0) ∙ one-written _ in
-          said-as (sym w) (rw x at s)
+          let n : k ≡ 11 = let y = unsound-told t in cc in
+          let w : response b m ≡ ended (replyText (closed sub (reasonOf 11))) = ap written (bad-table b m q e t .0) ∙ one-written _ in
+          said-as (sym w) (rw n at s)
 
 -- ---- one message
 abbrev pub Responds : (b m out : List ℕ) (r : Written) (o t : List ℕ) → Type 0
@@ -329,24 +330,27 @@ table-stays b m out e = go (eqb (respondRow b m out) 0)
     go true = sym e
     go false = refl
 
+-- x is what the reader answers
 module _ (b m out : List ℕ) {r : Written} {o : List ℕ} where
   pub responds : {t : List ℕ} → Said (response b m) out r o → t ≡ respondedTable b m out → Responds b m out r o t
   unfolding responded respondedOut respondRow
   responds s e = (s .answer, (ap numberOf (s .answer) ∙ number-is (shortRow (response b m) out) (length (response b m)), (s .bytes, e)))
 
-  pub responds-request : (q : ReqParts) → readOf m ≡ message.Req q → Said (response b m) out r o → Responds b m out r o b
-  unfolding tableAfter
-  responds-request q e s = responds s (table-stays b m out (rw e refl))
+  module _ {x : Message} (a : x ≡ readOf m) where
+    pub responds-request : {q : ReqParts} → x ≡ message.Req q → Said (response b m) out r o → Responds b m out r o b
+    unfolding tableAfter
+    responds-request e s = responds s (table-stays b m out (rw (sym a ∙ e)))
 
-  pub responds-refused : (k : ℕ) {n : Named} → readOf m ≡ message.Refused k → n ≡ namedFor m k → Said (ended (namingText m n k)) out r o → Responds b m out r o b
-  unfolding tableAfter response repliesTo refusedText
-  responds-refused k {n} e en s =
-      let z : ended (namingText m n k) ≡ response b m = ap ended (ap (λ x. namingText m x k) en ∙ naming-is m k) ∙ sym (rw e (one-written (refusal m k))) in
-      responds (said-as z s) (table-stays b m out (rw e refl))
+    pub responds-refused : {k : ℕ} {n : Named} → x ≡ message.Refused k → n ≡ namedFor m k → Said (ended (namingText m n k)) out r o → Responds b m out r o b
+    unfolding tableAfter response repliesTo refusedText
+    responds-refused {k} {n} e en s =
+        let f = sym a ∙ e in
+        let z : ended (namingText m n k) ≡ response b m = ap ended (ap (λ y. namingText m y k) en ∙ naming-is m k) ∙ sym (rw f (one-written (refusal m k))) in
+        responds (said-as z s) (table-stays b m out (rw f))
 
-pub responds-close : (b m out : List ℕ) (p : Span) → readOf m ≡ message.Close p → Responds b m out (sent.Wrote 0) out b
+pub responds-close : (b m out : List ℕ) {x : Message} {p : Span} → x ≡ readOf m → x ≡ message.Close p → Responds b m out (sent.Wrote 0) out b
 unfolding response written
-responds-close b m out p e =
-    let (x, y) = read-close b m p e in
-    let z : response b m ≡ [] = ap written x in
-    responds b m out (said-as (sym z) (said-put [] out (omega arith) (puts-none out 0 (omega arith)))) (table-stays b m out y)
+responds-close b m out {x} {p} a e =
+    let (y, t) = read-close b m p (sym a ∙ e) in
+    let z : response b m ≡ [] = ap written y in
+    responds b m out (said-as (sym z) (said-put [] out (omega arith) (puts-none out 0 (omega arith)))) (table-stays b m out t)

@@ -1,9 +1,8 @@
 -- By subtraction.
-use Prim.Native.Nat.{_-_}
-use borrow.Author.Needs.{needs}
-use borrow.Author.Tests.{leb-true, leb-false}
 use mathlib.Core.Bool.{false≢true}
 use native.Mathlib.Omega.{arith}
+use Prim.Native.Nat.{_-_}
+use borrow.Author.Tests.{leb-true, leb-false}
 use Rattle.responses.proofs.has_room.Statement.{statement}
 use Rattle.responses.proofs.has_room.Tie as tie
 

@@ -1,5 +1,5 @@
-use Rattle.responses.proofs.Lines.{named-early, named-late}
 use borrow.Author.Needs.{needs}
+use Rattle.responses.proofs.Lines.{named-early, named-late}
 use Rattle.responses.proofs.named_for.Statement.{statement}
 use Rattle.responses.proofs.named_for.Tie as tie
 

@@ -1,6 +1,6 @@
 -- The longest, or by the verdict.
-use Rattle.responses.proofs.Ways.{longest-fits, verdict-fits}
 use borrow.Author.Needs.{needs}
+use Rattle.responses.proofs.Ways.{longest-fits, verdict-fits}
 use Rattle.responses.proofs.ok_fits.Statement.{statement}
 use Rattle.responses.proofs.ok_fits.Tie as tie
 

@@ -1,5 +1,5 @@
-use Rattle.replies.proofs.Written.{part-length}
 use borrow.Author.Needs.{needs}
+use Rattle.replies.proofs.Written.{part-length}
 use Rattle.responses.proofs.part_len.Statement.{statement}
 use Rattle.responses.proofs.part_len.Tie as tie
 

@@ -1,6 +1,6 @@
 -- Five puts in a row.
-use Rattle.responses.proofs.Lines.{closed-put}
 use borrow.Author.Needs.{needs}
+use Rattle.responses.proofs.Lines.{closed-put}
 use Rattle.responses.proofs.put_closed.Statement.{statement}
 use Rattle.responses.proofs.put_closed.Tie as tie
 

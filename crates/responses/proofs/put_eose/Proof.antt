@@ -1,6 +1,6 @@
 -- Three puts in a row.
-use Rattle.responses.proofs.Lines.{eose-put}
 use borrow.Author.Needs.{needs}
+use Rattle.responses.proofs.Lines.{eose-put}
 use Rattle.responses.proofs.put_eose.Statement.{statement}
 use Rattle.responses.proofs.put_eose.Tie as tie
 

@@ -1,6 +1,6 @@
 -- Three puts in a row.
-use Rattle.responses.proofs.Lines.{notice-put}
 use borrow.Author.Needs.{needs}
+use Rattle.responses.proofs.Lines.{notice-put}
 use Rattle.responses.proofs.put_notice.Statement.{statement}
 use Rattle.responses.proofs.put_notice.Tie as tie
 

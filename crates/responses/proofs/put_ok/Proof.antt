@@ -1,6 +1,6 @@
 -- Five puts in a row.
-use Rattle.responses.proofs.Lines.{ok-put}
 use borrow.Author.Needs.{needs}
+use Rattle.responses.proofs.Lines.{ok-put}
 use Rattle.responses.proofs.put_ok.Statement.{statement}
 use Rattle.responses.proofs.put_ok.Tie as tie
 

@@ -1,6 +1,6 @@
 -- A quote, the string, a quote.
-use Rattle.replies.proofs.Written.{part-put}
 use borrow.Author.Needs.{needs}
+use Rattle.replies.proofs.Written.{part-put}
 use Rattle.responses.proofs.put_part.Statement.{statement}
 use Rattle.responses.proofs.put_part.Tie as tie
 

@@ -1,9 +1,9 @@
 -- An arm for each row.
+use borrow.Author.Needs.{needs}
+use Rattle.wire.specs.Escape.{letterOf, escOne, escape}
+use Rattle.text.specs.Event.{quoted}
 use Rattle.reply.specs.Replies.{reasonOf}
 use Rattle.responses.proofs.Lines.{reason-put, rest-put, reason-none}
-use Rattle.text.specs.Event.{quoted}
-use Rattle.wire.specs.Escape.{letterOf, escOne, escape}
-use borrow.Author.Needs.{needs}
 use Rattle.responses.proofs.put_reason.Statement.{statement}
 use Rattle.responses.proofs.put_reason.Tie as tie
 

@@ -1,6 +1,6 @@
 -- By what it names.
-use Rattle.responses.proofs.Lines.{id-put, sub-put, none-put}
 use borrow.Author.Needs.{needs}
+use Rattle.responses.proofs.Lines.{id-put, sub-put, none-put}
 use Rattle.responses.proofs.put_refusal.Statement.{statement}
 use Rattle.responses.proofs.put_refusal.Tie as tie
 

@@ -1,9 +1,9 @@
 -- An arm for each answer.
+use borrow.Author.Needs.{needs}
+use Rattle.wire.specs.Escape.{letterOf, escOne, escape}
+use Rattle.text.specs.Event.{quoted}
 use Rattle.responses.proofs.Lines.{verdict-put, false-put}
 use Rattle.responses.specs.Line.{verdictText}
-use Rattle.text.specs.Event.{quoted}
-use Rattle.wire.specs.Escape.{letterOf, escOne, escape}
-use borrow.Author.Needs.{needs}
 use Rattle.responses.proofs.put_verdict.Statement.{statement}
 use Rattle.responses.proofs.put_verdict.Tie as tie
 

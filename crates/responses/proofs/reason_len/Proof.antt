@@ -1,10 +1,10 @@
 -- An arm for each row.
+use mathlib.Core.Path.{refl}
+use borrow.Author.Needs.{needs}
+use Rattle.wire.specs.Escape.{letterOf, escOne, escape}
+use Rattle.text.specs.Event.{quoted}
 use Rattle.reply.specs.Replies.{reasonOf}
 use Rattle.responses.proofs.Lines.{reason-length, rest-length, reason-none}
-use Rattle.text.specs.Event.{quoted}
-use Rattle.wire.specs.Escape.{letterOf, escOne, escape}
-use borrow.Author.Needs.{needs}
-use mathlib.Core.Path.{refl}
 use Rattle.responses.proofs.reason_len.Statement.{statement}
 use Rattle.responses.proofs.reason_len.Tie as tie
 

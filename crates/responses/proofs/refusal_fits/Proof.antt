@@ -1,6 +1,6 @@
 -- By what it names.
-use Rattle.responses.proofs.Lines.{id-room, sub-room, none-room}
 use borrow.Author.Needs.{needs}
+use Rattle.responses.proofs.Lines.{id-room, sub-room, none-room}
 use Rattle.responses.proofs.refusal_fits.Statement.{statement}
 use Rattle.responses.proofs.refusal_fits.Tie as tie
 

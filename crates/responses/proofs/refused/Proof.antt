@@ -1,6 +1,6 @@
 -- A law for each way out.
-use Rattle.responses.proofs.Ways.{refused-put, refused-short}
 use borrow.Author.Needs.{needs}
+use Rattle.responses.proofs.Ways.{refused-put, refused-short}
 use Rattle.responses.proofs.refused.Statement.{statement}
 use Rattle.responses.proofs.refused.Tie as tie
 

@@ -1,7 +1,7 @@
 -- By what was read.
-use Rattle.responses.proofs.Ways.{responds, responds-request, responds-close, responds-refused}
-use borrow.Author.Needs.{needs}
 use mathlib.Core.Path.{sym, _∙_}
+use borrow.Author.Needs.{needs}
+use Rattle.responses.proofs.Ways.{responds, responds-request, responds-close, responds-refused}
 use Rattle.responses.proofs.respond.Statement.{statement}
 use Rattle.responses.proofs.respond.Tie as tie
 
@@ -20,19 +20,22 @@ respond-request-requires c κs =
 returns : tie.Need-returns
 returns c =
     let c4 = c .before .before .before .before in
-    responds _ _ _ (c4 .respond-event .ensures .0) (c4 .respond-event .ensures .1)
+    let c14 = c4 .before .before .before .before .before .before .before .before .before .before in
+    let a = c14 .args in responds (a .table .now) (a .m .now) (a .out .now) (c4 .respond-event .ensures .0) (c4 .respond-event .ensures .1)
 
 returns-2 : tie.Need-returns-2
 returns-2 c =
     let c2 = c .before .before in
     let c6 = c2 .before .before .before .before in
     let c8 = c6 .before .before in
-    responds-request _ _ _ _ (sym (c8 .read .ensures .0) ∙ c6 .q .given .1) (c2 .respond-request .ensures)
+    let c12 = c8 .before .before .before .before in
+    let a = c12 .args in responds-request (a .table .now) (a .m .now) (a .out .now) (c8 .read .ensures .0) (c6 .q .given .1) (c2 .respond-request .ensures)
 
 returns-3 : tie.Need-returns-3
 returns-3 c =
     let c2 = c .before .before in
-    responds-close _ _ _ _ (sym (c2 .read .ensures .0) ∙ c .enum-told .given .1)
+    let c6 = c2 .before .before .before .before in
+    let a = c6 .args in responds-close (a .table .now) (a .m .now) (a .out .now) (c2 .read .ensures .0) (c .enum-told .given .1)
 
 returns-4 : tie.Need-returns-4
 returns-4 c =
@@ -40,7 +43,8 @@ returns-4 c =
     let c4 = c2 .before .before in
     let c6 = c4 .before .before in
     let c8 = c6 .before .before in
-    responds-refused _ _ _ _ (sym (c8 .read .ensures .0) ∙ c6 .row .given .1) (c4 .named-for .ensures) (c2 .respond-refused .ensures)
+    let c12 = c8 .before .before .before .before in
+    let a = c12 .args in responds-refused (a .table .now) (a .m .now) (a .out .now) (c8 .read .ensures .0) (c6 .row .given .1) (c4 .named-for .ensures) (c2 .respond-refused .ensures)
 
 pub respond-spec : {M : Type 1} → statement M
 respond-spec =

@@ -1,6 +1,6 @@
 -- A law for each way out.
-use Rattle.responses.proofs.Ways.{event-put, event-short}
 use borrow.Author.Needs.{needs}
+use Rattle.responses.proofs.Ways.{event-put, event-short}
 use Rattle.responses.proofs.respond_event.Statement.{statement}
 use Rattle.responses.proofs.respond_event.Tie as tie
 

@@ -1,11 +1,11 @@
 -- An arm for each answer.
+use mathlib.Core.Path.{refl}
+use lib.Dec.{lit≤}
+use borrow.Author.Needs.{needs}
+use Rattle.wire.specs.Escape.{letterOf, escOne, escape}
+use Rattle.text.specs.Event.{quoted}
 use Rattle.responses.proofs.Lines.{verdict-length, false-length}
 use Rattle.responses.specs.Line.{verdictText}
-use Rattle.text.specs.Event.{quoted}
-use Rattle.wire.specs.Escape.{letterOf, escOne, escape}
-use borrow.Author.Needs.{needs}
-use lib.Dec.{lit≤}
-use mathlib.Core.Path.{refl}
 use Rattle.responses.proofs.verdict_len.Statement.{statement}
 use Rattle.responses.proofs.verdict_len.Tie as tie
 
