@@ -3,6 +3,8 @@ import re
 
 from names import Library, result_type
 
+# the laws of a file that MAP names as a whole are in the book if they are no more than this
+FEW = 7
 SPAN = re.compile(r"`([^`]+)`|([a-z]\w*)/([A-Z]\w*)")
 
 
@@ -46,16 +48,8 @@ class Audit:
 
     def is_law(self, item):
         """A name with a statement for its type, and a proof: nobody has to read the proof."""
-        return item.kind == "def" and not ({"abbrev", "unfoldable"} & set(item.words)) and "mutual" not in item.given and not self.in_mutual(item)
-
-    def in_mutual(self, item):
-        lines = item.module.text.splitlines()
-        for line in reversed(lines[:item.line]):
-            if re.match(r"(unfoldable |abbrev )mutual$", line):
-                return True
-            if line.strip() and not line.startswith((" ", "--")):
-                return False
-        return False
+        opens = set(item.words) | {word for line in item.given if line.endswith("mutual") for word in line.split()} if item.kind == "def" else {"abbrev"}
+        return not {"abbrev", "unfoldable"} & opens
 
     def states(self, item):
         """Whether the definition is a statement: its type is Type."""
@@ -83,6 +77,11 @@ class Audit:
 
     def sort(self, rules):
         """Sorts what is in the book: definitions that promises rest on, claims, and definitions that only claims or rules cite."""
+        for rule in rules:
+            for key, module in rule.files:
+                laws = self.laws_in(module)
+                if key == "claim" and len(laws) <= FEW:
+                    rule.claims += [i for i in laws if i not in rule.claims and all(t.module.area != "proofs" for t in self.cited(i))]
         named = {i.anchor: i for rule in rules for i in rule.definitions + rule.claims if i.kind != "fn"}
         self.claims = {}
         for item in self.repo.items():
@@ -94,6 +93,16 @@ class Audit:
                 self.claims[item.anchor] = item
         every = self.closure(list(self.claims.values()) + list(named.values()))
         self.beside = {a: i for a, i in every.items() if a not in self.believed and a not in self.claims and i.kind != "fn"}
+        self.promised_by, self.claimed_by, self.claim_by_law = {}, {}, {}
+        for call in self.calls:
+            for item in self.promises[call.anchor]:
+                self.promised_by.setdefault(item.anchor, []).append(call)
+        for claim in self.claims.values():
+            for item in self.cited(claim):
+                self.claimed_by.setdefault(item.anchor, []).append(claim)
+            law = None if self.is_law(claim) else self.proof_of(claim)
+            if law:
+                self.claim_by_law[law.anchor] = claim
 
     def group(self, item):
         for name in ("believed", "claims", "beside"):
@@ -204,8 +213,8 @@ class Audit:
         if any(re.match(rf"row {row}\b", rule.title) for row in rows):
             score += 3
         words = set(plain_words(sentence + " " + edit.name.replace("_", " ")).split()) - COMMON
-        score += min(2, sum(1.5 / self.rare[w] for w in words & set(rule.text.split())))
-        score += min(2, sum(1 / self.rare[w] for w in words & set(rule.notes.split())))
+        score += min(2, sum(1.5 / self.rare[w] for w in sorted(words & set(rule.text.split()))))
+        score += min(2, sum(1 / self.rare[w] for w in sorted(words & set(rule.notes.split()))))
         return round(score, 6)
 
 

@@ -31,7 +31,7 @@ class Linker:
         self.shown = None
         self.field_links = set()
         self.library_links = set()
-        self.unlinked = set()
+        self.asked = {}
 
     def link(self, target, text, css=""):
         """A link to what a name means, if it is in the book."""
@@ -43,7 +43,6 @@ class Linker:
             self.library_links.add(anchor)
             return f"<a class=g href={attribute('#lib.' + anchor)}>{escape(text)}</a>"
         if self.shown is not None and target.anchor not in self.shown:
-            self.unlinked.add(target.anchor)
             return escape(text)
         css = f" class={css}" if css else ""
         return f"<a{css} href={attribute('#' + target.anchor)}>{escape(text)}</a>"
@@ -151,7 +150,7 @@ class Linker:
                 line += self.render_field(target, token)
             elif target is None:
                 line += escape(token)
-            elif getattr(target, "anchor", None) == own and token == target.name:
+            elif getattr(target, "anchor", None) == own:
                 line += f"<b>{escape(token)}</b>"
             else:
                 line += self.link(target, token)
@@ -243,7 +242,9 @@ class Linker:
 
     def promised(self, item):
         """The definitions and types that a call's promise and signature cite."""
-        out = []
+        if item.anchor + item.place in self.asked:
+            return self.asked[item.anchor + item.place]
+        out = self.asked[item.anchor + item.place] = []
         for _, target, kind in self.contract(item):
             if target is not None and not isinstance(target, Library) and target not in out:
                 out.append(target)

@@ -13,8 +13,13 @@ def slug(text):
 
 def first_sentence(lines):
     text = " ".join(lines)
-    match = re.match(r"(.*?[.:])(?:\s|$)", text)
-    return (match[1] if match else text).rstrip(":")
+    match = re.match(r"(.*?[^.][.])(?:\s|$)", text)
+    return match[1] if match else text
+
+
+def bare(lines):
+    """Source lines without the words that only say how the prover opens a definition."""
+    return [re.sub(r"^(\s*)(?:(?:abbrev|unfoldable|pub) )+", r"\1", line) for line in lines]
 
 
 def plural(number, noun):
@@ -72,7 +77,7 @@ class Page:
         heads = [re.sub(r"^module _ |\s*where$", "", g) for g in item.given if g.startswith("module")]
         if not heads:
             return ""
-        return "<p class=n>for any " + self.linker.render(self.linker.walk(item, heads))[0] + "</p>"
+        return "<div class='s n'><div>for any " + self.linker.render(self.linker.walk(item, heads))[0] + "</div></div>"
 
     # ---- items
 
@@ -88,18 +93,25 @@ class Page:
                 cut += 1
             title = f"<h4>{self.prose(re.sub('^-+ *', '', ' '.join(comment[:cut])), scope)}</h4>"
             comment = comment[cut:]
+        elif comment and comment[0].startswith("----") and '"' not in comment[0]:
+            comment = comment[1:]
         if item.kind in ("enum", "struct"):
             code = [self.linker.rust(item.module, line, item.name)[0] for line in item.code]
         elif self.audit.is_law(item):
-            code = self.linker.code(item, item.statement())
+            code = self.linker.code(item, bare(item.statement()))
         else:
-            code = self.linker.code(item, item.code)
+            code = self.linker.code(item, bare(item.code))
         anchor = f" id={attribute(item.anchor)}" if at_home else ""
         place = "" if at_home else self.place(item)
-        self.put(f"{title}<div class={attribute('d ' + group)}{anchor}>{place}{self.comment(comment, scope)}{self.given(item)}{self.lines(code)}{self.below(item, group, at_home)}</div>")
+        joined = " j" if not at_home and not place else ""
+        self.put(f"{title}<div class={attribute('d ' + group + joined)}{anchor}>{place}{self.comment(comment, scope)}{self.given(item)}{self.lines(code)}{self.below(item, group, at_home)}</div>")
 
     def place(self, item):
+        """The file of an item, unless the item before it in the same list has it too."""
         label = LABELS.get(self.audit.group(item), "")
+        before, self.before = self.before, (label, item.place)
+        if before == self.before:
+            return ""
         return f"<p class=w><span>{label}</span> <a href={attribute('#' + item.anchor)}>{escape(item.place)}</a></p>"
 
     def below(self, item, group, at_home):
@@ -115,28 +127,26 @@ class Page:
         return f"<p class=n>{' '.join(out)}</p>" if out else ""
 
     def used_by(self, item):
-        calls = [c for c in self.audit.calls if item in self.audit.promises[c.anchor]] if item.kind == "def" else []
-        claims = [i for i in self.audit.claims.values() if i is not item and item in self.audit.cited(i)] if self.audit.group(item) != "claims" else []
+        calls = self.audit.promised_by.get(item.anchor, []) if item.kind == "def" else []
+        claims = self.audit.claimed_by.get(item.anchor, []) if self.audit.group(item) != "claims" else []
         out = []
         if calls:
-            out.append("Promised by " + self.some([self.linker.link(c, f"{c.crate}::{c.name}") for c in calls]) + ".")
+            out.append("Promised by " + ", ".join(self.linker.link(c, f"{c.crate}::{c.name}") for c in calls) + ".")
         if claims and len(claims) <= 24:
-            out.append("Claims: " + self.some([self.linker.link(c, c.name) for c in claims]) + ".")
+            out.append("Claims: " + ", ".join(self.linker.link(c, c.name) for c in claims) + ".")
         elif claims:
             out.append(f"In {len(claims)} claims.")
         return out
-
-    def some(self, links):
-        return ", ".join(links)
 
     def call(self, item, at_home):
         code = []
         for line in item.signature:
             code.append(self.linker.rust(item.module, line, item.name.rpartition("::")[2])[0])
         code += ["    " + x for x in self.linker.render(self.linker.contract(item))]
+        comment = [line for line in item.comment if not line.startswith("----")]
         anchor = f" id={attribute(item.anchor)}" if at_home else ""
         place = "" if at_home else f"<p class=w><span>promise</span> <a href={attribute('#' + item.anchor)}>{escape(item.crate)}::{escape(item.name)}</a></p>"
-        self.put(f"<div class='d promise'{anchor}>{place}{self.comment(item.comment, self.audit.names.scope(item.module))}{self.lines(code)}</div>")
+        self.put(f"<div class='d promise'{anchor}>{place}{self.comment(comment, self.audit.names.scope(item.module))}{self.lines(code)}</div>")
 
     def edit(self, edit):
         first = edit.anchor not in self.edited
@@ -171,7 +181,7 @@ class Page:
         self.each([self.claim_of(i) for i in rule.claims], self.definition)
         self.file_names(rule, "claim")
         if rule.edits:
-            self.put(f"<h4>Edits that are refused</h4>")
+            self.put(f"<p class=m><b>Refused</b> {plural(len(rule.edits), 'edit')}</p>")
             for edit in rule.edits:
                 if edit.anchor in self.edited:
                     self.put(f"<p class=n>Also <a href={attribute('#' + edit.anchor)}>{escape(edit.crate)}: {escape(edit.name)}</a>, above.</p>")
@@ -180,7 +190,11 @@ class Page:
         self.put("</section>")
 
     def row(self, label, pieces):
-        if not pieces or "".join(p[0] for p in pieces).strip() in ("", "-"):
+        whole = "".join(p[0] for p in pieces).strip()
+        if not whole:
+            return
+        if whole == "-":
+            self.put(f"<p class=m><b>{label}</b> no call yet</p>")
             return
         out = ""
         for text, target, kind in pieces:
@@ -206,7 +220,7 @@ class Page:
 
     def each(self, items, show):
         """In full where it is named first; after that a link."""
-        again = []
+        again, self.before = [], None
         for item in items:
             if item.anchor in self.printed or item.anchor not in self.linker.shown:
                 again.append(item)
@@ -219,10 +233,7 @@ class Page:
 
     def claim_of(self, law):
         """The claim that a law proves under its name, else the law itself."""
-        for claim in self.audit.claims.values():
-            if law in self.audit.proofs.get(claim.anchor, []) and self.audit.proof_of(claim) is law:
-                return claim
-        return law
+        return self.audit.claim_by_law.get(law.anchor, law)
 
     def file_names(self, rule, key):
         for where, module in rule.files:
@@ -231,7 +242,7 @@ class Page:
             items = [i for i in module.items if i.anchor in self.linker.shown]
             if items:
                 names = ", ".join(self.linker.link(i, i.name) for i in items)
-                self.put(f"<p class=n>All of {self.file_link(module, module.crate + '/' + module.name)}: {names}.</p>")
+                self.put(f"<p class=n>{self.file_link(module, module.crate + '/' + module.name)}: {names}.</p>")
 
     def crate_calls(self, rule):
         for crate in rule.crates:
@@ -291,9 +302,9 @@ class Page:
                 if any(counts):
                     total = [a + b for a, b in zip(total, counts)]
                     cells = "".join(f"<td>{c or ''}</td>" for c in counts)
-                    rows.append(f"<tr><td>{self.file_link(module, crate + '/' + module.name)}</td><td>{self.prose(first_sentence(module.header))}</td>{cells}</tr>")
-        head = "<tr><th>file</th><th>what</th><th>lines to believe</th><th>for claims</th><th>claims</th></tr>"
-        self.put(f"<table class=order><thead>{head}</thead><tbody>{''.join(rows)}</tbody><tfoot><tr><td>in all</td><td></td>"
+                    rows.append(f"<tr><td>{self.file_link(module, crate + '/' + module.name)} <span>{self.prose(first_sentence(module.header))}</span></td>{cells}</tr>")
+        head = "<tr><th>file</th><th>to believe</th><th>for claims</th><th>claims</th></tr>"
+        self.put(f"<table class=order><thead>{head}</thead><tbody>{''.join(rows)}</tbody><tfoot><tr><td>lines in all</td>"
                  + "".join(f"<td>{c:,}</td>" for c in total) + "</tr></tfoot></table>")
         return total
 
@@ -326,6 +337,12 @@ class Page:
             self.put(f"<dt id={attribute('field.' + name)}><code>.{escape(name)}</code></dt><dd>{text}</dd>")
         self.put("</dl>")
 
+    def index(self):
+        """Every name in the book with its file, for paper."""
+        items = [self.audit.believed, self.audit.claims, self.audit.beside, {c.anchor: c for c in self.audit.calls}]
+        rows = sorted((i.name.strip("_").lower(), i.name, i.place, i) for group in items for i in group.values())
+        self.put("<ul class=index>" + "".join(f"<li>{self.linker.link(i, name)} {escape(place)}</li>" for _, name, place, i in rows) + "</ul>")
+
     def contents(self):
         section = None
         for rule in self.reader.rules:
@@ -353,7 +370,7 @@ class Page:
         believed, beside, claims = (self.count(g) for g in ("believed", "beside", "claims"))
         self.put("<!doctype html><html lang=en><head><meta charset=utf-8><meta name=viewport content='width=device-width,initial-scale=1'>"
                  "<meta name=color-scheme content='light dark'><title>Plavdrosa: the audit book</title><style>" + style + "</style></head><body>")
-        self.put("<header><a href=#top>Plavdrosa: the audit book</a><input id=find type=search placeholder='find a name' autocomplete=off aria-label='find a name'><ul id=found hidden></ul></header><main id=top>")
+        self.put("<header><a href=#top>Audit book</a><input id=find type=search placeholder='find a name' autocomplete=off aria-label='find a name'><ul id=found hidden></ul></header><main id=top>")
         self.put(INTRO.format(rules=len(self.reader.rules), calls=len(self.audit.calls), edits=len(self.repo.edits), believed=plural(believed[0], "definition"),
                               believed_lines=f"{believed[1]:,}", beside=plural(beside[0], "definition"), beside_lines=f"{beside[1]:,}", claims=claims[0],
                               claims_lines=f"{claims[1]:,}"))
@@ -385,6 +402,8 @@ class Page:
         if self.linker.field_links:
             self.put("<h2 id=fields>Fields</h2><p>Names of fields that several records have, where the text alone does not say which is meant.</p>")
             self.field_list()
+        self.put("<h2 id=names>Index of names</h2>")
+        self.index()
         self.put("</main><aside id=sheet hidden><p><button id=back>back</button><a id=there>to its place</a><button id=close>close</button></p><div id=text></div></aside>")
         self.put("<script>" + script + "</script></body></html>\n")
         return "\n".join(self.out)
@@ -395,7 +414,7 @@ INTRO = """<h1>Plavdrosa: the audit book</h1>
 paper (01) with its definition, the calls that promise it, the claims proved of it and the edits that the prover refuses.</p>
 <p>It is made by <code>book/make.py</code> from <code>specs/</code>, <code>src/</code>, <code>must-fail/</code> and <code>docs/MAP.md</code>.</p>
 <nav><a href=#what>What must be believed</a> · <a href=#order>Reading order</a> · <a href=#rules>Rule by rule</a> · <a href=#believe>Definitions</a> ·
-<a href=#calls>Public calls</a> · <a href=#claims>Claims</a> · <a href=#skip>Need not be read</a> · <a href=#glossary>Glossary</a></nav>
+<a href=#calls>Public calls</a> · <a href=#claims>Claims</a> · <a href=#skip>Need not be read</a> · <a href=#glossary>Glossary</a> · <a href=#names>Index</a></nav>
 <h2 id=how>How to read it</h2>
 <div class="d believed"><p class=c><b>A definition</b> says what a rule means. Nothing checks it but a reader who holds it against the sentence quoted above it:
 it is to be believed.</p></div>
@@ -403,9 +422,10 @@ it is to be believed.</p></div>
 whatever the input. The prover holds the code to it; the code need not be read.</p></div>
 <div class="d claims"><p class=c><b>A claim</b> says a sentence of 01 of the definitions, for every input. It is proved: read what it says, not how it is proved.
 Claims show that the definitions mean what they should.</p></div>
-<div class="d refused"><p class=c><b>An edit</b> puts a wrong into code or a definition on purpose. The gate fails if the prover takes it: so what it breaks is
-really asked. There are {edits}.</p></div>
-<p>Every name is a link to its definition; names of the kit's libraries lead to the <a href=#glossary>glossary</a>.</p>
+<div class="d refused"><p class=c><b>An edit</b> puts a wrong into code or a definition on purpose. The gate fails if the prover takes it: what it breaks is
+asked for somewhere. There are {edits}.</p></div>
+<p>Every name is a link to its definition; names of the kit's libraries lead to the <a href=#glossary>glossary</a>. The words abbrev, unfoldable and pub before a
+definition, which only say how the prover opens it, are left out.</p>
 <h2 id=what>What must be believed</h2>
 <ol>
 <li>That the <a href=#believe>definitions</a> which promises cite say what 01 and the standards say: {believed}, {believed_lines} lines.</li>

@@ -73,8 +73,17 @@ class SpecReader:
 
     def __init__(self, module):
         self.module, self.lines = module, module.text.splitlines()
-        self.at, self.depth, self.given, self.comment, self.fixity = 0, 0, [], [], []
+        self.at, self.blocks, self.comment, self.fixity = 0, [(0, [])], [], []
         self.last, self.section = None, []
+
+    @property
+    def depth(self):
+        return self.blocks[-1][0]
+
+    @property
+    def given(self):
+        """What the blocks around a line take, the outermost first."""
+        return [line for _, lines in self.blocks for line in lines]
 
     def read(self):
         while self.at < len(self.lines) and self.lines[self.at].startswith("--"):
@@ -93,8 +102,8 @@ class SpecReader:
             self.comment = []
             self.at += 1
             return
-        if indent_of(line) < self.depth:
-            self.depth, self.given = indent_of(line), []
+        while indent_of(line) < self.depth:
+            self.blocks.pop()
         if text.startswith("--"):
             self.comment.append(comment_text(text))
         elif USE.match(text):
@@ -104,7 +113,7 @@ class SpecReader:
         elif re.match(r"module |(unfoldable |abbrev )?mutual$", text):
             self.enter(text)
         elif text.startswith("open "):
-            self.given.append(text)
+            self.blocks[-1][1].append(text)
         elif text.startswith("infix"):
             self.fixity.append(text)
         elif HEAD.match(text):
@@ -119,11 +128,12 @@ class SpecReader:
             self.at += 1
             text += " " + self.lines[self.at].strip()
         # a comment above the block is its first item's
-        self.given = [text] if text.startswith("module") else []
         after = self.at + 1
         while after < len(self.lines) and not self.lines[after].strip():
             after += 1
-        self.depth = indent_of(self.lines[after]) if after < len(self.lines) else 0
+        inner = indent_of(self.lines[after]) if after < len(self.lines) else 0
+        if inner > self.depth:
+            self.blocks.append((inner, [text]))
 
     def equation(self, text):
         """An equation that stands apart from its signature, as in a mutual block."""
@@ -135,11 +145,11 @@ class SpecReader:
     def item(self, head):
         start = self.at
         item = Item(self.module, head["kind"] or "def", head["type"] or head["name"], start + 1)
-        item.public = "pub" in head["words"].split() or bool(self.given and self.given[0] == "mutual")
+        item.public = "pub" in head["words"].split()
         item.words = head["words"].split()
         item.comment, self.comment = self.section + self.comment, []
         self.section = []
-        item.given = list(self.given)
+        item.given = self.given
         end = self.end_of(start)
         body = [line[self.depth:] for line in self.lines[start:end]]
         while body and not body[-1].strip():
