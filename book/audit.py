@@ -1,15 +1,27 @@
 """What the book says of the repository: which definitions the promises and the claims rest on, what is proved, and the rules of docs/MAP.md."""
 import re
 
-from names import Library, result_type
+from names import Library, result_type, split_arrows
 
 # the laws of a file that MAP names as a whole are in the book if they are no more than this
 FEW = 7
 SPAN = re.compile(r"`([^`]+)`|([a-z]\w*)/([A-Z]\w*)")
 
 
-def kebab(name):
-    return re.sub(r"(?<=[a-z0-9])([A-Z])|(?<=[A-Z])([A-Z])(?=[a-z])", lambda m: "-" + (m[1] or m[2]), name).lower()
+def binders(text):
+    """The types of `(a b : T) {c : U}`, one for each group; none if the text is something else."""
+    out, rest = [], text.strip()
+    while rest:
+        match = re.match(r"[({]([^(){}:]+) : ", rest)
+        if not match:
+            return []
+        depth, at = 1, match.end()
+        while at < len(rest) and depth:
+            depth += (rest[at] in "({") - (rest[at] in ")}")
+            at += 1
+        out.append(rest[match.end():at - 1])
+        rest = rest[at:].strip()
+    return out
 
 
 class Audit:
@@ -71,9 +83,51 @@ class Audit:
         return out
 
     def proof_of(self, item):
-        """The law that has the claim's name in small letters, else one whose type it is."""
-        laws = self.proofs.get(item.anchor, [])
-        return next((x for x in laws if x.name == kebab(item.name)), None)
+        """The law that has the claim's name in small letters and takes no premise, so that the claim holds whatever it speaks of."""
+        return next((x for x in self.named_like(item) if not self.has_premise(x)), None)
+
+    def partly(self, item):
+        """A law of the claim's name that has premises."""
+        return next(iter(self.named_like(item)), None)
+
+    def named_like(self, item):
+        return [x for x in self.proofs.get(item.anchor, []) if x.public and x.name.replace("-", "") == item.name.lower()]
+
+    def has_premise(self, law):
+        """Whether a law's type, or the block around it, takes a fact beside the things that it speaks of."""
+        scope = self.names.scope(law.module)
+        signature = " ".join(x.strip() for x in law.statement()[law.head:])
+        parts = split_arrows(signature.partition(" : ")[2])[:-1]
+        blocks = [re.sub(r"^module _ |\s*where$", "", line) for line in law.given if line.startswith("module")]
+        for part in parts + blocks:
+            groups = binders(part)
+            if not groups or any(not self.is_thing(scope, kind) for kind in groups):
+                return True
+        bound = {name for text in re.findall(r"[({]([^(){}:]+) :", " ".join(parts + blocks)) for name in text.split()}
+        asked = re.findall(r"[^\s(){}]+", result_type(signature))[1:]
+        return len(set(asked)) < len(asked) or any(word not in bound for word in asked)
+
+    def is_thing(self, scope, kind):
+        """Whether a binder's type is one of things (numbers, lists, events) and not a statement."""
+        if set("≡≢≤<↔⊎∈⊥") & set(kind):
+            return False
+        for word in re.findall(r"[^\s(){}→×]+", kind):
+            target = self.names.lookup(scope, word)
+            if isinstance(target, Library) and target.name == "T":
+                return False
+            if target is not None and not isinstance(target, Library) and not self.is_data(target):
+                return False
+        return True
+
+    def is_data(self, item):
+        """A type of things: no statement about values that it takes."""
+        if item.kind in ("enum", "struct"):
+            return True
+        head = " ".join(x.strip() for x in item.statement()[item.head:]) if item.kind == "def" else item.code[item.head]
+        if item.kind == "def":
+            arguments = split_arrows(head.partition(" : ")[2])[:-1]
+            return not arguments and not self.proofs.get(item.anchor) and self.states(item)
+        return all(re.match(r"Type \d|Events$", kind) for kind in binders(head.partition(item.name)[2].rpartition(" : ")[0]))
 
     def sort(self, rules):
         """Sorts what is in the book: definitions that promises rest on, claims, and definitions that only claims or rules cite."""
@@ -87,9 +141,7 @@ class Audit:
         for item in self.repo.items():
             if item.anchor in self.believed or item.module.area == "src":
                 continue
-            if item.anchor in named and (self.is_law(item) or self.states(item)):
-                self.claims[item.anchor] = item
-            elif item.module.area == "specs" and self.states(item) and self.proof_of(item):
+            if (item.anchor in named and self.is_law(item)) or (item.module.area == "specs" and self.states(item) and self.proof_of(item)):
                 self.claims[item.anchor] = item
         every = self.closure(list(self.claims.values()) + list(named.values()))
         self.beside = {a: i for a, i in every.items() if a not in self.believed and a not in self.claims and i.kind != "fn"}
@@ -461,4 +513,6 @@ class MapReader:
         return found[0]
 
     def miss(self, name, rule):
+        if name in self.audit.names.glossary.builtin:
+            return
         self.unknown.append(f"{name} (rule: {re.sub('[*`]', '', rule.title)})")

@@ -15,7 +15,7 @@ from glossary import Glossary  # noqa: E402
 from link import Linker  # noqa: E402
 from names import Names  # noqa: E402
 from page import Page  # noqa: E402
-from selftest import faults  # noqa: E402
+from faults import faults  # noqa: E402
 from sources import Repository, find_root  # noqa: E402
 
 

@@ -109,6 +109,8 @@ class Page:
     def place(self, item):
         """The file of an item, unless the item before it in the same list has it too."""
         label = LABELS.get(self.audit.group(item), "")
+        if self.audit.group(item) == "beside" and self.audit.states(item) and self.audit.partly(item):
+            label = "statement"
         before, self.before = self.before, (label, item.place)
         if before == self.before:
             return ""
@@ -120,8 +122,10 @@ class Page:
             out.append(f"Proof: {escape(item.place)}.")
         elif group == "claims":
             law = self.audit.proof_of(item)
-            if law:
-                out.append(f"Proved: <code>{escape(law.name)}</code> in {escape(law.place)}.")
+            out.append(f"Proved: <code>{escape(law.name)}</code> in {escape(law.place)}.")
+        elif group == "beside" and self.audit.states(item) and self.audit.partly(item):
+            law = self.audit.partly(item)
+            out.append(f"Proved under premises: <code>{escape(law.name)}</code> in {escape(law.place)}.")
         if at_home:
             out += self.used_by(item)
         return f"<p class=n>{' '.join(out)}</p>" if out else ""
