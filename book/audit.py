@@ -193,8 +193,8 @@ class Audit:
                 todo += [(t, depth + 1) for t in self.cited(item)]
         return seen
 
-    def touched(self, edit):
-        """The items whose text the edit changes; for a constant of the code the functions that use it."""
+    def touched(self, edit, users=True):
+        """The items whose text the edit changes; of a constant of the code also the functions that use it."""
         area, _, name = edit.file.partition("/")
         module = self.repo.modules.get((edit.crate, area, name.rpartition(".")[0]))
         out = []
@@ -203,7 +203,7 @@ class Audit:
             if place >= 0:
                 line = module.text.count("\n", 0, place) + 1
                 out += [i for i in module.items if i.has_line(line) and i not in out]
-        for item in [i for i in out if i.kind == "const"]:
+        for item in [i for i in out if i.kind == "const" and users]:
             out += [f for f in self.repo.items("src") if f.kind == "fn" and f.crate == edit.crate and re.search(rf"\b{item.name}\b", "\n".join(f.body))]
         return out
 
@@ -284,7 +284,6 @@ class Rule:
     def __init__(self, section, title):
         self.section, self.title = section, title
         self.cells, self.definitions, self.files, self.calls, self.crates, self.claims, self.edits = {}, [], [], [], [], [], []
-        self.edits_given = False
 
 
 def columns_of(header):
@@ -332,7 +331,7 @@ class MapReader:
             return section
         rule = Rule(section, title)
         for key, text in cells.items():
-            rule.cells[key] = self.cell(rule, key, text)
+            rule.cells[key] = self.edit_cell(rule, text) if key == "edit" else self.cell(rule, key, text)
         self.rules.append(rule)
         return section
 
@@ -418,8 +417,6 @@ class MapReader:
 
     def name(self, rule, key, state, text, between):
         word = text.split(" .")[0]
-        if key == "edit":
-            return self.edit(rule, state, text)
         if key == "call":
             return self.call(rule, state, text)
         item = None
@@ -500,17 +497,25 @@ class MapReader:
         self.miss(text, rule)
         return None
 
-    def edit(self, rule, state, text):
-        crate, _, name = text.rpartition("/")
-        crate = crate or state["crate"]
-        found = [e for e in self.repo.edits if e.name == (name or text) and crate in (None, e.crate)] or [e for e in self.repo.edits if e.name == (name or text)]
-        rule.edits_given = True
-        if len(found) != 1:
-            self.miss(text, rule)
-            return None
-        state["crate"] = found[0].crate
-        rule.edits.append(found[0])
-        return found[0]
+    def edit_cell(self, rule, text):
+        """Edits as `crate/name`, or names behind the name of their crate."""
+        crate, pieces = None, []
+        for match in re.finditer(r"`[^`]+`|\w+(?:/\w+)?|[^\w`]+|`", text):
+            token = match[0].strip("`")
+            front, _, name = token.removesuffix(".edit").rpartition("/")
+            edit = None
+            if token in self.repo.crates:
+                crate = token
+            elif "/" in token or match[0].startswith("`"):
+                same = [e for e in self.repo.edits if e.name == name]
+                found = [e for e in same if e.crate == (front or crate)] or same
+                edit = found[0] if len(found) == 1 else None
+                if edit:
+                    rule.edits += [] if edit in rule.edits else [edit]
+                else:
+                    self.miss(token, rule)
+            pieces.append((token, edit, "code" if match[0].startswith("`") else "text"))
+        return pieces
 
     def miss(self, name, rule):
         if name in self.audit.names.glossary.builtin:

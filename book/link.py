@@ -64,10 +64,10 @@ class Linker:
             after = next((t for t in tokens[at + 1:] if not t.isspace()), "")
             yield self.one(scope, known, stack, token, after)
             if token == "{":
-                stack[-1].built = self.built(scope, tokens[at + 1:])
+                stack[-1].built = self.built(scope, tokens[at + 1:], names.result_of(item))
 
-    def built(self, scope, tokens):
-        """The record that `{ f = ..; g = .. }` builds: the one that has just these fields."""
+    def built(self, scope, tokens, wanted):
+        """The record that `{ f = ..; g = .. }` builds: the one that has just these fields; where several have, the one that is wanted."""
         depth, fields, last = 0, set(), ""
         for token in (t for t in tokens if not t.isspace()):
             depth += (token in "({") - (token in ")}")
@@ -78,6 +78,8 @@ class Linker:
             last = token
         owners = [o for o in self.names.owners.get(min(fields, default=""), []) if {n for n, _ in o.parts} == fields]
         near = [o for o in owners if o in scope.values()]
+        if wanted in owners:
+            return wanted
         return next((some[0] for some in (near, owners) if len(some) == 1), None)
 
     def one(self, scope, known, stack, token, after):

@@ -159,7 +159,8 @@ class Page:
         swaps = ""
         for old, new in edit.swaps:
             swaps += f"<div class=old><del>{escape(old.strip())}</del></div><div class=new><ins>{escape(new.strip())}</ins></div>"
-        self.put(f"<div class='d refused'{anchor}><p class=w><span>refused</span> {escape(edit.crate)}/{escape(edit.file)} · {escape(edit.name)}</p>"
+        where = ", ".join(self.linker.link(i, i.name) for i in self.audit.touched(edit, False))
+        self.put(f"<div class='d refused'{anchor}><p class=w><span>refused</span> {escape(edit.name)} · {escape(edit.crate)}/{escape(edit.file)}{': ' if where else ''}{where}</p>"
                  f"<p class=c>{self.prose(edit.sentence())}</p><div class=s>{swaps}</div></div>")
 
     # ---- chapters
@@ -244,7 +245,7 @@ class Page:
             if where != key:
                 continue
             items = [i for i in module.items if i.anchor in self.linker.shown]
-            if items:
+            if items and not any(i in rule.claims for i in items):
                 names = ", ".join(self.linker.link(i, i.name) for i in items)
                 self.put(f"<p class=n>{self.file_link(module, module.crate + '/' + module.name)}: {names}.</p>")
 
@@ -254,34 +255,41 @@ class Page:
             if calls:
                 self.put(f"<p class=n>Calls of {escape(crate)}: {', '.join(self.linker.link(c, c.name) for c in calls)}.</p>")
 
-    def file_chapter(self, groups, prefix):
-        """The items of some groups, crate by crate in the order of crates.txt, file by file in the order of Lib."""
+    def sections(self, crate):
+        """What the book has of a crate: its declared types, then its files of specs/ in the order of Lib, then laws of proofs/."""
+        types = [i for i in self.repo.items("src") if i.crate == crate and i.kind in ("enum", "struct")]
+        proofs = [m for (c, a, _), m in self.repo.modules.items() if c == crate and a == "proofs"]
+        listed = [(None, types)] + [(m, m.items) for m in self.repo.specs_of(crate) + proofs]
+        return [(m, items) for m, items in listed if any(self.audit.group(i) for i in items)]
+
+    def size(self, item):
+        return len(item.statement()) if self.audit.is_law(item) else item.size()
+
+    def title(self, crate, module):
+        if module is None:
+            return f"{crate}: declared types"
+        return f"{crate}/{module.name}" if module.area == "specs" else f"{crate}/proofs/{module.name}"
+
+    def section_anchor(self, crate, module):
+        return module.anchor if module else f"types.{crate}"
+
+    def file_chapter(self, groups):
+        """The items of some groups, crate by crate in the order of crates.txt."""
         for crate in self.repo.crates:
-            shown = []
-            types = [i for i in self.repo.items("src") if i.crate == crate and i.kind in ("enum", "struct") and self.audit.group(i) in groups]
-            if types:
-                shown.append((None, types))
-            proofs = [m for (c, a, _), m in self.repo.modules.items() if c == crate and a == "proofs"]
-            for module in self.repo.specs_of(crate) + proofs:
-                items = [i for i in module.items if self.audit.group(i) in groups]
-                if items:
-                    shown.append((module, items))
+            shown = [(m, [i for i in items if self.audit.group(i) in groups]) for m, items in self.sections(crate)]
+            shown = [(m, items) for m, items in shown if items]
             if shown:
                 self.put(f"<h3 class=part>{escape(crate)}</h3>")
             for module, items in shown:
-                self.one_file(crate, module, items, prefix)
+                self.one_file(crate, module, items)
 
-    def one_file(self, crate, module, items, prefix):
-        if module is None:
-            self.put(f"<section class=file><h3>{escape(crate)}: declared types</h3>")
-        else:
-            anchor = ""
-            if module.anchor not in self.printed:
-                self.printed.add(module.anchor)
-                anchor = f" id={attribute(module.anchor)}"
-            lines = sum(i.size() if not self.audit.is_law(i) else len(i.statement()) for i in items)
-            title = f"{module.crate}/{module.name}" if module.area == "specs" else f"{module.crate}/proofs/{module.name}"
-            self.put(f"<section class=file><h3{anchor}>{escape(title)} <small>{plural(lines, 'line')}</small></h3>")
+    def one_file(self, crate, module, items):
+        anchor = self.section_anchor(crate, module)
+        mark = "" if anchor in self.printed else f" id={attribute(anchor)}"
+        self.printed.add(anchor)
+        lines = sum(self.size(i) for i in items)
+        self.put(f"<section class=file><h3{mark}>{escape(self.title(crate, module))} <small>{plural(lines, 'line')}</small></h3>")
+        if module:
             self.put(self.comment(module.header, self.audit.names.scope(module)))
         for item in items:
             self.definition(item, True, True)
@@ -301,16 +309,16 @@ class Page:
     def order_table(self):
         rows, total = [], [0, 0, 0]
         for crate in self.repo.crates:
-            for module in self.repo.specs_of(crate):
-                counts = [sum(i.size() for i in module.items if self.audit.group(i) == g) for g in ("believed", "beside", "claims")]
-                if any(counts):
-                    total = [a + b for a, b in zip(total, counts)]
-                    cells = "".join(f"<td>{c or ''}</td>" for c in counts)
-                    rows.append(f"<tr><td>{self.file_link(module, crate + '/' + module.name)} <span>{self.prose(first_sentence(module.header))}</span></td>{cells}</tr>")
+            for module, items in self.sections(crate):
+                counts = [sum(self.size(i) for i in items if self.audit.group(i) == g) for g in ("believed", "beside", "claims")]
+                total = [a + b for a, b in zip(total, counts)]
+                cells = "".join(f"<td>{c or ''}</td>" for c in counts)
+                what = self.prose(first_sentence(module.header)) if module else ""
+                link = f"<a href={attribute('#' + self.section_anchor(crate, module))}>{escape(self.title(crate, module))}</a>"
+                rows.append(f"<tr><td>{link} <span>{what}</span></td>{cells}</tr>")
         head = "<tr><th>file</th><th>to believe</th><th>for claims</th><th>claims</th></tr>"
         self.put(f"<table class=order><thead>{head}</thead><tbody>{''.join(rows)}</tbody><tfoot><tr><td>lines in all</td>"
                  + "".join(f"<td>{c:,}</td>" for c in total) + "</tr></tfoot></table>")
-        return total
 
     def left_out(self):
         for crate in self.repo.crates:
@@ -367,7 +375,7 @@ class Page:
 
     def count(self, group):
         items = list(getattr(self.audit, group).values())
-        return len(items), sum(i.size() if not self.audit.is_law(i) else len(i.statement()) for i in items)
+        return len(items), sum(self.size(i) for i in items)
 
     def build(self, style, script):
         self.name_rules()
@@ -378,8 +386,8 @@ class Page:
         self.put(INTRO.format(rules=len(self.reader.rules), calls=len(self.audit.calls), edits=len(self.repo.edits), believed=plural(believed[0], "definition"),
                               believed_lines=f"{believed[1]:,}", beside=plural(beside[0], "definition"), beside_lines=f"{beside[1]:,}", claims=claims[0],
                               claims_lines=f"{claims[1]:,}"))
-        self.put("<h2 id=order>Reading order</h2><p>Files in the order in which they build on each other. A line counts if it is neither a comment nor an import. "
-                 "Types that the code declares come before a crate's files.</p>")
+        self.put("<h2 id=order>Reading order</h2><p>Files in the order in which they build on each other. Lines are counted without comments, imports and proofs. "
+                 "To believe: what promises cite. For claims: what only claims cite. Claims: what is proved.</p>")
         self.order_table()
         self.put("<h2 id=rules>Rule by rule</h2><p>In the order of 01. A definition, a promise or a claim is shown in full where it is named first.</p>"
                  "<details class=toc open><summary>The rules</summary>")
@@ -392,12 +400,12 @@ class Page:
                 self.edit(edit)
         self.put(f"<h2 id=believe>Definitions to be believed</h2><p>{plural(believed[0], 'definition')}, {believed[1]:,} lines: all that the promises of public calls cite, "
                  "directly or through other definitions.</p>")
-        self.file_chapter(("believed",), "")
+        self.file_chapter(("believed",))
         self.put(f"<h2 id=calls>Public calls</h2><p>Each call with its promise. No call asks anything of its caller but that lent buffers do not overlap.</p>")
         self.calls()
         self.put(f"<h2 id=claims>Claims, and what only they cite</h2><p>{plural(claims[0], 'claim')} in {claims[1]:,} lines, each proved. To read them, "
                  f"{plural(beside[0], 'definition')} more ({beside[1]:,} lines) that no promise cites; a claim is worth what these say.</p>")
-        self.file_chapter(("claims", "beside"), "")
+        self.file_chapter(("claims", "beside"))
         self.put("<h2 id=skip>Need not be read</h2><p>Proofs: all of proofs/. The bodies of functions in src/. And these names of specs/, which no promise "
                  "of a public call and no claim of the book cites: steps that private functions promise each other, and computed cases.</p><ul class=n>")
         self.left_out()

@@ -100,8 +100,9 @@ class Map(unittest.TestCase):
 
     def test_edits_of_the_map(self):
         edit = self.repo.edits[0]
-        reader = self.read(f"| a rule | table/Sound: `sound` | | | `{edit.crate}/{edit.name}` |")
-        self.assertEqual(reader.rules[0].edits, [edit])
+        for cell in (f"`{edit.crate}/{edit.name}`", f"{edit.crate}: `{edit.name}`", f"{edit.crate}/{edit.name}"):
+            reader = self.read(f"| a rule | table/Sound: `sound` | | | {cell} |")
+            self.assertEqual(reader.rules[0].edits, [edit])
 
     def test_range_and_section(self):
         reader = self.read("| **The table** | | | | |", "| fields | table/Layout: `idIn` .. `kindIn` | | | |")
