@@ -36,7 +36,8 @@ class Links(HTMLParser):
 def faults(page):
     links = Links()
     links.feed(page)
-    out = [f"a link has no target: #{x}" for x in sorted(links.links) if x not in links.anchors and unquote(x) not in links.anchors]
+    lost = [x for x in sorted(links.links) if x not in links.anchors and unquote(x) not in links.anchors]
+    out = [f"a link has no target: #{x}" for x in lost]
     out += [f"an anchor stands twice: {x}" for x in links.twice]
     out += [f"something is fetched: {x}" for x in links.foreign]
     out += [f"tags cross: {x}" for x in links.crossed[:5]]

@@ -5,7 +5,7 @@ import re
 from names import FORMS, NUMERAL, OPERATORS, TOKEN, Library
 
 RUST = re.compile(r"[A-Za-z_]\w*(?:::[A-Za-z_]\w*)*|\s+|.")
-RUST_FORMS = {"pub", "fn", "mut", "enum", "struct", "extern", "self", "Self", "const", "bool", "u8", "u16", "u32", "u64", "i64", "usize", "C"}
+RUST_FORMS = set("pub fn mut enum struct extern self Self const bool u8 u16 u32 u64 i64 usize C".split())
 
 
 def escape(text):
@@ -50,7 +50,7 @@ class Linker:
     # ---- definitions, laws and contracts
 
     def walk(self, item, lines, scope=None, known=None):
-        """Yields (text, target or None, kind) for every token of the lines; kind is name, field, form, comment, local or plain."""
+        """Yields (text, target or None, kind) for every token; kind is name, field, form, comment, local, line or plain."""
         names = self.names
         scope = dict(scope if scope is not None else names.scope(item.module))
         scope.update(names.opened(item, scope))
@@ -67,7 +67,7 @@ class Linker:
                 stack[-1].built = self.built(scope, tokens[at + 1:], names.result_of(item))
 
     def built(self, scope, tokens, wanted):
-        """The record that `{ f = ..; g = .. }` builds: the one that has just these fields; where several have, the one that is wanted."""
+        """The record that `{ f = ..; g = .. }` builds: the one that has just these fields, the wanted one of several."""
         depth, fields, last = 0, set(), ""
         for token in (t for t in tokens if not t.isspace()):
             depth += (token in "({") - (token in ")}")
@@ -173,8 +173,8 @@ class Linker:
     def cited(self, item, lines):
         """The items that the lines cite."""
         out = []
-        for _, target, kind in self.walk(item, lines):
-            if target is not None and not isinstance(target, Library) and kind in ("name", "field") and target is not item and target not in out:
+        for _, target, _ in self.walk(item, lines):
+            if target is not None and not isinstance(target, Library) and target is not item and target not in out:
                 out.append(target)
         return out
 
@@ -187,7 +187,7 @@ class Linker:
         for use in module.uses:
             if use["path"].endswith("::" + text):
                 return self.names.types.get((use["path"].split("::")[0], text))
-        return next((i for i in self.names.repo.items("src") if i.crate == module.crate and i.name == text and i.kind in ("enum", "struct")), None)
+        return self.names.types.get((module.crate, text))
 
     def rust(self, module, line, own=""):
         """One line of a signature or of a declared type, and the types that it names."""

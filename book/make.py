@@ -10,11 +10,13 @@ import sys
 
 sys.dont_write_bytecode = True
 
-from audit import Audit, MapReader  # noqa: E402
+from audit import Audit  # noqa: E402
+from edits import Placing  # noqa: E402
 from glossary import Glossary  # noqa: E402
 from link import Linker  # noqa: E402
 from names import Names  # noqa: E402
 from page import Page  # noqa: E402
+from rules import MapReader  # noqa: E402
 from faults import faults  # noqa: E402
 from sources import Repository, find_root  # noqa: E402
 
@@ -27,10 +29,10 @@ def make(root):
     audit = Audit(repo, names, linker)
     reader = MapReader(audit, (root / "docs" / "MAP.md").read_text(encoding="utf-8"))
     audit.sort(reader.rules)
-    audit.place_edits(reader.rules)
-    style = (root / "book" / "style.css").read_text(encoding="utf-8")
-    script = (root / "book" / "page.js").read_text(encoding="utf-8")
-    page = Page(repo, audit, reader, linker, glossary).build(style, script)
+    placing = Placing(audit)
+    placing.place(reader.rules)
+    intro, style, script = ((root / "book" / name).read_text(encoding="utf-8") for name in ("intro.html", "style.css", "page.js"))
+    page = Page(audit, reader, placing).build(intro, style, script)
     for name in reader.unknown:
         print(f"MAP.md: not found: {name}", file=sys.stderr)
     for name in sorted(names.not_explained):

@@ -9,7 +9,7 @@ OPERATORS = set("≡ ≢ ++ ∷ && || → × ↔ ⊎ ≤ < + - * / % ^ = : , ; (
 BINDER = re.compile(r"[({]\s*((?:[^\s(){}:;,=]+\s+)+):\s")
 LAMBDA = re.compile(r"λ ((?:[^\s.(){}]+ )*[^\s.(){}]+)\.")
 NUMERAL = re.compile(r"^-?(0x[0-9a-fA-F]+|\d[\d_]*)$")
-FORMS = {"record", "data", "where", "abbrev", "unfoldable", "pub", "let", "in", "unfolding", "using", "open", "module", "infix", "infixl", "infixr", "ensures", "requires", "ghost", "=", ":", "_", "∷ᴸ"}
+FORMS = set("record data where abbrev unfoldable pub let in unfolding using open module infix infixl infixr ensures requires ghost = : _".split())
 
 
 class Library:
@@ -148,7 +148,7 @@ class Names:
         return out
 
     def bind_patterns(self, item, scope, out):
-        types = argument_types(" ".join(x.strip() for x in item.statement()[item.head if len(item.code) > item.head else 0:]))
+        types = argument_types(item.signature_text())
         for line in item.code[len(item.statement()):]:
             if line.startswith((" ", "--", "unfolding")) or " =" not in line:
                 continue
@@ -171,7 +171,10 @@ class Names:
             return []
         kind = dict(owner.parts).get(word.rpartition(".")[2] or word, "")
         there = self.scope(owner.module)
-        heads = [x.strip() for x in kind.split(",")] if owner.kind == "enum" else [x.split(" ")[0] for x in argument_types("x : " + kind)]
+        if owner.kind == "enum":
+            heads = [x.strip() for x in kind.split(",")]
+        else:
+            heads = [x.split(" ")[0] for x in argument_types("x : " + kind)]
         return [self.type_of(there, x) or "" for x in heads]
 
     def field(self, scope, owner, name):
@@ -190,7 +193,7 @@ class Names:
         """The record that a function answers with, if it is one."""
         if target is None or isinstance(target, Library) or target.kind != "def":
             return None
-        result = result_type(" ".join(x.strip() for x in target.statement()[target.head:]))
+        result = result_type(target.signature_text())
         return self.type_of(self.scope(target.module), result.split(" ")[0])
 
 

@@ -1,10 +1,13 @@
-"""The repository read into items: definitions and laws of .antt files, declared types and functions of .rt files, must-fail edits."""
+"""The repository read into items: definitions and laws, declared types and functions, must-fail edits."""
 import re
 from pathlib import Path
 
-HEAD = re.compile(r"^(?P<words>(?:(?:abbrev|unfoldable|pub)\s+)*)(?:(?P<kind>record|data)\s+(?P<type>\S+)(?=\s)|(?P<name>[^\s:(){}=]+)(?:\s+\{[^}]*\})*\s+:(?=\s|$))")
-USE = re.compile(r"^(?P<words>(?:(?:ghost|pub|unfoldable|abbrev)\s+)*)use\s+(?P<path>[^\s{;]+?)(?:\.\{(?P<names>[^}]*)\}|\s+as\s+(?P<alias>\S+?))?;?$")
-DECLARED = re.compile(r"^(?P<indent> *)(?P<pub>pub(?:\([a-z]+\))?\s+)?(?:(?P<type>enum|struct)\s+(?P<name>\w+)|(?P<extern>extern \"C\" )?fn\s+(?P<fn>\w+)|const\s+(?P<const>\w+))")
+HEAD = re.compile(r"^(?P<words>(?:(?:abbrev|unfoldable|pub)\s+)*)"
+                  r"(?:(?P<kind>record|data)\s+(?P<type>\S+)(?=\s)|(?P<name>[^\s:(){}=]+)(?:\s+\{[^}]*\})*\s+:(?=\s|$))")
+USE = re.compile(r"^(?P<words>(?:(?:ghost|pub|unfoldable|abbrev)\s+)*)use\s+(?P<path>[^\s{;]+?)"
+                 r"(?:\.\{(?P<names>[^}]*)\}|\s+as\s+(?P<alias>\S+?))?;?$")
+DECLARED = re.compile(r"^(?P<indent> *)(?P<pub>pub(?:\([a-z]+\))?\s+)?"
+                      r"(?:(?P<type>enum|struct)\s+(?P<name>\w+)|(?:extern \"C\" )?fn\s+(?P<fn>\w+)|const\s+(?P<const>\w+))")
 
 
 class Item:
@@ -41,6 +44,10 @@ class Item:
                 break
             out.append(line)
         return out
+
+    def signature_text(self):
+        """`name : type`, in one line."""
+        return " ".join(line.strip() for line in self.statement()[self.head:])
 
     def has_line(self, number):
         return any(a <= number <= b for a, b in self.spans)
@@ -259,12 +266,11 @@ class CodeReader:
 
     def end_of(self, at, kind):
         depth = indent_of(self.lines[at])
-        closers = ("}", "];") if kind != "const" else ("];", "}")
         first = self.lines[at].rstrip()
         if first.endswith(";") or (kind == "const" and not first.endswith("[")):
             return at + 1
         for end in range(at + 1, len(self.lines)):
-            if indent_of(self.lines[end]) == depth and self.lines[end].strip().startswith(closers) and self.lines[end].strip() in ("}", "];", "};"):
+            if indent_of(self.lines[end]) == depth and self.lines[end].strip() in ("}", "];", "};"):
                 return end + 1
         return at + 1
 

@@ -11,11 +11,12 @@ from pathlib import Path
 sys.dont_write_bytecode = True
 
 import make  # noqa: E402
-from audit import Audit, MapReader  # noqa: E402
+from audit import Audit  # noqa: E402
 from faults import Links, faults  # noqa: E402
 from glossary import Glossary  # noqa: E402
 from link import Linker  # noqa: E402
 from names import Names  # noqa: E402
+from rules import MapReader  # noqa: E402
 from sources import Module, Repository, SpecReader, find_root  # noqa: E402
 
 ROOT = find_root()
@@ -73,8 +74,8 @@ class Page(unittest.TestCase):
         self.assertTrue(faults(self.page.replace("id=lib.cond", "id=lib.other")))
 
     def test_same_bytes(self):
-        run = subprocess.run([sys.executable, "-c", HASH], cwd=ROOT / "book", env={**os.environ, "PYTHONHASHSEED": "7", "PYTHONDONTWRITEBYTECODE": "1"},
-                             stdout=subprocess.PIPE, stderr=subprocess.DEVNULL, text=True, check=True)
+        env = {**os.environ, "PYTHONHASHSEED": "7", "PYTHONDONTWRITEBYTECODE": "1"}
+        run = subprocess.run([sys.executable, "-c", HASH], cwd=ROOT / "book", env=env, stdout=subprocess.PIPE, stderr=subprocess.DEVNULL, text=True, check=True)
         self.assertEqual(run.stdout.strip(), hashlib.sha256(self.page.encode()).hexdigest())
 
     def test_every_call_and_edit_is_there(self):
