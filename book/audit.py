@@ -23,6 +23,11 @@ def binders(text):
     return out
 
 
+def blocks_of(item):
+    """What the blocks around an item take."""
+    return [re.sub(r"^module _ ?|\s*where$", "", line) for line in item.given if line.startswith("module")]
+
+
 class Audit:
     def __init__(self, repo, names, linker):
         self.repo, self.names, self.linker = repo, names, linker
@@ -101,14 +106,22 @@ class Audit:
         scope = self.names.scope(law.module)
         signature = law.signature_text()
         parts = split_arrows(signature.partition(" : ")[2])[:-1]
-        blocks = [re.sub(r"^module _ |\s*where$", "", line) for line in law.given if line.startswith("module")]
-        for part in parts + blocks:
-            groups = binders(part)
-            if not groups or any(not self.is_thing(scope, kind) for kind in groups):
-                return True
+        blocks = [block for block in blocks_of(law) if block]
+        if any(not self.only_things(scope, part) for part in parts + blocks):
+            return True
         bound = {name for text in re.findall(r"[({]([^(){}:]+) :", " ".join(parts + blocks)) for name in text.split()}
         asked = re.findall(r"[^\s(){}]+", result_type(signature))[1:]
         return len(set(asked)) < len(asked) or any(word not in bound for word in asked)
+
+    def only_things(self, scope, part):
+        groups = binders(part)
+        return bool(groups) and all(self.is_thing(scope, kind) for kind in groups)
+
+    def stands_alone(self, law):
+        """Whether a law cites no definition of proofs/, and the block around it takes no fact: it can be read by itself."""
+        if any(t.module.area == "proofs" for t in self.cited(law)):
+            return False
+        return all(self.only_things(self.names.scope(law.module), block) for block in blocks_of(law) if block)
 
     def is_thing(self, scope, kind):
         """Whether a binder's type is one of things (numbers, lists, events) and not a statement."""
@@ -138,7 +151,7 @@ class Audit:
             for key, module in rule.files:
                 laws = self.laws_in(module)
                 if key == "claim" and len(laws) <= FEW:
-                    plain = [i for i in laws if all(t.module.area != "proofs" for t in self.cited(i))]
+                    plain = [i for i in laws if self.stands_alone(i)]
                     rule.claims += [i for i in plain if i not in rule.claims]
         named = {i.anchor: i for rule in rules for i in rule.definitions + rule.claims if i.kind != "fn"}
         self.claims = {}

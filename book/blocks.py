@@ -1,6 +1,7 @@
 """Pieces of the page: text, definitions, calls and edits as HTML."""
 import re
 
+from audit import blocks_of
 from link import attribute, escape
 
 LABELS = {"believed": "definition", "beside": "definition, for claims", "claims": "claim"}
@@ -76,10 +77,10 @@ class Blocks:
 
     def given(self, item):
         """What the block around an item takes, as its first line."""
-        heads = [re.sub(r"^module _ |\s*where$", "", g) for g in item.given if g.startswith("module")]
+        heads = [head for head in blocks_of(item) if head]
         if not heads:
             return ""
-        return "<div class='s n'><div>for any " + self.linker.render(self.linker.walk(item, heads))[0] + "</div></div>"
+        return "<div class='s n'><div>for any " + self.linker.render(self.linker.walk(item, [" ".join(heads)]))[0] + "</div></div>"
 
     # ---- items
 
