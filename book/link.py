@@ -62,7 +62,7 @@ class Linker:
                 yield token, None, "line"
                 continue
             after = next((t for t in tokens[at + 1:] if not t.isspace()), "")
-            yield self.one(scope, known, stack, token, after)
+            yield self.one(item, scope, known, stack, token, after)
             if token == "{":
                 stack[-1].built = self.built(scope, tokens[at + 1:], names.result_of(item))
 
@@ -82,7 +82,7 @@ class Linker:
             return wanted
         return next((some[0] for some in (near, owners) if len(some) == 1), None)
 
-    def one(self, scope, known, stack, token, after):
+    def one(self, item, scope, known, stack, token, after):
         group = stack[-1]
         if token.isspace() or token.startswith('"') or NUMERAL.match(token):
             if not token.isspace() and not group.seen:
@@ -100,17 +100,17 @@ class Linker:
                 outer.seen, outer.type = True, inner.type
             return token, None, "plain"
         if token.startswith(".") and token.strip(".") and len(token) > 1:
-            return self.projection(scope, group, token)
+            return self.projection(item, scope, group, token)
         if group.braces and after == "=":
             return token, group.built or self.names.field(scope, None, token), "field"
         return self.word(scope, known, group, token)
 
-    def projection(self, scope, group, token):
+    def projection(self, item, scope, group, token):
         name = token[1:]
         if name.isdigit():
             group.type = None
             return token, None, "plain"
-        if token in (".entry", ".exit"):
+        if item.kind == "fn" and token in (".entry", ".exit"):
             return token, Library(token), "name"
         owner = self.names.field(scope, group.type, name)
         kind = dict(owner.parts).get(name.strip("«»"), "") if owner else ""
