@@ -19,14 +19,11 @@ ghost use Rattle.event.specs.Sent.{unreadRow, sentRowOf, sentTextOf, sen
 ghost use Rattle.event.specs.Order.{isLower, isNewer};
 
 // The most brackets and braces open at once in the tags' array, in a tag and in what a tag holds.
-const TAGS_DEPTH: usize = 8;
+const TAGS_DEPTH: usize = json::DEPTH;
 
-const TAG_DEPTH: usize = 7;
+const TAG_DEPTH: usize = TAGS_DEPTH - 1;
 
-const STRING_DEPTH: usize = 6;
-
-// The most bytes that a text may have.
-const MOST_TEXT: usize = 4096;
+const STRING_DEPTH: usize = TAG_DEPTH - 1;
 
 // The most that a length can be.
 const MOST_LENGTH: usize = 18446744073709551615;
@@ -453,7 +450,7 @@ pub fn put_hex(out: &mut [u8], at: usize, s: &[u8]) -> usize
 fn hashed(t: &[u8]) -> Identified
     ensures { λ r. ⌜ r ≡ hashedOf (now (t .entry)) ⌝ }
 {
-    if MOST_TEXT < t.len() {
+    if wire::MOST_TEXT < t.len() {
         return Identified {
             row: 9,
             id: [0u8; 32],
@@ -503,7 +500,7 @@ pub fn serialise(b: &[u8], p: message::Body, out: &mut [u8]) -> Written
     let mut t = [0u8; 4097];
     let known = begun(b, p.tags);
     let n = put_whole(&mut t, 0, b, p, known);
-    if MOST_TEXT < n {
+    if wire::MOST_TEXT < n {
         return Written::Refused(9);
     }
     give(&t[..n], out)
@@ -513,7 +510,7 @@ pub fn serialise(b: &[u8], p: message::Body, out: &mut [u8]) -> Written
 fn spells_id(b: &[u8], s: message::Span, id: [u8; 32]) -> bool
     ensures { λ r. ⌜ r ≡ sameBytes (said (now (b .entry)) s) (hexOf id) ⌝ }
 {
-    let mut hex = [0u8; 64];
+    let mut hex = [0u8; wire::HEX_LENGTH];
     put_hex(&mut hex, 0, &id);
     spell::spells(wire::piece(b, s.start, s.len), &hex)
 }

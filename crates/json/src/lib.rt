@@ -8,7 +8,7 @@ ghost use Rattle.json.specs.Grammar.{case, within, classOf, past, wsAt, 
 ghost use Rattle.json.specs.Tree.{endOf, onLeaf, treeAt, isText};
 
 // The most brackets and braces that may be open at once.
-const DEPTH: usize = 8;
+pub const DEPTH: usize = 8;
 
 // The classes of bytes that the rules name; `Byte` is one byte. Public for the proofs of other crates: no call takes one.
 pub enum Class {

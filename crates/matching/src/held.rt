@@ -29,7 +29,7 @@ fn id_listed(s: &[u8], ids: Members, m: &[u8], row: &[usize]) -> bool
     match ids {
         Members::Absent => true,
         Members::In(a, n) => {
-            let mut hex = [0u8; 64];
+            let mut hex = [0u8; wire::HEX_LENGTH];
             event::put_hex(&mut hex, 0, wire::piece(s, 0, 32));
             matcher::listed(Members::In(a, n), &hex, m, row)
         }

@@ -24,19 +24,7 @@ use numeral::Whole;
 use shape::Sort;
 
 // The brackets and braces that may be open at once within an item of what stands at a place.
-const WITHIN: usize = 7;
-
-const DEPTH: usize = 8;
-
-// The most characters of a subscription id.
-const CHARACTERS: usize = 64;
-
-// The ranges of numbers.
-const LEAST: i64 = -9007199254740991;
-
-const WIDEST: i64 = 9007199254740991;
-
-const SMALL: i64 = 65535;
+const WITHIN: usize = json::DEPTH - 1;
 
 // Above all rows: none holds.
 const FINE: u8 = 9;
@@ -647,7 +635,7 @@ pub fn is_event(s: &[u8]) -> bool
     ensures { λ r. ⌜ r ≡ isEvent (now (s .entry)) ⌝ }
 {
     let at = json::space(s, 0);
-    match json::value(s, at, DEPTH) {
+    match json::value(s, at, json::DEPTH) {
         Out::End(_) => is_event_at(s, first(s, at)),
         Out::Bad => false,
     }
@@ -662,7 +650,7 @@ fn early(row: u8) -> bool
 fn id_named(s: &[u8], p: Span) -> Named
     ensures { λ r. ⌜ r ≡ idNamed (now (s .entry)) p ⌝ }
 {
-    if spell::is_hex(wire::piece(s, p.start, p.len), 64) {
+    if spell::is_hex(wire::piece(s, p.start, p.len), wire::HEX_LENGTH) {
         Named::Id(p)
     } else {
         Named::Nothing
@@ -674,7 +662,7 @@ fn miscounted(s: &[u8], p: Span) -> bool
     ensures { λ r. ⌜ r ≡ outside 1 mostCharacters (characterCount (bytesOf (now (s .entry)) p)) ⌝ }
 {
     let n = spell::characters(wire::piece(s, p.start, p.len));
-    n < 1 || CHARACTERS < n
+    n < 1 || wire::MOST_CHARACTERS < n
 }
 
 fn label_named(s: &[u8], p: Span) -> Named
@@ -865,9 +853,12 @@ fn body_rank(b: &[u8], p: Body) -> u8
     let pubkey = p.pubkey;
     let content = p.content;
     let tags = least(value_rank(b, p.tags, Sort::Tags), string_rank(b, content));
-    let texts = least(hex_rank(b, pubkey, 64), tags);
-    let kind = least(number_rank(p.kind, 0, SMALL), texts);
-    least(number_rank(p.created_at, LEAST, WIDEST), kind)
+    let texts = least(hex_rank(b, pubkey, wire::HEX_LENGTH), tags);
+    let kind = least(number_rank(p.kind, 0, wire::MOST_SMALL), texts);
+    least(
+        number_rank(p.created_at, wire::MINUS_WIDEST, wire::WIDEST),
+        kind,
+    )
 }
 
 // The lowest of rows 2 and 4 to 8 that holds of the fields of an event's text, lent in b; 0 where none does.
@@ -885,8 +876,8 @@ pub fn event_row(b: &[u8], p: EventParts) -> u8
     let body = p.body;
     let sig = p.sig;
     told(least(
-        hex_rank(b, id, 64),
-        least(body_rank(b, body), hex_rank(b, sig, 128)),
+        hex_rank(b, id, wire::HEX_LENGTH),
+        least(body_rank(b, body), hex_rank(b, sig, wire::SIG_LENGTH)),
     ))
 }
 
@@ -902,12 +893,12 @@ pub fn filter_row(b: &[u8], p: FilterParts) -> u8
     let limit = p.limit;
     let conditions = p.conditions;
     let rest = least(
-        bound_rank(limit, 0, SMALL),
+        bound_rank(limit, 0, wire::MOST_SMALL),
         list_rank(b, conditions, Sort::Filter),
     );
     let times = least(
-        bound_rank(since, LEAST, WIDEST),
-        least(bound_rank(until, LEAST, WIDEST), rest),
+        bound_rank(since, wire::MINUS_WIDEST, wire::WIDEST),
+        least(bound_rank(until, wire::MINUS_WIDEST, wire::WIDEST), rest),
     );
     let lists = least(
         list_rank(b, authors, Sort::Hexes),

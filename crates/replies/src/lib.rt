@@ -17,9 +17,6 @@ use message::EventParts;
 use message::Span;
 use reply::ReplyParts;
 
-// The most bytes that a text may have.
-const MOST_TEXT: usize = 4096;
-
 // A string part, decoded and escaped between quotes.
 fn put_part(out: &mut [u8], at: usize, b: &[u8], s: Span) -> usize
     ensures { λ r. ⌜ Puts (now (out .entry)) at (quoted (said (now (b .entry)) s)) r (now (out .exit)) ⌝ }
@@ -181,7 +178,7 @@ fn event_row(b: &[u8], sub: Span, p: EventParts) -> u8
     if row != 0 {
         return row;
     }
-    if MOST_TEXT < event::text_len(b, body) {
+    if wire::MOST_TEXT < event::text_len(b, body) {
         return 9;
     }
     0
@@ -193,7 +190,10 @@ fn parts_row(b: &[u8], p: ReplyParts) -> u8
 {
     match p {
         ReplyParts::Ok(id, _, reason) => {
-            message::lower_row(message::hex_row(b, id, 64), message::string_row(b, reason))
+            message::lower_row(
+                message::hex_row(b, id, wire::HEX_LENGTH),
+                message::string_row(b, reason),
+            )
         }
         ReplyParts::Event(sub, e) => event_row(b, sub, e),
         ReplyParts::Eose(sub) => message::subscription_row(b, sub),

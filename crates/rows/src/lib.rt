@@ -14,12 +14,6 @@ use json::Next;
 use json::Out;
 use json::Start;
 
-// The most bytes that a message may have.
-const MOST: usize = 8192;
-
-// The most brackets and braces that may be open at once.
-const DEPTH: usize = 8;
-
 // Where a value ends, by whether row 4 refuses some string in it; or that no value stands there.
 pub enum Seen {
     Clean(usize),
@@ -158,7 +152,7 @@ fn walk(s: &[u8], at: usize, d: usize) -> Seen
 fn whole(s: &[u8]) -> Seen
     ensures { λ r. ⌜ r ≡ seenOf (now (s .entry)) (root (now (s .entry))) ⌝ }
 {
-    walk(s, json::space(s, 0), DEPTH)
+    walk(s, json::space(s, 0), json::DEPTH)
 }
 
 // Row 4: whether some string of a text, names included, decodes to what no string may have; false where the text has no value.
@@ -183,7 +177,7 @@ fn told(x: Seen, size: usize) -> u8
 pub fn text_row(s: &[u8]) -> u8
     ensures { λ r. ⌜ r ≡ textRow (now (s .entry)) ⌝ }
 {
-    if MOST < s.len() {
+    if wire::MOST_MESSAGE < s.len() {
         return 1;
     }
     if !utf8::is_utf8(s) {

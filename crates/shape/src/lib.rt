@@ -17,27 +17,6 @@ use json::Next;
 use json::Out;
 use json::Start;
 
-// The limits of 01.
-const MESSAGE: usize = 8192;
-
-const DEPTH: usize = 8;
-
-const CHARACTERS: usize = 64;
-
-const CONDITIONS: usize = 4;
-
-const TAGS_MOST: usize = 64;
-
-const STRINGS: usize = 16;
-
-const MEMBERS: usize = 16;
-
-const FILTERS: usize = 4;
-
-const LEAST: i64 = -9007199254740991;
-
-const WIDEST: i64 = 9007199254740991;
-
 // The rows, and a number above them all.
 const STRING: u8 = 4;
 
@@ -200,11 +179,11 @@ fn string_form(form: u8, p: &[u8]) -> u8
     if form == TEXT {
         FINE
     } else if form == LABEL {
-        bounded(1, CHARACTERS, spell::characters(p))
+        bounded(1, wire::MOST_CHARACTERS, spell::characters(p))
     } else if form == HEX64 {
-        hex_row(64, p)
+        hex_row(wire::HEX_LENGTH, p)
     } else if form == HEX128 {
-        hex_row(128, p)
+        hex_row(wire::SIG_LENGTH, p)
     } else {
         SHAPE
     }
@@ -223,7 +202,7 @@ fn string_row(form: u8, p: &[u8]) -> u8
 fn time_row(p: &[u8]) -> u8
     ensures { λ r. ⌜ r ≡ rangeRow (negℤ (pos widest)) (pos widest) (now (p .entry)) ⌝ }
 {
-    if numeral::within(numeral::read_whole(p), LEAST, WIDEST) {
+    if numeral::within(numeral::read_whole(p), wire::MINUS_WIDEST, wire::WIDEST) {
         FINE
     } else {
         NUMBER
@@ -233,7 +212,7 @@ fn time_row(p: &[u8]) -> u8
 fn small_row(p: &[u8]) -> u8
     ensures { λ r. ⌜ r ≡ rangeRow (pos 0) (pos mostSmall) (now (p .entry)) ⌝ }
 {
-    if numeral::within(numeral::read_whole(p), 0, 65535) {
+    if numeral::within(numeral::read_whole(p), 0, wire::MOST_SMALL) {
         FINE
     } else {
         NUMBER
@@ -598,20 +577,20 @@ fn end_row(form: u8, k: usize, a: Tally) -> u8
     if form == EVENT {
         if is_full(a.seen) { FINE } else { SHAPE }
     } else if form == FILTER {
-        bounded(0, CONDITIONS, a.marks as usize)
+        bounded(0, wire::MOST_CONDITIONS, a.marks as usize)
     } else if form == TAGLIST {
-        bounded(0, TAGS_MOST, k)
+        bounded(0, wire::MOST_TAGS, k)
     } else if form == TAG {
-        bounded(1, STRINGS, k)
+        bounded(1, wire::MOST_STRINGS, k)
     } else if form == NEVER {
         SHAPE
     } else if form < OFFER {
-        bounded(1, MEMBERS, k)
+        bounded(1, wire::MOST_MEMBERS, k)
     } else if form == REQUEST {
         if k < 2 {
             SHAPE
         } else {
-            bounded(3, 2 + FILTERS, k)
+            bounded(3, 2 + wire::MOST_FILTERS, k)
         }
     } else if k == 2 {
         FINE
@@ -709,14 +688,14 @@ fn told(row: u8) -> u8
 pub fn message_row(s: &[u8]) -> u8
     ensures { λ r. ⌜ r ≡ messageRow (now (s .entry)) ⌝ }
 {
-    if MESSAGE < s.len() {
+    if wire::MOST_MESSAGE < s.len() {
         return 1;
     }
     if !utf8::is_utf8(s) {
         return 2;
     }
     let at = json::space(s, 0);
-    match judge(s, at, DEPTH, opening(s, at)) {
+    match judge(s, at, json::DEPTH, opening(s, at)) {
         Judged::Ends(n, row) => { if n == s.len() { told(row) } else { 3 } }
         Judged::Wrong => 3,
     }
@@ -745,7 +724,7 @@ fn sort_form(k: Sort) -> u8
 pub fn value_row(s: &[u8], at: usize, k: Sort) -> u8
     ensures { λ r. ⌜ r ≡ valueRow (now (s .entry)) at k ⌝ }
 {
-    match judge(s, at, DEPTH, sort_form(k)) {
+    match judge(s, at, json::DEPTH, sort_form(k)) {
         Judged::Ends(n, row) => {
             if utf8::is_utf8(cut(s, at, n)) {
                 told(row)

@@ -86,13 +86,7 @@ enum Rest {
     Bad,
 }
 
-const MOST_TEXT: usize = 4096;
-
-const MOST_TAGS: usize = 64;
-
-const MOST_STRINGS: usize = 16;
-
-const MOST_KIND: u64 = 65535;
+const MOST_KIND: u64 = wire::MOST_SMALL as u64;
 
 // What a kind makes of an event.
 pub fn class_of(kind: u16) -> Class
@@ -342,7 +336,7 @@ fn tag_end(s: &[u8], at: usize) -> Out
         return Out::Bad;
     }
     let mut i = at + 1;
-    let mut k = MOST_STRINGS;
+    let mut k = wire::MOST_STRINGS;
     while 0 < k {
         match string_end(s, i) {
             Out::End(n) => {
@@ -423,7 +417,7 @@ fn tags_end(s: &[u8], at: usize) -> Tagged
         return Tagged::End(i + 1, 0, 0);
     }
     let mut d = Found::Not;
-    let mut k = MOST_TAGS;
+    let mut k = wire::MOST_TAGS;
     while 0 < k {
         match tag_end(s, i) {
             Out::End(n) => {
@@ -504,7 +498,7 @@ fn is_hex_digit(x: u8) -> bool
 fn is_pubkey(p: &[u8]) -> bool
     ensures { λ r. ⌜ r ≡ isPubkey (now (p .entry)) ⌝ }
 {
-    if p.len() != 64 {
+    if p.len() != wire::HEX_LENGTH {
         return false;
     }
     let mut hex = true;
@@ -564,7 +558,7 @@ pub fn read_text(t: &[u8]) -> TextAnswer
     ensures { λ r. ⌜ r ≡ answerOf (readText (now (t .entry))) ⌝ }
     ensures { λ r. ⌜ numberOf r ≡ rowOf (readText (now (t .entry))) ⌝ }
 {
-    if MOST_TEXT < t.len() {
+    if wire::MOST_TEXT < t.len() {
         return TextAnswer::TooLarge;
     }
     if !is_opened(t) {
