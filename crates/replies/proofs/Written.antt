@@ -32,7 +32,7 @@ use Rattle.event.specs.declared.Written.{Written}
 use Rattle.event.specs.declared.Written.the-variants.{Wrote, Refused}
 use Rattle.event.proofs.Answers.{refused, passed, too-short, room-for}
 use Rattle.event.proofs.Strings.{quoted-put}
-use Rattle.reply.specs.Ascii.{ascii}
+use Rattle.wire.specs.Ascii.{ascii}
 use Rattle.reply.specs.Replies.{event, truth, objectText, replyText}
 use Rattle.reply.specs.Lent.{replyOf, okRow, eventReplyRow, eoseRow, closedRow, noticeRow, partsRow, shortRow, replyRow, replied, repliedOut}
 use Rattle.reply.specs.declared.ReplyParts.{ReplyParts}

@@ -56,7 +56,7 @@ use Rattle.table.proofs.Strings.{ws-none, string-read}
 use Rattle.table.proofs.Arrays.{Tight, Stands, next-more, next-done, array-many, tags-read, tags-spelled, utf8-append, quoted-utf8, tags-utf8}
 use Rattle.table.proofs.Passes.{pubkey-hex, judged-again}
 use Rattle.table.proofs.Rows.{rows-in-order}
-use Rattle.reply.specs.Ascii.{ascii}
+use Rattle.wire.specs.Ascii.{ascii}
 use Rattle.reply.specs.Replies.{objectText}
 use Rattle.reply.specs.Laws.{eventMessage, Sendable}
 use Rattle.reply.proofs.Sizes.{quoted-length, object-length}

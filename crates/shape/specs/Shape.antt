@@ -6,6 +6,7 @@ use mathlib.Core.Bool.{Bool, true, false, cond, not, _&&_, _||_}
 use lib.Dec.{eqb, leb}
 use lib.ListN.{length, getD}
 use Rattle.json.specs.Tree.{Json, word, num, str, arr, obj, Items, nil, item}
+use Rattle.wire.specs.Ascii.{ascii}
 use Rattle.wire.specs.Bytes.{sameBytes}
 use Rattle.spell.specs.Spell.{decode}
 use Rattle.rows.specs.Strings.{part, spelledAt}
@@ -36,54 +37,54 @@ named s w p = sameBytes (nameAt s p) w
 
 -- id, pubkey, created_at, kind, tags, content, sig
 abbrev pub idName : List ℕ
-idName = 105 ∷ 100 ∷ []
+idName = ascii "id"
 
 abbrev pub pubkeyName : List ℕ
-pubkeyName = 112 ∷ 117 ∷ 98 ∷ 107 ∷ 101 ∷ 121 ∷ []
+pubkeyName = ascii "pubkey"
 
 abbrev pub createdAtName : List ℕ
-createdAtName = 99 ∷ 114 ∷ 101 ∷ 97 ∷ 116 ∷ 101 ∷ 100 ∷ 95 ∷ 97 ∷ 116 ∷ []
+createdAtName = ascii "created_at"
 
 abbrev pub kindName : List ℕ
-kindName = 107 ∷ 105 ∷ 110 ∷ 100 ∷ []
+kindName = ascii "kind"
 
 abbrev pub tagsName : List ℕ
-tagsName = 116 ∷ 97 ∷ 103 ∷ 115 ∷ []
+tagsName = ascii "tags"
 
 abbrev pub contentName : List ℕ
-contentName = 99 ∷ 111 ∷ 110 ∷ 116 ∷ 101 ∷ 110 ∷ 116 ∷ []
+contentName = ascii "content"
 
 abbrev pub sigName : List ℕ
-sigName = 115 ∷ 105 ∷ 103 ∷ []
+sigName = ascii "sig"
 
 -- ids, authors, kinds, since, until, limit
 abbrev pub idsName : List ℕ
-idsName = 105 ∷ 100 ∷ 115 ∷ []
+idsName = ascii "ids"
 
 abbrev pub authorsName : List ℕ
-authorsName = 97 ∷ 117 ∷ 116 ∷ 104 ∷ 111 ∷ 114 ∷ 115 ∷ []
+authorsName = ascii "authors"
 
 abbrev pub kindsName : List ℕ
-kindsName = 107 ∷ 105 ∷ 110 ∷ 100 ∷ 115 ∷ []
+kindsName = ascii "kinds"
 
 abbrev pub sinceName : List ℕ
-sinceName = 115 ∷ 105 ∷ 110 ∷ 99 ∷ 101 ∷ []
+sinceName = ascii "since"
 
 abbrev pub untilName : List ℕ
-untilName = 117 ∷ 110 ∷ 116 ∷ 105 ∷ 108 ∷ []
+untilName = ascii "until"
 
 abbrev pub limitName : List ℕ
-limitName = 108 ∷ 105 ∷ 109 ∷ 105 ∷ 116 ∷ []
+limitName = ascii "limit"
 
 -- EVENT, REQ, CLOSE
 abbrev pub eventWord : List ℕ
-eventWord = 69 ∷ 86 ∷ 69 ∷ 78 ∷ 84 ∷ []
+eventWord = ascii "EVENT"
 
 abbrev pub reqWord : List ℕ
-reqWord = 82 ∷ 69 ∷ 81 ∷ []
+reqWord = ascii "REQ"
 
 abbrev pub closeWord : List ℕ
-closeWord = 67 ∷ 76 ∷ 79 ∷ 83 ∷ 69 ∷ []
+closeWord = ascii "CLOSE"
 
 -- "# with one letter a-z or A-Z"
 abbrev pub isLetter : ℕ → Bool
