@@ -29,14 +29,14 @@ use Rattle.spell.specs.Spell.{refuses, isHexOf}
 use Rattle.spell.specs.Spell as spell
 use Rattle.spell.proofs.Laws.{hex-escape}
 use Rattle.shape.specs.Shape.{idName, pubkeyName, createdAtName, kindName, tagsName, contentName, sigName, eventWord}
-use Rattle.shape.specs.Rows.{messageRow}
+use Rattle.shape.specs.Rows.{messageRow, wrongTags}
 use Rattle.text.specs.Event.{Event, quoted, tagsText, serialise, all, isPlainByte, isString, isTags, isTime}
 use Rattle.text.specs.Read.{read, readText}
 use Rattle.text.proofs.Pieces.{Spelt, all-of, left, right, tail, byte-is, both, spelt-inside}
 use Rattle.text.proofs.Limits.{Limits, limits-of}
 use Rattle.text.proofs.Rows.{pubkey-length}
 use Rattle.text.proofs.RoundTrip.{read-back}
-use Rattle.message.specs.Lent.{value4, wrongTags}
+use Rattle.message.specs.Lent.{value4}
 use Rattle.message.specs.Lent as lent
 use Rattle.message.specs.Read.{readOf}
 use Rattle.message.specs.declared.Span.{Span}
