@@ -13,7 +13,7 @@ ghost use Rattle.message.specs.Lent.{eventRow};
 ghost use Rattle.message.specs.declared.Message.the-variants.{Event};
 ghost use Rattle.event.specs.Lent.{said, natural, tagsAt, textOf};
 ghost use Rattle.event.specs.Walk.{tagDepth, stringDepth, puts, Counts, mostLength, lengthOf, Does, firstOf, firstTag, Tested, frontText, backText, stringText, stringsText, oneTagText, allTagsText};
-ghost use Rattle.event.specs.Answer.{hexDigit, hexOf, hashedOf, shortRow, answered, writtenOut, numberOf, serialisedRow, serialised, serialisedOut, identified};
+ghost use Rattle.event.specs.Answer.{hexDigit, hexOf, hashedOf, shortRow, answered, outputAfter, numberOf, serialisedRow, serialised, serialisedOut, identified};
 ghost use Rattle.event.specs.Answer.{offeredRow, offeredTextRow, offered, offeredOut};
 ghost use Rattle.event.specs.Sent.{unreadRow, sentRowOf, sentTextOf, sentOutOf, sentRow, sentText, sentOut, sentTextNumber};
 ghost use Rattle.event.specs.Order.{isLower, isNewer};
@@ -478,7 +478,7 @@ pub fn id_of(b: &[u8], p: message::Body) -> Identified
 // A text from the start of an output, or row 13.
 fn give(t: &[u8], out: &mut [u8]) -> Written
     ensures { λ r. ⌜ r ≡ answered (shortRow (now (t .entry)) (now (out .entry))) (length (now (t .entry))) ⌝ }
-    ensures { λ _. ⌜ now (out .exit) ≡ writtenOut (shortRow (now (t .entry)) (now (out .entry))) (now (t .entry)) (now (out .entry)) ⌝ }
+    ensures { λ _. ⌜ now (out .exit) ≡ outputAfter (shortRow (now (t .entry)) (now (out .entry))) (now (t .entry)) (now (out .entry)) ⌝ }
 {
     if out.len() < t.len() {
         return Written::Refused(13);
