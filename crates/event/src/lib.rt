@@ -4,6 +4,7 @@ ghost use mathlib.Core.Bool.{false};
 ghost use Prim.Native.Nat.{_+_, _<_, min};
 ghost use lib.ListN.{length};
 ghost use Rattle.wire.specs.Put.{Puts};
+ghost use Rattle.wire.specs.Escape.{escape};
 ghost use Rattle.json.specs.Grammar.{case, startAt};
 ghost use Rattle.json.specs.Tree.{endOf, treeAt, itemsAt};
 ghost use Rattle.wire.specs.Bytes.{sameBytes};
@@ -53,12 +54,28 @@ pub struct Identified {
 }
 
 // A string as spelled, decoded and escaped between quotes.
-fn put_quoted(out: &mut [u8], at: usize, p: &[u8]) -> usize
+pub fn put_quoted(out: &mut [u8], at: usize, p: &[u8]) -> usize
     ensures { λ r. ⌜ Puts (now (out .entry)) at (quoted (decode (now (p .entry)))) r (now (out .exit)) ⌝ }
 {
     let a = wire::put(out, at, b"\"");
     let c = spell::put_escaped(out, a, p);
     wire::put(out, c, b"\"")
+}
+
+// A string part, decoded and escaped between quotes.
+pub fn put_part(out: &mut [u8], at: usize, b: &[u8], s: message::Span) -> usize
+    ensures { λ r. ⌜ Puts (now (out .entry)) at (quoted (said (now (b .entry)) s)) r (now (out .exit)) ⌝ }
+{
+    let a = wire::put(out, at, b"\"");
+    let c = spell::put_escaped(out, a, wire::piece(b, s.start, s.len));
+    wire::put(out, c, b"\"")
+}
+
+// How long that is, but for the quotes.
+pub fn part_len(b: &[u8], s: message::Span) -> usize
+    ensures { λ r. ⌜ r ≡ length (escape (said (now (b .entry)) s)) ⌝ }
+{
+    spell::escaped_len(wire::piece(b, s.start, s.len))
 }
 
 // The place after the value at v, or v where there is none.
@@ -227,7 +244,7 @@ pub fn put_tags(out: &mut [u8], at: usize, b: &[u8], tags: usize) -> usize
 }
 
 // A kind that is not negative, and 0 for one that is.
-fn kind_of(kind: i64) -> u64
+pub fn kind_of(kind: i64) -> u64
     ensures { λ r. ⌜ r ≡ natural kind ⌝ }
 {
     if kind < 0 {

@@ -68,7 +68,7 @@ fn small_from(w: Whole) -> u64
     ensures { λ r. ⌜ r ≡ smallFrom w ⌝ }
 {
     match w {
-        Whole::Value(z) => matcher::kind_of(z),
+        Whole::Value(z) => event::kind_of(z),
         Whole::Large => 0,
         Whole::Malformed => 0,
     }
@@ -201,7 +201,7 @@ fn conditions_at(m: &[u8], v: usize, row: &mut [usize]) -> Conditions
         k += 1;
         let w = value_place(m, p);
         x = next_named(m, w);
-        let c = letter(matcher::spelled(m, p));
+        let c = letter(rows::spelled(m, p));
         if c == 0 {
             continue;
         }

@@ -11,7 +11,7 @@ use Rattle.wire.proofs.Bytes.{same-equal}
 use Rattle.wire.specs.Limits.{hexLength}
 use Rattle.json.specs.Tree.{Json, word, num, str, arr, obj, Items, nil, item, Got, none, got, depth, treeAt, onArray, onObject}
 use Rattle.shape.specs.Shape.{anyItem, allItems, countItems, count, nameAt, isString, isNumber, isArrayOf, isCondition, filterMember, isFilter, idsName, authorsName, kindsName, sinceName, untilName, limitName}
-use Rattle.shape.specs.Rows.{outside, wrongSmall, wrongHex, wrongList, filterNumber, filterHex, filterCount, filterCounts, wrongTags}
+use Rattle.shape.specs.Rows.{outside, wrongSmall, wrongHex, wrongList, filterNumber, filterHex, filterCount, filterCounts}
 use Rattle.message.specs.declared.EventParts.{EventParts}
 use Rattle.message.specs.declared.FilterParts.{FilterParts}
 use Rattle.message.specs.declared.Listed.{Listed}

@@ -6,7 +6,7 @@ ghost use lib.ListN.{length};
 ghost use Rattle.json.specs.Grammar.{scalarAt, tokenAt};
 ghost use Rattle.json.specs.Tree.{onLeaf, treeAt, root};
 ghost use Rattle.spell.specs.Spell.{refuses};
-ghost use Rattle.rows.specs.Strings.{part};
+ghost use Rattle.rows.specs.Strings.{part, spelledAt};
 ghost use Rattle.rows.specs.Rows.{row4, textRow};
 ghost use Rattle.rows.specs.Seen.{made, seenOf, nameAt, placeOf, isRefused, toldOf};
 use json::Kind;
@@ -63,6 +63,16 @@ fn quoted(s: &[u8], at: usize, end: usize) -> bool
     ensures { λ r. ⌜ r ≡ refuses (part (now (s .entry)) (at + 1) (end - at - 2)) ⌝ }
 {
     spell::refused(&s[at + 1..end - 1])
+}
+
+// The string that begins at a place, between its quotes.
+pub fn spelled(s: &[u8], at: usize) -> &[u8]
+    ensures { λ r. ⌜ now r ≡ spelledAt (now (s .entry)) at ⌝ }
+{
+    match json::string(s, at) {
+        Out::End(n) => wire::piece(s, at + 1, n - at - 2),
+        Out::Bad => wire::piece(s, 0, 0),
+    }
 }
 
 // A value that holds no value.

@@ -1,7 +1,7 @@
 -- 01, "Shape": what an EVENT, a REQ and a CLOSE are, over the tree of a text s. Names and the first word compare as decoded. A name that
 -- begins at p is a member's; t is its value.
 use Prim.Native.Nat.{ℕ, suc}
-use mathlib.Core.List.{List, [], _∷_}
+use mathlib.Core.List.{List}
 use mathlib.Core.Bool.{Bool, true, false, cond, not, _&&_, _||_}
 use lib.Dec.{eqb, leb}
 use lib.ListN.{length, getD}

@@ -1,13 +1,13 @@
 // Rows 1 to 8 of 01 for a client message: the lowest that holds anywhere in it. Every part answers the lowest row that it breaks, and FINE
 // for none; parts are joined by the least. What must stand at a place is its form, a small number.
 ghost use mathlib.Core.Path.{_≡_};
-ghost use Prim.Native.Nat.{_<_, _+_, _-_, _^_, min};
+ghost use Prim.Native.Nat.{_<_, _+_, _-_, _^_};
 ghost use lib.IntN.{pos, negℤ};
 ghost use Rattle.json.specs.Grammar.{within, scalarAt, startAt};
 ghost use Rattle.json.specs.Tree.{onLeaf, treeAt};
 ghost use Rattle.spell.specs.Spell.{decode};
 ghost use Rattle.wire.specs.Limits.{widest, mostSmall};
-ghost use Rattle.rows.specs.Strings.{part, spelledAt};
+ghost use Rattle.rows.specs.Strings.{part};
 ghost use Rattle.shape.specs.Shape.{wordOf};
 ghost use Rattle.shape.specs.Rows.{messageRow};
 ghost use Rattle.shape.specs.Walk.{bounds, hexRow, stringForm, stringRow, rangeRow, numberRow, groupForm, placeSlot, eventSlot, letterSlot, conditionSlot, filterSlot, nameSlot, nameRow, memberOf, itemOf, eventForm, filterForm, elementForm, slotForm, isIn, onceRow, marksAfter, fresh, stepped, isFull, endRow, closed, judgedOf, wordForm, openingOf, toldOf};
@@ -123,12 +123,6 @@ struct Tally {
     marks: u8,
 }
 
-fn least(a: u8, b: u8) -> u8
-    ensures { λ r. ⌜ r ≡ min a b ⌝ }
-{
-    if a < b { a } else { b }
-}
-
 fn bounded(low: usize, high: usize, n: usize) -> u8
     ensures { λ r. ⌜ r ≡ bounds low high n ⌝ }
 {
@@ -155,16 +149,6 @@ fn cut(s: &[u8], from: usize, to: usize) -> &[u8]
         return &s[..0];
     }
     &s[from..to]
-}
-
-// The string that begins at p, as spelled between its quotes.
-fn spelled(s: &[u8], p: usize) -> &[u8]
-    ensures { λ r. ⌜ now r ≡ spelledAt (now (s .entry)) p ⌝ }
-{
-    match json::string(s, p) {
-        Out::End(n) => cut(s, p + 1, n - 1),
-        Out::Bad => &s[..0],
-    }
 }
 
 fn hex_row(k: usize, p: &[u8]) -> u8
@@ -302,18 +286,12 @@ fn event_slot(p: &[u8]) -> u8
     }
 }
 
-fn between(low: u8, high: u8, b: u8) -> bool
-    ensures { λ r. ⌜ r ≡ within low high b ⌝ }
-{
-    low <= b && b <= high
-}
-
 fn letter_slot(b: u8) -> u8
     ensures { λ r. ⌜ r ≡ letterSlot b ⌝ }
 {
-    if between(b'a', b'z', b) {
+    if json::between(b'a', b'z', b) {
         b - b'a' + LOWER
-    } else if between(b'A', b'Z', b) {
+    } else if json::between(b'A', b'Z', b) {
         b - b'A' + UPPER
     } else {
         UNKNOWN
@@ -405,7 +383,7 @@ fn item_of(s: &[u8], form: u8, named: bool, k: usize, p: usize) -> Item
     ensures { λ r. ⌜ r ≡ itemOf (now (s .entry)) form named k p ⌝ }
 {
     if named {
-        member(form, spelled(s, p))
+        member(form, rows::spelled(s, p))
     } else {
         Item {
             slot: place_slot(k),
@@ -554,9 +532,9 @@ fn step(named: bool, a: Tally, it: Item, row: u8) -> Tally
     ensures { λ r. ⌜ r ≡ stepped named a it row ⌝ }
 {
     Tally {
-        row: least(
+        row: wire::least(
             a.row,
-            least(it.row, least(row, once_row(named, it.slot, a.seen))),
+            wire::least(it.row, wire::least(row, once_row(named, it.slot, a.seen))),
         ),
         seen: a.seen | bit(it.slot),
         marks: marks_after(it.slot, a.marks),
@@ -602,7 +580,7 @@ fn end_row(form: u8, k: usize, a: Tally) -> u8
 fn close(form: u8, k: usize, a: Tally) -> u8
     ensures { λ r. ⌜ r ≡ closed form k a ⌝ }
 {
-    least(a.row, end_row(form, k, a))
+    wire::least(a.row, end_row(form, k, a))
 }
 
 // A value where the form must stand, with at most d brackets and braces open at once, and the white space after it.
@@ -672,7 +650,7 @@ fn opening(s: &[u8], at: usize) -> u8
             if named {
                 NEVER
             } else {
-                word_form(spelled(s, first))
+                word_form(rows::spelled(s, first))
             }
         }
     }

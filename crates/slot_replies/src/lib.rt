@@ -29,15 +29,6 @@ pub enum Left {
     Short,
 }
 
-// A string as spelled, decoded and escaped between quotes.
-fn put_quoted(out: &mut [u8], at: usize, p: &[u8]) -> usize
-    ensures { λ r. ⌜ Puts (now (out .entry)) at (quoted (decode (now (p .entry)))) r (now (out .exit)) ⌝ }
-{
-    let a = wire::put(out, at, b"\"");
-    let c = spell::put_escaped(out, a, p);
-    wire::put(out, c, b"\"")
-}
-
 // Bytes in hex, between quotes.
 fn put_hex(out: &mut [u8], at: usize, s: &[u8]) -> usize
     ensures { λ r. ⌜ Puts (now (out .entry)) at (quoted (hexOf (now (s .entry)))) r (now (out .exit)) ⌝ }
@@ -52,7 +43,7 @@ fn put_front(out: &mut [u8], at: usize, sub: &[u8], id: &[u8]) -> usize
     ensures { λ r. ⌜ Puts (now (out .entry)) at (frontText (decode (now (sub .entry))) (hexOf (now (id .entry)))) r (now (out .exit)) ⌝ }
 {
     let a = wire::put(out, at, b"[\"EVENT\",");
-    let b = put_quoted(out, a, sub);
+    let b = event::put_quoted(out, a, sub);
     let c = wire::put(out, b, b",{\"id\":");
     put_hex(out, c, id)
 }
