@@ -163,9 +163,14 @@ fn find_key(table: &[u8], c: usize, new: &[u8]) -> usize
 fn newer_than(s: &[u8], t: &[u8]) -> bool
     ensures { λ r. ⌜ r ≡ newerIn (now (s .entry)) (now (t .entry)) ⌝ }
 {
-    let a = wire::to_signed(wire::le_at(s, 96, 8));
-    let b = wire::to_signed(wire::le_at(t, 96, 8));
-    event::newer(a, wire::piece(s, 0, 32), b, wire::piece(t, 0, 32))
+    let a = wire::to_signed(wire::le_at(s, slots::TIME_PLACE, 8));
+    let b = wire::to_signed(wire::le_at(t, slots::TIME_PLACE, 8));
+    event::newer(
+        a,
+        wire::piece(s, slots::ID_PLACE, slots::ID_SIZE),
+        b,
+        wire::piece(t, slots::ID_PLACE, slots::ID_SIZE),
+    )
 }
 
 // "Verdicts of an offer .. first that applies", and row 12 where a new slot is needed and all are in use.
@@ -174,7 +179,7 @@ fn verdict(table: &[u8], new: &[u8]) -> table::Offered
     requires { ⌜ New (now new) ⌝ }
     ensures { λ r. ⌜ r ≡ answerFor (now (table .entry)) (now (new .entry)) ⌝ }
 {
-    if is_ephemeral(wire::le_at(new, 104, 2)) {
+    if is_ephemeral(wire::le_at(new, slots::KIND_PLACE, 2)) {
         return table::Offered::Ephemeral;
     }
     let c = wire::le_at(table, 4, 4) as usize;

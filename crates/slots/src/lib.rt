@@ -25,6 +25,25 @@ pub const HEADER_SIZE: usize = 16;
 
 pub const SLOT_SIZE: usize = TEXT_PLACE + wire::MOST_TEXT;
 
+pub const ID_SIZE: usize = 32;
+
+pub const SIG_SIZE: usize = 64;
+
+// Where each field of a slot begins.
+pub const ID_PLACE: usize = 0;
+
+pub const SIG_PLACE: usize = 32;
+
+pub const TIME_PLACE: usize = 96;
+
+pub const KIND_PLACE: usize = 104;
+
+pub const LENGTH_PLACE: usize = 106;
+
+pub const D_OFFSET_PLACE: usize = 108;
+
+pub const D_LENGTH_PLACE: usize = 110;
+
 pub const TEXT_PLACE: usize = 112;
 
 // What showing a slot answers: where its text begins in the table and how many bytes it has, or row 11 or 14.
@@ -82,15 +101,15 @@ pub fn slot(table: &[u8], k: usize) -> &[u8]
 fn text_of(s: &[u8]) -> &[u8]
     ensures { λ r. ⌜ now r ≡ textIn (now (s .entry)) ⌝ }
 {
-    wire::piece(s, TEXT_PLACE, wire::le_at(s, 106, 2) as usize)
+    wire::piece(s, TEXT_PLACE, wire::le_at(s, LENGTH_PLACE, 2) as usize)
 }
 
 // d's escaped bytes, of a slot.
 fn d_of(s: &[u8]) -> &[u8]
     ensures { λ r. ⌜ now r ≡ dBytesIn (now (s .entry)) ⌝ }
 {
-    let at = wire::le_at(s, 108, 2) as usize;
-    let len = wire::le_at(s, 110, 2) as usize;
+    let at = wire::le_at(s, D_OFFSET_PLACE, 2) as usize;
+    let len = wire::le_at(s, D_LENGTH_PLACE, 2) as usize;
     wire::piece(text_of(s), at, len)
 }
 
@@ -119,15 +138,15 @@ fn d_agrees(at: u64, len: u64, kind: u16, d: u64, d_len: u64) -> bool
 fn agrees(s: &[u8], t: text::Text) -> bool
     ensures { λ r. ⌜ r ≡ agreesText (now (s .entry)) t ⌝ }
 {
-    if wire::le_at(s, 96, 8) != wire::to_unsigned(t.time) {
+    if wire::le_at(s, TIME_PLACE, 8) != wire::to_unsigned(t.time) {
         return false;
     }
-    if wire::le_at(s, 104, 2) != t.kind as u64 {
+    if wire::le_at(s, KIND_PLACE, 2) != t.kind as u64 {
         return false;
     }
     d_agrees(
-        wire::le_at(s, 108, 2),
-        wire::le_at(s, 110, 2),
+        wire::le_at(s, D_OFFSET_PLACE, 2),
+        wire::le_at(s, D_LENGTH_PLACE, 2),
         t.kind,
         t.d as u64,
         t.d_len as u64,
@@ -138,7 +157,7 @@ fn agrees(s: &[u8], t: text::Text) -> bool
 fn slot_sound(s: &[u8]) -> bool
     ensures { λ r. ⌜ r ≡ slotSound (now (s .entry)) ⌝ }
 {
-    let n = wire::le_at(s, 106, 2) as usize;
+    let n = wire::le_at(s, LENGTH_PLACE, 2) as usize;
     if wire::MOST_TEXT < n {
         return false;
     }
@@ -159,7 +178,10 @@ fn slot_sound(s: &[u8]) -> bool
 pub fn same_id(s: &[u8], t: &[u8]) -> bool
     ensures { λ r. ⌜ r ≡ sameIdIn (now (s .entry)) (now (t .entry)) ⌝ }
 {
-    same(wire::piece(t, 0, 32), wire::piece(s, 0, 32))
+    same(
+        wire::piece(t, ID_PLACE, ID_SIZE),
+        wire::piece(s, ID_PLACE, ID_SIZE),
+    )
 }
 
 // Whether events of a kind have a key.
@@ -178,8 +200,8 @@ fn keyed(kind: u16) -> bool
 pub fn same_key(s: &[u8], t: &[u8]) -> bool
     ensures { λ r. ⌜ r ≡ sameKeyIn (now (s .entry)) (now (t .entry)) ⌝ }
 {
-    let k = wire::le_at(t, 104, 2);
-    if k != wire::le_at(s, 104, 2) {
+    let k = wire::le_at(t, KIND_PLACE, 2);
+    if k != wire::le_at(s, KIND_PLACE, 2) {
         return false;
     }
     if !keyed(k as u16) {
@@ -199,7 +221,7 @@ pub fn same_key(s: &[u8], t: &[u8]) -> bool
 fn id_mark(s: &[u8]) -> u32
     ensures { λ r. ⌜ r ≡ idMark (now (s .entry)) ⌝ }
 {
-    wire::le_at(wire::piece(s, 0, 32), 0, 4) as u32
+    wire::le_at(wire::piece(s, ID_PLACE, ID_SIZE), 0, 4) as u32
 }
 
 // The last four bytes as a number.
@@ -216,7 +238,7 @@ fn last(d: &[u8]) -> u32
 fn key_mark(s: &[u8]) -> u32
     ensures { λ r. ⌜ r ≡ keyMark (now (s .entry)) ⌝ }
 {
-    let kind = wire::le_at(s, 104, 2);
+    let kind = wire::le_at(s, KIND_PLACE, 2);
     if keyed(kind as u16) {
         return (last(d_of(s)) ^ last(wire::piece(text_of(s), 4, 64))) ^ kind as u32;
     }
@@ -417,7 +439,7 @@ pub fn shown_at(table: &[u8], slot: usize) -> Shown
         return Shown::Refused(14);
     }
     let a = HEADER_SIZE + slot * SLOT_SIZE;
-    let n = wire::le_at(wire::piece(table, a, SLOT_SIZE), 106, 2) as usize;
+    let n = wire::le_at(wire::piece(table, a, SLOT_SIZE), LENGTH_PLACE, 2) as usize;
     Shown::At(a + TEXT_PLACE, n)
 }
 
