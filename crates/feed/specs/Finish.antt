@@ -1,0 +1,34 @@
+-- The end of the input, over lent buffers. 01: "a last line without it counts if not empty". The first n bytes of the lent line buffer are
+-- the line so far, as in reply/specs/Feed.
+use mathlib.Core.Bool.{cond}
+use mathlib.Core.List.{List, [], _∷_}
+use Prim.Native.Nat.{ℕ}
+use lib.Dec.{eqb}
+use lib.ListN.{length}
+use Rattle.event.specs.Answer.{answered}
+use Rattle.event.specs.declared.Written.{Written}
+use Rattle.reply.specs.Lent.{shortRow, outputAfter}
+use Rattle.reply.specs.Program.{tableAfter}
+use Rattle.reply.specs.Feed.{State, saidLast, stateOf}
+
+unfoldable pub finishText : (b line : List ℕ) → ℕ → List ℕ
+finishText b line n = saidLast (stateOf b line n)
+
+-- row 13, "lent output .. too short", and no other
+unfoldable pub finishRow : (b line : List ℕ) → ℕ → (out : List ℕ) → ℕ
+finishRow b line n out = shortRow (finishText b line n) out
+
+unfoldable pub finished : (b line : List ℕ) → ℕ → (out : List ℕ) → Written
+finished b line n out = answered (finishRow b line n out) (length (finishText b line n))
+
+unfoldable pub finishOut : (b line : List ℕ) → ℕ → (out : List ℕ) → List ℕ
+finishOut b line n out = outputAfter (finishRow b line n out) (finishText b line n) out
+
+-- an empty line is no message
+abbrev pub lastTable : (b m : List ℕ) → List ℕ
+lastTable b [] = b
+lastTable b (x ∷ m) = tableAfter b (x ∷ m)
+
+-- "every lent buffer stays as found": the table too
+unfoldable pub finishTable : (b line : List ℕ) → ℕ → (out : List ℕ) → List ℕ
+finishTable b line n out = cond (eqb (finishRow b line n out) 0) (lastTable b (stateOf b line n .line)) b

@@ -1,0 +1,29 @@
+-- What private functions hand on.
+use mathlib.Core.Path.{_≡_}
+use mathlib.Core.List.{List, _++_}
+use Prim.Native.Nat.{ℕ, _-_, _≤_, min}
+use lib.ListN.{length, take}
+use Rattle.wire.specs.Put.{put}
+use Rattle.event.specs.declared.Written.{Written}
+use Rattle.reply.specs.Respond.{responded, respondedOut, respondedTable}
+use Rattle.reply.specs.Feed.{mostLine, kept}
+
+-- what is kept of the line so far, n bytes of the line buffer, with the bytes p more
+unfoldable pub grown : (line : List ℕ) → ℕ → (p : List ℕ) → List ℕ
+grown line n p = kept (take n (kept line) ++ p)
+
+-- the line buffer is o then, and r the number of its bytes that are the line
+pub record Keeps (line : List ℕ) (n : ℕ) (p : List ℕ) (r : ℕ) (o : List ℕ) : Type 0 where
+  pub many : r ≡ length (grown line n p)
+  pub bytes : o ≡ put line (min n mostLine) (take (mostLine - min n mostLine) p)
+
+-- the first r bytes of o are the line l
+pub record Joins (l : List ℕ) (r : ℕ) (o : List ℕ) : Type 0 where
+  pub inside : r ≤ length o
+  pub is-line : take r o ≡ l
+
+-- the message m was answered
+pub record Answers (b m out : List ℕ) (r : Written) (b′ o : List ℕ) : Type 0 where
+  pub answer : r ≡ responded b m out
+  pub table : b′ ≡ respondedTable b m out
+  pub output : o ≡ respondedOut b m out

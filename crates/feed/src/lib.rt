@@ -1,0 +1,110 @@
+// The program's input, fed in pieces: a call takes a piece up to its first line's end, and answers the line that ends there. The line so far
+// stands in a lent buffer.
+ghost use mathlib.Core.Path.{_≡_};
+ghost use Prim.Native.Nat.{_≤_, min};
+ghost use lib.ListN.{length};
+ghost use Rattle.event.specs.Answer.{numberOf};
+ghost use Rattle.reply.specs.Feed.{mostLine, before, turned, turnRow, turnTable, turnLine, turnOut, turnedNumber};
+ghost use Rattle.feed.specs.Finish.{finished, finishRow, finishTable, finishOut};
+ghost use Rattle.feed.specs.Steps.{grown, Keeps, Joins, Answers};
+use event::Written;
+use reply::Turned;
+
+// A byte more than a message may have tells that the line is too long.
+const MOST_LINE: usize = 8193;
+
+// The place of the piece's first line's end, or the piece's own.
+fn end_at(piece: &[u8]) -> usize
+    ensures { λ r. ⌜ r ≡ length (before (now (piece .entry))) ⌝ }
+{
+    let mut i = 0;
+    while i < piece.len() {
+        if piece[i] == b'\n' {
+            return i;
+        }
+        i += 1;
+    }
+    i
+}
+
+// How many bytes the line so far has.
+fn so_far(n: usize) -> usize
+    ensures { λ r. ⌜ r ≡ min n mostLine ⌝ }
+{
+    if n < MOST_LINE { n } else { MOST_LINE }
+}
+
+// What is kept of `part`, behind the n bytes of the line so far; how many bytes the line has then.
+fn keep(line: &mut [u8], n: usize, part: &[u8]) -> usize
+    requires { ⌜ mostLine ≤ length (now line) ⌝ }
+    ensures { λ r. ⌜ Keeps (now (line .entry)) n (now (part .entry)) r (now (line .exit)) ⌝ }
+{
+    let many = so_far(n);
+    wire::put(line, many, wire::piece(part, 0, MOST_LINE - many))
+}
+
+// The line so far and `part` behind it, into a buffer of their own.
+fn join(whole: &mut [u8], line: &[u8], n: usize, part: &[u8]) -> usize
+    requires { ⌜ mostLine ≤ length (now whole) ⌝ }
+    requires { ⌜ mostLine ≤ length (now line) ⌝ }
+    ensures { λ r. ⌜ Joins (grown (now (line .entry)) n (now (part .entry))) r (now (whole .exit)) ⌝ }
+{
+    let many = so_far(n);
+    wire::put(whole, 0, &line[..many]);
+    keep(whole, many, part)
+}
+
+// The line of which `part` is the end is answered. Where `part` is all of it, its bytes are lent on.
+fn answer_line(table: &mut [u8], line: &[u8], n: usize, part: &[u8], out: &mut [u8]) -> Written
+    requires { ⌜ mostLine ≤ length (now line) ⌝ }
+    ensures { λ r. ⌜ Answers (now (table .entry)) (grown (now (line .entry)) n (now (part .entry))) (now (out .entry)) r (now (table .exit)) (now (out .exit)) ⌝ }
+{
+    if n == 0 {
+        return responses::respond(table, part, out);
+    }
+    let mut whole = [0u8; MOST_LINE];
+    let k = join(&mut whole, line, n, part);
+    responses::respond(table, &whole[..k], out)
+}
+
+// A piece of the input is fed up to its first line's end, and with it: the first n bytes of `line` are the line so far. Row 13 for a line
+// buffer of fewer than 8,193 bytes, or an output too short; table, line and output then stay as found.
+pub fn turn(table: &mut [u8], line: &mut [u8], n: usize, piece: &[u8], out: &mut [u8]) -> Turned
+    ensures { λ r. ⌜ r ≡ turned (now (table .entry)) (now (line .entry)) n (now (piece .entry)) (now (out .entry)) ⌝ }
+    ensures { λ r. ⌜ turnedNumber r ≡ turnRow (now (table .entry)) (now (line .entry)) n (now (piece .entry)) (now (out .entry)) ⌝ }
+    ensures { λ _. ⌜ now (table .exit) ≡ turnTable (now (table .entry)) (now (line .entry)) n (now (piece .entry)) (now (out .entry)) ⌝ }
+    ensures { λ _. ⌜ now (line .exit) ≡ turnLine (now (table .entry)) (now (line .entry)) n (now (piece .entry)) (now (out .entry)) ⌝ }
+    ensures { λ _. ⌜ now (out .exit) ≡ turnOut (now (table .entry)) (now (line .entry)) n (now (piece .entry)) (now (out .entry)) ⌝ }
+{
+    if line.len() < MOST_LINE {
+        return Turned::Refused(13);
+    }
+    let e = end_at(piece);
+    if piece.len() <= e {
+        let k = keep(line, n, piece);
+        return Turned::Fed(e, k, 0);
+    }
+    match answer_line(table, line, n, &piece[..e], out) {
+        Written::Wrote(w) => {
+            keep(line, n, &piece[..e]);
+            Turned::Fed(e + 1, 0, w)
+        }
+        Written::Refused(row) => Turned::Refused(row),
+    }
+}
+
+// The end of the input: a last line without 0A is answered if it is not empty. Row 13 for an output too short; table and output then stay
+// as found.
+pub fn finish(table: &mut [u8], line: &[u8], n: usize, out: &mut [u8]) -> Written
+    ensures { λ r. ⌜ r ≡ finished (now (table .entry)) (now (line .entry)) n (now (out .entry)) ⌝ }
+    ensures { λ r. ⌜ numberOf r ≡ finishRow (now (table .entry)) (now (line .entry)) n (now (out .entry)) ⌝ }
+    ensures { λ _. ⌜ now (table .exit) ≡ finishTable (now (table .entry)) (now (line .entry)) n (now (out .entry)) ⌝ }
+    ensures { λ _. ⌜ now (out .exit) ≡ finishOut (now (table .entry)) (now (line .entry)) n (now (out .entry)) ⌝ }
+{
+    let many = so_far(n);
+    let m = wire::piece(line, 0, many);
+    if m.len() == 0 {
+        return Written::Wrote(0);
+    }
+    responses::respond(table, m, out)
+}

@@ -1,0 +1,114 @@
+-- A turn leaves the buffers ready, and goes on in the chunk or writes what waits. With the whole output free it is never refused.
+use mathlib.Core.Path.{_≡_, refl, sym, ap, _∙_}
+use mathlib.Core.List.{List, []}
+use Prim.Native.Nat.{ℕ, _+_, _-_, _≤_, _<_}
+use native.Mathlib.Decide.{decLe}
+use native.Mathlib.Omega.{arith}
+use borrow.Author.Tests.{eq-eqb, eqb-true, le-ltb}
+use lib.Dec.{eqb}
+use lib.ListN.{length, replicate}
+use Rattle.event.specs.Answer.{numberOf, valueOf}
+use Rattle.event.specs.declared.Written.{Written}
+use Rattle.event.specs.declared.Written.the-variants as sent
+use Rattle.table.specs.Layout.{capacityOf, tableSize}
+use Rattle.table.specs.Format.{formatted}
+use Rattle.table.proofs.Formatted.{formatted-capacity}
+use Rattle.reply.specs.Answering.{enoughFor}
+use Rattle.reply.specs.Program.{programSlots, freshTable}
+use Rattle.reply.specs.Feed.{mostLine, usedOf, turnText, turnState, turned, turnRow, turnTable, turnLine, turnOut, turnedNumber, turnedUsed, turnedBytes}
+use Rattle.reply.specs.declared.Turned.{Turned}
+use Rattle.reply.specs.declared.Turned.the-variants as turning
+use Rattle.reply.proofs.Example.{row-0}
+use Rattle.reply.proofs.Respond.{fits-if}
+use Rattle.reply.proofs.Feed.{turn-means, turn-row-is, turned-means}
+use Rattle.feed.specs.Finish.{finishText, finished, finishRow, finishTable, finishOut}
+use Rattle.feed.proofs.Run.{finished-means}
+use Rattle.feed.proofs.Room.{turn-fits, slots-stay}
+use Rattle.relay.specs.Buffers.{Ready, Stands, waiting}
+use Rattle.relay.specs.declared.Place.{Place}
+
+-- the piece is what is left of the chunk, and the turn's output what is left of the output
+module _ (b line chunk out : List ℕ) (p : Place) (piece rest : List ℕ) where
+  abbrev Turns : Turned → (b′ line′ rest′ : List ℕ) → Type 0
+  Turns r b′ line′ rest′ =
+      (r ≡ turned b line (p .n) piece rest)
+      × ((turnedNumber r ≡ turnRow b line (p .n) piece rest)
+      × ((b′ ≡ turnTable b line (p .n) piece rest) × ((line′ ≡ turnLine b line (p .n) piece rest) × (rest′ ≡ turnOut b line (p .n) piece rest))))
+
+  abbrev Left : Type 0
+  Left = (length piece ≡ length chunk - p .at) × (length rest ≡ length out - p .w)
+
+  stays-ready : {r : Turned} {b′ line′ rest′ out′ : List ℕ} → Ready b line out → Turns r b′ line′ rest′ → length out′ ≡ length out → Ready b′ line′ out′
+  stays-ready a (x, (y, (t, (l, o)))) e = record {
+    slots = ap capacityOf t ∙ slots-stay b line (p .n) piece rest ∙ a .slots;
+    wide = omega (arith, a .wide, ap length l, turned-means b line (p .n) piece rest .as-long .1);
+    enough = omega (arith, a .enough);
+  }
+
+  module _ {r : Turned} {b′ line′ rest′ : List ℕ} (a : Ready b line out) (s : Stands chunk out p) (h : p .at < length chunk) (l : Left) (t : Turns r b′ line′ rest′) where
+    module _ {u k w : ℕ} (f : r ≡ turning.Fed u k w) where
+      passes : turnRow b line (p .n) piece rest ≡ 0
+      passes = sym (t .1 .0) ∙ ap turnedNumber f
+
+      used-is : u ≡ usedOf piece
+      used-is = sym (ap turnedUsed (sym (t .0) ∙ f)) ∙ turned-means b line (p .n) piece rest .used passes
+
+      bytes-are : w ≡ length (turnText b line (p .n) piece)
+      bytes-are = sym (ap turnedBytes (sym (t .0) ∙ f)) ∙ turned-means b line (p .n) piece rest .bytes passes
+
+      pub goes : (p .at + u ≤ length chunk) × (1 ≤ u) × (p .w + w ≤ length out)
+      goes =
+          let some : 1 ≤ usedOf piece = turn-means b line (p .n) piece .progress (λ e. let z = ap length e in omega (arith, l .0)) in (
+            omega (arith, used-is, turn-means b line (p .n) piece .used, l .0),
+            omega (arith, used-is),
+            omega (arith, bytes-are, turn-row-is b line (p .n) piece rest .0 passes .1, l .1, s .waits),
+          )
+
+      pub step-fed : {out′ : List ℕ} → length out′ ≡ length out → let q : Place = record { at = p .at + u; n = k; w = p .w + w } in
+          Ready b′ line′ out′ × (Stands chunk out′ q × (waiting chunk q < waiting chunk p))
+      step-fed e =
+          let (i, j, m) = goes in
+          (stays-ready a t e, (record { used = i; waits = omega arith }, omega arith))
+
+    -- a refusal: something waits
+    module _ {k : ℕ} (f : r ≡ turning.Refused k) where
+      is-fed : turnRow b line (p .n) piece rest ≡ 0 → ⊥
+      unfolding turned
+      is-fed e =
+          let z : turned b line (p .n) piece rest ≡ turning.Fed (usedOf piece) (length (turnState b line (p .n) piece .line)) (length (turnText b line (p .n) piece)) =
+          rw (eq-eqb (turnRow b line (p .n) piece rest) 0 e) refl in
+          let x = t .0 in
+          let y : _≡_ {A = ℕ} 0 1 = cc in
+          omega arith
+
+      some-waits : 1 ≤ p .w
+      some-waits = go (decLe 1 (p .w))
+        where
+          go : Dec (1 ≤ p .w) → 1 ≤ p .w
+          go (yes i) = i
+          go (no i) =
+              let room : enoughFor (capacityOf b) ≤ length rest = rw (a .slots) (omega (arith, a .enough, l .1)) in
+              absurd (is-fed (turn-fits b line (p .n) piece rest (a .wide) room))
+
+      pub step-refused : {out′ : List ℕ} → length out′ ≡ length out → let q : Place = record { at = p .at; n = p .n; w = 0 } in
+          Ready b′ line′ out′ × (Stands chunk out′ q × (waiting chunk q < waiting chunk p))
+      step-refused e = (stays-ready a t e, (record { used = s .used; waits = omega arith }, omega (arith, some-waits)))
+
+-- ---- the end of the input
+pub finish-room : (b line : List ℕ) (n : ℕ) (out : List ℕ) {w : ℕ} {r : Written} {b′ o : List ℕ}
+    → (r ≡ finished b line n out) × ((numberOf r ≡ finishRow b line n out) × ((b′ ≡ finishTable b line n out) × (o ≡ finishOut b line n out)))
+    → r ≡ sent.Wrote w → w ≤ length o
+unfolding finishRow
+finish-room b line n out (x, (y, (t, o))) f =
+    let m = finished-means b line n out .0 in
+    let z = sym y ∙ ap numberOf f in
+    let e = sym (ap valueOf (sym x ∙ f)) ∙ m .value z in
+    omega (arith, e, fits-if (finishText b line n) out z, m .as-long, ap length o)
+
+-- ---- the start
+pub is-fresh : {t z : List ℕ} → t ≡ formatted programSlots z → z ≡ replicate (tableSize programSlots) 0 → t ≡ freshTable
+is-fresh e f = e ∙ ap (formatted programSlots) f
+
+pub ready : {table line out : List ℕ} → table ≡ freshTable → mostLine ≤ length line → enoughFor programSlots ≤ length out → Ready table line out
+ready e w h =
+    record { slots = ap capacityOf e ∙ formatted-capacity programSlots (replicate (tableSize programSlots) 0) row-0; wide = w; enough = h }

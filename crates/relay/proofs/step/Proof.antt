@@ -1,0 +1,51 @@
+use native.Mathlib.Omega.{arith}
+use borrow.Author.Needs.{needs}
+use Rattle.relay.proofs.Turns.{goes, step-fed, step-refused}
+use Rattle.relay.proofs.step.Statement.{statement}
+use Rattle.relay.proofs.step.Tie as tie
+
+add-next : tie.Need-add-next
+add-next c =
+    let c1 = c .before in
+    let c9 = c1 .before .before .before .before .before .before .before .before in
+    let c10 = c9 .before in
+    let c11 = c10 .before in
+    let c18 = c11 .before .before .before .before .before .before .before in
+    omega (arith, goes _ _ _ _ _ _ _ (c18 .pre .0) (c18 .pre .1 .0) (c18 .pre .1 .1) ((c11 .turn-arg3 .given .2), (c10 .turn-arg4 .given .2)) (c9 .turn .ensures) (c1 .used .given .1))
+
+add-filled : tie.Need-add-filled
+add-filled c =
+    let c1 = c .before in
+    let c9 = c1 .before .before .before .before .before .before .before .before in
+    let c10 = c9 .before in
+    let c11 = c10 .before in
+    let c18 = c11 .before .before .before .before .before .before .before in
+    omega (arith, goes _ _ _ _ _ _ _ (c18 .pre .0) (c18 .pre .1 .0) (c18 .pre .1 .1) ((c11 .turn-arg3 .given .2), (c10 .turn-arg4 .given .2)) (c9 .turn .ensures) (c1 .used .given .1))
+
+returns : tie.Need-returns
+returns c =
+    let c1 = c .before in
+    let c4 = c1 .before .before .before in
+    let c9 = c4 .before .before .before .before .before in
+    let c10 = c9 .before in
+    let c11 = c10 .before in
+    let c18 = c11 .before .before .before .before .before .before .before in
+    step-fed _ _ _ _ _ _ _ (c18 .pre .0) (c18 .pre .1 .0) (c18 .pre .1 .1) ((c11 .turn-arg3 .given .2), (c10 .turn-arg4 .given .2)) (c9 .turn .ensures) (c1 .used .given .1) (c4 .out .given .1)
+
+returns-2 : tie.Need-returns-2
+returns-2 c =
+    let c2 = c .before .before in
+    let c5 = c2 .before .before .before in
+    let c10 = c5 .before .before .before .before .before in
+    let c11 = c10 .before in
+    let c12 = c11 .before in
+    let c19 = c12 .before .before .before .before .before .before .before in
+    step-refused _ _ _ _ _ _ _ (c19 .pre .0) (c19 .pre .1 .0) (c19 .pre .1 .1) ((c12 .turn-arg3 .given .2), (c11 .turn-arg4 .given .2)) (c10 .turn .ensures) (c2 .enum-told .given .1) (c5 .out .given .1)
+
+pub step-spec : {M : Type 1} → statement M
+step-spec =
+    tie.close
+    (tie.spec (λ c. search needs) (λ c. search needs) (λ c. search needs) (λ c. search needs) (λ c. search needs)
+    (λ c. search needs) (λ c κs. search needs) (λ c. search needs) add-next add-filled (λ c. search needs)
+    (λ c κs. search needs) (λ c. search needs) (λ c. search needs) (λ c. search needs) returns (λ c. search needs)
+    (λ c. search needs) (λ c. search needs) returns-2)

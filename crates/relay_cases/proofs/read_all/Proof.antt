@@ -1,0 +1,34 @@
+use Prim.Native.Nat.{_≤_, _-_}
+use lib.ListN.{length}
+use mathlib.Core.Path.{_≡_}
+use borrow.Author.Needs.{needs}
+use native.Mathlib.Omega.{arith}
+use Rattle.relay_cases.proofs.read_all.Statement.{statement}
+use Rattle.relay_cases.proofs.read_all.Tie as tie
+
+abbrev Inv-loop : tie.InvT-loop
+Inv-loop table₀ line₀ given₀ chunk₀ out₀ now₀ r₀ k₀ table line given chunk out now r k =
+    (k ≤ 0xffffffffffff) × (length table ≡ length table₀) × (length line ≡ length line₀) × (length out ≡ length out₀) × (length given ≡ length given₀) × (length chunk ≡ length chunk₀)
+
+abbrev μ-loop : tie.MeasureT-loop
+μ-loop table₀ line₀ given₀ chunk₀ out₀ now₀ r₀ k₀ table line given chunk out now r k = 0xffffffffffff - k
+
+loop-holds : tie.Need-loop-holds Inv-loop μ-loop
+loop-holds c = search needs
+
+returns : tie.Need-returns Inv-loop μ-loop
+returns c = search needs
+
+loop-again : tie.Need-loop-again Inv-loop μ-loop
+loop-again c = search needs
+
+returns-2 : tie.Need-returns-2 Inv-loop μ-loop
+returns-2 c = search needs
+
+pub read-all-spec : {M : Type 1} → statement M
+read-all-spec =
+    tie.close
+    (tie.spec Inv-loop μ-loop (λ c κs. search needs) loop-holds (λ c κs. search needs) (λ c. search needs)
+    (λ c. search needs) (λ c. search needs) (λ c. search needs) (λ c. search needs) returns (λ c κs. search needs)
+    (λ c. search needs) (λ c. omega arith) loop-again (λ c. search needs) (λ c. search needs) (λ c. search needs)
+    (λ c. search needs) (λ c. search needs) returns-2)

@@ -1,0 +1,3 @@
+-- Laws of the writers of replies to a message.
+pub mod Lines
+pub mod Ways

@@ -1,0 +1,52 @@
+-- An arm for each answer.
+use borrow.Author.Needs.{needs}
+use Rattle.wire.specs.Escape.{letterOf, escOne, escape}
+use Rattle.text.specs.Event.{quoted}
+use Rattle.responses.proofs.Lines.{verdict-put, false-put}
+use Rattle.responses.specs.Line.{verdictText}
+use Rattle.responses.proofs.put_verdict.Statement.{statement}
+use Rattle.responses.proofs.put_verdict.Tie as tie
+
+returns : tie.Need-returns
+unfolding verdictText quoted escape escOne letterOf
+returns c =
+    let c2 = c .before .before in
+    let c5 = c2 .before .before .before in
+    verdict-put _ (c5 .enum-told .given .1) (c2 .put .ensures)
+
+returns-2 : tie.Need-returns-2
+unfolding verdictText quoted escape escOne letterOf
+returns-2 c =
+    let c2 = c .before .before in
+    let c5 = c2 .before .before .before in
+    verdict-put _ (c5 .enum-told2 .given .1) (c2 .put2 .ensures)
+
+returns-3 : tie.Need-returns-3
+unfolding verdictText quoted escape escOne letterOf
+returns-3 c =
+    let c2 = c .before .before in
+    let c5 = c2 .before .before .before in
+    verdict-put _ (c5 .enum-told3 .given .1) (c2 .put3 .ensures)
+
+returns-4 : tie.Need-returns-4
+unfolding verdictText quoted escape escOne letterOf
+returns-4 c =
+    let c2 = c .before .before in
+    let c5 = c2 .before .before .before in
+    verdict-put _ (c5 .enum-told4 .given .1) (c2 .put4 .ensures)
+
+returns-5 : tie.Need-returns-5
+returns-5 c =
+    let c2 = c .before .before in
+    let c6 = c2 .before .before .before .before in
+    let c10 = c6 .before .before .before .before in
+    false-put _ (c10 .a .given .1) (c6 .put5 .ensures) (c2 .put-reason .ensures)
+
+pub put-verdict-spec : {M : Type 1} → statement M
+put-verdict-spec =
+    tie.close
+    (tie.spec (λ c. search needs) (λ c. search needs) (λ c κs. search needs) (λ c. search needs) (λ c. search needs)
+    (λ c κs. search needs) (λ c. search needs) (λ c. search needs) (λ c κs. search needs) (λ c. search needs)
+    (λ c. search needs) (λ c κs. search needs) (λ c. search needs) (λ c. search needs) (λ c κs. search needs)
+    (λ c κs. search needs) (λ c. search needs) returns (λ c. search needs) returns-2 (λ c. search needs) returns-3
+    (λ c. search needs) returns-4 (λ c. search needs) returns-5)

@@ -1,0 +1,64 @@
+-- What private functions hand on: the replies by what the code has of them, and what is answered where a text is to be written.
+use mathlib.Core.Path.{_≡_}
+use mathlib.Core.Bool.{true, cond}
+use mathlib.Core.List.{List, [], _∷_, _++_}
+use Prim.Native.Nat.{ℕ, _<_}
+use lib.Dec.{leb}
+use lib.ListN.{length}
+use Rattle.text.specs.Event.{quoted}
+use Rattle.message.specs.Read.{namedOf}
+use Rattle.message.specs.declared.Named.{Named}
+use Rattle.message.specs.declared.Named.the-variants.{Nothing}
+use Rattle.event.specs.Answer.{answered}
+use Rattle.event.specs.declared.Written.{Written}
+use Rattle.law.specs.Lists.{_∈_}
+use Rattle.table.specs.Layout.{countOf}
+use Rattle.table.specs.Sound.{sound}
+use Rattle.table.specs.declared.Offered.{Offered}
+use Rattle.reply.specs.Ascii.{ascii}
+use Rattle.reply.specs.Replies.{ok, eose, closed, notice, replyText, truth, reasonOf, isAccepted, verdictReason}
+use Rattle.reply.specs.Lent.{shortRow, outputAfter}
+use Rattle.reply.specs.Program.{refusalNaming, eventsOf, written}
+
+-- ---- the replies
+-- ACCEPTED,REASON of an offer that was answered a
+unfoldable pub verdictText : Offered → List ℕ
+verdictText a = truth (isAccepted a) ++ (ascii "," ++ quoted (verdictReason a))
+
+unfoldable pub okText : (id : List ℕ) (a : Offered) → List ℕ
+okText i a = replyText (ok i (isAccepted a) (verdictReason a))
+
+unfoldable pub closedText : (sub : List ℕ) (row : ℕ) → List ℕ
+closedText s row = replyText (closed s (reasonOf row))
+
+unfoldable pub noticeText : (row : ℕ) → List ℕ
+noticeText row = replyText (notice (reasonOf row))
+
+-- what the reply to a refusal by a row may name
+unfoldable pub namedFor : (m : List ℕ) (row : ℕ) → Named
+namedFor m row = cond (leb row 5) Nothing (namedOf m)
+
+-- the reply to a refusal by a row, of which n is named
+unfoldable pub namingText : (m : List ℕ) (n : Named) (row : ℕ) → List ℕ
+namingText m n row = replyText (refusalNaming m n (reasonOf row))
+
+-- "The program ends each reply with 0A."
+abbrev pub ended : List ℕ → List ℕ
+ended t = t ++ (0x0a ∷ [])
+
+-- the EVENTs of the slots ks, then EOSE
+unfoldable pub eoseLine : (sub : List ℕ) → List ℕ
+eoseLine sub = ended (replyText (eose sub))
+
+unfoldable pub answerText : (b sub ks : List ℕ) → List ℕ
+answerText b sub ks = written (eventsOf b sub ks) ++ eoseLine sub
+
+-- the table is sound, and it holds the slots ks
+pub record AllHeld (b ks : List ℕ) : Type 0 where
+  pub is-sound : sound b ≡ true
+  pub held : (k : ℕ) → k ∈ ks → k < countOf b
+
+-- ---- the text t that is to be written to an output: the answer, and the output at exit
+pub record Said (t out : List ℕ) (r : Written) (o : List ℕ) : Type 0 where
+  pub answer : r ≡ answered (shortRow t out) (length t)
+  pub bytes : o ≡ outputAfter (shortRow t out) t out
