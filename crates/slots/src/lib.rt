@@ -46,6 +46,11 @@ pub const D_LENGTH_PLACE: usize = 110;
 
 pub const TEXT_PLACE: usize = 112;
 
+// What a header says of the slots' size and of the first slot's offset.
+const SLOT_SIZE_FIELD: u64 = SLOT_SIZE as u64;
+
+const FIRST_SLOT_FIELD: u64 = HEADER_SIZE as u64;
+
 // What showing a slot answers: where its text begins in the table and how many bytes it has, or row 11 or 14.
 pub enum Shown {
     At(usize, usize),
@@ -370,10 +375,10 @@ fn header_sound(table: &[u8]) -> bool
     if n < wire::le_at(table, 4, 4) as usize {
         return false;
     }
-    if wire::le_at(table, 8, 4) != SLOT_SIZE as u64 {
+    if wire::le_at(table, 8, 4) != SLOT_SIZE_FIELD {
         return false;
     }
-    wire::le_at(table, 12, 4) == HEADER_SIZE as u64
+    wire::le_at(table, 12, 4) == FIRST_SLOT_FIELD
 }
 
 // 01: "Sound: the buffer has at least 16 bytes, N is 1 to 64 and its slots fit the buffer, ..".
@@ -402,8 +407,8 @@ fn put_fresh(table: &mut [u8], n: usize) -> usize
 {
     let a = wire::put_le(table, 0, 4, n as u64);
     let b = wire::put_le(table, a, 4, 0);
-    let c = wire::put_le(table, b, 4, SLOT_SIZE as u64);
-    let d = wire::put_le(table, c, 4, HEADER_SIZE as u64);
+    let c = wire::put_le(table, b, 4, SLOT_SIZE_FIELD);
+    let d = wire::put_le(table, c, 4, FIRST_SLOT_FIELD);
     wire::put_zeros(table, d, n * SLOT_SIZE)
 }
 
