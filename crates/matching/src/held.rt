@@ -67,7 +67,7 @@ fn slot_matched(table: &[u8], k: usize, m: &[u8], row: &[usize], f: Known) -> bo
         slots::TEXT_PLACE,
         wire::le_at(s, slots::LENGTH_PLACE, 2) as usize,
     );
-    if !matcher::fields_hold(wire::piece(t, 4, 64), time, kind, m, row, f) {
+    if !matcher::fields_hold(wire::piece(t, 4, wire::HEX_LENGTH), time, kind, m, row, f) {
         return false;
     }
     tags_hold(t, time, kind, m, row, f)

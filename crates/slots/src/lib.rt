@@ -213,8 +213,8 @@ pub fn same_key(s: &[u8], t: &[u8]) -> bool
         return false;
     }
     if !same(
-        wire::piece(text_of(t), 4, 64),
-        wire::piece(text_of(s), 4, 64),
+        wire::piece(text_of(t), 4, wire::HEX_LENGTH),
+        wire::piece(text_of(s), 4, wire::HEX_LENGTH),
     ) {
         return false;
     }
@@ -245,7 +245,7 @@ fn key_mark(s: &[u8]) -> u32
 {
     let kind = wire::le_at(s, KIND_PLACE, 2);
     if keyed(kind as u16) {
-        return (last(d_of(s)) ^ last(wire::piece(text_of(s), 4, 64))) ^ kind as u32;
+        return (last(d_of(s)) ^ last(wire::piece(text_of(s), 4, wire::HEX_LENGTH))) ^ kind as u32;
     }
     id_mark(s)
 }
