@@ -4,8 +4,10 @@ mod messages;
 mod plain_event;
 mod plain_json;
 mod plain_message;
+mod plain_query;
 mod plain_sha256;
 mod plain_table;
+mod query;
 mod stack;
 mod table;
 
@@ -66,9 +68,9 @@ fn proved_message_row(bytes: &[u8]) -> u8 {
     unsafe { plavdrosa_message_row(bytes.as_ptr(), bytes.len()) }
 }
 
-type Numbers = [u64; 44];
+pub type Numbers = [u64; 44];
 
-fn proved_read(bytes: &[u8], out: &mut Numbers) -> u8 {
+pub fn proved_read(bytes: &[u8], out: &mut Numbers) -> u8 {
     unsafe { plavdrosa_read(bytes.as_ptr(), bytes.len(), out.as_mut_ptr(), out.len()) }
 }
 
@@ -160,7 +162,7 @@ pub fn race<F: FnMut(), G: FnMut()>(mut f: F, mut g: G) -> (f64, f64) {
     (best_f / turns as f64, best_g / turns as f64)
 }
 
-fn row(name: &str, proved: f64, plain: f64) {
+pub fn row(name: &str, proved: f64, plain: f64) {
     println!("{name:<54} {proved:>12.0} {plain:>12.0} {:>7.2}", proved / plain);
 }
 
@@ -227,10 +229,10 @@ fn text_row() {
     println!("stack of rows 1 to 4: {used} bytes");
 }
 
-const MESSAGE_CASES: &[u8] = include_bytes!("../crates/message_cases/stdin");
-const EVENT_CASES: &[u8] = include_bytes!("../crates/event_cases/stdin");
+pub const MESSAGE_CASES: &[u8] = include_bytes!("../crates/message_cases/stdin");
+pub const EVENT_CASES: &[u8] = include_bytes!("../crates/event_cases/stdin");
 
-fn lines(cases: &[u8]) -> impl Iterator<Item = &[u8]> {
+pub fn lines(cases: &[u8]) -> impl Iterator<Item = &[u8]> {
     cases.split(|&b| b == b'\n')
 }
 
@@ -469,7 +471,7 @@ fn event() {
 fn main() {
     let named: Vec<String> = std::env::args().skip(1).collect();
     println!("{:<54} {:>12} {:>12} {:>7}", "", "proved, ns", "plain, ns", "ratio");
-    let all: [(&str, fn()); 7] = [
+    let all: [(&str, fn()); 8] = [
         ("digest", digest),
         ("text_row", text_row),
         ("message_row", message_row),
@@ -477,6 +479,7 @@ fn main() {
         ("event", event),
         ("back", back),
         ("table", table::run),
+        ("query", query::run),
     ];
     for (name, run) in all {
         if named.is_empty() || named.iter().any(|n| n == name) {

@@ -6,13 +6,13 @@ use crate::plain_sha256;
 
 pub const HEADER: usize = 16;
 pub const SLOT: usize = 4208;
-const TEXT: usize = 112;
+pub const TEXT: usize = 112;
 
-fn number(b: &[u8], at: usize, len: usize) -> usize {
+pub fn number(b: &[u8], at: usize, len: usize) -> usize {
     b[at..at + len].iter().rev().fold(0, |n, &x| n << 8 | x as usize)
 }
 
-fn word(b: &[u8]) -> u64 {
+pub fn word(b: &[u8]) -> u64 {
     u64::from_le_bytes(b[..8].try_into().unwrap())
 }
 
@@ -48,7 +48,7 @@ fn class(kind: usize) -> Class {
     }
 }
 
-fn slot(b: &[u8], k: usize) -> &[u8] {
+pub fn slot(b: &[u8], k: usize) -> &[u8] {
     &b[HEADER + k * SLOT..HEADER + (k + 1) * SLOT]
 }
 

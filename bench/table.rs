@@ -120,28 +120,32 @@ fn replay() {
 }
 
 // ---- Events and tables.
-const PUBKEY: &str = "5c83da77af1dec6d7289834998ad7aafbd9e2191396d75ec3cc27f5a77226f36";
+pub const PUBKEY: &str = "5c83da77af1dec6d7289834998ad7aafbd9e2191396d75ec3cc27f5a77226f36";
 
 fn message(time: i64, kind: u32, d: &str, content: &str) -> Vec<u8> {
     message_by(PUBKEY, time, kind, d, content)
 }
 
 fn message_by(pubkey: &str, time: i64, kind: u32, d: &str, content: &str) -> Vec<u8> {
-    let text = format!("[0,\"{pubkey}\",{time},{kind},[[\"d\",\"{d}\"]],\"{content}\"]");
+    message_with(pubkey, time, kind, &format!("[\"d\",\"{d}\"]"), content)
+}
+
+pub fn message_with(pubkey: &str, time: i64, kind: u32, tags: &str, content: &str) -> Vec<u8> {
+    let text = format!("[0,\"{pubkey}\",{time},{kind},[{tags}],\"{content}\"]");
     let id: String = plain_sha256::digest(text.as_bytes()).iter().map(|b| format!("{b:02x}")).collect();
     let sig = "0f".repeat(64);
     let head = format!("[\"EVENT\",{{\"id\":\"{id}\",\"pubkey\":\"{pubkey}\",\"created_at\":{time},\"kind\":{kind},");
-    (head + &format!("\"tags\":[[\"d\",\"{d}\"]],\"content\":\"{content}\",\"sig\":\"{sig}\"}}]")).into_bytes()
+    (head + &format!("\"tags\":[{tags}],\"content\":\"{content}\",\"sig\":\"{sig}\"}}]")).into_bytes()
 }
 
-const SMALL: &str = "the shelf by the door has moved";
+pub const SMALL: &str = "the shelf by the door has moved";
 
 // A text of about 4,096 bytes of one kind.
-fn full(unit: &str) -> String {
+pub fn full(unit: &str) -> String {
     unit.repeat(3950 / unit.len())
 }
 
-fn tile(k: usize) -> String {
+pub fn tile(k: usize) -> String {
     format!("floor-3/tile-{k:04}")
 }
 
@@ -150,7 +154,7 @@ fn table(held: usize, kind: u32, content: &str) -> Vec<u8> {
     table_by(held, |k| message(1700000000, kind, &tile(k), content))
 }
 
-fn table_by(held: usize, event: impl Fn(usize) -> Vec<u8>) -> Vec<u8> {
+pub fn table_by(held: usize, event: impl Fn(usize) -> Vec<u8>) -> Vec<u8> {
     let mut t = vec![0u8; HEADER + 64 * SLOT];
     assert_eq!(plain_table::format(&mut t, 64), 0);
     for k in 0..held {

@@ -485,6 +485,13 @@ def hostile_filters():
     for n in (1, 2, 3, 4):
         lines.append((listing(NEWEST_FIRST), line(b"Q", NONE, 8, n, *nothing)))
         lines.append((b"matches", line(b"E", *event.numbers, n, *nothing)))
+    # Of the object that has the conditions only those count; lists and numbers are the lent ones.
+    at = lent.add(raw('{"#e":["x"],"limit":0,"since":5,"kinds":[7],"ids":%s}' % strings(A)))
+    kinds = lent.add(b"[ 1 ,\t2]")
+    lines.append((listing(newest_first([0, 3])), line(b"Q", NONE, 8, 1, *nothing[:6], at)))
+    lines.append((listing([0]), line(b"Q", NONE, 8, 1, None, None, kinds, None, None, None, at)))
+    lines.append((listing(newest_first([0, 1, 2])), line(b"Q", NONE, 8, 1, None, None, kinds)))
+    lines.append((b"matches", line(b"E", *event.numbers, 1, None, None, kinds, None, None, 0, at)))
     yield lent.set()
     yield from lines
 
@@ -533,8 +540,14 @@ def hostile_events():
              b'["REQ","s",{"#e":[]}]']
     one = lent.event(EVENTS[3])
     large = lent.event(made(content="x" * 4017))
+    ephemeral = lent.event(made(A, 1, 20000, [["e", "x"]]))
     spots = [(lent.add(text), len(text)) for text in texts]
+    asked = [(want, req_of(filters_of(one))) for want, one in (
+        (b"matches", {"kinds": "[20000]"}), (b"differs", {"kinds": "[20001]"}), (b"matches", {"#e": strings("x"), "limit": "0"}))]
+    asked = [(want, lent.add(raw(text)), len(raw(text))) for want, text in asked]
     yield lent.set()
+    for want, *spot in asked:
+        yield want, line(b"W", *ephemeral.place, *spot)
     for spot in spots + [one.place]:
         yield None, line(b"R", NONE, 8, *spot)
         yield None, line(b"W", *one.place, *spot)

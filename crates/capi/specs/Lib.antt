@@ -2,3 +2,4 @@
 pub mod Numbers
 pub mod Calls
 pub mod Table
+pub mod Query

@@ -10,6 +10,11 @@ ghost use Rattle.table.specs.Offer.{asMessage, asParts, answer, next};
 ghost use Rattle.slots.specs.Shown.{shownAt};
 ghost use Rattle.capi.specs.Table.{soundRow, offeredNumber, shownPlace, shownLength, eventFrom};
 ghost use Rattle.capi.specs.Numbers.{placeOf, flagOf, bitsOf, bodyFrom, eventNumbers, filterNumbers, partsNumbers, requestNumbers, textNumbers};
+ghost use Rattle.query.specs.Answer.{matchNumber, numberOf};
+ghost use Rattle.capi.specs.Query.{matchOf, matchesOr, listOf, listOut, countOr};
+
+mod given;
+
 use message::Body;
 use message::Bound;
 use message::EventParts;
@@ -482,5 +487,60 @@ pub extern "C" fn plavdrosa_show(
             0
         }
         slots::Shown::Refused(r) => r,
+    }
+}
+
+// ---- Filters, as the numbers of a REQ, and events, as those of an EVENT, that plavdrosa_read writes.
+// Whether an event over `bytes` matches some of the filters over `message`, 1 or 0, into `matches`: the row that refuses the parts, or 0. On a
+// refusal `matches` stays as found.
+#[no_mangle]
+pub extern "C" fn plavdrosa_match(
+    bytes: &[u8],
+    event: &[u64],
+    message: &[u8],
+    request: &[u64],
+    matches: &mut usize,
+) -> u8
+    ensures { λ r. ⌜ r ≡ matchNumber (matchOf (now (bytes .entry)) (now (event .entry)) (now (message .entry)) (now (request .entry))) ⌝ }
+    ensures { λ _. ⌜ now (matches .exit) ≡ matchesOr (matchOf (now (bytes .entry)) (now (event .entry)) (now (message .entry)) (now (request .entry))) (now (matches .entry)) ⌝ }
+{
+    let p = given::parts_from(event);
+    let fs = given::filters_from(request);
+    let n = given::number_in(request, 3) as usize;
+    match matching::matched(bytes, p, message, fs, n) {
+        query::Matched::Matches => {
+            *matches = 1;
+            0
+        }
+        query::Matched::Differs => {
+            *matches = 0;
+            0
+        }
+        query::Matched::Refused(r) => r,
+    }
+}
+
+// The slots that a REQ with the filters over `message` is answered with, newest first, into `row`, and how many they are into `count`: the row that
+// refuses the filters, 11, 13, or 0. On a refusal both stay as found.
+#[no_mangle]
+pub extern "C" fn plavdrosa_list(
+    table: &[u8],
+    message: &[u8],
+    request: &[u64],
+    row: &mut [u16],
+    count: &mut usize,
+) -> u8
+    ensures { λ r. ⌜ r ≡ numberOf (listOf (now (table .entry)) (now (message .entry)) (now (request .entry)) (now (row .entry))) ⌝ }
+    ensures { λ _. ⌜ now (row .exit) ≡ listOut (now (table .entry)) (now (message .entry)) (now (request .entry)) (now (row .entry)) ⌝ }
+    ensures { λ _. ⌜ now (count .exit) ≡ countOr (listOf (now (table .entry)) (now (message .entry)) (now (request .entry)) (now (row .entry))) (now (count .entry)) ⌝ }
+{
+    let fs = given::filters_from(request);
+    let n = given::number_in(request, 3) as usize;
+    match matching::answer(table, message, fs, n, row) {
+        query::Listing::Count(k) => {
+            *count = k;
+            0
+        }
+        query::Listing::Refused(r) => r,
     }
 }

@@ -5,7 +5,7 @@ use Prim.Native.Nat.{ℕ}
 use native.Mathlib.Omega.{arith}
 use lib.ListN.{length, take}
 use Rattle.event.specs.Answer.{numberOf, valueOf}
-use Rattle.reply.specs.Feed.{start, afterBytes, saidBy, saidLast, stateOf, usedOf, turnText, turnState, turnTable, turnLine, turnOut, turnedNumber, turnedUsed, turnedLine, turnedBytes}
+use Rattle.reply.specs.Feed.{afterBytes, saidBy, saidLast, stateOf, usedOf, turnText, turnState, turnTable, turnLine, turnOut, turnedNumber, turnedUsed, turnedLine, turnedBytes}
 use Rattle.reply.proofs.Lent.{writes-or}
 use Rattle.reply.proofs.Respond.{short-if, fits-if}
 use Rattle.reply.proofs.Feed.{in-pieces, says-output, turned-means}
@@ -29,15 +29,17 @@ unfolding afterBytes saidBy turnText turnState
 turns-state none = (refl, refl)
 turns-state {b} {line} {n} (more {input} {said} {b′} {line′} {n′} t piece out {u} {k} {w} e) =
     let (p, q) = turns-state t in
-    let s = stateOf b line n in
+    let table = turnTable b′ line′ n′ piece out in
+    let buffer = turnLine b′ line′ n′ piece out in
+    let o = turnOut b′ line′ n′ piece out in
     let m = turned-means b′ line′ n′ piece out in
     let z = sym (m .number) ∙ ap turnedNumber e in
     let used : usedOf piece ≡ u = sym (m .used z) ∙ ap turnedUsed e in
     let bytes : length (turnText b′ line′ n′ piece) ≡ w = sym (m .bytes z) ∙ ap turnedBytes e in
-    let (x, y) = in-pieces s input (take u piece) in (
-      ap (stateOf (turnTable b′ line′ n′ piece out) (turnLine b′ line′ n′ piece out)) (sym (ap turnedLine e)) ∙ m .is-state z ∙ ap₂ (λ v i. afterBytes v (take i piece)) p used ∙ sym x,
-      ap₂ _++_ q (ap (λ i. take i (turnOut b′ line′ n′ piece out)) (sym bytes) ∙ m .begins z ∙ ap₂ (λ v i. saidBy v (take i piece)) p used) ∙ sym y,
-    )
+    let (x, y) = in-pieces (stateOf b line n) input (take u piece) in
+    let state = ap (stateOf table buffer) (sym (ap turnedLine e)) ∙ m .is-state z ∙ ap₂ (λ v i. afterBytes v (take i piece)) p used in
+    let says = ap (λ i. take i o) (sym bytes) ∙ m .begins z ∙ ap₂ (λ v i. saidBy v (take i piece)) p used in
+    (state ∙ sym x, ap₂ _++_ q says ∙ sym y)
 
 pub writes-output : WritesOutput
 unfolding finishText

@@ -9,7 +9,7 @@ use Rattle.event.specs.Answer.{answered}
 use Rattle.event.specs.declared.Written.{Written}
 use Rattle.reply.specs.Lent.{shortRow, outputAfter}
 use Rattle.reply.specs.Program.{tableAfter}
-use Rattle.reply.specs.Feed.{State, saidLast, stateOf}
+use Rattle.reply.specs.Feed.{saidLast, stateOf}
 
 unfoldable pub finishText : (b line : List ℕ) → ℕ → List ℕ
 finishText b line n = saidLast (stateOf b line n)

@@ -1,11 +1,10 @@
 -- A turn leaves the buffers ready, and goes on in the chunk or writes what waits. With the whole output free it is never refused.
 use mathlib.Core.Path.{_≡_, refl, sym, ap, _∙_}
-use mathlib.Core.List.{List, []}
+use mathlib.Core.List.{List}
 use Prim.Native.Nat.{ℕ, _+_, _-_, _≤_, _<_}
 use native.Mathlib.Decide.{decLe}
 use native.Mathlib.Omega.{arith}
-use borrow.Author.Tests.{eq-eqb, eqb-true, le-ltb}
-use lib.Dec.{eqb}
+use borrow.Author.Tests.{eq-eqb}
 use lib.ListN.{length, replicate}
 use Rattle.event.specs.Answer.{numberOf, valueOf}
 use Rattle.event.specs.declared.Written.{Written}
@@ -29,8 +28,8 @@ use Rattle.relay.specs.declared.Place.{Place}
 
 -- the piece is what is left of the chunk, and the turn's output what is left of the output
 module _ (b line chunk out : List ℕ) (p : Place) (piece rest : List ℕ) where
-  abbrev Turns : Turned → (b′ line′ rest′ : List ℕ) → Type 0
-  Turns r b′ line′ rest′ =
+  abbrev Gives : Turned → (b′ line′ rest′ : List ℕ) → Type 0
+  Gives r b′ line′ rest′ =
       (r ≡ turned b line (p .n) piece rest)
       × ((turnedNumber r ≡ turnRow b line (p .n) piece rest)
       × ((b′ ≡ turnTable b line (p .n) piece rest) × ((line′ ≡ turnLine b line (p .n) piece rest) × (rest′ ≡ turnOut b line (p .n) piece rest))))
@@ -38,14 +37,14 @@ module _ (b line chunk out : List ℕ) (p : Place) (piece rest : List ℕ) where
   abbrev Left : Type 0
   Left = (length piece ≡ length chunk - p .at) × (length rest ≡ length out - p .w)
 
-  stays-ready : {r : Turned} {b′ line′ rest′ out′ : List ℕ} → Ready b line out → Turns r b′ line′ rest′ → length out′ ≡ length out → Ready b′ line′ out′
+  stays-ready : {r : Turned} {b′ line′ rest′ out′ : List ℕ} → Ready b line out → Gives r b′ line′ rest′ → length out′ ≡ length out → Ready b′ line′ out′
   stays-ready a (x, (y, (t, (l, o)))) e = record {
     slots = ap capacityOf t ∙ slots-stay b line (p .n) piece rest ∙ a .slots;
     wide = omega (arith, a .wide, ap length l, turned-means b line (p .n) piece rest .as-long .1);
     enough = omega (arith, a .enough);
   }
 
-  module _ {r : Turned} {b′ line′ rest′ : List ℕ} (a : Ready b line out) (s : Stands chunk out p) (h : p .at < length chunk) (l : Left) (t : Turns r b′ line′ rest′) where
+  module _ {r : Turned} {b′ line′ rest′ : List ℕ} (a : Ready b line out) (s : Stands chunk out p) (h : p .at < length chunk) (l : Left) (t : Gives r b′ line′ rest′) where
     module _ {u k w : ℕ} (f : r ≡ turning.Fed u k w) where
       passes : turnRow b line (p .n) piece rest ≡ 0
       passes = sym (t .1 .0) ∙ ap turnedNumber f

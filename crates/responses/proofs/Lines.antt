@@ -1,14 +1,14 @@
 -- The pieces of a short reply in a row, and how long it is.
 use mathlib.Core.Path.{_≡_, refl, sym, ap, _∙_}
 use mathlib.Core.Bool.{Bool, true, false, cond}
-use mathlib.Core.List.{List, [], _∷_, _++_, append-assoc}
+use mathlib.Core.List.{List, [], _∷_, _++_, map, append-assoc}
 use Prim.Native.Nat.{ℕ, zero, suc, _+_, _≤_, _<_}
 use native.Mathlib.Omega.{arith}
 use borrow.Author.Tests.{le-leb, lt-leb}
 use lib.Dec.{leb, lit≤}
-use lib.ListN.{length, length-append}
+use lib.ListN.{length, getD, length-append}
 use Rattle.wire.specs.Put.{Puts}
-use Rattle.wire.specs.Escape.{escape}
+use Rattle.wire.specs.Escape.{letterOf, escOne, escape}
 use Rattle.wire.proofs.Laws.{puts-then}
 use Rattle.text.specs.Event.{quoted}
 use Rattle.message.specs.Read.{namedOf}
@@ -19,7 +19,7 @@ use Rattle.event.specs.Lent.{said}
 use Rattle.table.specs.declared.Offered.{Offered}
 use Rattle.table.specs.declared.Offered.the-variants.{Refused}
 use Rattle.wire.specs.Ascii.{ascii}
-use Rattle.reply.specs.Replies.{notice, replyText, truth, isAccepted, verdictReason, reasonOf}
+use Rattle.reply.specs.Replies.{notice, replyText, truth, isAccepted, verdictReason, reasons, reasonOf}
 use Rattle.reply.specs.Program.{refusalNaming, refusal}
 use Rattle.reply.proofs.Sizes.{quoted-length, reason-short}
 use Rattle.replies.specs.Pieces.{Room}
@@ -53,12 +53,33 @@ pub rest-put : (row : ℕ) {d o : List ℕ} {i r : ℕ} → reasonOf row ≡ [] 
 unfolding quoted escape
 rest-put row e p = rw e p
 
-pub reason-length : (k n : ℕ) {row : ℕ} → row ≡ k → n ≡ length (quoted (reasonOf k)) → (n ≡ length (quoted (reasonOf row))) × (n ≤ 29)
-reason-length k n e q = (rw e q, omega (arith, reason-short k))
+-- how long they are, from row 0 on
+abbrev lengths : List ℕ
+lengths = 2 ∷ 27 ∷ 20 ∷ 19 ∷ 29 ∷ 22 ∷ 17 ∷ 14 ∷ 26 ∷ 26 ∷ 28 ∷ 18 ∷ 16 ∷ []
 
-pub rest-length : (row : ℕ) → reasonOf row ≡ [] → (2 ≡ length (quoted (reasonOf row))) × (2 ≤ 29)
-unfolding quoted escape
-rest-length row e = (rw e refl, lit≤ tt)
+each-length : map (λ l. length (quoted l)) reasons ≡ lengths
+unfolding quoted escape escOne letterOf
+each-length = refl
+
+entry : (f : List ℕ → ℕ) (l : List (List ℕ)) (i : ℕ) → i < length l → getD (map f l) i 0 ≡ f (getD l i [])
+entry f [] i h = absurd (omega arith)
+entry f (x ∷ l) zero h = refl
+entry f (x ∷ l) (suc i) h = entry f l i (omega arith)
+
+no-entry : (l : List (List ℕ)) (i : ℕ) → length l ≤ i → getD l i [] ≡ []
+no-entry [] i h = refl
+no-entry (x ∷ l) zero h = absurd (omega arith)
+no-entry (x ∷ l) (suc i) h = no-entry l i (omega arith)
+
+pub reason-length : (row : ℕ) → row < 13 → (getD lengths row 0 ≡ length (quoted (reasonOf row))) × (getD lengths row 0 ≤ 29)
+unfolding reasonOf
+reason-length row h =
+    let e : getD lengths row 0 ≡ length (quoted (reasonOf row)) = ap (λ l. getD l row 0) (sym each-length) ∙ entry (λ l. length (quoted l)) reasons row h in
+    (e, omega (arith, e, reason-short row))
+
+pub rest-length : (row : ℕ) → 13 ≤ row → (2 ≡ length (quoted (reasonOf row))) × (2 ≤ 29)
+unfolding quoted escape reasonOf
+rest-length row h = (rw (no-entry reasons row h), lit≤ tt)
 
 -- ---- verdicts
 pub verdict-put : {a : Offered} (b : Offered) {d o : List ℕ} {i r : ℕ} → a ≡ b → Puts d i (verdictText b) r o → Puts d i (verdictText a) r o

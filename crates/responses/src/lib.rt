@@ -24,6 +24,9 @@ use query::Listing;
 use slot_replies::Left;
 use table::Offered;
 
+// How long the reply text of each row is, between quotes, from row 0 on.
+const LENGTHS: [usize; 13] = [2, 27, 20, 19, 29, 22, 17, 14, 26, 26, 28, 18, 16];
+
 // No OK to an EVENT that was read is longer, its 0A included.
 const LONGEST_OK: usize = 116;
 
@@ -49,24 +52,14 @@ fn put_reason(out: &mut [u8], at: usize, row: u8) -> usize
     }
 }
 
+// How long it is.
 fn reason_len(row: u8) -> usize
     ensures { λ r. ⌜ (r ≡ length (quoted (reasonOf row))) × (r ≤ 29) ⌝ }
 {
-    match row {
-        1 => 27,
-        2 => 20,
-        3 => 19,
-        4 => 29,
-        5 => 22,
-        6 => 17,
-        7 => 14,
-        8 => 26,
-        9 => 26,
-        10 => 28,
-        11 => 18,
-        12 => 16,
-        _ => 2,
+    if row < 13 {
+        return LENGTHS[row as usize];
     }
+    2
 }
 
 // ACCEPTED,REASON of an OK, by what the offer was answered.

@@ -1,5 +1,5 @@
-use mathlib.Core.Path.{sym, refl, ap}
-use native.Mathlib.Omega.{arith}
+-- All of the line in the piece, or a copy of it: `kept-same` says that the two are answered alike.
+use mathlib.Core.Path.{sym}
 use borrow.Author.Needs.{needs}
 use lib.Seq.{length-take-le}
 use Rattle.feed.proofs.Lines.{grown-none}

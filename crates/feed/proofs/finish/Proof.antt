@@ -1,3 +1,4 @@
+-- A law for each way out.
 use borrow.Author.Needs.{needs}
 use Rattle.feed.proofs.Turning.{no-line, last-line}
 use Rattle.feed.proofs.finish.Statement.{statement}

@@ -1,3 +1,4 @@
+-- Two puts in a row.
 use mathlib.Core.Path.{sym}
 use native.Mathlib.Omega.{arith}
 use borrow.Author.Needs.{needs}

@@ -1,3 +1,4 @@
+-- One put of as much as there is room for.
 use borrow.Author.Needs.{needs}
 use Rattle.feed.proofs.Lines.{keeps}
 use Rattle.feed.proofs.keep.Statement.{statement}

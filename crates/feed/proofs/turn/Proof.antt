@@ -1,3 +1,4 @@
+-- A law for each way out.
 use mathlib.Core.Path.{sym}
 use native.Mathlib.Omega.{arith}
 use borrow.Author.Needs.{needs}

@@ -1,3 +1,4 @@
+-- What was written lies in the output.
 use borrow.Author.Needs.{needs}
 use Rattle.relay.proofs.Turns.{finish-room}
 use Rattle.relay.proofs.end.Statement.{statement}

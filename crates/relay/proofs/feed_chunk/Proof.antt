@@ -1,3 +1,4 @@
+-- The invariant: the buffers stay ready. The measure: what is left of the chunk, and whether something waits.
 use mathlib.Core.Path.{_≡_}
 use native.Mathlib.Omega.{arith}
 use borrow.Author.Needs.{needs}

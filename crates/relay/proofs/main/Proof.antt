@@ -1,3 +1,4 @@
+-- The table is fresh, and the buffers are long enough.
 use native.Mathlib.Omega.{arith}
 use borrow.Author.Needs.{needs}
 use Rattle.relay.proofs.Turns.{is-fresh}

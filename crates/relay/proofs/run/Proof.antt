@@ -1,3 +1,4 @@
+-- The invariant: the buffers stay ready. The measure: the turns that are left.
 use mathlib.Core.Path.{_≡_}
 use Prim.Native.Nat.{_≤_, _-_}
 use native.Mathlib.Omega.{arith}

@@ -1,26 +1,31 @@
+-- A law for each way out; the place and the output are never passed.
+use Prim.Native.Nat.{_+_, _≤_}
 use native.Mathlib.Omega.{arith}
 use borrow.Author.Needs.{needs}
+use denote.Ref.{now}
+use lib.ListN.{length}
 use Rattle.relay.proofs.Turns.{goes, step-fed, step-refused}
 use Rattle.relay.proofs.step.Statement.{statement}
 use Rattle.relay.proofs.step.Tie as tie
 
-add-next : tie.Need-add-next
-add-next c =
+-- what is used up and what is written lies within the chunk and the output
+inside : (c : tie.After-known-told) → let c1 = c .before in let c18 = c1 .before .before .before .before .before .before .before .before .before .before .before .before .before .before .before .before .before in
+    (c18 .args .p .at + c1 .used .given .0 .0 ≤ length (now (c18 .args .chunk))) × (1 ≤ c1 .used .given .0 .0)
+    × (c18 .args .p .w + c1 .used .given .0 .1 .1 .0 ≤ length (now (c18 .args .out)))
+inside c =
     let c1 = c .before in
     let c9 = c1 .before .before .before .before .before .before .before .before in
     let c10 = c9 .before in
     let c11 = c10 .before in
     let c18 = c11 .before .before .before .before .before .before .before in
-    omega (arith, goes _ _ _ _ _ _ _ (c18 .pre .0) (c18 .pre .1 .0) (c18 .pre .1 .1) ((c11 .turn-arg3 .given .2), (c10 .turn-arg4 .given .2)) (c9 .turn .ensures) (c1 .used .given .1))
+    goes _ _ _ _ _ _ _ (c18 .pre .0) (c18 .pre .1 .0) (c18 .pre .1 .1)
+    (c11 .turn-arg3 .given .2, c10 .turn-arg4 .given .2) (c9 .turn .ensures) (c1 .used .given .1)
+
+add-next : tie.Need-add-next
+add-next c = omega (arith, inside c)
 
 add-filled : tie.Need-add-filled
-add-filled c =
-    let c1 = c .before in
-    let c9 = c1 .before .before .before .before .before .before .before .before in
-    let c10 = c9 .before in
-    let c11 = c10 .before in
-    let c18 = c11 .before .before .before .before .before .before .before in
-    omega (arith, goes _ _ _ _ _ _ _ (c18 .pre .0) (c18 .pre .1 .0) (c18 .pre .1 .1) ((c11 .turn-arg3 .given .2), (c10 .turn-arg4 .given .2)) (c9 .turn .ensures) (c1 .used .given .1))
+add-filled c = omega (arith, inside c)
 
 returns : tie.Need-returns
 returns c =
@@ -30,7 +35,8 @@ returns c =
     let c10 = c9 .before in
     let c11 = c10 .before in
     let c18 = c11 .before .before .before .before .before .before .before in
-    step-fed _ _ _ _ _ _ _ (c18 .pre .0) (c18 .pre .1 .0) (c18 .pre .1 .1) ((c11 .turn-arg3 .given .2), (c10 .turn-arg4 .given .2)) (c9 .turn .ensures) (c1 .used .given .1) (c4 .out .given .1)
+    step-fed _ _ _ _ _ _ _ (c18 .pre .0) (c18 .pre .1 .0) (c18 .pre .1 .1)
+    (c11 .turn-arg3 .given .2, c10 .turn-arg4 .given .2) (c9 .turn .ensures) (c1 .used .given .1) (c4 .out .given .1)
 
 returns-2 : tie.Need-returns-2
 returns-2 c =
@@ -40,7 +46,8 @@ returns-2 c =
     let c11 = c10 .before in
     let c12 = c11 .before in
     let c19 = c12 .before .before .before .before .before .before .before in
-    step-refused _ _ _ _ _ _ _ (c19 .pre .0) (c19 .pre .1 .0) (c19 .pre .1 .1) ((c12 .turn-arg3 .given .2), (c11 .turn-arg4 .given .2)) (c10 .turn .ensures) (c2 .enum-told .given .1) (c5 .out .given .1)
+    step-refused _ _ _ _ _ _ _ (c19 .pre .0) (c19 .pre .1 .0) (c19 .pre .1 .1)
+    (c12 .turn-arg3 .given .2, c11 .turn-arg4 .given .2) (c10 .turn .ensures) (c2 .enum-told .given .1) (c5 .out .given .1)
 
 pub step-spec : {M : Type 1} → statement M
 step-spec =

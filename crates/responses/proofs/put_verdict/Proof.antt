@@ -9,31 +9,19 @@ use Rattle.responses.proofs.put_verdict.Tie as tie
 
 returns : tie.Need-returns
 unfolding verdictText quoted escape escOne letterOf
-returns c =
-    let c2 = c .before .before in
-    let c5 = c2 .before .before .before in
-    verdict-put _ (c5 .enum-told .given .1) (c2 .put .ensures)
+returns c = verdict-put _ (c .before .before .before .before .before .enum-told .given .1) (c .before .before .put .ensures)
 
 returns-2 : tie.Need-returns-2
 unfolding verdictText quoted escape escOne letterOf
-returns-2 c =
-    let c2 = c .before .before in
-    let c5 = c2 .before .before .before in
-    verdict-put _ (c5 .enum-told2 .given .1) (c2 .put2 .ensures)
+returns-2 c = verdict-put _ (c .before .before .before .before .before .enum-told2 .given .1) (c .before .before .put2 .ensures)
 
 returns-3 : tie.Need-returns-3
 unfolding verdictText quoted escape escOne letterOf
-returns-3 c =
-    let c2 = c .before .before in
-    let c5 = c2 .before .before .before in
-    verdict-put _ (c5 .enum-told3 .given .1) (c2 .put3 .ensures)
+returns-3 c = verdict-put _ (c .before .before .before .before .before .enum-told3 .given .1) (c .before .before .put3 .ensures)
 
 returns-4 : tie.Need-returns-4
 unfolding verdictText quoted escape escOne letterOf
-returns-4 c =
-    let c2 = c .before .before in
-    let c5 = c2 .before .before .before in
-    verdict-put _ (c5 .enum-told4 .given .1) (c2 .put4 .ensures)
+returns-4 c = verdict-put _ (c .before .before .before .before .before .enum-told4 .given .1) (c .before .before .put4 .ensures)
 
 returns-5 : tie.Need-returns-5
 returns-5 c =

@@ -1,0 +1,2 @@
+-- Laws of parts made of numbers.
+pub mod Parts
