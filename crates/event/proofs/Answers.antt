@@ -27,7 +27,7 @@ use Rattle.event.specs.declared.Written.{Written}
 use Rattle.event.specs.declared.Written.the-variants.{Wrote, Refused}
 use Rattle.event.specs.declared.Identified.{Identified}
 use Rattle.event.specs.Lent.{said, textOf}
-use Rattle.event.specs.Answer.{orElse, isLarge, textRow, shortRow, serialisedRow, answered, serialised, numberOf, writtenOut, serialisedOut, hashedOf, identified, hexDigit, hexOf, hasId, offeredRow}
+use Rattle.event.specs.Answer.{orElse, isLarge, textRow, shortRow, serialisedRow, answered, serialised, numberOf, outputAfter, serialisedOut, hashedOf, identified, hexDigit, hexOf, hasId, offeredRow}
 use Rattle.event.specs.Answer.{offeredTextRow, offered, offeredOut}
 use Rattle.event.specs.Walk.{Tested}
 
@@ -115,28 +115,28 @@ id-spelled e f g = rw (e, f) at g
 
 -- ---- an answer and an output by a row and a text
 abbrev pub Outcome : ℕ → List ℕ → List ℕ → Written → List ℕ → Type 0
-Outcome r t out w o = (w ≡ answered r (length t)) × ((numberOf w ≡ r) × (o ≡ writtenOut r t out))
+Outcome r t out w o = (w ≡ answered r (length t)) × ((numberOf w ≡ r) × (o ≡ outputAfter r t out))
 
 pub number-is : (r n : ℕ) → numberOf (answered r n) ≡ r
 number-is zero n = refl
 number-is (suc r) n = rw (ne-eqb (suc r) 0 (λ q. omega arith))
 
 module _ (t out : List ℕ) where
-  pub outcome : {r : ℕ} {w : Written} {o : List ℕ} → w ≡ answered r (length t) → o ≡ writtenOut r t out → Outcome r t out w o
+  pub outcome : {r : ℕ} {w : Written} {o : List ℕ} → w ≡ answered r (length t) → o ≡ outputAfter r t out → Outcome r t out w o
   outcome {r} e f = (e, (ap numberOf e ∙ number-is r (length t), f))
 
   -- a row that holds refuses, one that does not lets the next decide
   pub refused : (r s : ℕ) {x : ℕ} → x ≡ r → (x ≡ 0 → ⊥) → Outcome (orElse r s) t out (Refused x) out
   refused r s {x} e n = let h = ne-eqb r 0 (λ q. n (e ∙ q)) in outcome (simp (h, e)) (simp h)
 
-  pub passed : (r s : ℕ) → r ≡ 0 → {w : Written} {o : List ℕ} → w ≡ answered s (length t) → o ≡ writtenOut s t out → Outcome (orElse r s) t out w o
+  pub passed : (r s : ℕ) → r ≡ 0 → {w : Written} {o : List ℕ} → w ≡ answered s (length t) → o ≡ outputAfter s t out → Outcome (orElse r s) t out w o
   passed r s z e f = let h = eq-eqb r 0 z in outcome (e ∙ rw h) (f ∙ rw h)
 
   -- row 13, or the text from the output's start
-  pub too-short : length out < length t → (Refused 13 ≡ answered (shortRow t out) (length t)) × (out ≡ writtenOut (shortRow t out) t out)
+  pub too-short : length out < length t → (Refused 13 ≡ answered (shortRow t out) (length t)) × (out ≡ outputAfter (shortRow t out) t out)
   too-short h = let q = lt-ltb (length out) (length t) h in (rw q, rw q)
 
-  pub room-for : length t ≤ length out → {m : ℕ} {o : List ℕ} → Puts out 0 t m o → (Wrote m ≡ answered (shortRow t out) (length t)) × (o ≡ writtenOut (shortRow t out) t out)
+  pub room-for : length t ≤ length out → {m : ℕ} {o : List ℕ} → Puts out 0 t m o → (Wrote m ≡ answered (shortRow t out) (length t)) × (o ≡ outputAfter (shortRow t out) t out)
   room-for h x =
       let q = le-ltb (length out) (length t) h in
       let (y, w) = puts-whole h x in
@@ -173,7 +173,7 @@ module _ (b : List ℕ) (p : Body) (out : List ℕ) {r : ℕ} (e : r ≡ bodyRow
         let k = lt-ltb 4096 (length (textOf b p)) (omega (arith, l .next)) in
         refused (textOf b p) out (textRow b p) (shortRow (textOf b p) out) (rw (q, k)) (λ q. omega arith)
 
-    pub text-given : n ≤ 4096 → {w : Written} {o : List ℕ} → w ≡ answered (shortRow (take n t) out) (length (take n t)) → o ≡ writtenOut (shortRow (take n t) out) (take n t) out
+    pub text-given : n ≤ 4096 → {w : Written} {o : List ℕ} → w ≡ answered (shortRow (take n t) out) (length (take n t)) → o ≡ outputAfter (shortRow (take n t) out) (take n t) out
         → AsSerialised b p out w o
     unfolding serialised serialisedOut serialisedRow textRow isLarge
     text-given h f g =
@@ -277,7 +277,7 @@ module _ (b : List ℕ) (p : EventParts) {w : Written} {t : List ℕ} (k : Teste
     pub text-inside : x ≤ length t
     text-inside = omega (arith, text-length, length-take x t)
 
-    pub then-given : (out : List ℕ) {v : Written} {o : List ℕ} → v ≡ answered (shortRow (take x t) out) (length (take x t)) → o ≡ writtenOut (shortRow (take x t) out) (take x t) out
+    pub then-given : (out : List ℕ) {v : Written} {o : List ℕ} → v ≡ answered (shortRow (take x t) out) (length (take x t)) → o ≡ outputAfter (shortRow (take x t) out) (take x t) out
         → AsOffered b p out v o
     unfolding offered offeredOut offeredTextRow
     then-given out f g =

@@ -35,14 +35,14 @@ use Rattle.spell.specs.Spell as spell
 use Rattle.spell.proofs.Laws.{hex-length, hex-all}
 use Rattle.shape.specs.Shape.{anyItem, allItems, countItems, count, isArrayOf}
 use Rattle.shape.specs.Shape as shape
-use Rattle.shape.specs.Rows.{outside, wrongTag}
+use Rattle.shape.specs.Rows.{outside, wrongTag, wrongTags}
 use Rattle.text.specs.Event.{all, isPubkey, isTime, isKind, isString, isTag, isTags, isFit}
 use Rattle.text.specs.Read.{read, readText}
 use Rattle.text.proofs.Strings.{High, lead-high}
 use Rattle.text.proofs.RoundTrip.{read-back, serialise-once}
 use Rattle.message.specs.declared.Span.{Span}
 use Rattle.message.specs.declared.Body.{Body}
-use Rattle.message.specs.Lent.{lowest, isInside, isSpelled, string2, string4, string5, string7, wrongNumber, value2, value4, value5, onValue, ownText, wrongTags, body2, body4, body5, body6, body7, body8, bodyRow}
+use Rattle.message.specs.Lent.{lowest, isInside, isSpelled, string2, string4, string5, string7, wrongNumber, value2, value4, value5, onValue, ownText, body2, body4, body5, body6, body7, body8, bodyRow}
 use Rattle.message.specs.Lent as lent
 use Rattle.message.proofs.Walks.{never, bind-got}
 use Rattle.event.specs.Lent.{said, stringOf, stringsOf, tagOf, tagsOf, tagsIn, tagsAt, natural, eventOf, textOf}

@@ -40,6 +40,14 @@ quoted-put v x y z = puts-then x (puts-then y z)
 pub string-piece : {d o : List ℕ} {i r : ℕ} {p q : List ℕ} → p ≡ q → Puts d i (quoted (decode p)) r o → Puts d i (quoted (decode q)) r o
 string-piece e x = rw e at x
 
+-- a part as it stands in its buffer
+pub part-put : {d o₁ o₂ o₃ : List ℕ} {i a c r : ℕ} (v : List ℕ) {w : List ℕ} → w ≡ v → Puts d i (34 ∷ []) a o₁ → Puts o₁ a (escape (decode w)) c o₂ → Puts o₂ c (34 ∷ []) r o₃
+    → Puts d i (quoted (decode v)) r o₃
+part-put v e x y z = quoted-put (decode v) x (rw e at y) z
+
+pub part-length : (v : List ℕ) {w : List ℕ} {n : ℕ} → w ≡ v → n ≡ length (escape (decode w)) → n ≡ length (escape (decode v))
+part-length v e q = rw e at q
+
 -- ---- a kind that is not negative
 module _ (x : ℤ) (f : SFits w64 x) where
   pub natural-below : ltZ (toZ w64 (ofZ w64 x)) (pos 0) ≡ true → 0 ≡ natural x

@@ -1,11 +1,12 @@
 -- 01, "Numbers the relay answers with", of an event given as parts p over the buffer b: what serialising, identifying and offering it answer.
 use Prim.Native.Nat.{ℕ, _+_, _/_, _%_}
 use mathlib.Core.Bool.{Bool, cond}
-use mathlib.Core.List.{List, [], _∷_, _++_}
+use mathlib.Core.List.{List, [], _∷_}
 use lib.Dec.{eqb, ltb}
-use lib.ListN.{length, drop, replicate}
+use lib.ListN.{length, replicate}
 use Rattle.wire.specs.Limits.{mostText}
 use Rattle.wire.specs.Bytes.{sameBytes}
+pub use Rattle.wire.specs.Put.{shortRow, outputAfter}
 use Rattle.digest.specs.Digest.{digest}
 use Rattle.message.specs.declared.Body.{Body}
 use Rattle.message.specs.declared.EventParts.{EventParts}
@@ -27,9 +28,6 @@ orElse r s = cond (eqb r 0) s r
 unfoldable pub textRow : List ℕ → Body → ℕ
 textRow b p = orElse (bodyRow b p) (cond (isLarge b p) 9 0)
 
-abbrev pub shortRow : List ℕ → List ℕ → ℕ
-shortRow t out = cond (ltb (length out) (length t)) 13 0
-
 unfoldable pub serialisedRow : List ℕ → Body → List ℕ → ℕ
 serialisedRow b p out = orElse (textRow b p) (shortRow (textOf b p) out)
 
@@ -39,12 +37,8 @@ answered r n = cond (eqb r 0) (Wrote n) (Refused r)
 unfoldable pub serialised : List ℕ → Body → List ℕ → Written
 serialised b p out = answered (serialisedRow b p out) (length (textOf b p))
 
--- "Output is written from its start, and its rest stays"; on a refusal "every lent buffer stays as found"
-abbrev pub writtenOut : ℕ → List ℕ → List ℕ → List ℕ
-writtenOut r t out = cond (eqb r 0) (t ++ drop (length t) out) out
-
 unfoldable pub serialisedOut : List ℕ → Body → List ℕ → List ℕ
-serialisedOut b p out = writtenOut (serialisedRow b p out) (textOf b p) out
+serialisedOut b p out = outputAfter (serialisedRow b p out) (textOf b p) out
 
 -- the number of 01, and the value
 abbrev pub numberOf : Written → ℕ
@@ -89,4 +83,4 @@ unfoldable pub offered : List ℕ → EventParts → List ℕ → Written
 offered b p out = answered (offeredTextRow b p out) (length (textOf b (p .body)))
 
 unfoldable pub offeredOut : List ℕ → EventParts → List ℕ → List ℕ
-offeredOut b p out = writtenOut (offeredTextRow b p out) (textOf b (p .body)) out
+offeredOut b p out = outputAfter (offeredTextRow b p out) (textOf b (p .body)) out

@@ -15,7 +15,7 @@ use Rattle.message.specs.Lent.{eventRow}
 use Rattle.event.specs.Lent.{stringsOf, tagsOf, tagsAt, textOf}
 use Rattle.event.specs.declared.Written.the-variants.{Wrote, Refused}
 use Rattle.event.specs.Order.{isLower, isNewer}
-use Rattle.event.specs.Answer.{hexOf, orElse, isLarge, offeredRow, shortRow, answered, writtenOut, hashedOf}
+use Rattle.event.specs.Answer.{hexOf, orElse, isLarge, offeredRow, answered, hashedOf}
 
 -- time -1 is older than 0; equal times, id 00..01 beats 00..02; an event is not newer than itself
 order :
@@ -49,13 +49,6 @@ nine-first b p e l = rw (e, l)
 
 lowest : (orElse 9 13 ≡ 9) × (orElse 0 13 ≡ 13)
 lowest = (refl, refl)
-
--- an output as long as the text is long enough, and what is longer keeps its rest; one byte less is refused, and stays as found
-short : (shortRow (1 ∷ 2 ∷ []) (7 ∷ 8 ∷ []) ≡ 0) × (shortRow (1 ∷ 2 ∷ []) (7 ∷ []) ≡ 13) × (shortRow [] [] ≡ 0)
-short = (refl, refl, refl)
-
-outputs : (writtenOut 0 (1 ∷ 2 ∷ []) (7 ∷ 8 ∷ 9 ∷ []) ≡ 1 ∷ 2 ∷ 9 ∷ []) × (writtenOut 13 (1 ∷ 2 ∷ []) (7 ∷ []) ≡ 7 ∷ [])
-outputs = (refl, refl)
 
 answers : (answered 0 2 ≡ Wrote 2) × (answered 9 2 ≡ Refused 9)
 answers = (refl, refl)

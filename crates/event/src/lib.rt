@@ -4,6 +4,7 @@ ghost use mathlib.Core.Bool.{false};
 ghost use Prim.Native.Nat.{_+_, _<_, min};
 ghost use lib.ListN.{length};
 ghost use Rattle.wire.specs.Put.{Puts};
+ghost use Rattle.wire.specs.Escape.{escape};
 ghost use Rattle.json.specs.Grammar.{case, startAt};
 ghost use Rattle.json.specs.Tree.{endOf, treeAt, itemsAt};
 ghost use Rattle.wire.specs.Bytes.{sameBytes};
@@ -13,20 +14,17 @@ ghost use Rattle.message.specs.Lent.{eventRow};
 ghost use Rattle.message.specs.declared.Message.the-variants.{Event};
 ghost use Rattle.event.specs.Lent.{said, natural, tagsAt, textOf};
 ghost use Rattle.event.specs.Walk.{tagDepth, stringDepth, puts, Counts, mostLength, lengthOf, Does, firstOf, firstTag, Tested, frontText, backText, stringText, stringsText, oneTagText, allTagsText};
-ghost use Rattle.event.specs.Answer.{hexDigit, hexOf, hashedOf, shortRow, answered, writtenOut, numberOf, serialisedRow, serialised, serialisedOut, identified};
+ghost use Rattle.event.specs.Answer.{hexDigit, hexOf, hashedOf, shortRow, answered, outputAfter, numberOf, serialisedRow, serialised, serialisedOut, identified};
 ghost use Rattle.event.specs.Answer.{offeredRow, offeredTextRow, offered, offeredOut};
 ghost use Rattle.event.specs.Sent.{unreadRow, sentRowOf, sentTextOf, sentOutOf, sentRow, sentText, sentOut, sentTextNumber};
 ghost use Rattle.event.specs.Order.{isLower, isNewer};
 
 // The most brackets and braces open at once in the tags' array, in a tag and in what a tag holds.
-const TAGS_DEPTH: usize = 8;
+const TAGS_DEPTH: usize = json::DEPTH;
 
-const TAG_DEPTH: usize = 7;
+const TAG_DEPTH: usize = TAGS_DEPTH - 1;
 
-const STRING_DEPTH: usize = 6;
-
-// The most bytes that a text may have.
-const MOST_TEXT: usize = 4096;
+const STRING_DEPTH: usize = TAG_DEPTH - 1;
 
 // The most that a length can be.
 const MOST_LENGTH: usize = 18446744073709551615;
@@ -56,12 +54,28 @@ pub struct Identified {
 }
 
 // A string as spelled, decoded and escaped between quotes.
-fn put_quoted(out: &mut [u8], at: usize, p: &[u8]) -> usize
+pub fn put_quoted(out: &mut [u8], at: usize, p: &[u8]) -> usize
     ensures { λ r. ⌜ Puts (now (out .entry)) at (quoted (decode (now (p .entry)))) r (now (out .exit)) ⌝ }
 {
     let a = wire::put(out, at, b"\"");
     let c = spell::put_escaped(out, a, p);
     wire::put(out, c, b"\"")
+}
+
+// A string part, decoded and escaped between quotes.
+pub fn put_part(out: &mut [u8], at: usize, b: &[u8], s: message::Span) -> usize
+    ensures { λ r. ⌜ Puts (now (out .entry)) at (quoted (said (now (b .entry)) s)) r (now (out .exit)) ⌝ }
+{
+    let a = wire::put(out, at, b"\"");
+    let c = spell::put_escaped(out, a, wire::piece(b, s.start, s.len));
+    wire::put(out, c, b"\"")
+}
+
+// How long that is, but for the quotes.
+pub fn part_len(b: &[u8], s: message::Span) -> usize
+    ensures { λ r. ⌜ r ≡ length (escape (said (now (b .entry)) s)) ⌝ }
+{
+    spell::escaped_len(wire::piece(b, s.start, s.len))
 }
 
 // The place after the value at v, or v where there is none.
@@ -230,7 +244,7 @@ pub fn put_tags(out: &mut [u8], at: usize, b: &[u8], tags: usize) -> usize
 }
 
 // A kind that is not negative, and 0 for one that is.
-fn kind_of(kind: i64) -> u64
+pub fn kind_of(kind: i64) -> u64
     ensures { λ r. ⌜ r ≡ natural kind ⌝ }
 {
     if kind < 0 {
@@ -453,7 +467,7 @@ pub fn put_hex(out: &mut [u8], at: usize, s: &[u8]) -> usize
 fn hashed(t: &[u8]) -> Identified
     ensures { λ r. ⌜ r ≡ hashedOf (now (t .entry)) ⌝ }
 {
-    if MOST_TEXT < t.len() {
+    if wire::MOST_TEXT < t.len() {
         return Identified {
             row: 9,
             id: [0u8; 32],
@@ -481,7 +495,7 @@ pub fn id_of(b: &[u8], p: message::Body) -> Identified
 // A text from the start of an output, or row 13.
 fn give(t: &[u8], out: &mut [u8]) -> Written
     ensures { λ r. ⌜ r ≡ answered (shortRow (now (t .entry)) (now (out .entry))) (length (now (t .entry))) ⌝ }
-    ensures { λ _. ⌜ now (out .exit) ≡ writtenOut (shortRow (now (t .entry)) (now (out .entry))) (now (t .entry)) (now (out .entry)) ⌝ }
+    ensures { λ _. ⌜ now (out .exit) ≡ outputAfter (shortRow (now (t .entry)) (now (out .entry))) (now (t .entry)) (now (out .entry)) ⌝ }
 {
     if out.len() < t.len() {
         return Written::Refused(13);
@@ -503,7 +517,7 @@ pub fn serialise(b: &[u8], p: message::Body, out: &mut [u8]) -> Written
     let mut t = [0u8; 4097];
     let known = begun(b, p.tags);
     let n = put_whole(&mut t, 0, b, p, known);
-    if MOST_TEXT < n {
+    if wire::MOST_TEXT < n {
         return Written::Refused(9);
     }
     give(&t[..n], out)
@@ -513,7 +527,7 @@ pub fn serialise(b: &[u8], p: message::Body, out: &mut [u8]) -> Written
 fn spells_id(b: &[u8], s: message::Span, id: [u8; 32]) -> bool
     ensures { λ r. ⌜ r ≡ sameBytes (said (now (b .entry)) s) (hexOf id) ⌝ }
 {
-    let mut hex = [0u8; 64];
+    let mut hex = [0u8; wire::HEX_LENGTH];
     put_hex(&mut hex, 0, &id);
     spell::spells(wire::piece(b, s.start, s.len), &hex)
 }

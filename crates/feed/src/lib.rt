@@ -11,7 +11,7 @@ use event::Written;
 use reply::Turned;
 
 // A byte more than a message may have tells that the line is too long.
-const MOST_LINE: usize = 8193;
+const MOST_LINE: usize = wire::MOST_MESSAGE + 1;
 
 // The place of the piece's first line's end, or the piece's own.
 fn end_at(piece: &[u8]) -> usize

@@ -96,3 +96,45 @@ isText s = endsAt (length s) (endOf (root s))
 abbrev pub foldItems : {A : Type 0} → (A → ℕ → ℕ → Json → A) → A → Items → A
 foldItems f a nil = a
 foldItems f a (item p v t ts) = foldItems f (f a p v t) ts
+
+-- what f makes of a string, of a number, of the items of an array or of an object; z of any other value
+abbrev pub ofString : {A : Type 0} → A → (ℕ → ℕ → A) → Json → A
+ofString z f (word a n) = z
+ofString z f (num a n) = z
+ofString z f (str a n) = f a n
+ofString z f (arr ts) = z
+ofString z f (obj ts) = z
+
+abbrev pub ofNumber : {A : Type 0} → A → (ℕ → ℕ → A) → Json → A
+ofNumber z f (word a n) = z
+ofNumber z f (num a n) = f a n
+ofNumber z f (str a n) = z
+ofNumber z f (arr ts) = z
+ofNumber z f (obj ts) = z
+
+abbrev pub ofArray : {A : Type 0} → A → (Items → A) → Json → A
+ofArray z f (word a n) = z
+ofArray z f (num a n) = z
+ofArray z f (str a n) = z
+ofArray z f (arr ts) = f ts
+ofArray z f (obj ts) = z
+
+abbrev pub ofObject : {A : Type 0} → A → (Items → A) → Json → A
+ofObject z f (word a n) = z
+ofObject z f (num a n) = z
+ofObject z f (str a n) = z
+ofObject z f (arr ts) = z
+ofObject z f (obj ts) = f ts
+
+-- whether f holds of a string, of a number, of the items of an array or of an object; of any other value it does not
+abbrev pub onString : (ℕ → ℕ → Bool) → Json → Bool
+onString f = ofString false f
+
+abbrev pub onNumber : (ℕ → ℕ → Bool) → Json → Bool
+onNumber f = ofNumber false f
+
+abbrev pub onArray : (Items → Bool) → Json → Bool
+onArray f = ofArray false f
+
+abbrev pub onObject : (Items → Bool) → Json → Bool
+onObject f = ofObject false f

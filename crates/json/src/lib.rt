@@ -3,12 +3,12 @@
 ghost use mathlib.Core.Path.{_≡_};
 ghost use Prim.Native.Nat.{_+_, _<_, _≤_};
 ghost use mathlib.Core.Bool.{true, false};
-ghost use lib.ListN.{length, getD};
+ghost use lib.ListN.{length};
 ghost use Rattle.json.specs.Grammar.{case, within, classOf, past, wsAt, oneAt, tokenAt, noZero, wordAt, literalAt, digitsAt, intAt, fracAt, expAt, numberAt, hexAt, escapedAt, charsAt, stringAt, isSpelling, scalarAt, closeOf, openedAt, startAt, headAt, nextAt, Skips, Owned};
 ghost use Rattle.json.specs.Tree.{endOf, onLeaf, treeAt, isText};
 
 // The most brackets and braces that may be open at once.
-const DEPTH: usize = 8;
+pub const DEPTH: usize = 8;
 
 // The classes of bytes that the rules name; `Byte` is one byte. Public for the proofs of other crates: no call takes one.
 pub enum Class {
@@ -28,15 +28,8 @@ pub enum Out {
     Bad,
 }
 
-// The byte at a place, and 0 past the end.
-fn byte(s: &[u8], at: usize) -> u8
-    ensures { λ r. ⌜ r ≡ getD (now (s .entry)) at 0 ⌝ }
-{
-    if at < s.len() { s[at] } else { 0 }
-}
-
 // %xlow-high
-fn between(low: u8, high: u8, b: u8) -> bool
+pub fn between(low: u8, high: u8, b: u8) -> bool
     ensures { λ r. ⌜ r ≡ within low high b ⌝ }
 {
     low <= b && b <= high
@@ -116,7 +109,7 @@ fn skip(s: &[u8], at: usize, class: Class) -> usize
     ensures { λ r. ⌜ r ≡ past class (now (s .entry)) at ⌝ }
 {
     let mut i = at;
-    while is(class, byte(s, i)) {
+    while is(class, wire::byte(s, i)) {
         i += 1;
     }
     i
@@ -127,7 +120,7 @@ fn one(s: &[u8], at: usize, class: Class) -> Out
     requires { ⌜ classOf class 0 ≡ false ⌝ }
     ensures { λ r. ⌜ r ≡ oneAt (now (s .entry)) class at ⌝ }
 {
-    if is(class, byte(s, at)) {
+    if is(class, wire::byte(s, at)) {
         Out::End(at + 1)
     } else {
         Out::Bad
@@ -139,7 +132,7 @@ fn this(s: &[u8], at: usize, b: u8) -> Out
     requires { ⌜ 0 < b ⌝ }
     ensures { λ r. ⌜ r ≡ oneAt (now (s .entry)) (Class.Byte b) at ⌝ }
 {
-    if byte(s, at) == b {
+    if wire::byte(s, at) == b {
         Out::End(at + 1)
     } else {
         Out::Bad
@@ -208,7 +201,7 @@ fn literal(s: &[u8], at: usize) -> Out
 fn digits(s: &[u8], at: usize) -> Out
     ensures { λ r. ⌜ r ≡ digitsAt (now (s .entry)) at ⌝ }
 {
-    if between(0x30, 0x39, byte(s, at)) {
+    if between(0x30, 0x39, wire::byte(s, at)) {
         Out::End(skip(s, at, Class::Digit))
     } else {
         Out::Bad
@@ -262,7 +255,7 @@ fn number(s: &[u8], at: usize) -> Out
 fn nibble(s: &[u8], at: usize) -> Out
     ensures { λ r. ⌜ r ≡ oneAt (now (s .entry)) Class.Hex at ⌝ }
 {
-    if hex_digit(byte(s, at)) {
+    if hex_digit(wire::byte(s, at)) {
         Out::End(at + 1)
     } else {
         Out::Bad
@@ -289,7 +282,7 @@ fn hex4(s: &[u8], at: usize) -> Out
 fn letter(s: &[u8], at: usize) -> Out
     ensures { λ r. ⌜ r ≡ oneAt (now (s .entry)) Class.Short at ⌝ }
 {
-    if short(byte(s, at)) {
+    if short(wire::byte(s, at)) {
         Out::End(at + 1)
     } else {
         Out::Bad

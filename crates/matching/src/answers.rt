@@ -20,7 +20,7 @@ use crate::order;
 const PLACES: usize = 208;
 
 // A byte for each of 64 slots and 4 filters.
-const HITS: usize = 256;
+const HITS: usize = wire::MOST_SLOTS * wire::MOST_FILTERS;
 
 // Filter number j, its members found, is asked of the c held slots.
 fn ask(table: &[u8], c: usize, m: &[u8], p: message::FilterParts, j: usize, hits: &mut [u8])

@@ -7,10 +7,10 @@ ghost use lib.ListN.{length};
 ghost use Rattle.wire.specs.Bytes.{part};
 ghost use Rattle.rows.specs.Strings.{spelledAt};
 ghost use Rattle.spell.specs.Spell.{decode};
-ghost use Rattle.json.specs.Tree.{depth, treeAt};
+ghost use Rattle.json.specs.Tree.{depth, treeAt, onObject};
 ghost use Rattle.json.specs.Grammar.{startAt};
 ghost use Rattle.shape.specs.Shape.{isArrayOf, isString, isNumber, isLetter, isFilter};
-ghost use Rattle.shape.specs.Rows.{onObject, wrongList, filterCounts};
+ghost use Rattle.shape.specs.Rows.{wrongList, filterCounts};
 ghost use Rattle.message.specs.declared.Listed.the-variants.{At};
 ghost use Rattle.message.specs.Lent.{value5, onValue, valueAt, someSmall, inList, filterRow};
 ghost use Rattle.query.specs.Filter.{stringsIn, numbersIn, ifListed, filterOf};
@@ -68,7 +68,7 @@ fn small_from(w: Whole) -> u64
     ensures { λ r. ⌜ r ≡ smallFrom w ⌝ }
 {
     match w {
-        Whole::Value(z) => matcher::kind_of(z),
+        Whole::Value(z) => event::kind_of(z),
         Whole::Large => 0,
         Whole::Malformed => 0,
     }
@@ -201,7 +201,7 @@ fn conditions_at(m: &[u8], v: usize, row: &mut [usize]) -> Conditions
         k += 1;
         let w = value_place(m, p);
         x = next_named(m, w);
-        let c = letter(matcher::spelled(m, p));
+        let c = letter(rows::spelled(m, p));
         if c == 0 {
             continue;
         }

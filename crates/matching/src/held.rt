@@ -29,8 +29,8 @@ fn id_listed(s: &[u8], ids: Members, m: &[u8], row: &[usize]) -> bool
     match ids {
         Members::Absent => true,
         Members::In(a, n) => {
-            let mut hex = [0u8; 64];
-            event::put_hex(&mut hex, 0, wire::piece(s, 0, 32));
+            let mut hex = [0u8; wire::HEX_LENGTH];
+            event::put_hex(&mut hex, 0, wire::piece(s, slots::ID_PLACE, slots::ID_SIZE));
             matcher::listed(Members::In(a, n), &hex, m, row)
         }
     }
@@ -60,10 +60,14 @@ fn slot_matched(table: &[u8], k: usize, m: &[u8], row: &[usize], f: Known) -> bo
     if !id_listed(s, ids, m, row) {
         return false;
     }
-    let time = wire::to_signed(wire::le_at(s, 96, 8));
-    let kind = wire::le_at(s, 104, 2);
-    let t = wire::piece(s, 112, wire::le_at(s, 106, 2) as usize);
-    if !matcher::fields_hold(wire::piece(t, 4, 64), time, kind, m, row, f) {
+    let time = wire::to_signed(wire::le_at(s, slots::TIME_PLACE, 8));
+    let kind = wire::le_at(s, slots::KIND_PLACE, 2);
+    let t = wire::piece(
+        s,
+        slots::TEXT_PLACE,
+        wire::le_at(s, slots::LENGTH_PLACE, 2) as usize,
+    );
+    if !matcher::fields_hold(wire::piece(t, 4, wire::HEX_LENGTH), time, kind, m, row, f) {
         return false;
     }
     tags_hold(t, time, kind, m, row, f)

@@ -5,9 +5,6 @@ ghost use Rattle.wire.specs.Limits.{mostFilters};
 ghost use Rattle.shape.specs.Rows.{outside};
 ghost use Rattle.query.specs.Answer.{filtersRow};
 
-// 01: "1 to 4 filters".
-const FILTERS: usize = 4;
-
 // The row of their number.
 fn count_row(n: usize) -> u8
     ensures { λ r. ⌜ r ≡ cond (outside 1 mostFilters n) 8 0 ⌝ }
@@ -15,7 +12,7 @@ fn count_row(n: usize) -> u8
     if n < 1 {
         return 8;
     }
-    if FILTERS < n {
+    if wire::MOST_FILTERS < n {
         return 8;
     }
     0
@@ -26,7 +23,7 @@ pub(crate) fn filters_row(m: &[u8], fs: [message::FilterParts; 4], n: usize) -> 
     ensures { λ r. ⌜ r ≡ filtersRow (now (m .entry)) fs n ⌝ }
 {
     let mut r: u8 = 0;
-    let mut j: usize = FILTERS;
+    let mut j: usize = wire::MOST_FILTERS;
     while 0 < j {
         j -= 1;
         if n <= j {

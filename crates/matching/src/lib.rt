@@ -73,9 +73,6 @@ pub fn answer(
     answers::answered(table, m, fs, n, row)
 }
 
-// 01, row 9: "serialised text over 4,096 bytes".
-const TEXT: usize = 4096;
-
 // Whether the event of the parts p over b matches some of the first n filters, whose places lie in m; or the row of 01 that refuses: 2 and 4 to 8
 // of the event and of the filters, then 9.
 pub fn matched(
@@ -93,7 +90,7 @@ pub fn matched(
         return query::Matched::Refused(row);
     }
     let body = p.body;
-    if TEXT < event::text_len(b, body) {
+    if wire::MOST_TEXT < event::text_len(b, body) {
         return query::Matched::Refused(9);
     }
     if several::some_match(b, p, m, fs, n) {

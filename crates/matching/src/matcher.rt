@@ -5,13 +5,12 @@ ghost use mathlib.Core.List.{map};
 ghost use mathlib.Core.Option.{some};
 ghost use lib.ListN.{take};
 ghost use Rattle.wire.specs.Bytes.{part};
-ghost use Rattle.rows.specs.Strings.{spelledAt};
 ghost use Rattle.spell.specs.Spell.{decode};
 ghost use Rattle.json.specs.Grammar.{startAt};
 ghost use Rattle.text.specs.Event.{all};
 ghost use Rattle.message.specs.Lists.{firstOf, nextOf};
 ghost use Rattle.message.specs.Lent.{isTags, value5};
-ghost use Rattle.event.specs.Lent.{natural, said, tagsAt, eventOf};
+ghost use Rattle.event.specs.Lent.{said, tagsAt, eventOf};
 ghost use Rattle.query.specs.Match.{isMember, isListed, kindListed, sinceHolds, untilHolds, conditionHolds, matches};
 ghost use Rattle.matching.specs.Found.{spelledBy, numbersBy, given, conditionBy, filterBy};
 ghost use Rattle.matching.specs.Steps.{placed, asked, secondOf, fieldsHold};
@@ -63,16 +62,6 @@ pub(crate) fn next(b: &[u8], at: usize) -> Listed
     place(message::next(b, at))
 }
 
-// The string that begins at a place, between its quotes.
-pub(crate) fn spelled(s: &[u8], at: usize) -> &[u8]
-    ensures { λ r. ⌜ now r ≡ spelledAt (now (s .entry)) at ⌝ }
-{
-    match json::string(s, at) {
-        json::Out::End(n) => wire::piece(s, at + 1, n - at - 2),
-        json::Out::Bad => wire::piece(s, 0, 0),
-    }
-}
-
 // The second string of the tag at v, if its first is the letter.
 fn second_string(b: &[u8], v: usize, letter: u8) -> Second
     ensures { λ r. ⌜ r ≡ secondOf (now (b .entry)) v letter ⌝ }
@@ -81,7 +70,7 @@ fn second_string(b: &[u8], v: usize, letter: u8) -> Second
         return Second::Not;
     };
     let name = [letter];
-    if !spell::spells(spelled(b, i), &name) {
+    if !spell::spells(rows::spelled(b, i), &name) {
         return Second::Not;
     }
     let Listed::At(j) = next(b, i) else {
@@ -147,16 +136,6 @@ pub(crate) fn listed(l: Members, v: &[u8], m: &[u8], row: &[usize]) -> bool
         Members::Absent => true,
         Members::In(a, n) => among(v, m, cut(row, a, n)),
     }
-}
-
-// A kind that is not negative, and 0 for one that is.
-pub(crate) fn kind_of(kind: i64) -> u64
-    ensures { λ r. ⌜ r ≡ natural kind ⌝ }
-{
-    if kind < 0 {
-        return 0;
-    }
-    wire::to_unsigned(kind)
 }
 
 // Whether a row of numbers has the kind.
@@ -274,7 +253,7 @@ pub(crate) fn event_matched(
     let body = p.body;
     let pubkey = body.pubkey;
     let key = wire::piece(b, pubkey.start, pubkey.len);
-    if !fields_hold(key, body.created_at, kind_of(body.kind), m, row, f) {
+    if !fields_hold(key, body.created_at, event::kind_of(body.kind), m, row, f) {
         return false;
     }
     let cs = f.conditions;

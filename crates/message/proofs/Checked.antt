@@ -9,14 +9,14 @@ use lib.Dec.{ltb}
 use Rattle.wire.specs.Bytes.{sameBytes}
 use Rattle.wire.proofs.Bytes.{same-equal}
 use Rattle.wire.specs.Limits.{hexLength}
-use Rattle.json.specs.Tree.{Json, word, num, str, arr, obj, Items, nil, item, Got, none, got, depth, treeAt}
+use Rattle.json.specs.Tree.{Json, word, num, str, arr, obj, Items, nil, item, Got, none, got, depth, treeAt, onArray, onObject}
 use Rattle.shape.specs.Shape.{anyItem, allItems, countItems, count, nameAt, isString, isNumber, isArrayOf, isCondition, filterMember, isFilter, idsName, authorsName, kindsName, sinceName, untilName, limitName}
-use Rattle.shape.specs.Rows.{onArray, onObject, outside, wrongSmall, wrongHex, wrongList, filterNumber, filterHex, filterCount, filterCounts}
+use Rattle.shape.specs.Rows.{outside, wrongSmall, wrongHex, wrongList, filterNumber, filterHex, filterCount, filterCounts}
 use Rattle.message.specs.declared.EventParts.{EventParts}
 use Rattle.message.specs.declared.FilterParts.{FilterParts}
 use Rattle.message.specs.declared.Listed.{Listed}
 use Rattle.message.specs.declared.Listed.the-variants.{At}
-use Rattle.message.specs.Lent.{lowest, onValue, valueAt, isTags, wrongTags, string2, string4, string5, value2, value4, value5, time6, small6, someHex, someSmall, body2, body4, body5, body6, body8, event2, event4, event5, event7, eventRow, inList, inBound, filter2, filter4, filter5, filter6, filter7, filter8, filterRow}
+use Rattle.message.specs.Lent.{lowest, onValue, valueAt, isTags, string2, string4, string5, value2, value4, value5, time6, small6, someHex, someSmall, body2, body4, body5, body6, body8, event2, event4, event5, event7, eventRow, inList, inBound, filter2, filter4, filter5, filter6, filter7, filter8, filterRow}
 use Rattle.message.proofs.Facts.{and-true, or-not, In, all-in, any-in}
 
 pub none-holds : (r2 r4 r5 r6 r7 r8 : Bool) → lowest r2 r4 r5 r6 r7 r8 ≡ 0 → (r2 ≡ false) × (r4 ≡ false) × (r5 ≡ false) × (r6 ≡ false) × (r7 ≡ false) × (r8 ≡ false)

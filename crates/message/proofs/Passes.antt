@@ -9,14 +9,14 @@ use borrow.Author.Tests.{eqb-true, ltb-false, not-false}
 use lib.Dec.{eqb, ltb}
 use lib.ListN.{length}
 use Rattle.utf8.specs.Utf8.{isUtf8}
-use Rattle.json.specs.Tree.{Json, word, num, str, arr, obj, Items, nil, item, Got, none, got, treeAt, root}
+use Rattle.json.specs.Tree.{Json, word, num, str, arr, obj, Items, nil, item, Got, none, got, treeAt, root, onObject}
 use Rattle.wire.specs.Bytes.{sameBytes}
 use Rattle.spell.specs.Spell.{decode, refuses}
 use Rattle.json.specs.Grammar.{wsAt}
 use Rattle.rows.specs.Strings.{part, refusedIn, refusedItems}
 use Rattle.rows.specs.Rows.{row1, row2, row3}
 use Rattle.shape.specs.Shape.{anyItem, allItems, countItems, count, nameAt, idName, pubkeyName, createdAtName, kindName, tagsName, contentName, sigName, idsName, authorsName, kindsName, sinceName, untilName, limitName, isString, isNumber, isArrayOf, eventMember, once, isEvent, filterMember, noneTwice, isFilter, Word, event, req, close, other, wordOf, opened, hasShape}
-use Rattle.shape.specs.Rows.{row4, row5, row6, row7, row8, treeRow, rootRow, messageRow, onArray, onObject, inMessage, wrongTime, wrongSmall, wrongHex, eventNumber, eventHex, eventCount, wrongList, filterNumber, filterHex, filterCount, filterCounts, wrongRequest, wrongSubscription, outside}
+use Rattle.shape.specs.Rows.{row4, row5, row6, row7, row8, treeRow, rootRow, messageRow, inMessage, wrongTime, wrongSmall, wrongHex, eventNumber, eventHex, eventCount, wrongList, filterNumber, filterHex, filterCount, filterCounts, wrongRequest, wrongSubscription, outside, wrongTags}
 use Rattle.message.specs.declared.EventParts.{EventParts}
 use Rattle.message.specs.declared.ReqParts.{ReqParts}
 use Rattle.message.specs.declared.Listed.the-variants.{At}
@@ -25,7 +25,7 @@ use Rattle.message.specs.declared.Message.the-variants as message
 use Rattle.message.specs.Parts.{Member, missing, member, memberOf, spanIn, numberIn, boundIn, placeIn, listedIn, bodyOf, eventOf, filterOf, membersOf, membersGot, membersAt, filterAt}
 use Rattle.message.specs.Lists.{within, elementsFrom, placesOf}
 use Rattle.message.specs.Read.{firstOf, secondPlace, partsOf, inRoot, readOf}
-use Rattle.message.specs.Lent.{string7, time6, small6, onValue, valueAt, value2, value4, value5, isTags, wrongTags, body2, body4, body5, body6, body7, body8, event2, event4, event5, event7, eventRow, inList, inBound, someHex, someSmall, filter2, filter4, filter5, filter6, filter7, filter8, filterRow}
+use Rattle.message.specs.Lent.{string7, time6, small6, onValue, valueAt, value2, value4, value5, isTags, body2, body4, body5, body6, body7, body8, event2, event4, event5, event7, eventRow, inList, inBound, someHex, someSmall, filter2, filter4, filter5, filter6, filter7, filter8, filterRow}
 use Rattle.message.specs.Passes.{EventPasses, filtersOf, FiltersPass, FiltersCounted}
 use Rattle.message.proofs.Walks.{Walk, last, more, deeper}
 use Rattle.message.proofs.Elements.{Group, hollow, filled, group-of, walk-places, walk-first, firstPlace}

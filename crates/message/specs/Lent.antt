@@ -8,15 +8,15 @@ use lib.IntN.{ℤ, pos, negℤ}
 use lib.ListN.{length}
 use Rattle.utf8.specs.Utf8.{isUtf8}
 use Rattle.json.specs.Grammar.{isSpelling}
-use Rattle.json.specs.Tree.{Json, Got, none, got, depth, treeAt}
+use Rattle.json.specs.Tree.{Json, Got, none, got, depth, treeAt, onArray, onObject}
 use Rattle.spell.specs.Spell.{characterCount, refuses, isHexOf}
-use Rattle.wire.specs.Limits.{widest, mostSmall, hexLength, sigLength, mostTags, mostCharacters}
+use Rattle.wire.specs.Limits.{widest, mostSmall, hexLength, sigLength, mostCharacters}
 use Rattle.numeral.specs.Whole.{isWithin}
 use Rattle.numeral.specs.declared.Whole.the-variants.{Value}
 use Rattle.rows.specs.Strings.{part, refusedIn}
-use Rattle.shape.specs.Shape.{anyItem, count, isString, isNumber, isArrayOf, isFilter}
+use Rattle.shape.specs.Shape.{anyItem, isString, isNumber, isArrayOf, isFilter}
 pub use Rattle.shape.specs.Values.{ownText}
-use Rattle.shape.specs.Rows.{onArray, onObject, outside, wrongSmall, wrongHex, wrongTag, wrongList, filterNumber, filterHex, filterCounts}
+use Rattle.shape.specs.Rows.{outside, wrongSmall, wrongHex, wrongTags, wrongList, filterNumber, filterHex, filterCounts}
 use Rattle.message.specs.declared.Span.{Span}
 use Rattle.message.specs.declared.Body.{Body}
 use Rattle.message.specs.declared.EventParts.{EventParts}
@@ -103,9 +103,6 @@ value5 f b at = not (onValue f (valueAt b at))
 -- tags: an array of arrays of strings; at most 64, each of 1 to 16 strings
 abbrev pub isTags : Json → Bool
 isTags t = isArrayOf (isArrayOf isString) t
-
-abbrev pub wrongTags : Json → Bool
-wrongTags t = onArray (λ ts. outside 0 mostTags (count ts) || anyItem (λ q u. wrongTag u) ts) t
 
 -- ---- the fields of an event's text
 unfoldable pub body2 : List ℕ → Body → Bool

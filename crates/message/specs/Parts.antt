@@ -5,7 +5,7 @@ use mathlib.Core.List.{List, [], _∷_, map}
 use mathlib.Core.Bool.{cond}
 use lib.IntN.{ℤ, pos}
 use lib.ListN.{length, getD}
-use Rattle.json.specs.Tree.{Json, word, num, str, arr, obj, Items, nil, item, Got, none, got, depth, treeAt}
+use Rattle.json.specs.Tree.{Json, Items, nil, item, Got, none, got, depth, treeAt, ofString, ofNumber, ofObject}
 use Rattle.rows.specs.Strings.{part}
 use Rattle.numeral.specs.Whole.{wholeOf, answerOf}
 use Rattle.numeral.specs.declared.Whole.{Whole}
@@ -37,11 +37,7 @@ abbrev pub nowhere : Span
 nowhere = record { start = 0; len = 0 }
 
 abbrev pub spanOf : Json → Span
-spanOf (word a n) = nowhere
-spanOf (num a n) = nowhere
-spanOf (str a n) = record { start = a; len = n }
-spanOf (arr ts) = nowhere
-spanOf (obj ts) = nowhere
+spanOf = ofString nowhere (λ a n. record { start = a; len = n })
 
 abbrev pub valueOf : Whole → ℤ
 valueOf (Value z) = z
@@ -49,11 +45,7 @@ valueOf Large = pos 0
 valueOf Malformed = pos 0
 
 abbrev pub numberOf : List ℕ → Json → ℤ
-numberOf s (word a n) = pos 0
-numberOf s (num a n) = valueOf (answerOf (wholeOf (part s a n)))
-numberOf s (str a n) = pos 0
-numberOf s (arr ts) = pos 0
-numberOf s (obj ts) = pos 0
+numberOf s = ofNumber (pos 0) (λ a n. valueOf (answerOf (wholeOf (part s a n))))
 
 abbrev pub spanIn : Member → Span
 spanIn missing = nowhere
@@ -106,11 +98,7 @@ filterOf s v ts = record {
 
 -- the items of an object; none of any other value
 abbrev pub membersOf : Json → Items
-membersOf (word a n) = nil
-membersOf (num a n) = nil
-membersOf (str a n) = nil
-membersOf (arr ts) = nil
-membersOf (obj ts) = ts
+membersOf = ofObject nil (λ ts. ts)
 
 -- ---- the parts at a place. The value there may have as many brackets and braces open at once as a message: so what stands inside a
 -- message is read there as it is in the message's own tree

@@ -2,11 +2,10 @@
 // as values that other calls take, whoever made them.
 ghost use mathlib.Core.Path.{_≡_};
 ghost use mathlib.Core.Bool.{true, false, cond};
-ghost use Prim.Native.Nat.{_-_, min};
+ghost use Prim.Native.Nat.{_-_};
 ghost use lib.Dec.{ltb};
 ghost use lib.ListN.{length};
 ghost use Rattle.json.specs.Grammar.{startAt};
-ghost use Rattle.rows.specs.Strings.{spelledAt};
 ghost use Rattle.spell.specs.Spell.{characterCount};
 ghost use Rattle.wire.specs.Limits.{mostCharacters};
 ghost use Rattle.shape.specs.Rows.{messageRow, outside};
@@ -24,19 +23,7 @@ use numeral::Whole;
 use shape::Sort;
 
 // The brackets and braces that may be open at once within an item of what stands at a place.
-const WITHIN: usize = 7;
-
-const DEPTH: usize = 8;
-
-// The most characters of a subscription id.
-const CHARACTERS: usize = 64;
-
-// The ranges of numbers.
-const LEAST: i64 = -9007199254740991;
-
-const WIDEST: i64 = 9007199254740991;
-
-const SMALL: i64 = 65535;
+const WITHIN: usize = json::DEPTH - 1;
 
 // Above all rows: none holds.
 const FINE: u8 = 9;
@@ -145,16 +132,6 @@ fn less(a: usize, b: usize) -> usize
     if a < b { 0 } else { a - b }
 }
 
-// The string that begins at a place, between its quotes.
-fn spelled(s: &[u8], at: usize) -> &[u8]
-    ensures { λ r. ⌜ now r ≡ spelledAt (now (s .entry)) at ⌝ }
-{
-    match json::string(s, at) {
-        Out::End(n) => wire::piece(s, at + 1, n - at - 2),
-        Out::Bad => wire::piece(s, 0, 0),
-    }
-}
-
 // A member whose value stands at v, after what was found before it: its name is spelled `name`, and `word` is looked for.
 fn keep(name: &[u8], word: &[u8], a: Listed, v: usize) -> Listed
     ensures { λ r. ⌜ r ≡ kept (now (name .entry)) (now (word .entry)) a v ⌝ }
@@ -174,7 +151,7 @@ fn keep(name: &[u8], word: &[u8], a: Listed, v: usize) -> Listed
 fn event_step(s: &[u8], a: Members, p: usize, v: usize) -> Members
     ensures { λ r. ⌜ r ≡ eventStep (now (s .entry)) a p v ⌝ }
 {
-    let name = spelled(s, p);
+    let name = rows::spelled(s, p);
     let a1 = a.m1;
     let m1 = keep(name, b"id", a1, v);
     let a2 = a.m2;
@@ -203,7 +180,7 @@ fn event_step(s: &[u8], a: Members, p: usize, v: usize) -> Members
 fn filter_step(s: &[u8], a: Members, p: usize, v: usize) -> Members
     ensures { λ r. ⌜ r ≡ filterStep (now (s .entry)) a p v ⌝ }
 {
-    let name = spelled(s, p);
+    let name = rows::spelled(s, p);
     let a1 = a.m1;
     let m1 = keep(name, b"ids", a1, v);
     let a2 = a.m2;
@@ -479,7 +456,7 @@ pub fn next(s: &[u8], at: usize) -> Element
 fn opening_at(s: &[u8], at: usize) -> Opening
     ensures { λ r. ⌜ r ≡ openingAt (now (s .entry)) at ⌝ }
 {
-    let w = spelled(s, at);
+    let w = rows::spelled(s, at);
     if spell::spells(w, b"EVENT") {
         Opening::Event
     } else if spell::spells(w, b"REQ") {
@@ -647,7 +624,7 @@ pub fn is_event(s: &[u8]) -> bool
     ensures { λ r. ⌜ r ≡ isEvent (now (s .entry)) ⌝ }
 {
     let at = json::space(s, 0);
-    match json::value(s, at, DEPTH) {
+    match json::value(s, at, json::DEPTH) {
         Out::End(_) => is_event_at(s, first(s, at)),
         Out::Bad => false,
     }
@@ -662,7 +639,7 @@ fn early(row: u8) -> bool
 fn id_named(s: &[u8], p: Span) -> Named
     ensures { λ r. ⌜ r ≡ idNamed (now (s .entry)) p ⌝ }
 {
-    if spell::is_hex(wire::piece(s, p.start, p.len), 64) {
+    if spell::is_hex(wire::piece(s, p.start, p.len), wire::HEX_LENGTH) {
         Named::Id(p)
     } else {
         Named::Nothing
@@ -674,7 +651,7 @@ fn miscounted(s: &[u8], p: Span) -> bool
     ensures { λ r. ⌜ r ≡ outside 1 mostCharacters (characterCount (bytesOf (now (s .entry)) p)) ⌝ }
 {
     let n = spell::characters(wire::piece(s, p.start, p.len));
-    n < 1 || CHARACTERS < n
+    n < 1 || wire::MOST_CHARACTERS < n
 }
 
 fn label_named(s: &[u8], p: Span) -> Named
@@ -715,12 +692,6 @@ pub fn names(s: &[u8]) -> Named
 }
 
 // ---- Parts lent by anybody. Every part answers the lowest row that it breaks, and FINE for none; parts are joined by the least.
-fn least(a: u8, b: u8) -> u8
-    ensures { λ r. ⌜ r ≡ min a b ⌝ }
-{
-    if a < b { a } else { b }
-}
-
 fn told(row: u8) -> u8
     ensures { λ r. ⌜ r ≡ toldOf row ⌝ }
 {
@@ -821,7 +792,7 @@ pub fn lower_row(r: u8, s: u8) -> u8
     if s == 0 {
         return r;
     }
-    least(r, s)
+    wire::least(r, s)
 }
 
 fn number_rank(z: i64, low: i64, high: i64) -> u8
@@ -864,10 +835,13 @@ fn body_rank(b: &[u8], p: Body) -> u8
 {
     let pubkey = p.pubkey;
     let content = p.content;
-    let tags = least(value_rank(b, p.tags, Sort::Tags), string_rank(b, content));
-    let texts = least(hex_rank(b, pubkey, 64), tags);
-    let kind = least(number_rank(p.kind, 0, SMALL), texts);
-    least(number_rank(p.created_at, LEAST, WIDEST), kind)
+    let tags = wire::least(value_rank(b, p.tags, Sort::Tags), string_rank(b, content));
+    let texts = wire::least(hex_rank(b, pubkey, wire::HEX_LENGTH), tags);
+    let kind = wire::least(number_rank(p.kind, 0, wire::MOST_SMALL), texts);
+    wire::least(
+        number_rank(p.created_at, wire::MINUS_WIDEST, wire::WIDEST),
+        kind,
+    )
 }
 
 // The lowest of rows 2 and 4 to 8 that holds of the fields of an event's text, lent in b; 0 where none does.
@@ -884,9 +858,9 @@ pub fn event_row(b: &[u8], p: EventParts) -> u8
     let id = p.id;
     let body = p.body;
     let sig = p.sig;
-    told(least(
-        hex_rank(b, id, 64),
-        least(body_rank(b, body), hex_rank(b, sig, 128)),
+    told(wire::least(
+        hex_rank(b, id, wire::HEX_LENGTH),
+        wire::least(body_rank(b, body), hex_rank(b, sig, wire::SIG_LENGTH)),
     ))
 }
 
@@ -901,17 +875,17 @@ pub fn filter_row(b: &[u8], p: FilterParts) -> u8
     let until = p.until;
     let limit = p.limit;
     let conditions = p.conditions;
-    let rest = least(
-        bound_rank(limit, 0, SMALL),
+    let rest = wire::least(
+        bound_rank(limit, 0, wire::MOST_SMALL),
         list_rank(b, conditions, Sort::Filter),
     );
-    let times = least(
-        bound_rank(since, LEAST, WIDEST),
-        least(bound_rank(until, LEAST, WIDEST), rest),
+    let times = wire::least(
+        bound_rank(since, wire::MINUS_WIDEST, wire::WIDEST),
+        wire::least(bound_rank(until, wire::MINUS_WIDEST, wire::WIDEST), rest),
     );
-    let lists = least(
+    let lists = wire::least(
         list_rank(b, authors, Sort::Hexes),
-        least(list_rank(b, kinds, Sort::Smalls), times),
+        wire::least(list_rank(b, kinds, Sort::Smalls), times),
     );
-    told(least(list_rank(b, ids, Sort::Hexes), lists))
+    told(wire::least(list_rank(b, ids, Sort::Hexes), lists))
 }

@@ -21,9 +21,9 @@ enum Natural {
     NotOne,
 }
 
-const WIDEST: u64 = 9007199254740991;
+const WIDEST: u64 = wire::WIDEST as u64;
 
-const OVER: u64 = 9007199254740992;
+const OVER: u64 = WIDEST + 1;
 
 // One digit more.
 fn grow(v: u64, x: u8) -> u64

@@ -30,7 +30,7 @@ use Rattle.message.specs.declared.EventParts.{EventParts}
 use Rattle.message.specs.Lent.{string5, string7, body5, event5, event7}
 use Rattle.event.specs.Lent.{said, eventOf}
 use Rattle.event.specs.Lent as lent
-use Rattle.event.specs.Answer.{offeredRow, offeredTextRow, offered, offeredOut, answered, writtenOut, numberOf}
+use Rattle.event.specs.Answer.{offeredRow, offeredTextRow, offered, offeredOut, answered, outputAfter, numberOf}
 use Rattle.event.specs.declared.Written.{Written}
 use Rattle.event.specs.declared.Written.the-variants as written
 use Rattle.event.proofs.Decoded.{or-neither}
@@ -210,7 +210,7 @@ module _ (b : List ℕ) (p : EventParts) where
             let t = lent.textOf b (p .body) in
             let m = offered-small b p row-none in
             let s : mostText ≡ length t + (mostText - length t) = omega arith in
-            o ∙ ap (λ x. writtenOut x t (lentPart d)) text-row ∙ ap (t ++_) (rest-zeros (length t) (mostText - length t) mostText s (blank zs))
+            o ∙ ap (λ x. outputAfter x t (lentPart d)) text-row ∙ ap (t ++_) (rest-zeros (length t) (mostText - length t) mostText s (blank zs))
 
         came-back : given d y ≡ replicate textPlace 0 ++ textBytes (lent.textOf b (p .body))
         came-back = lent-zeros textPlace mostText slotSize (omega arith) zs y ∙ ap (λ z. replicate textPlace 0 ++ z) text-is

@@ -23,20 +23,13 @@ ghost use Rattle.slots.specs.Slots.{sameIdIn, sameKeyIn, from};
 ghost use Rattle.offers.specs.Row.{offerRow};
 ghost use Rattle.offers.specs.Slot.{newerIn, New, answerFor, offeredTo, HasRoom, storedFor, offeredNext, countFrom, ifAddressable, numbersOf, headOf};
 
-// 01: "Header, 16 bytes"; "slot size 4,208"; the slot's text after the other fields.
-const HEADER: usize = 16;
-
-const SLOT: usize = 4208;
-
-const TEXT: usize = 112;
-
 // ---- the slot that an event given as parts would fill
 // The bytes of up to 128 hex digits that a part spells.
 fn put_spelled(out: &mut [u8], at: usize, b: &[u8], p: message::Span) -> usize
     requires { ⌜ length (said (now b) p) ≤ sigLength ⌝ }
     ensures { λ r. ⌜ Puts (now (out .entry)) at (unhex (said (now (b .entry)) p)) r (now (out .exit)) ⌝ }
 {
-    let mut hex = [0u8; 128];
+    let mut hex = [0u8; wire::SIG_LENGTH];
     let n = spell::put_decoded(&mut hex, 0, wire::piece(b, p.start, p.len));
     spell::put_unhex(out, at, &hex[..n])
 }
@@ -83,7 +76,7 @@ fn put_fields(out: &mut [u8], b: &[u8], p: message::EventParts, n: usize) -> usi
     requires { ⌜ length (said (now b) (p .sig)) ≤ sigLength ⌝ }
     ensures { λ r. ⌜ ((e : Event) → readText (part (now (out .entry)) textPlace n) ≡ read e → Puts (now (out .entry)) 0 (headOf (now (b .entry)) p n (textOf e)) r (now (out .exit))) ⌝ }
 {
-    match text::read_text(wire::piece(out, TEXT, n)) {
+    match text::read_text(wire::piece(out, slots::TEXT_PLACE, n)) {
         text::TextAnswer::Read(t) => put_head(out, b, p, n, t),
         text::TextAnswer::TooLarge => 0,
         text::TextAnswer::WrongShape => 0,
@@ -97,7 +90,7 @@ fn make_slot(out: &mut [u8], b: &[u8], p: message::EventParts) -> u8
     ensures { λ r. ⌜ r ≡ offeredRow (now (b .entry)) p ⌝ }
     ensures { λ r. ⌜ (r ≡ 0 → now (out .exit) ≡ slotBytes (heldOf (now (b .entry)) p)) ⌝ }
 {
-    match event::offered_text(b, p, &mut out[TEXT..SLOT]) {
+    match event::offered_text(b, p, &mut out[slots::TEXT_PLACE..slots::SLOT_SIZE]) {
         event::Written::Wrote(n) => {
             put_fields(out, b, p, n);
             0
@@ -112,7 +105,7 @@ fn make_from(out: &mut [u8], m: &[u8]) -> u8
     ensures { λ r. ⌜ r ≡ messageOfferRow (now (m .entry)) ⌝ }
     ensures { λ r. ⌜ (r ≡ 0 → now (out .exit) ≡ slotBytes (heldOf (now (m .entry)) (partsOf (now (m .entry))))) ⌝ }
 {
-    match event::sent_text(m, &mut out[TEXT..SLOT]) {
+    match event::sent_text(m, &mut out[slots::TEXT_PLACE..slots::SLOT_SIZE]) {
         event::SentText::Wrote(p, n) => {
             put_fields(out, m, p, n);
             0
@@ -170,9 +163,14 @@ fn find_key(table: &[u8], c: usize, new: &[u8]) -> usize
 fn newer_than(s: &[u8], t: &[u8]) -> bool
     ensures { λ r. ⌜ r ≡ newerIn (now (s .entry)) (now (t .entry)) ⌝ }
 {
-    let a = wire::to_signed(wire::le_at(s, 96, 8));
-    let b = wire::to_signed(wire::le_at(t, 96, 8));
-    event::newer(a, wire::piece(s, 0, 32), b, wire::piece(t, 0, 32))
+    let a = wire::to_signed(wire::le_at(s, slots::TIME_PLACE, 8));
+    let b = wire::to_signed(wire::le_at(t, slots::TIME_PLACE, 8));
+    event::newer(
+        a,
+        wire::piece(s, slots::ID_PLACE, slots::ID_SIZE),
+        b,
+        wire::piece(t, slots::ID_PLACE, slots::ID_SIZE),
+    )
 }
 
 // "Verdicts of an offer .. first that applies", and row 12 where a new slot is needed and all are in use.
@@ -181,7 +179,7 @@ fn verdict(table: &[u8], new: &[u8]) -> table::Offered
     requires { ⌜ New (now new) ⌝ }
     ensures { λ r. ⌜ r ≡ answerFor (now (table .entry)) (now (new .entry)) ⌝ }
 {
-    if is_ephemeral(wire::le_at(new, 104, 2)) {
+    if is_ephemeral(wire::le_at(new, slots::KIND_PLACE, 2)) {
         return table::Offered::Ephemeral;
     }
     let c = wire::le_at(table, 4, 4) as usize;
@@ -254,8 +252,8 @@ fn store(table: &mut [u8], new: &[u8])
 {
     let c = wire::le_at(table, 4, 4) as usize;
     let k = find_key(table, c, new);
-    let a = HEADER + k * SLOT;
-    let e = a + SLOT;
+    let a = slots::HEADER_SIZE + k * slots::SLOT_SIZE;
+    let e = a + slots::SLOT_SIZE;
     write_slot(&mut table[a..e], new);
     wire::put_le(table, 4, 4, count_after(c, k) as u64);
 }
@@ -280,7 +278,7 @@ pub fn offer_parts(table: &mut [u8], b: &[u8], p: message::EventParts) -> table:
     ensures { λ r. ⌜ numberOf r ≡ offerRow (now (table .entry)) (asParts (now (b .entry)) p) ⌝ }
     ensures { λ _. ⌜ now (table .exit) ≡ next (now (table .entry)) (asParts (now (b .entry)) p) ⌝ }
 {
-    let mut new = [0u8; SLOT];
+    let mut new = [0u8; slots::SLOT_SIZE];
     let row = make_slot(&mut new, b, p);
     if row != 0 {
         return table::Offered::Refused(row);
@@ -294,7 +292,7 @@ pub fn offer_message(table: &mut [u8], m: &[u8]) -> table::Offered
     ensures { λ r. ⌜ numberOf r ≡ offerRow (now (table .entry)) (asMessage (now (m .entry))) ⌝ }
     ensures { λ _. ⌜ now (table .exit) ≡ next (now (table .entry)) (asMessage (now (m .entry))) ⌝ }
 {
-    let mut new = [0u8; SLOT];
+    let mut new = [0u8; slots::SLOT_SIZE];
     let row = make_from(&mut new, m);
     if row != 0 {
         return table::Offered::Refused(row);
@@ -307,7 +305,7 @@ pub fn judge_message(table: &[u8], m: &[u8]) -> table::Offered
     ensures { λ r. ⌜ r ≡ answer (now (table .entry)) (asMessage (now (m .entry))) ⌝ }
     ensures { λ r. ⌜ numberOf r ≡ offerRow (now (table .entry)) (asMessage (now (m .entry))) ⌝ }
 {
-    let mut new = [0u8; SLOT];
+    let mut new = [0u8; slots::SLOT_SIZE];
     let row = make_from(&mut new, m);
     if row != 0 {
         return table::Offered::Refused(row);

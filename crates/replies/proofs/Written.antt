@@ -1,7 +1,7 @@
 -- The pieces of a reply in a row, how long it is, its rows, and what is answered.
 use mathlib.Core.Path.{_≡_, refl, sym, ap, _∙_}
 use mathlib.Core.Bool.{Bool, true, false, cond, not, _||_, or-false, false≢true}
-use mathlib.Core.List.{List, [], _∷_, _++_, append-assoc}
+use mathlib.Core.List.{List, _++_, append-assoc}
 use Prim.Native.Nat.{ℕ, _+_, _^_, _≤_, _<_}
 use native.Mathlib.Omega.{arith}
 use borrow.Author.Tests.{lt-ltb, le-ltb, eq-eqb, ne-eqb, eqb-true, eqb-false, ltb-false}
@@ -31,22 +31,14 @@ use Rattle.event.specs.Walk.{lengthOf}
 use Rattle.event.specs.declared.Written.{Written}
 use Rattle.event.specs.declared.Written.the-variants.{Wrote, Refused}
 use Rattle.event.proofs.Answers.{refused, passed, too-short, room-for}
-use Rattle.event.proofs.Strings.{quoted-put}
-use Rattle.reply.specs.Ascii.{ascii}
+use Rattle.wire.specs.Ascii.{ascii}
 use Rattle.reply.specs.Replies.{event, truth, objectText, replyText}
 use Rattle.reply.specs.Lent.{replyOf, okRow, eventReplyRow, eoseRow, closedRow, noticeRow, partsRow, shortRow, replyRow, replied, repliedOut}
 use Rattle.reply.specs.declared.ReplyParts.{ReplyParts}
 use Rattle.reply.proofs.Sizes.{quoted-length}
 use Rattle.replies.specs.Pieces.{frontText, middleText, backText, okParts, eventParts, eoseParts, closedParts, noticeParts, Room}
 
--- ---- one part
-pub part-put : {d o₁ o₂ o₃ : List ℕ} {i a c r : ℕ} (v : List ℕ) {w : List ℕ} → w ≡ v → Puts d i (34 ∷ []) a o₁ → Puts o₁ a (escape (decode w)) c o₂ → Puts o₂ c (34 ∷ []) r o₃
-    → Puts d i (quoted (decode v)) r o₃
-part-put v e x y z = quoted-put (decode v) x (rw e at y) z
-
-pub part-length : (v : List ℕ) {w : List ℕ} {n : ℕ} → w ≡ v → n ≡ length (escape (decode w)) → n ≡ length (escape (decode v))
-part-length v e q = rw e at q
-
+-- ---- true or false
 pub truth-put : {a : Bool} (b : Bool) {d o : List ℕ} {i r : ℕ} → a ≡ b → Puts d i (truth b) r o → Puts d i (truth a) r o
 truth-put b e p = rw e p
 

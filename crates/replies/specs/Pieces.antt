@@ -7,7 +7,7 @@ use Rattle.numeral.specs.Decimal.{digits, decimal}
 use Rattle.text.specs.Event.{Event, quoted, tagsText}
 use Rattle.message.specs.declared.Span.{Span}
 use Rattle.message.specs.declared.EventParts.{EventParts}
-use Rattle.reply.specs.Ascii.{ascii}
+use Rattle.wire.specs.Ascii.{ascii}
 use Rattle.reply.specs.declared.ReplyParts.{ReplyParts}
 use Rattle.reply.specs.declared.ReplyParts.the-variants.{Ok, Event as EventOf, Eose, Closed, Notice}
 

@@ -4,9 +4,7 @@ ghost use mathlib.Core.Path.{_≡_};
 ghost use Prim.Native.Nat.{_+_, _≤_};
 ghost use lib.ListN.{length};
 ghost use Rattle.wire.specs.Put.{Puts};
-ghost use Rattle.wire.specs.Escape.{escape};
-ghost use Rattle.text.specs.Event.{quoted};
-ghost use Rattle.event.specs.Lent.{said, natural, eventOf};
+ghost use Rattle.event.specs.Lent.{said, eventOf};
 ghost use Rattle.event.specs.Answer.{numberOf};
 ghost use Rattle.reply.specs.Replies.{truth, replyText};
 ghost use Rattle.reply.specs.Lent.{replyOf, partsRow, replyRow, replied, repliedOut};
@@ -16,25 +14,6 @@ use message::Body;
 use message::EventParts;
 use message::Span;
 use reply::ReplyParts;
-
-// The most bytes that a text may have.
-const MOST_TEXT: usize = 4096;
-
-// A string part, decoded and escaped between quotes.
-fn put_part(out: &mut [u8], at: usize, b: &[u8], s: Span) -> usize
-    ensures { λ r. ⌜ Puts (now (out .entry)) at (quoted (said (now (b .entry)) s)) r (now (out .exit)) ⌝ }
-{
-    let a = wire::put(out, at, b"\"");
-    let c = spell::put_escaped(out, a, wire::piece(b, s.start, s.len));
-    wire::put(out, c, b"\"")
-}
-
-// How long that is, but for the quotes.
-fn part_len(b: &[u8], s: Span) -> usize
-    ensures { λ r. ⌜ r ≡ length (escape (said (now (b .entry)) s)) ⌝ }
-{
-    spell::escaped_len(wire::piece(b, s.start, s.len))
-}
 
 // true or false
 fn put_truth(out: &mut [u8], at: usize, accepted: bool) -> usize
@@ -60,11 +39,11 @@ fn put_ok(out: &mut [u8], b: &[u8], id: Span, accepted: bool, reason: Span) -> u
     ensures { λ r. ⌜ Puts (now (out .entry)) 0 (replyText (replyOf (now (b .entry)) (okParts id accepted reason))) r (now (out .exit)) ⌝ }
 {
     let a = wire::put(out, 0, b"[\"OK\",");
-    let c = put_part(out, a, b, id);
+    let c = event::put_part(out, a, b, id);
     let d = wire::put(out, c, b",");
     let e = put_truth(out, d, accepted);
     let f = wire::put(out, e, b",");
-    let g = put_part(out, f, b, reason);
+    let g = event::put_part(out, f, b, reason);
     wire::put(out, g, b"]")
 }
 
@@ -73,7 +52,7 @@ fn put_eose(out: &mut [u8], b: &[u8], sub: Span) -> usize
     ensures { λ r. ⌜ Puts (now (out .entry)) 0 (replyText (replyOf (now (b .entry)) (eoseParts sub))) r (now (out .exit)) ⌝ }
 {
     let a = wire::put(out, 0, b"[\"EOSE\",");
-    let c = put_part(out, a, b, sub);
+    let c = event::put_part(out, a, b, sub);
     wire::put(out, c, b"]")
 }
 
@@ -82,9 +61,9 @@ fn put_closed(out: &mut [u8], b: &[u8], sub: Span, reason: Span) -> usize
     ensures { λ r. ⌜ Puts (now (out .entry)) 0 (replyText (replyOf (now (b .entry)) (closedParts sub reason))) r (now (out .exit)) ⌝ }
 {
     let a = wire::put(out, 0, b"[\"CLOSED\",");
-    let c = put_part(out, a, b, sub);
+    let c = event::put_part(out, a, b, sub);
     let d = wire::put(out, c, b",");
-    let e = put_part(out, d, b, reason);
+    let e = event::put_part(out, d, b, reason);
     wire::put(out, e, b"]")
 }
 
@@ -93,18 +72,8 @@ fn put_notice(out: &mut [u8], b: &[u8], reason: Span) -> usize
     ensures { λ r. ⌜ Puts (now (out .entry)) 0 (replyText (replyOf (now (b .entry)) (noticeParts reason))) r (now (out .exit)) ⌝ }
 {
     let a = wire::put(out, 0, b"[\"NOTICE\",");
-    let c = put_part(out, a, b, reason);
+    let c = event::put_part(out, a, b, reason);
     wire::put(out, c, b"]")
-}
-
-// A kind that is not negative, and 0 for one that is.
-fn kind_of(kind: i64) -> u64
-    ensures { λ r. ⌜ r ≡ natural kind ⌝ }
-{
-    if kind < 0 {
-        return 0;
-    }
-    wire::to_unsigned(kind)
 }
 
 // ["EVENT",SUB,{"id":ID,"pubkey":PUBKEY
@@ -113,11 +82,11 @@ fn put_front(out: &mut [u8], b: &[u8], sub: Span, id: Span, p: Body) -> usize
 {
     let pubkey = p.pubkey;
     let a = wire::put(out, 0, b"[\"EVENT\",");
-    let c = put_part(out, a, b, sub);
+    let c = event::put_part(out, a, b, sub);
     let d = wire::put(out, c, b",{\"id\":");
-    let e = put_part(out, d, b, id);
+    let e = event::put_part(out, d, b, id);
     let f = wire::put(out, e, b",\"pubkey\":");
-    put_part(out, f, b, pubkey)
+    event::put_part(out, f, b, pubkey)
 }
 
 // ,"created_at":TIME,"kind":KIND,"tags":TAGS
@@ -125,7 +94,7 @@ fn put_middle(out: &mut [u8], at: usize, b: &[u8], p: Body) -> usize
     ensures { λ r. ⌜ Puts (now (out .entry)) at (middleText (eventOf (now (b .entry)) p)) r (now (out .exit)) ⌝ }
 {
     let time = p.created_at;
-    let kind = kind_of(p.kind);
+    let kind = event::kind_of(p.kind);
     let tags = p.tags;
     let a = wire::put(out, at, b",\"created_at\":");
     let c = numeral::put_decimal(out, a, time);
@@ -141,9 +110,9 @@ fn put_back(out: &mut [u8], at: usize, b: &[u8], p: Body, sig: Span) -> usize
 {
     let content = p.content;
     let a = wire::put(out, at, b",\"content\":");
-    let c = put_part(out, a, b, content);
+    let c = event::put_part(out, a, b, content);
     let d = wire::put(out, c, b",\"sig\":");
-    let e = put_part(out, d, b, sig);
+    let e = event::put_part(out, d, b, sig);
     wire::put(out, e, b"}]")
 }
 
@@ -181,7 +150,7 @@ fn event_row(b: &[u8], sub: Span, p: EventParts) -> u8
     if row != 0 {
         return row;
     }
-    if MOST_TEXT < event::text_len(b, body) {
+    if wire::MOST_TEXT < event::text_len(b, body) {
         return 9;
     }
     0
@@ -193,7 +162,10 @@ fn parts_row(b: &[u8], p: ReplyParts) -> u8
 {
     match p {
         ReplyParts::Ok(id, _, reason) => {
-            message::lower_row(message::hex_row(b, id, 64), message::string_row(b, reason))
+            message::lower_row(
+                message::hex_row(b, id, wire::HEX_LENGTH),
+                message::string_row(b, reason),
+            )
         }
         ReplyParts::Event(sub, e) => event_row(b, sub, e),
         ReplyParts::Eose(sub) => message::subscription_row(b, sub),
@@ -226,7 +198,7 @@ fn event_fits(b: &[u8], sub: Span, p: EventParts, room: usize) -> bool
     ensures { λ r. ⌜ Room (length (replyText (replyOf (now (b .entry)) (eventParts sub p)))) room r ⌝ }
 {
     let body = p.body;
-    has_room(room, 266, event::text_len(b, body), part_len(b, sub))
+    has_room(room, 266, event::text_len(b, body), event::part_len(b, sub))
 }
 
 // Whether the reply has room; its parts are tested.
@@ -239,16 +211,21 @@ fn reply_fits(b: &[u8], p: ReplyParts, room: usize) -> bool
             has_room(
                 room,
                 13 + truth_len(accepted),
-                part_len(b, id),
-                part_len(b, reason),
+                event::part_len(b, id),
+                event::part_len(b, reason),
             )
         }
         ReplyParts::Event(sub, e) => event_fits(b, sub, e, room),
-        ReplyParts::Eose(sub) => has_room(room, 11, part_len(b, sub), 0),
+        ReplyParts::Eose(sub) => has_room(room, 11, event::part_len(b, sub), 0),
         ReplyParts::Closed(sub, reason) => {
-            has_room(room, 16, part_len(b, sub), part_len(b, reason))
+            has_room(
+                room,
+                16,
+                event::part_len(b, sub),
+                event::part_len(b, reason),
+            )
         }
-        ReplyParts::Notice(reason) => has_room(room, 13, part_len(b, reason), 0),
+        ReplyParts::Notice(reason) => has_room(room, 13, event::part_len(b, reason), 0),
     }
 }
 

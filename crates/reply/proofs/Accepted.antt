@@ -59,7 +59,7 @@ use Rattle.reply.proofs.Which.{read-event}
 use Rattle.digest.specs.Block.{K, H0, words, schedule, round, rounds, chained, compress}
 use Rattle.digest.specs.Digest.{padding, padded, hashAfter, digestBytes, digest}
 use Rattle.digest.specs.Digest as digests
-use Rattle.reply.specs.Ascii.{ascii}
+use Rattle.wire.specs.Ascii.{ascii}
 
 abbrev sent : List ℕ
 sent = ascii "[\"EVENT\",{\"id\":\"3d4067efc37f3f54be41331244aaadf439dddfd47b27315e8ca570dffc7c927b\",\"pubkey\":\"aaaaaaaaaaaaaaaaaaaaaaaaaaaaaaaaaaaaaaaaaaaaaaaaaaaaaaaaaaaaaaaa\",\"created_at\":0,\"kind\":1,\"tags\":[],\"content\":\"\",\"sig\":\"bbbbbbbbbbbbbbbbbbbbbbbbbbbbbbbbbbbbbbbbbbbbbbbbbbbbbbbbbbbbbbbbbbbbbbbbbbbbbbbbbbbbbbbbbbbbbbbbbbbbbbbbbbbbbbbbbbbbbbbbbbbbbbbb\"}]"

@@ -26,7 +26,7 @@ use Rattle.table.specs.Sound.{sound}
 use Rattle.table.specs.Format.{formatRow, formatted}
 use Rattle.table.proofs.Formatted.{formatted-view, formatted-sound}
 use Rattle.query.specs.Answer.{keep, from, newestFirst, union, answerList, filtersAt}
-use Rattle.reply.specs.Ascii.{ascii}
+use Rattle.wire.specs.Ascii.{ascii}
 use Rattle.reply.specs.Replies.{Reply, eose, notice, replyText, reasonOf}
 use Rattle.reply.specs.Program.{refusal, eventsOf, requestReplies, repliesTo, tableAfter, lines, written, outputFrom, programSlots, freshTable, output}
 

@@ -15,9 +15,9 @@ use Rattle.rows.specs.Strings.{part, spelledAt, refusedIn}
 use Rattle.spell.specs.Spell as spell
 use Rattle.spell.specs.Spell.{charOf, charsFrom, bytesOf, joined, decode, isRefused, refuses, isHexOf}
 use Rattle.shape.specs.Shape.{anyItem, allItems, countItems, nameAt, idName, pubkeyName, createdAtName, kindName, tagsName, contentName, sigName, eventWord, eventMember, once, isEvent, event, wordOf, opened}
-use Rattle.shape.specs.Rows.{row5, row6, row7, row8, eventNumber, eventHex, eventCount, wrongTime, wrongSmall, wrongHex, treeRow}
+use Rattle.shape.specs.Rows.{row5, row6, row7, row8, eventNumber, eventHex, eventCount, wrongTime, wrongSmall, wrongHex, treeRow, wrongTags}
 use Rattle.text.specs.Event.{all, isPlainByte}
-use Rattle.message.specs.Lent.{isTags, wrongTags}
+use Rattle.message.specs.Lent.{isTags}
 use Rattle.message.specs.Parts.{memberOf, bodyOf, eventOf}
 use Rattle.message.specs.Read.{partsOf}
 use Rattle.message.specs.declared.EventParts.{EventParts}

@@ -29,14 +29,14 @@ use Rattle.spell.specs.Spell.{refuses, isHexOf}
 use Rattle.spell.specs.Spell as spell
 use Rattle.spell.proofs.Laws.{hex-escape}
 use Rattle.shape.specs.Shape.{idName, pubkeyName, createdAtName, kindName, tagsName, contentName, sigName, eventWord}
-use Rattle.shape.specs.Rows.{messageRow}
+use Rattle.shape.specs.Rows.{messageRow, wrongTags}
 use Rattle.text.specs.Event.{Event, quoted, tagsText, serialise, all, isPlainByte, isString, isTags, isTime}
 use Rattle.text.specs.Read.{read, readText}
 use Rattle.text.proofs.Pieces.{Spelt, all-of, left, right, tail, byte-is, both, spelt-inside}
 use Rattle.text.proofs.Limits.{Limits, limits-of}
 use Rattle.text.proofs.Rows.{pubkey-length}
 use Rattle.text.proofs.RoundTrip.{read-back}
-use Rattle.message.specs.Lent.{value4, wrongTags}
+use Rattle.message.specs.Lent.{value4}
 use Rattle.message.specs.Lent as lent
 use Rattle.message.specs.Read.{readOf}
 use Rattle.message.specs.declared.Span.{Span}
@@ -56,7 +56,7 @@ use Rattle.table.proofs.Strings.{ws-none, string-read}
 use Rattle.table.proofs.Arrays.{Tight, Stands, next-more, next-done, array-many, tags-read, tags-spelled, utf8-append, quoted-utf8, tags-utf8}
 use Rattle.table.proofs.Passes.{pubkey-hex, judged-again}
 use Rattle.table.proofs.Rows.{rows-in-order}
-use Rattle.reply.specs.Ascii.{ascii}
+use Rattle.wire.specs.Ascii.{ascii}
 use Rattle.reply.specs.Replies.{objectText}
 use Rattle.reply.specs.Laws.{eventMessage, Sendable}
 use Rattle.reply.proofs.Sizes.{quoted-length, object-length}

@@ -42,7 +42,7 @@ use Rattle.table.proofs.Refused.{not-refused}
 use Rattle.query.specs.Filter.{Filter, filterOf}
 use Rattle.query.specs.Match.{matches}
 use Rattle.query.specs.Answer.{keep, among, newestFirst, picked, union, answerList}
-use Rattle.reply.specs.Ascii.{ascii}
+use Rattle.wire.specs.Ascii.{ascii}
 use Rattle.reply.specs.Starred.{AllHold, A, dated, lentIn, lentParts, filterIn, starred}
 
 -- a test that nothing passes keeps nothing

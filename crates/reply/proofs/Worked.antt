@@ -25,7 +25,7 @@ use Rattle.message.specs.declared.Span.{Span}
 use Rattle.message.specs.Lent.{bytesOf as bytes}
 use Rattle.message.specs.Read.{readOf, namedOf}
 use Rattle.event.specs.Lent.{said}
-use Rattle.reply.specs.Ascii.{ascii}
+use Rattle.wire.specs.Ascii.{ascii}
 use Rattle.reply.specs.Replies.{ok, event, eose, closed, notice, objectText, replyText, reasonOf}
 use Rattle.reply.specs.Program.{refusal, repliesTo, lines}
 use Rattle.reply.specs.Laws.{wordIn, idField}

@@ -43,7 +43,7 @@ use Rattle.table.specs.declared.Offered.the-variants.{Stored, Refused}
 use Rattle.query.specs.Filter.{Filter}
 use Rattle.query.specs.Answer.{answerList, filtersAt}
 use Rattle.query.specs.Laws.{Lowest}
-use Rattle.reply.specs.Ascii.{ascii}
+use Rattle.wire.specs.Ascii.{ascii}
 use Rattle.reply.specs.Replies as replies
 use Rattle.reply.specs.Replies.{Reply, ok, eose, closed, notice, objectText, replyText, reasonOf, isAccepted, verdictReason}
 use Rattle.reply.specs.declared.ReplyParts.{ReplyParts}

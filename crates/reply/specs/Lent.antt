@@ -1,11 +1,11 @@
 -- A reply given as lent parts over the buffer b: "Parts of an event, filter or reply are tested by rows 2 and 4 to 8 .., an event by 9 too";
 -- then 13, "lent output .. too short". The reason is any string; ids are "Hex", subscription ids are bounded by "Counts".
 use mathlib.Core.Bool.{Bool, false, cond, _||_, _&&_}
-use mathlib.Core.List.{List, _++_}
+use mathlib.Core.List.{List}
 use Prim.Native.Nat.{ℕ}
-use lib.Dec.{eqb, ltb}
-use lib.ListN.{length, drop}
+use lib.ListN.{length}
 use Rattle.wire.specs.Limits.{hexLength}
+pub use Rattle.wire.specs.Put.{shortRow, outputAfter}
 use Rattle.message.specs.declared.Span.{Span}
 use Rattle.message.specs.declared.EventParts.{EventParts}
 unfoldable pub use Rattle.message.specs.Lent.{subscription8}
@@ -59,14 +59,6 @@ partsRow b (parts.Event s p) = orElse (eventReplyRow b s p) (cond (isLarge b (p 
 partsRow b (parts.Eose s) = eoseRow b s
 partsRow b (parts.Closed s r) = closedRow b s r
 partsRow b (parts.Notice r) = noticeRow b r
-
--- ---- a text t that is to be written to a lent output: row 13, "lent output .. too short"
-abbrev pub shortRow : List ℕ → List ℕ → ℕ
-shortRow t out = cond (ltb (length out) (length t)) 13 0
-
--- "Output is written from its start, and its rest stays"; where a row refuses "every lent buffer stays as found"
-abbrev pub outputAfter : (row : ℕ) → List ℕ → List ℕ → List ℕ
-outputAfter row t out = cond (eqb row 0) (t ++ drop (length t) out) out
 
 -- ---- the reply written: the answer, and the output afterwards
 unfoldable pub replyRow : List ℕ → ReplyParts → List ℕ → ℕ

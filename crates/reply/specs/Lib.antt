@@ -1,6 +1,5 @@
 -- Replies, which of them a message gets, and the program: what it writes, one message answered, and bytes fed to it. Laws and Answering have
 -- what is claimed of them.
-pub mod Ascii
 pub mod Replies
 pub mod Lent
 pub mod Program

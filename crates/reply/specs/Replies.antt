@@ -8,7 +8,7 @@ use Rattle.numeral.specs.Decimal.{digits, decimal}
 use Rattle.text.specs.Event.{Event, quoted, tagsText}
 use Rattle.table.specs.declared.Offered.{Offered}
 use Rattle.table.specs.declared.Offered.the-variants.{Ephemeral, Duplicate, Older, Stored, Refused}
-use Rattle.reply.specs.Ascii.{ascii}
+use Rattle.wire.specs.Ascii.{ascii}
 
 -- strings are decoded; ids and signatures are in hex
 pub data Reply : Type 0 where

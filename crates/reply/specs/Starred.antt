@@ -19,7 +19,7 @@ use Rattle.event.specs.Order.{isNewer}
 use Rattle.query.specs.Filter.{Filter, filterOf}
 use Rattle.query.specs.Match.{matches}
 use Rattle.query.specs.Answer.{answerList}
-use Rattle.reply.specs.Ascii.{ascii}
+use Rattle.wire.specs.Ascii.{ascii}
 
 -- what a case says
 pub data Case : Type 0 where

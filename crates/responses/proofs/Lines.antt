@@ -18,7 +18,7 @@ use Rattle.message.specs.declared.Named.the-variants.{Id, Subscription, Nothing
 use Rattle.event.specs.Lent.{said}
 use Rattle.table.specs.declared.Offered.{Offered}
 use Rattle.table.specs.declared.Offered.the-variants.{Refused}
-use Rattle.reply.specs.Ascii.{ascii}
+use Rattle.wire.specs.Ascii.{ascii}
 use Rattle.reply.specs.Replies.{notice, replyText, truth, isAccepted, verdictReason, reasons, reasonOf}
 use Rattle.reply.specs.Program.{refusalNaming, refusal}
 use Rattle.reply.proofs.Sizes.{quoted-length, reason-short}

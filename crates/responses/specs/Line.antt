@@ -15,7 +15,7 @@ use Rattle.law.specs.Lists.{_∈_}
 use Rattle.table.specs.Layout.{countOf}
 use Rattle.table.specs.Sound.{sound}
 use Rattle.table.specs.declared.Offered.{Offered}
-use Rattle.reply.specs.Ascii.{ascii}
+use Rattle.wire.specs.Ascii.{ascii}
 use Rattle.reply.specs.Replies.{ok, eose, closed, notice, replyText, truth, reasonOf, isAccepted, verdictReason}
 use Rattle.reply.specs.Lent.{shortRow, outputAfter}
 use Rattle.reply.specs.Program.{refusalNaming, eventsOf, written}

@@ -4,7 +4,6 @@ ghost use mathlib.Core.Path.{_≡_};
 ghost use Prim.Native.Nat.{_+_, _≤_};
 ghost use lib.ListN.{length};
 ghost use Rattle.wire.specs.Put.{Puts};
-ghost use Rattle.wire.specs.Escape.{escape};
 ghost use Rattle.text.specs.Event.{quoted};
 ghost use Rattle.message.specs.Read.{readOf};
 ghost use Rattle.message.specs.declared.Message.the-variants as message;
@@ -91,22 +90,6 @@ fn verdict_len(a: Offered) -> usize
     }
 }
 
-// A string part, decoded and escaped between quotes.
-fn put_part(out: &mut [u8], at: usize, b: &[u8], s: Span) -> usize
-    ensures { λ r. ⌜ Puts (now (out .entry)) at (quoted (said (now (b .entry)) s)) r (now (out .exit)) ⌝ }
-{
-    let a = wire::put(out, at, b"\"");
-    let c = spell::put_escaped(out, a, wire::piece(b, s.start, s.len));
-    wire::put(out, c, b"\"")
-}
-
-// How long that is, but for the quotes.
-fn part_len(b: &[u8], s: Span) -> usize
-    ensures { λ r. ⌜ r ≡ length (escape (said (now (b .entry)) s)) ⌝ }
-{
-    spell::escaped_len(wire::piece(b, s.start, s.len))
-}
-
 // Whether m and n bytes have room. By subtraction: the sum may be more than a number holds.
 fn has_room(room: usize, m: usize, n: usize) -> bool
     ensures { λ r. ⌜ Room (m + n) room r ⌝ }
@@ -123,7 +106,7 @@ fn put_ok(out: &mut [u8], m: &[u8], id: Span, a: Offered) -> usize
     ensures { λ r. ⌜ Puts (now (out .entry)) 0 (okText (said (now (m .entry)) id) a) r (now (out .exit)) ⌝ }
 {
     let b = wire::put(out, 0, b"[\"OK\",");
-    let c = put_part(out, b, m, id);
+    let c = event::put_part(out, b, m, id);
     let d = wire::put(out, c, b",");
     let e = put_verdict(out, d, a);
     wire::put(out, e, b"]")
@@ -134,7 +117,7 @@ fn put_closed(out: &mut [u8], m: &[u8], sub: Span, row: u8) -> usize
     ensures { λ r. ⌜ Puts (now (out .entry)) 0 (closedText (said (now (m .entry)) sub) row) r (now (out .exit)) ⌝ }
 {
     let b = wire::put(out, 0, b"[\"CLOSED\",");
-    let c = put_part(out, b, m, sub);
+    let c = event::put_part(out, b, m, sub);
     let d = wire::put(out, c, b",");
     let e = put_reason(out, d, row);
     wire::put(out, e, b"]")
@@ -154,7 +137,7 @@ fn put_eose(out: &mut [u8], at: usize, m: &[u8], sub: Span) -> usize
     ensures { λ r. ⌜ Puts (now (out .entry)) at (eoseLine (said (now (m .entry)) sub)) r (now (out .exit)) ⌝ }
 {
     let b = wire::put(out, at, b"[\"EOSE\",");
-    let c = put_part(out, b, m, sub);
+    let c = event::put_part(out, b, m, sub);
     wire::put(out, c, b"]\n")
 }
 
@@ -185,8 +168,8 @@ fn refusal_fits(m: &[u8], n: Named, row: u8, room: usize) -> bool
 {
     let k = reason_len(row);
     match n {
-        Named::Id(p) => has_room(room, 16 + k, part_len(m, p)),
-        Named::Subscription(p) => has_room(room, 14 + k, part_len(m, p)),
+        Named::Id(p) => has_room(room, 16 + k, event::part_len(m, p)),
+        Named::Subscription(p) => has_room(room, 14 + k, event::part_len(m, p)),
         Named::Nothing => has_room(room, 11 + k, 0),
     }
 }

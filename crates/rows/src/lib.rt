@@ -6,19 +6,13 @@ ghost use lib.ListN.{length};
 ghost use Rattle.json.specs.Grammar.{scalarAt, tokenAt};
 ghost use Rattle.json.specs.Tree.{onLeaf, treeAt, root};
 ghost use Rattle.spell.specs.Spell.{refuses};
-ghost use Rattle.rows.specs.Strings.{part};
+ghost use Rattle.rows.specs.Strings.{part, spelledAt};
 ghost use Rattle.rows.specs.Rows.{row4, textRow};
 ghost use Rattle.rows.specs.Seen.{made, seenOf, nameAt, placeOf, isRefused, toldOf};
 use json::Kind;
 use json::Next;
 use json::Out;
 use json::Start;
-
-// The most bytes that a message may have.
-const MOST: usize = 8192;
-
-// The most brackets and braces that may be open at once.
-const DEPTH: usize = 8;
 
 // Where a value ends, by whether row 4 refuses some string in it; or that no value stands there.
 pub enum Seen {
@@ -69,6 +63,16 @@ fn quoted(s: &[u8], at: usize, end: usize) -> bool
     ensures { λ r. ⌜ r ≡ refuses (part (now (s .entry)) (at + 1) (end - at - 2)) ⌝ }
 {
     spell::refused(&s[at + 1..end - 1])
+}
+
+// The string that begins at a place, between its quotes.
+pub fn spelled(s: &[u8], at: usize) -> &[u8]
+    ensures { λ r. ⌜ now r ≡ spelledAt (now (s .entry)) at ⌝ }
+{
+    match json::string(s, at) {
+        Out::End(n) => wire::piece(s, at + 1, n - at - 2),
+        Out::Bad => wire::piece(s, 0, 0),
+    }
 }
 
 // A value that holds no value.
@@ -158,7 +162,7 @@ fn walk(s: &[u8], at: usize, d: usize) -> Seen
 fn whole(s: &[u8]) -> Seen
     ensures { λ r. ⌜ r ≡ seenOf (now (s .entry)) (root (now (s .entry))) ⌝ }
 {
-    walk(s, json::space(s, 0), DEPTH)
+    walk(s, json::space(s, 0), json::DEPTH)
 }
 
 // Row 4: whether some string of a text, names included, decodes to what no string may have; false where the text has no value.
@@ -183,7 +187,7 @@ fn told(x: Seen, size: usize) -> u8
 pub fn text_row(s: &[u8]) -> u8
     ensures { λ r. ⌜ r ≡ textRow (now (s .entry)) ⌝ }
 {
-    if MOST < s.len() {
+    if wire::MOST_MESSAGE < s.len() {
         return 1;
     }
     if !utf8::is_utf8(s) {

@@ -6,11 +6,11 @@ use Prim.Native.Nat.{ℕ, zero, suc, _≤_, _<_}
 use native.Mathlib.Omega.{arith}
 use borrow.Author.Tests.{lt-ltb, eq-eqb, eqb-true, ltb-true}
 use lib.Dec.{eqb, ltb}
-use Rattle.json.specs.Tree.{Json, word, num, str, arr, obj, Items, nil, item}
+use Rattle.json.specs.Tree.{Json, word, num, str, arr, obj, Items, nil, item, onObject}
 use Rattle.wire.specs.Bytes.{sameBytes}
 use Rattle.rows.specs.Strings.{refusedIn}
 use Rattle.shape.specs.Shape.{allItems, anyItem, countItems, nameAt, named, idName, pubkeyName, createdAtName, kindName, tagsName, contentName, sigName, eventMember, once, isEvent}
-use Rattle.shape.specs.Rows.{onObject, eventNumber, eventHex, eventCount}
+use Rattle.shape.specs.Rows.{eventNumber, eventHex, eventCount}
 use Rattle.shape.specs.Walk.{SHAPE, FINE, UNKNOWN, EVENT, stringForm, stringRow, numberRow, groupForm, nameSlot, eventSlot, eventForm, slotForm, isIn, isFull, fresh, endRow, rowOf}
 use Rattle.shape.proofs.Names.{no, and-left, and-right, both-ways}
 use Rattle.shape.proofs.Bits.{in-none, full-bits}

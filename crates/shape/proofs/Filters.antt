@@ -6,13 +6,13 @@ use Prim.Native.Nat.{ℕ, suc, _+_, _-_, _≤_, _<_, min}
 use native.Mathlib.Omega.{arith}
 use borrow.Author.Tests.{lt-ltb, le-ltb, ltb-true, ltb-false, le-leb, ne-eqb}
 use lib.Dec.{eqb, ltb, leb}
-use Rattle.json.specs.Tree.{Json, word, num, str, arr, obj, Items, nil, item}
+use Rattle.json.specs.Tree.{Json, word, num, str, arr, obj, Items, nil, item, onObject}
 use Rattle.json.specs.Grammar.{within}
 use Rattle.wire.specs.Limits.{mostConditions}
 use Rattle.wire.specs.Bytes.{sameBytes}
 use Rattle.rows.specs.Strings.{refusedIn}
 use Rattle.shape.specs.Shape.{allItems, anyItem, countItems, nameAt, named, isLetter, isCondition, filterMember, noneTwice, isFilter}
-use Rattle.shape.specs.Rows.{outside, onObject, filterNumber, filterHex, filterCount, filterCounts}
+use Rattle.shape.specs.Rows.{outside, filterNumber, filterHex, filterCount, filterCounts}
 use Rattle.shape.specs.Walk.{UNKNOWN, LOWER, UPPER, FILTER, bounds, stringForm, stringRow, numberRow, groupForm, nameSlot, letterSlot, conditionSlot, filterSlot, filterForm, slotForm, marksAfter, fresh, endRow, rowOf}
 use Rattle.shape.proofs.Names.{no, and-left, and-right, within-ends}
 use Rattle.shape.proofs.Low.{low, Lowest, said, begins}

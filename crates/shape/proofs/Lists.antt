@@ -5,12 +5,12 @@ use mathlib.Core.Bool.{Bool, true, false, cond, not, _&&_, _||_, or-false, or-co
 use Prim.Native.Nat.{ℕ, suc, _+_, _≤_}
 use native.Mathlib.Nat.{add-zero, zero-add}
 use native.Mathlib.Omega.{arith}
-use Rattle.json.specs.Tree.{Json, word, num, str, arr, obj, Items, nil, item}
+use Rattle.json.specs.Tree.{Json, word, num, str, arr, obj, Items, nil, item, onArray}
 use Rattle.rows.specs.Strings.{refusedIn, refusedItems}
 use Rattle.shape.specs.declared.Tally.{Tally}
 use Rattle.shape.specs.Shape.{anyItem, allItems, countItems, count, isString, isNumber, isArrayOf}
 use Rattle.wire.specs.Limits.{mostTags, mostStrings, mostMembers}
-use Rattle.shape.specs.Rows.{outside, onArray, wrongSmall, wrongHex, wrongTag, wrongList}
+use Rattle.shape.specs.Rows.{outside, wrongSmall, wrongHex, wrongTag, wrongTags, wrongList}
 use Rattle.shape.specs.Walk.{TEXT, HEX64, SMALL, TAGLIST, TAG, TEXTS, HEXES, SMALLS, stringForm, stringRow, numberRow, groupForm, placeSlot, itemOf, slotForm, fresh, endRow, closed, rowOf, rowItems}
 use Rattle.shape.proofs.Low.{low, Lowest, After, said, after-said, ends, begins, not-both, either-first}
 use Rattle.shape.proofs.Never.{turn-after, never-after}
@@ -90,7 +90,7 @@ module _ (s : List ℕ) where
   -- ---- the tags of an event
   pub tags : (t : Json)
       → Lowest (rowOf s TAGLIST t) (refusedIn s t) (not (isArrayOf (isArrayOf isString) t)) false false
-      (onArray (λ ts. outside 0 mostTags (count ts) || anyItem (λ q u. wrongTag u) ts) t)
+      (wrongTags t)
   unfolding low rowOf refusedIn stringRow stringForm numberRow groupForm fresh slotForm endRow
   tags (word a n) = record { is = refl }
   tags (num a n) = record { is = refl }

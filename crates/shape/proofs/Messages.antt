@@ -6,13 +6,13 @@ use Prim.Native.Nat.{ℕ, suc, _+_, _≤_, _<_}
 use native.Mathlib.Omega.{arith}
 use borrow.Author.Tests.{lt-ltb, le-ltb, ltb-true, ltb-false, ne-eqb}
 use lib.Dec.{eqb, ltb}
-use Rattle.json.specs.Tree.{Json, word, num, str, arr, obj, Items, nil, item}
+use Rattle.json.specs.Tree.{Json, word, num, str, arr, obj, Items, nil, item, onObject}
 use Rattle.spell.specs.Spell.{decode}
 use Rattle.rows.specs.Strings.{part, refusedIn, refusedItems}
 use Rattle.shape.specs.declared.Tally.{Tally}
 use Rattle.shape.specs.Shape.{anyItem, allItems, countItems, count, isString, isEvent, isFilter, isOne, Word, event, req, close, other, wordOf, opened, hasShape}
 use Rattle.wire.specs.Limits.{mostFilters}
-use Rattle.shape.specs.Rows.{row4, row5, row6, row7, row8, treeRow, onObject, inMessage, wrongRequest, outside, eventNumber, eventHex, eventCount, filterNumber, filterHex, filterCounts, wrongSubscription}
+use Rattle.shape.specs.Rows.{row4, row5, row6, row7, row8, treeRow, inMessage, wrongRequest, outside, eventNumber, eventHex, eventCount, filterNumber, filterHex, filterCounts, wrongSubscription}
 use Rattle.shape.specs.Walk.{SHAPE, FINE, NEVER, TEXT, LABEL, EVENT, FILTER, OFFER, REQUEST, CLOSING, FIRST, SECOND, LATER, bounds, groupForm, placeSlot, itemOf, elementForm, slotForm, fresh, endRow, closed, rowOf, rowItems, wordForm, toldOf}
 use Rattle.shape.proofs.Names.{both-ways}
 use Rattle.shape.proofs.Low.{low, Lowest, After, said, after-said, after-hidden, ends, begins, not-both, between-last}

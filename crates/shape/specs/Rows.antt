@@ -5,7 +5,7 @@ use mathlib.Core.List.{List}
 use mathlib.Core.Bool.{Bool, true, false, cond, not, _||_}
 use lib.Dec.{ltb}
 use lib.IntN.{ℤ, pos, negℤ}
-use Rattle.json.specs.Tree.{Json, word, num, str, arr, obj, Items, nil, item, Got, none, got, root}
+use Rattle.json.specs.Tree.{Json, Items, nil, item, Got, none, got, root, onString, onNumber, onArray, onObject}
 use Rattle.rows.specs.Strings.{part, refusedIn}
 use Rattle.rows.specs.Rows.{row1, row2, row3}
 use Rattle.spell.specs.Spell.{characterCount, isHexOf}
@@ -20,35 +20,6 @@ row4 s t = refusedIn s t
 -- ---- row 5: "wrong shape"
 abbrev pub row5 : List ℕ → Json → Bool
 row5 s t = not (hasShape s (opened s t .first) (opened s t .rest))
-
--- what holds of a string, a number, an array; of any other value it is for row 5 to say
-abbrev pub onString : (ℕ → ℕ → Bool) → Json → Bool
-onString f (word a n) = false
-onString f (num a n) = false
-onString f (str a n) = f a n
-onString f (arr ts) = false
-onString f (obj ts) = false
-
-abbrev pub onNumber : (ℕ → ℕ → Bool) → Json → Bool
-onNumber f (word a n) = false
-onNumber f (num a n) = f a n
-onNumber f (str a n) = false
-onNumber f (arr ts) = false
-onNumber f (obj ts) = false
-
-abbrev pub onArray : (Items → Bool) → Json → Bool
-onArray f (word a n) = false
-onArray f (num a n) = false
-onArray f (str a n) = false
-onArray f (arr ts) = f ts
-onArray f (obj ts) = false
-
-abbrev pub onObject : (Items → Bool) → Json → Bool
-onObject f (word a n) = false
-onObject f (num a n) = false
-onObject f (str a n) = false
-onObject f (arr ts) = false
-onObject f (obj ts) = f ts
 
 -- what holds of an event, or of some filter of a REQ
 abbrev pub inMessage : (Json → Bool) → (Json → Bool) → Word → Items → Bool
@@ -103,8 +74,11 @@ outside low high n = ltb n low || ltb high n
 unfoldable pub wrongTag : Json → Bool
 wrongTag t = onArray (λ ts. outside 1 mostStrings (count ts)) t
 
+abbrev pub wrongTags : Json → Bool
+wrongTags t = onArray (λ ts. outside 0 mostTags (count ts) || anyItem (λ q u. wrongTag u) ts) t
+
 unfoldable pub eventCount : List ℕ → ℕ → Json → Bool
-eventCount s p t = cond (named s tagsName p) (onArray (λ ts. outside 0 mostTags (count ts) || anyItem (λ q u. wrongTag u) ts) t) false
+eventCount s p t = cond (named s tagsName p) (wrongTags t) false
 
 unfoldable pub wrongList : Json → Bool
 wrongList t = onArray (λ ts. outside 1 mostMembers (count ts)) t

@@ -1,11 +1,12 @@
 -- 01, "Shape": what an EVENT, a REQ and a CLOSE are, over the tree of a text s. Names and the first word compare as decoded. A name that
 -- begins at p is a member's; t is its value.
 use Prim.Native.Nat.{ℕ, suc}
-use mathlib.Core.List.{List, [], _∷_}
+use mathlib.Core.List.{List}
 use mathlib.Core.Bool.{Bool, true, false, cond, not, _&&_, _||_}
 use lib.Dec.{eqb, leb}
 use lib.ListN.{length, getD}
-use Rattle.json.specs.Tree.{Json, word, num, str, arr, obj, Items, nil, item}
+use Rattle.json.specs.Tree.{Json, word, num, str, arr, obj, Items, nil, item, onString, onNumber, onArray, onObject}
+use Rattle.wire.specs.Ascii.{ascii}
 use Rattle.wire.specs.Bytes.{sameBytes}
 use Rattle.spell.specs.Spell.{decode}
 use Rattle.rows.specs.Strings.{part, spelledAt}
@@ -36,54 +37,54 @@ named s w p = sameBytes (nameAt s p) w
 
 -- id, pubkey, created_at, kind, tags, content, sig
 abbrev pub idName : List ℕ
-idName = 105 ∷ 100 ∷ []
+idName = ascii "id"
 
 abbrev pub pubkeyName : List ℕ
-pubkeyName = 112 ∷ 117 ∷ 98 ∷ 107 ∷ 101 ∷ 121 ∷ []
+pubkeyName = ascii "pubkey"
 
 abbrev pub createdAtName : List ℕ
-createdAtName = 99 ∷ 114 ∷ 101 ∷ 97 ∷ 116 ∷ 101 ∷ 100 ∷ 95 ∷ 97 ∷ 116 ∷ []
+createdAtName = ascii "created_at"
 
 abbrev pub kindName : List ℕ
-kindName = 107 ∷ 105 ∷ 110 ∷ 100 ∷ []
+kindName = ascii "kind"
 
 abbrev pub tagsName : List ℕ
-tagsName = 116 ∷ 97 ∷ 103 ∷ 115 ∷ []
+tagsName = ascii "tags"
 
 abbrev pub contentName : List ℕ
-contentName = 99 ∷ 111 ∷ 110 ∷ 116 ∷ 101 ∷ 110 ∷ 116 ∷ []
+contentName = ascii "content"
 
 abbrev pub sigName : List ℕ
-sigName = 115 ∷ 105 ∷ 103 ∷ []
+sigName = ascii "sig"
 
 -- ids, authors, kinds, since, until, limit
 abbrev pub idsName : List ℕ
-idsName = 105 ∷ 100 ∷ 115 ∷ []
+idsName = ascii "ids"
 
 abbrev pub authorsName : List ℕ
-authorsName = 97 ∷ 117 ∷ 116 ∷ 104 ∷ 111 ∷ 114 ∷ 115 ∷ []
+authorsName = ascii "authors"
 
 abbrev pub kindsName : List ℕ
-kindsName = 107 ∷ 105 ∷ 110 ∷ 100 ∷ 115 ∷ []
+kindsName = ascii "kinds"
 
 abbrev pub sinceName : List ℕ
-sinceName = 115 ∷ 105 ∷ 110 ∷ 99 ∷ 101 ∷ []
+sinceName = ascii "since"
 
 abbrev pub untilName : List ℕ
-untilName = 117 ∷ 110 ∷ 116 ∷ 105 ∷ 108 ∷ []
+untilName = ascii "until"
 
 abbrev pub limitName : List ℕ
-limitName = 108 ∷ 105 ∷ 109 ∷ 105 ∷ 116 ∷ []
+limitName = ascii "limit"
 
 -- EVENT, REQ, CLOSE
 abbrev pub eventWord : List ℕ
-eventWord = 69 ∷ 86 ∷ 69 ∷ 78 ∷ 84 ∷ []
+eventWord = ascii "EVENT"
 
 abbrev pub reqWord : List ℕ
-reqWord = 82 ∷ 69 ∷ 81 ∷ []
+reqWord = ascii "REQ"
 
 abbrev pub closeWord : List ℕ
-closeWord = 67 ∷ 76 ∷ 79 ∷ 83 ∷ 69 ∷ []
+closeWord = ascii "CLOSE"
 
 -- "# with one letter a-z or A-Z"
 abbrev pub isLetter : ℕ → Bool
@@ -94,33 +95,13 @@ isCondition w = eqb (length w) 2 && (eqb (getD w 0 0) 35 && isLetter (getD w 1 0
 
 -- ---- "Each value has its JSON type, list and tag members included"
 abbrev pub isString : Json → Bool
-isString (word a n) = false
-isString (num a n) = false
-isString (str a n) = true
-isString (arr ts) = false
-isString (obj ts) = false
+isString = onString (λ a n. true)
 
 abbrev pub isNumber : Json → Bool
-isNumber (word a n) = false
-isNumber (num a n) = true
-isNumber (str a n) = false
-isNumber (arr ts) = false
-isNumber (obj ts) = false
+isNumber = onNumber (λ a n. true)
 
 abbrev pub isArrayOf : (Json → Bool) → Json → Bool
-isArrayOf f (word a n) = false
-isArrayOf f (num a n) = false
-isArrayOf f (str a n) = false
-isArrayOf f (arr ts) = allItems (λ p t. f t) ts
-isArrayOf f (obj ts) = false
-
--- an object of which f holds
-abbrev pub isObject : (Items → Bool) → Json → Bool
-isObject f (word a n) = false
-isObject f (num a n) = false
-isObject f (str a n) = false
-isObject f (arr ts) = false
-isObject f (obj ts) = f ts
+isArrayOf f = onArray (allItems (λ p t. f t))
 
 -- ---- EVENT: "an object with id, pubkey, created_at, kind, tags, content, sig, each once, in any order, nothing else"
 unfoldable pub eventMember : List ℕ → ℕ → Json → Bool
@@ -137,7 +118,7 @@ unfoldable pub once : List ℕ → List ℕ → Items → Bool
 once s w ts = eqb (countItems (λ p t. named s w p) ts) 1
 
 unfoldable pub isEvent : List ℕ → Json → Bool
-isEvent s t = isObject (λ ts. allItems (eventMember s) ts &&
+isEvent s t = onObject (λ ts. allItems (eventMember s) ts &&
     (once s idName ts && (once s pubkeyName ts && (once s createdAtName ts && (once s kindName ts && (once s tagsName ts && (once s contentName ts && once s sigName ts))))))) t
 
 -- ---- "Filters may have ids, authors, kinds, since, until, limit and # with one letter a-z or A-Z, each at most once"
@@ -156,7 +137,7 @@ noneTwice s nil = true
 noneTwice s (item p v t ts) = not (anyItem (λ q u. sameBytes (nameAt s q) (nameAt s p)) ts) && noneTwice s ts
 
 unfoldable pub isFilter : List ℕ → Json → Bool
-isFilter s t = isObject (λ ts. allItems (filterMember s) ts && noneTwice s ts) t
+isFilter s t = onObject (λ ts. allItems (filterMember s) ts && noneTwice s ts) t
 
 -- ---- the message: its first word, and the elements after it
 pub data Word : Type 0 where

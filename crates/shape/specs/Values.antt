@@ -2,13 +2,13 @@
 -- rows 2 and 4 to 8": the lowest that holds, 0 where none does, 5 where there is no value.
 use Prim.Native.Nat.{ℕ, _-_}
 use mathlib.Core.List.{List}
-use mathlib.Core.Bool.{Bool, true, false, cond, not, _||_}
+use mathlib.Core.Bool.{Bool, true, false, cond, not}
 use Rattle.utf8.specs.Utf8.{isUtf8}
-use Rattle.json.specs.Tree.{Json, Got, none, got, depth, treeAt}
+use Rattle.json.specs.Tree.{Json, Got, none, got, depth, treeAt, onArray, onObject}
 use Rattle.rows.specs.Strings.{part, refusedIn}
-use Rattle.shape.specs.Shape.{anyItem, count, isString, isNumber, isArrayOf, isFilter}
-use Rattle.wire.specs.Limits.{hexLength, mostTags}
-use Rattle.shape.specs.Rows.{onArray, onObject, outside, wrongSmall, wrongHex, wrongTag, wrongList, filterNumber, filterHex, filterCounts}
+use Rattle.shape.specs.Shape.{anyItem, isString, isNumber, isArrayOf, isFilter}
+use Rattle.wire.specs.Limits.{hexLength}
+use Rattle.shape.specs.Rows.{wrongSmall, wrongHex, wrongTags, wrongList, filterNumber, filterHex, filterCounts}
 use Rattle.shape.specs.Walk.{TAGLIST, HEXES, SMALLS, FILTER}
 use Rattle.shape.specs.declared.Sort.{Sort}
 use Rattle.shape.specs.declared.Sort.the-variants.{Tags, Hexes, Smalls, Filter}
@@ -32,7 +32,7 @@ sort7 s Smalls t = false
 sort7 s Filter t = onObject (anyItem (filterHex s)) t
 
 abbrev pub sort8 : List ℕ → Sort → Json → Bool
-sort8 s Tags t = onArray (λ ts. outside 0 mostTags (count ts) || anyItem (λ q u. wrongTag u) ts) t
+sort8 s Tags t = wrongTags t
 sort8 s Hexes t = wrongList t
 sort8 s Smalls t = wrongList t
 sort8 s Filter t = onObject (filterCounts s) t

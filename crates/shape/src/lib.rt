@@ -1,13 +1,13 @@
 // Rows 1 to 8 of 01 for a client message: the lowest that holds anywhere in it. Every part answers the lowest row that it breaks, and FINE
 // for none; parts are joined by the least. What must stand at a place is its form, a small number.
 ghost use mathlib.Core.Path.{_≡_};
-ghost use Prim.Native.Nat.{_<_, _+_, _-_, _^_, min};
+ghost use Prim.Native.Nat.{_<_, _+_, _-_, _^_};
 ghost use lib.IntN.{pos, negℤ};
 ghost use Rattle.json.specs.Grammar.{within, scalarAt, startAt};
 ghost use Rattle.json.specs.Tree.{onLeaf, treeAt};
 ghost use Rattle.spell.specs.Spell.{decode};
 ghost use Rattle.wire.specs.Limits.{widest, mostSmall};
-ghost use Rattle.rows.specs.Strings.{part, spelledAt};
+ghost use Rattle.rows.specs.Strings.{part};
 ghost use Rattle.shape.specs.Shape.{wordOf};
 ghost use Rattle.shape.specs.Rows.{messageRow};
 ghost use Rattle.shape.specs.Walk.{bounds, hexRow, stringForm, stringRow, rangeRow, numberRow, groupForm, placeSlot, eventSlot, letterSlot, conditionSlot, filterSlot, nameSlot, nameRow, memberOf, itemOf, eventForm, filterForm, elementForm, slotForm, isIn, onceRow, marksAfter, fresh, stepped, isFull, endRow, closed, judgedOf, wordForm, openingOf, toldOf};
@@ -16,27 +16,6 @@ use json::Kind;
 use json::Next;
 use json::Out;
 use json::Start;
-
-// The limits of 01.
-const MESSAGE: usize = 8192;
-
-const DEPTH: usize = 8;
-
-const CHARACTERS: usize = 64;
-
-const CONDITIONS: usize = 4;
-
-const TAGS_MOST: usize = 64;
-
-const STRINGS: usize = 16;
-
-const MEMBERS: usize = 16;
-
-const FILTERS: usize = 4;
-
-const LEAST: i64 = -9007199254740991;
-
-const WIDEST: i64 = 9007199254740991;
 
 // The rows, and a number above them all.
 const STRING: u8 = 4;
@@ -144,12 +123,6 @@ struct Tally {
     marks: u8,
 }
 
-fn least(a: u8, b: u8) -> u8
-    ensures { λ r. ⌜ r ≡ min a b ⌝ }
-{
-    if a < b { a } else { b }
-}
-
 fn bounded(low: usize, high: usize, n: usize) -> u8
     ensures { λ r. ⌜ r ≡ bounds low high n ⌝ }
 {
@@ -178,16 +151,6 @@ fn cut(s: &[u8], from: usize, to: usize) -> &[u8]
     &s[from..to]
 }
 
-// The string that begins at p, as spelled between its quotes.
-fn spelled(s: &[u8], p: usize) -> &[u8]
-    ensures { λ r. ⌜ now r ≡ spelledAt (now (s .entry)) p ⌝ }
-{
-    match json::string(s, p) {
-        Out::End(n) => cut(s, p + 1, n - 1),
-        Out::Bad => &s[..0],
-    }
-}
-
 fn hex_row(k: usize, p: &[u8]) -> u8
     ensures { λ r. ⌜ r ≡ hexRow k (now (p .entry)) ⌝ }
 {
@@ -200,11 +163,11 @@ fn string_form(form: u8, p: &[u8]) -> u8
     if form == TEXT {
         FINE
     } else if form == LABEL {
-        bounded(1, CHARACTERS, spell::characters(p))
+        bounded(1, wire::MOST_CHARACTERS, spell::characters(p))
     } else if form == HEX64 {
-        hex_row(64, p)
+        hex_row(wire::HEX_LENGTH, p)
     } else if form == HEX128 {
-        hex_row(128, p)
+        hex_row(wire::SIG_LENGTH, p)
     } else {
         SHAPE
     }
@@ -223,7 +186,7 @@ fn string_row(form: u8, p: &[u8]) -> u8
 fn time_row(p: &[u8]) -> u8
     ensures { λ r. ⌜ r ≡ rangeRow (negℤ (pos widest)) (pos widest) (now (p .entry)) ⌝ }
 {
-    if numeral::within(numeral::read_whole(p), LEAST, WIDEST) {
+    if numeral::within(numeral::read_whole(p), wire::MINUS_WIDEST, wire::WIDEST) {
         FINE
     } else {
         NUMBER
@@ -233,7 +196,7 @@ fn time_row(p: &[u8]) -> u8
 fn small_row(p: &[u8]) -> u8
     ensures { λ r. ⌜ r ≡ rangeRow (pos 0) (pos mostSmall) (now (p .entry)) ⌝ }
 {
-    if numeral::within(numeral::read_whole(p), 0, 65535) {
+    if numeral::within(numeral::read_whole(p), 0, wire::MOST_SMALL) {
         FINE
     } else {
         NUMBER
@@ -323,18 +286,12 @@ fn event_slot(p: &[u8]) -> u8
     }
 }
 
-fn between(low: u8, high: u8, b: u8) -> bool
-    ensures { λ r. ⌜ r ≡ within low high b ⌝ }
-{
-    low <= b && b <= high
-}
-
 fn letter_slot(b: u8) -> u8
     ensures { λ r. ⌜ r ≡ letterSlot b ⌝ }
 {
-    if between(b'a', b'z', b) {
+    if json::between(b'a', b'z', b) {
         b - b'a' + LOWER
-    } else if between(b'A', b'Z', b) {
+    } else if json::between(b'A', b'Z', b) {
         b - b'A' + UPPER
     } else {
         UNKNOWN
@@ -426,7 +383,7 @@ fn item_of(s: &[u8], form: u8, named: bool, k: usize, p: usize) -> Item
     ensures { λ r. ⌜ r ≡ itemOf (now (s .entry)) form named k p ⌝ }
 {
     if named {
-        member(form, spelled(s, p))
+        member(form, rows::spelled(s, p))
     } else {
         Item {
             slot: place_slot(k),
@@ -575,9 +532,9 @@ fn step(named: bool, a: Tally, it: Item, row: u8) -> Tally
     ensures { λ r. ⌜ r ≡ stepped named a it row ⌝ }
 {
     Tally {
-        row: least(
+        row: wire::least(
             a.row,
-            least(it.row, least(row, once_row(named, it.slot, a.seen))),
+            wire::least(it.row, wire::least(row, once_row(named, it.slot, a.seen))),
         ),
         seen: a.seen | bit(it.slot),
         marks: marks_after(it.slot, a.marks),
@@ -598,20 +555,20 @@ fn end_row(form: u8, k: usize, a: Tally) -> u8
     if form == EVENT {
         if is_full(a.seen) { FINE } else { SHAPE }
     } else if form == FILTER {
-        bounded(0, CONDITIONS, a.marks as usize)
+        bounded(0, wire::MOST_CONDITIONS, a.marks as usize)
     } else if form == TAGLIST {
-        bounded(0, TAGS_MOST, k)
+        bounded(0, wire::MOST_TAGS, k)
     } else if form == TAG {
-        bounded(1, STRINGS, k)
+        bounded(1, wire::MOST_STRINGS, k)
     } else if form == NEVER {
         SHAPE
     } else if form < OFFER {
-        bounded(1, MEMBERS, k)
+        bounded(1, wire::MOST_MEMBERS, k)
     } else if form == REQUEST {
         if k < 2 {
             SHAPE
         } else {
-            bounded(3, 2 + FILTERS, k)
+            bounded(3, 2 + wire::MOST_FILTERS, k)
         }
     } else if k == 2 {
         FINE
@@ -623,7 +580,7 @@ fn end_row(form: u8, k: usize, a: Tally) -> u8
 fn close(form: u8, k: usize, a: Tally) -> u8
     ensures { λ r. ⌜ r ≡ closed form k a ⌝ }
 {
-    least(a.row, end_row(form, k, a))
+    wire::least(a.row, end_row(form, k, a))
 }
 
 // A value where the form must stand, with at most d brackets and braces open at once, and the white space after it.
@@ -693,7 +650,7 @@ fn opening(s: &[u8], at: usize) -> u8
             if named {
                 NEVER
             } else {
-                word_form(spelled(s, first))
+                word_form(rows::spelled(s, first))
             }
         }
     }
@@ -709,14 +666,14 @@ fn told(row: u8) -> u8
 pub fn message_row(s: &[u8]) -> u8
     ensures { λ r. ⌜ r ≡ messageRow (now (s .entry)) ⌝ }
 {
-    if MESSAGE < s.len() {
+    if wire::MOST_MESSAGE < s.len() {
         return 1;
     }
     if !utf8::is_utf8(s) {
         return 2;
     }
     let at = json::space(s, 0);
-    match judge(s, at, DEPTH, opening(s, at)) {
+    match judge(s, at, json::DEPTH, opening(s, at)) {
         Judged::Ends(n, row) => { if n == s.len() { told(row) } else { 3 } }
         Judged::Wrong => 3,
     }
@@ -745,7 +702,7 @@ fn sort_form(k: Sort) -> u8
 pub fn value_row(s: &[u8], at: usize, k: Sort) -> u8
     ensures { λ r. ⌜ r ≡ valueRow (now (s .entry)) at k ⌝ }
 {
-    match judge(s, at, DEPTH, sort_form(k)) {
+    match judge(s, at, json::DEPTH, sort_form(k)) {
         Judged::Ends(n, row) => {
             if utf8::is_utf8(cut(s, at, n)) {
                 told(row)

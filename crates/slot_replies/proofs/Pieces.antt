@@ -22,7 +22,7 @@ use Rattle.text.proofs.Places.{key-part, tags-part, content-part, read-told}
 use Rattle.event.specs.Answer.{hexOf}
 use Rattle.event.proofs.Answers.{escape-hex}
 use Rattle.table.specs.Layout.{idIn, sigIn, lengthIn, textIn}
-use Rattle.reply.specs.Ascii.{ascii}
+use Rattle.wire.specs.Ascii.{ascii}
 use Rattle.reply.specs.Replies.{objectText, replyText}
 use Rattle.reply.specs.Program.{eventIn}
 use Rattle.reply.specs.Respond.{firstText}

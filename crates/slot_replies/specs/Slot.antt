@@ -13,7 +13,7 @@ use Rattle.text.specs.Answer.{answerOf}
 use Rattle.text.specs.declared.Text.{Text}
 use Rattle.text.specs.declared.TextAnswer.the-variants as answer
 use Rattle.table.specs.Layout.{countOf, slotAt, lengthIn, textIn}
-use Rattle.reply.specs.Ascii.{ascii}
+use Rattle.wire.specs.Ascii.{ascii}
 use Rattle.reply.specs.Program.{eventIn, written}
 use Rattle.reply.specs.Lent.{outputAfter}
 use Rattle.reply.specs.Respond.{firstText, fitting, slotLines, fittingText, noneFits, allHeld}

@@ -29,15 +29,6 @@ pub enum Left {
     Short,
 }
 
-// A string as spelled, decoded and escaped between quotes.
-fn put_quoted(out: &mut [u8], at: usize, p: &[u8]) -> usize
-    ensures { λ r. ⌜ Puts (now (out .entry)) at (quoted (decode (now (p .entry)))) r (now (out .exit)) ⌝ }
-{
-    let a = wire::put(out, at, b"\"");
-    let c = spell::put_escaped(out, a, p);
-    wire::put(out, c, b"\"")
-}
-
 // Bytes in hex, between quotes.
 fn put_hex(out: &mut [u8], at: usize, s: &[u8]) -> usize
     ensures { λ r. ⌜ Puts (now (out .entry)) at (quoted (hexOf (now (s .entry)))) r (now (out .exit)) ⌝ }
@@ -52,7 +43,7 @@ fn put_front(out: &mut [u8], at: usize, sub: &[u8], id: &[u8]) -> usize
     ensures { λ r. ⌜ Puts (now (out .entry)) at (frontText (decode (now (sub .entry))) (hexOf (now (id .entry)))) r (now (out .exit)) ⌝ }
 {
     let a = wire::put(out, at, b"[\"EVENT\",");
-    let b = put_quoted(out, a, sub);
+    let b = event::put_quoted(out, a, sub);
     let c = wire::put(out, b, b",{\"id\":");
     put_hex(out, c, id)
 }
@@ -102,14 +93,19 @@ fn put_back(out: &mut [u8], at: usize, sig: &[u8]) -> usize
 fn put_slot(out: &mut [u8], at: usize, sub: &[u8], s: &[u8]) -> usize
     ensures { λ r. ⌜ Puts (now (out .entry)) at (heldText (decode (now (sub .entry))) (now (s .entry))) r (now (out .exit)) ⌝ }
 {
-    let n = wire::le_at(s, 106, 2) as usize;
-    let t = wire::piece(s, 112, n);
+    let n = wire::le_at(s, slots::LENGTH_PLACE, 2) as usize;
+    let t = wire::piece(s, slots::TEXT_PLACE, n);
     match text::read_text(t) {
         TextAnswer::Read(x) => {
-            let a = put_front(out, at, sub, wire::piece(s, 0, 32));
+            let a = put_front(
+                out,
+                at,
+                sub,
+                wire::piece(s, slots::ID_PLACE, slots::ID_SIZE),
+            );
             let b = put_numbers(out, a, t, x);
             let c = put_strings(out, b, t, x);
-            put_back(out, c, wire::piece(s, 32, 64))
+            put_back(out, c, wire::piece(s, slots::SIG_PLACE, slots::SIG_SIZE))
         }
         TextAnswer::TooLarge => wire::put(out, at, b""),
         TextAnswer::WrongShape => wire::put(out, at, b""),
@@ -122,7 +118,7 @@ fn slot_fits(s: &[u8], sub: &[u8], room: usize) -> bool
     ensures { λ r. ⌜ Room (lengthIn (now (s .entry)) + length (escape (decode (now (sub .entry)))) + 266) room r ⌝ }
 {
     let n = spell::escaped_len(sub);
-    let k = wire::le_at(s, 106, 2);
+    let k = wire::le_at(s, slots::LENGTH_PLACE, 2);
     if room < 266 {
         return false;
     }
@@ -217,7 +213,7 @@ pub fn put_events(out: &mut [u8], at: usize, table: &[u8], sub: &[u8], ks: &[u16
 fn line_left(s: &[u8], n: usize, room: usize) -> Left
     ensures { λ r. ⌜ r ≡ leftIn room (lengthIn (now (s .entry)) + n + 267) ⌝ }
 {
-    let size = wire::le_at(s, 106, 2) as usize + 267;
+    let size = wire::le_at(s, slots::LENGTH_PLACE, 2) as usize + 267;
     if room < size {
         return Left::Short;
     }

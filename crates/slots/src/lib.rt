@@ -20,17 +20,36 @@ ghost use Rattle.slots.specs.Slots.{dAgrees, agreesText, hasKeyIn, dByte
 ghost use Rattle.slots.specs.Marks.{idMark, lastOf, keyMark, Marked, Unlike};
 ghost use Rattle.slots.specs.Shown.{shownAt, numberOf, bytesIn};
 
-// 01: "N is 1 to 64".
-const SLOTS: usize = 64;
-
 // 01: "Header, 16 bytes"; "slot size 4,208"; "text 4,096", which begins after the other fields.
-const HEADER: usize = 16;
+pub const HEADER_SIZE: usize = 16;
 
-const SLOT: usize = 4208;
+pub const SLOT_SIZE: usize = TEXT_PLACE + wire::MOST_TEXT;
 
-const TEXT: usize = 112;
+pub const ID_SIZE: usize = 32;
 
-const MOST_TEXT: usize = 4096;
+pub const SIG_SIZE: usize = 64;
+
+// Where each field of a slot begins.
+pub const ID_PLACE: usize = 0;
+
+pub const SIG_PLACE: usize = 32;
+
+pub const TIME_PLACE: usize = 96;
+
+pub const KIND_PLACE: usize = 104;
+
+pub const LENGTH_PLACE: usize = 106;
+
+pub const D_OFFSET_PLACE: usize = 108;
+
+pub const D_LENGTH_PLACE: usize = 110;
+
+pub const TEXT_PLACE: usize = 112;
+
+// What a header says of the slots' size and of the first slot's offset.
+const SLOT_SIZE_FIELD: u64 = SLOT_SIZE as u64;
+
+const FIRST_SLOT_FIELD: u64 = HEADER_SIZE as u64;
 
 // What showing a slot answers: where its text begins in the table and how many bytes it has, or row 11 or 14.
 pub enum Shown {
@@ -74,28 +93,28 @@ fn is_zero(s: &[u8]) -> bool
 pub fn slot(table: &[u8], k: usize) -> &[u8]
     ensures { λ r. ⌜ now r ≡ slotAt (now (table .entry)) k ⌝ }
 {
-    if table.len() < HEADER {
+    if table.len() < HEADER_SIZE {
         return &table[..0];
     }
-    if (table.len() - HEADER) / SLOT < k {
+    if (table.len() - HEADER_SIZE) / SLOT_SIZE < k {
         return &table[..0];
     }
-    wire::piece(table, HEADER + k * SLOT, SLOT)
+    wire::piece(table, HEADER_SIZE + k * SLOT_SIZE, SLOT_SIZE)
 }
 
 // The text of a slot.
 fn text_of(s: &[u8]) -> &[u8]
     ensures { λ r. ⌜ now r ≡ textIn (now (s .entry)) ⌝ }
 {
-    wire::piece(s, TEXT, wire::le_at(s, 106, 2) as usize)
+    wire::piece(s, TEXT_PLACE, wire::le_at(s, LENGTH_PLACE, 2) as usize)
 }
 
 // d's escaped bytes, of a slot.
 fn d_of(s: &[u8]) -> &[u8]
     ensures { λ r. ⌜ now r ≡ dBytesIn (now (s .entry)) ⌝ }
 {
-    let at = wire::le_at(s, 108, 2) as usize;
-    let len = wire::le_at(s, 110, 2) as usize;
+    let at = wire::le_at(s, D_OFFSET_PLACE, 2) as usize;
+    let len = wire::le_at(s, D_LENGTH_PLACE, 2) as usize;
     wire::piece(text_of(s), at, len)
 }
 
@@ -124,15 +143,15 @@ fn d_agrees(at: u64, len: u64, kind: u16, d: u64, d_len: u64) -> bool
 fn agrees(s: &[u8], t: text::Text) -> bool
     ensures { λ r. ⌜ r ≡ agreesText (now (s .entry)) t ⌝ }
 {
-    if wire::le_at(s, 96, 8) != wire::to_unsigned(t.time) {
+    if wire::le_at(s, TIME_PLACE, 8) != wire::to_unsigned(t.time) {
         return false;
     }
-    if wire::le_at(s, 104, 2) != t.kind as u64 {
+    if wire::le_at(s, KIND_PLACE, 2) != t.kind as u64 {
         return false;
     }
     d_agrees(
-        wire::le_at(s, 108, 2),
-        wire::le_at(s, 110, 2),
+        wire::le_at(s, D_OFFSET_PLACE, 2),
+        wire::le_at(s, D_LENGTH_PLACE, 2),
         t.kind,
         t.d as u64,
         t.d_len as u64,
@@ -143,16 +162,16 @@ fn agrees(s: &[u8], t: text::Text) -> bool
 fn slot_sound(s: &[u8]) -> bool
     ensures { λ r. ⌜ r ≡ slotSound (now (s .entry)) ⌝ }
 {
-    let n = wire::le_at(s, 106, 2) as usize;
-    if MOST_TEXT < n {
+    let n = wire::le_at(s, LENGTH_PLACE, 2) as usize;
+    if wire::MOST_TEXT < n {
         return false;
     }
-    match text::read_text(wire::piece(s, TEXT, n)) {
+    match text::read_text(wire::piece(s, TEXT_PLACE, n)) {
         text::TextAnswer::Read(t) => {
             if !agrees(s, t) {
                 return false;
             }
-            is_zero(wire::piece(s, TEXT + n, s.len()))
+            is_zero(wire::piece(s, TEXT_PLACE + n, s.len()))
         }
         text::TextAnswer::TooLarge => false,
         text::TextAnswer::WrongShape => false,
@@ -164,7 +183,10 @@ fn slot_sound(s: &[u8]) -> bool
 pub fn same_id(s: &[u8], t: &[u8]) -> bool
     ensures { λ r. ⌜ r ≡ sameIdIn (now (s .entry)) (now (t .entry)) ⌝ }
 {
-    same(wire::piece(t, 0, 32), wire::piece(s, 0, 32))
+    same(
+        wire::piece(t, ID_PLACE, ID_SIZE),
+        wire::piece(s, ID_PLACE, ID_SIZE),
+    )
 }
 
 // Whether events of a kind have a key.
@@ -183,16 +205,16 @@ fn keyed(kind: u16) -> bool
 pub fn same_key(s: &[u8], t: &[u8]) -> bool
     ensures { λ r. ⌜ r ≡ sameKeyIn (now (s .entry)) (now (t .entry)) ⌝ }
 {
-    let k = wire::le_at(t, 104, 2);
-    if k != wire::le_at(s, 104, 2) {
+    let k = wire::le_at(t, KIND_PLACE, 2);
+    if k != wire::le_at(s, KIND_PLACE, 2) {
         return false;
     }
     if !keyed(k as u16) {
         return false;
     }
     if !same(
-        wire::piece(text_of(t), 4, 64),
-        wire::piece(text_of(s), 4, 64),
+        wire::piece(text_of(t), 4, wire::HEX_LENGTH),
+        wire::piece(text_of(s), 4, wire::HEX_LENGTH),
     ) {
         return false;
     }
@@ -204,7 +226,7 @@ pub fn same_key(s: &[u8], t: &[u8]) -> bool
 fn id_mark(s: &[u8]) -> u32
     ensures { λ r. ⌜ r ≡ idMark (now (s .entry)) ⌝ }
 {
-    wire::le_at(wire::piece(s, 0, 32), 0, 4) as u32
+    wire::le_at(wire::piece(s, ID_PLACE, ID_SIZE), 0, 4) as u32
 }
 
 // The last four bytes as a number.
@@ -221,9 +243,9 @@ fn last(d: &[u8]) -> u32
 fn key_mark(s: &[u8]) -> u32
     ensures { λ r. ⌜ r ≡ keyMark (now (s .entry)) ⌝ }
 {
-    let kind = wire::le_at(s, 104, 2);
+    let kind = wire::le_at(s, KIND_PLACE, 2);
     if keyed(kind as u16) {
-        return (last(d_of(s)) ^ last(wire::piece(text_of(s), 4, 64))) ^ kind as u32;
+        return (last(d_of(s)) ^ last(wire::piece(text_of(s), 4, wire::HEX_LENGTH))) ^ kind as u32;
     }
     id_mark(s)
 }
@@ -306,8 +328,8 @@ fn apart(table: &[u8], c: usize) -> bool
     requires { ⌜ c ≤ mostSlots ⌝ }
     ensures { λ r. ⌜ r ≡ noneTwice clash (from (now (table .entry)) 0 c) ⌝ }
 {
-    let mut ids = [0u32; SLOTS];
-    let mut keys = [0u32; SLOTS];
+    let mut ids = [0u32; wire::MOST_SLOTS];
+    let mut keys = [0u32; wire::MOST_SLOTS];
     mark(table, c, &mut ids, &mut keys);
     let mut i = 0;
     while i < c {
@@ -337,26 +359,26 @@ fn slots_sound(table: &[u8], c: usize) -> bool
 fn header_sound(table: &[u8]) -> bool
     ensures { λ r. ⌜ r ≡ headerSound (now (table .entry)) ⌝ }
 {
-    if table.len() < HEADER {
+    if table.len() < HEADER_SIZE {
         return false;
     }
     let n = wire::le_at(table, 0, 4) as usize;
     if n < 1 {
         return false;
     }
-    if SLOTS < n {
+    if wire::MOST_SLOTS < n {
         return false;
     }
-    if table.len() < HEADER + n * SLOT {
+    if table.len() < HEADER_SIZE + n * SLOT_SIZE {
         return false;
     }
     if n < wire::le_at(table, 4, 4) as usize {
         return false;
     }
-    if wire::le_at(table, 8, 4) != 4208 {
+    if wire::le_at(table, 8, 4) != SLOT_SIZE_FIELD {
         return false;
     }
-    wire::le_at(table, 12, 4) == 16
+    wire::le_at(table, 12, 4) == FIRST_SLOT_FIELD
 }
 
 // 01: "Sound: the buffer has at least 16 bytes, N is 1 to 64 and its slots fit the buffer, ..".
@@ -374,7 +396,7 @@ pub fn sound(table: &[u8]) -> bool
     if !apart(table, c) {
         return false;
     }
-    is_zero(wire::piece(table, HEADER + c * SLOT, (n - c) * SLOT))
+    is_zero(wire::piece(table, HEADER_SIZE + c * SLOT_SIZE, (n - c) * SLOT_SIZE))
 }
 
 // ---- formatting
@@ -385,9 +407,9 @@ fn put_fresh(table: &mut [u8], n: usize) -> usize
 {
     let a = wire::put_le(table, 0, 4, n as u64);
     let b = wire::put_le(table, a, 4, 0);
-    let c = wire::put_le(table, b, 4, 4208);
-    let d = wire::put_le(table, c, 4, 16);
-    wire::put_zeros(table, d, n * SLOT)
+    let c = wire::put_le(table, b, 4, SLOT_SIZE_FIELD);
+    let d = wire::put_le(table, c, 4, FIRST_SLOT_FIELD);
+    wire::put_zeros(table, d, n * SLOT_SIZE)
 }
 
 // A fresh table of so many slots: row 14, then 13, or 0. "Formatting writes all N slots and the header".
@@ -398,10 +420,10 @@ pub fn format(table: &mut [u8], capacity: usize) -> u8
     if capacity < 1 {
         return 14;
     }
-    if SLOTS < capacity {
+    if wire::MOST_SLOTS < capacity {
         return 14;
     }
-    if table.len() < HEADER + capacity * SLOT {
+    if table.len() < HEADER_SIZE + capacity * SLOT_SIZE {
         return 13;
     }
     put_fresh(table, capacity);
@@ -421,9 +443,9 @@ pub fn shown_at(table: &[u8], slot: usize) -> Shown
     if wire::le_at(table, 4, 4) as usize <= slot {
         return Shown::Refused(14);
     }
-    let a = HEADER + slot * SLOT;
-    let n = wire::le_at(wire::piece(table, a, SLOT), 106, 2) as usize;
-    Shown::At(a + TEXT, n)
+    let a = HEADER_SIZE + slot * SLOT_SIZE;
+    let n = wire::le_at(wire::piece(table, a, SLOT_SIZE), LENGTH_PLACE, 2) as usize;
+    Shown::At(a + TEXT_PLACE, n)
 }
 
 // "Showing a slot hands back the very bytes of its text, inside the table"; no bytes where it is refused.

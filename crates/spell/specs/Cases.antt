@@ -4,82 +4,83 @@ use mathlib.Core.Bool.{true, false, not}
 use mathlib.Core.Path.{_≡_, refl}
 use mathlib.Core.List.{[], _∷_}
 use lib.Dec.{ltb, eqb}
+use Rattle.wire.specs.Ascii.{ascii}
 use Rattle.wire.specs.Bytes.{sameBytes, isHex, those}
 use Rattle.spell.specs.Spell.{hexVal, unhex, four, fourAt, shortOf, isPair, pairOf, unicodeOf, charOf, charsFrom, utf8Of, bytesOf, joined, decode, isSurrogate, isControl, isRefused, any, refuses, points, characterCount, all, isHexOf}
 use Rattle.wire.specs.Escape.{letterOf, escOne, escape}
 
 -- \" \\ \/ \b \f \n \r \t
 short :
-    (decode (0x5c ∷ 0x22 ∷ []) ≡ 0x22 ∷ [])
-    × (decode (0x5c ∷ 0x5c ∷ []) ≡ 0x5c ∷ [])
-    × (decode (0x5c ∷ 0x2f ∷ []) ≡ 0x2f ∷ [])
-    × (decode (0x5c ∷ 0x62 ∷ []) ≡ 0x08 ∷ [])
-    × (decode (0x5c ∷ 0x66 ∷ []) ≡ 0x0c ∷ [])
-    × (decode (0x5c ∷ 0x6e ∷ []) ≡ 0x0a ∷ [])
-    × (decode (0x5c ∷ 0x72 ∷ []) ≡ 0x0d ∷ [])
-    × (decode (0x5c ∷ 0x74 ∷ []) ≡ 0x09 ∷ [])
+    (decode (ascii "\\\"") ≡ ascii "\"")
+    × (decode (ascii "\\\\") ≡ ascii "\\")
+    × (decode (ascii "\\/") ≡ ascii "/")
+    × (decode (ascii "\\b") ≡ 0x08 ∷ [])
+    × (decode (ascii "\\f") ≡ 0x0c ∷ [])
+    × (decode (ascii "\\n") ≡ 0x0a ∷ [])
+    × (decode (ascii "\\r") ≡ 0x0d ∷ [])
+    × (decode (ascii "\\t") ≡ 0x09 ∷ [])
 unfolding decode joined charsFrom charOf unicodeOf isPair pairOf fourAt four hexVal shortOf bytesOf utf8Of
 short = (refl, refl, refl, refl, refl, refl, refl, refl)
 
 -- \u0061, \u00E9, \u20ac, the pair \uD834\uDD1E, and \u0000 between two letters
 long :
-    (decode (0x5c ∷ 0x75 ∷ 0x30 ∷ 0x30 ∷ 0x36 ∷ 0x31 ∷ []) ≡ 0x61 ∷ [])
-    × (decode (0x5c ∷ 0x75 ∷ 0x30 ∷ 0x30 ∷ 0x45 ∷ 0x39 ∷ []) ≡ 0xc3 ∷ 0xa9 ∷ [])
-    × (decode (0x5c ∷ 0x75 ∷ 0x32 ∷ 0x30 ∷ 0x61 ∷ 0x63 ∷ []) ≡ 0xe2 ∷ 0x82 ∷ 0xac ∷ [])
-    × (decode (0x5c ∷ 0x75 ∷ 0x44 ∷ 0x38 ∷ 0x33 ∷ 0x34 ∷ 0x5c ∷ 0x75 ∷ 0x44 ∷ 0x44 ∷ 0x31 ∷ 0x45 ∷ []) ≡ 0xf0 ∷ 0x9d ∷ 0x84 ∷ 0x9e ∷ [])
-    × (decode (0x61 ∷ 0x5c ∷ 0x75 ∷ 0x30 ∷ 0x30 ∷ 0x30 ∷ 0x30 ∷ 0x62 ∷ []) ≡ 0x61 ∷ 0x00 ∷ 0x62 ∷ [])
+    (decode (ascii "\\u0061") ≡ ascii "a")
+    × (decode (ascii "\\u00E9") ≡ 0xc3 ∷ 0xa9 ∷ [])
+    × (decode (ascii "\\u20ac") ≡ 0xe2 ∷ 0x82 ∷ 0xac ∷ [])
+    × (decode (ascii "\\uD834\\uDD1E") ≡ 0xf0 ∷ 0x9d ∷ 0x84 ∷ 0x9e ∷ [])
+    × (decode (ascii "a\\u0000b") ≡ 0x61 ∷ 0x00 ∷ 0x62 ∷ [])
 unfolding decode joined charsFrom charOf unicodeOf isPair pairOf fourAt four hexVal shortOf bytesOf utf8Of
 long = (refl, refl, refl, refl, refl)
 
 -- \u0000, \u001f, \u0008, \n\u000d; unpaired surrogates: high, low, high and a letter, high and \u0061, low and high; the pair; ab
 row4 :
-    (refuses (0x5c ∷ 0x75 ∷ 0x30 ∷ 0x30 ∷ 0x30 ∷ 0x30 ∷ []) ≡ true)
-    × (refuses (0x5c ∷ 0x75 ∷ 0x30 ∷ 0x30 ∷ 0x31 ∷ 0x66 ∷ []) ≡ true)
-    × (refuses (0x5c ∷ 0x75 ∷ 0x30 ∷ 0x30 ∷ 0x30 ∷ 0x38 ∷ []) ≡ false)
-    × (refuses (0x5c ∷ 0x6e ∷ 0x5c ∷ 0x75 ∷ 0x30 ∷ 0x30 ∷ 0x30 ∷ 0x64 ∷ []) ≡ false)
-    × (refuses (0x5c ∷ 0x75 ∷ 0x44 ∷ 0x38 ∷ 0x33 ∷ 0x34 ∷ []) ≡ true)
-    × (refuses (0x5c ∷ 0x75 ∷ 0x44 ∷ 0x44 ∷ 0x31 ∷ 0x45 ∷ []) ≡ true)
-    × (refuses (0x5c ∷ 0x75 ∷ 0x44 ∷ 0x38 ∷ 0x33 ∷ 0x34 ∷ 0x61 ∷ []) ≡ true)
-    × (refuses (0x5c ∷ 0x75 ∷ 0x44 ∷ 0x38 ∷ 0x33 ∷ 0x34 ∷ 0x5c ∷ 0x75 ∷ 0x30 ∷ 0x30 ∷ 0x36 ∷ 0x31 ∷ []) ≡ true)
-    × (refuses (0x5c ∷ 0x75 ∷ 0x44 ∷ 0x44 ∷ 0x31 ∷ 0x45 ∷ 0x5c ∷ 0x75 ∷ 0x44 ∷ 0x38 ∷ 0x33 ∷ 0x34 ∷ []) ≡ true)
-    × (refuses (0x5c ∷ 0x75 ∷ 0x44 ∷ 0x38 ∷ 0x33 ∷ 0x34 ∷ 0x5c ∷ 0x75 ∷ 0x44 ∷ 0x44 ∷ 0x31 ∷ 0x45 ∷ []) ≡ false)
-    × (refuses (0x61 ∷ 0x62 ∷ []) ≡ false)
+    (refuses (ascii "\\u0000") ≡ true)
+    × (refuses (ascii "\\u001f") ≡ true)
+    × (refuses (ascii "\\u0008") ≡ false)
+    × (refuses (ascii "\\n\\u000d") ≡ false)
+    × (refuses (ascii "\\uD834") ≡ true)
+    × (refuses (ascii "\\uDD1E") ≡ true)
+    × (refuses (ascii "\\uD834a") ≡ true)
+    × (refuses (ascii "\\uD834\\u0061") ≡ true)
+    × (refuses (ascii "\\uDD1E\\uD834") ≡ true)
+    × (refuses (ascii "\\uD834\\uDD1E") ≡ false)
+    × (refuses (ascii "ab") ≡ false)
 unfolding refuses any isRefused charsFrom charOf unicodeOf isPair pairOf fourAt four hexVal shortOf
 row4 = (refl, refl, refl, refl, refl, refl, refl, refl, refl, refl, refl)
 
 -- \u0061 is hex, \u0041 is not; 9f, 9F, 9fa and 9 as two characters; none
 hex :
-    (isHexOf 1 (0x5c ∷ 0x75 ∷ 0x30 ∷ 0x30 ∷ 0x36 ∷ 0x31 ∷ []) ≡ true)
-    × (isHexOf 1 (0x5c ∷ 0x75 ∷ 0x30 ∷ 0x30 ∷ 0x34 ∷ 0x31 ∷ []) ≡ false)
-    × (isHexOf 2 (0x39 ∷ 0x66 ∷ []) ≡ true)
-    × (isHexOf 2 (0x39 ∷ 0x46 ∷ []) ≡ false)
-    × (isHexOf 2 (0x39 ∷ 0x66 ∷ 0x61 ∷ []) ≡ false)
-    × (isHexOf 2 (0x39 ∷ []) ≡ false)
+    (isHexOf 1 (ascii "\\u0061") ≡ true)
+    × (isHexOf 1 (ascii "\\u0041") ≡ false)
+    × (isHexOf 2 (ascii "9f") ≡ true)
+    × (isHexOf 2 (ascii "9F") ≡ false)
+    × (isHexOf 2 (ascii "9fa") ≡ false)
+    × (isHexOf 2 (ascii "9") ≡ false)
     × (isHexOf 0 [] ≡ true)
 unfolding isHexOf all isHex decode joined charsFrom charOf unicodeOf isPair pairOf fourAt four hexVal shortOf bytesOf utf8Of
 hex = (refl, refl, refl, refl, refl, refl, refl)
 
 -- an escape counts one, and so does what it stands for
 counts :
-    (characterCount (0x5c ∷ 0x75 ∷ 0x30 ∷ 0x30 ∷ 0x45 ∷ 0x39 ∷ []) ≡ 1)
+    (characterCount (ascii "\\u00E9") ≡ 1)
     × (characterCount (0xc3 ∷ 0xa9 ∷ []) ≡ 1)
-    × (characterCount (0x5c ∷ 0x75 ∷ 0x44 ∷ 0x38 ∷ 0x33 ∷ 0x34 ∷ 0x5c ∷ 0x75 ∷ 0x44 ∷ 0x44 ∷ 0x31 ∷ 0x45 ∷ 0x61 ∷ []) ≡ 2)
+    × (characterCount (ascii "\\uD834\\uDD1Ea") ≡ 2)
     × (characterCount (0xf0 ∷ 0x9d ∷ 0x84 ∷ 0x9e ∷ 0x61 ∷ []) ≡ 2)
 unfolding characterCount points decode joined charsFrom charOf unicodeOf isPair pairOf fourAt four hexVal shortOf bytesOf utf8Of
 counts = (refl, refl, refl, refl)
 
 -- d and \u0064, a\/b and a/b; a and aa
 alike :
-    (sameBytes (decode (0x64 ∷ [])) (decode (0x5c ∷ 0x75 ∷ 0x30 ∷ 0x30 ∷ 0x36 ∷ 0x34 ∷ [])) ≡ true)
-    × (sameBytes (decode (0x61 ∷ 0x5c ∷ 0x2f ∷ 0x62 ∷ [])) (decode (0x61 ∷ 0x2f ∷ 0x62 ∷ [])) ≡ true)
-    × (sameBytes (decode (0x61 ∷ [])) (decode (0x61 ∷ 0x61 ∷ [])) ≡ false)
+    (sameBytes (decode (ascii "d")) (decode (ascii "\\u0064")) ≡ true)
+    × (sameBytes (decode (ascii "a\\/b")) (decode (ascii "a/b")) ≡ true)
+    × (sameBytes (decode (ascii "a")) (decode (ascii "aa")) ≡ false)
 unfolding sameBytes decode joined charsFrom charOf unicodeOf isPair pairOf fourAt four hexVal shortOf bytesOf utf8Of
 alike = (refl, refl, refl)
 
 -- the seven escapes, and all else verbatim
 written :
-    (escape (0x74 ∷ 0x0a ∷ 0x31 ∷ []) ≡ 0x74 ∷ 0x5c ∷ 0x6e ∷ 0x31 ∷ [])
-    × (escape (0x61 ∷ 0x22 ∷ 0x62 ∷ []) ≡ 0x61 ∷ 0x5c ∷ 0x22 ∷ 0x62 ∷ [])
+    (escape (0x74 ∷ 0x0a ∷ 0x31 ∷ []) ≡ ascii "t\\n1")
+    × (escape (ascii "a\"b") ≡ ascii "a\\\"b")
     × (escape (0x5c ∷ 0x0d ∷ 0x09 ∷ 0x08 ∷ 0x0c ∷ 0x2f ∷ 0xe9 ∷ []) ≡ 0x5c ∷ 0x5c ∷ 0x5c ∷ 0x72 ∷ 0x5c ∷ 0x74 ∷ 0x5c ∷ 0x62 ∷ 0x5c ∷ 0x66 ∷ 0x2f ∷ 0xe9 ∷ [])
 unfolding escape escOne letterOf
 written = (refl, refl, refl)
@@ -98,10 +99,10 @@ bytes = (refl, refl, refl)
 
 -- both cases of the digits by their number, 0123456789abcdefABCDEF in pairs; a digit too many; bytes that are no digits
 pairs :
-    (unhex (0x30 ∷ 0x31 ∷ 0x32 ∷ 0x33 ∷ 0x34 ∷ 0x35 ∷ 0x36 ∷ 0x37 ∷ 0x38 ∷ 0x39 ∷ 0x61 ∷ 0x62 ∷ 0x63 ∷ 0x64 ∷ 0x65 ∷ 0x66 ∷ [])
+    (unhex (ascii "0123456789abcdef")
     ≡ 0x01 ∷ 0x23 ∷ 0x45 ∷ 0x67 ∷ 0x89 ∷ 0xab ∷ 0xcd ∷ 0xef ∷ [])
-    × (unhex (0x41 ∷ 0x42 ∷ 0x43 ∷ 0x44 ∷ 0x45 ∷ 0x46 ∷ 0x37 ∷ []) ≡ 0xab ∷ 0xcd ∷ 0xef ∷ [])
-    × (unhex (0x67 ∷ 0x31 ∷ 0x66 ∷ 0x2f ∷ []) ≡ 0x01 ∷ 0xf0 ∷ [])
+    × (unhex (ascii "ABCDEF7") ≡ 0xab ∷ 0xcd ∷ 0xef ∷ [])
+    × (unhex (ascii "g1f/") ≡ 0x01 ∷ 0xf0 ∷ [])
 unfolding unhex hexVal
 pairs = (refl, refl, refl)
 

@@ -3,7 +3,7 @@ ghost use mathlib.Core.Path.{_≡_};
 ghost use Prim.Native.Nat.{_+_, _≤_, _<_};
 ghost use lib.ListN.{length, getD, drop};
 ghost use Rattle.wire.specs.Put.{Puts};
-ghost use Rattle.wire.specs.Bytes.{sameBytes, isHex};
+ghost use Rattle.wire.specs.Bytes.{sameBytes};
 ghost use Rattle.spell.specs.Spell.{hexVal, unhex, four, fourAt, shortOf, isPair, pairOf, unicodeOf, utf8Of, isSurrogate, isControl, isRefused, refuses, decode, isTail, characterCount, isHexOf};
 ghost use Rattle.wire.specs.Escape.{escape};
 ghost use Rattle.spell.specs.Steps.{Sized, Begins, Within, Stepped, Stays, Same};
@@ -14,13 +14,6 @@ pub struct Char {
     pub code: u32,
     pub raw: bool,
     pub width: usize,
-}
-
-// The byte at a place, and 0 past the end.
-fn byte(s: &[u8], i: usize) -> u8
-    ensures { λ r. ⌜ r ≡ getD (now (s .entry)) i 0 ⌝ }
-{
-    if i < s.len() { s[i] } else { 0 }
 }
 
 // The number of a hex digit, and 0 of any other byte: the digits are told first, then a-f, which most texts spell.
@@ -53,7 +46,12 @@ fn hex_at(p: &[u8], k: usize) -> u32
     ensures { λ r. ⌜ r ≡ fourAt (now (p .entry)) k ⌝ }
     ensures { λ r. ⌜ r ≤ 0xffff ⌝ }
 {
-    hex4(byte(p, k), byte(p, k + 1), byte(p, k + 2), byte(p, k + 3))
+    hex4(
+        wire::byte(p, k),
+        wire::byte(p, k + 1),
+        wire::byte(p, k + 2),
+        wire::byte(p, k + 3),
+    )
 }
 
 fn short(y: u8) -> u8
@@ -146,7 +144,7 @@ fn escape_at(p: &[u8], i: usize) -> Char
     requires { ⌜ getD (now p) i 0 ≡ 0x5c ⌝ }
     ensures { λ r. ⌜ Begins (drop i (now (p .entry))) r ⌝ }
 {
-    let y = byte(p, i + 1);
+    let y = wire::byte(p, i + 1);
     if y != b'u' {
         let code = short(y) as u32;
         return Char {
@@ -163,7 +161,12 @@ fn escape_at(p: &[u8], i: usize) -> Char
             width: 6,
         };
     }
-    unicode(u, byte(p, i + 6), byte(p, i + 7), hex_at(p, i + 8))
+    unicode(
+        u,
+        wire::byte(p, i + 6),
+        wire::byte(p, i + 7),
+        hex_at(p, i + 8),
+    )
 }
 
 // The character at a place.
@@ -289,7 +292,7 @@ pub fn refused(p: &[u8]) -> bool
             i += 1;
             continue;
         }
-        let y = byte(p, i + 1);
+        let y = wire::byte(p, i + 1);
         if y != b'u' {
             if is_control(y as u32) {
                 return true;
@@ -407,20 +410,6 @@ pub fn characters(p: &[u8]) -> usize
     n
 }
 
-fn is_hex_digit(x: u8) -> bool
-    ensures { λ r. ⌜ r ≡ isHex x ⌝ }
-{
-    if x < b'0' {
-        false
-    } else if x <= b'9' {
-        true
-    } else if x < b'a' {
-        false
-    } else {
-        x <= b'f'
-    }
-}
-
 // Whether a spelling decodes to n characters of lower-case hex.
 pub fn is_hex(p: &[u8], n: usize) -> bool
     ensures { λ r. ⌜ r ≡ isHexOf n (now (p .entry)) ⌝ }
@@ -435,14 +424,14 @@ pub fn is_hex(p: &[u8], n: usize) -> bool
         left -= 1;
         let b = p[i];
         if b != b'\\' {
-            if !is_hex_digit(b) {
+            if !wire::is_hex_digit(b) {
                 return false;
             }
             i += 1;
             continue;
         }
         let x = advance(p, i, k);
-        if !is_hex_digit(x.byte) {
+        if !wire::is_hex_digit(x.byte) {
             return false;
         }
         i = x.at;
@@ -543,7 +532,7 @@ fn past_same(p: &[u8], i: usize) -> usize
     while n < p.len() {
         let b = p[n];
         if b == b'\\' {
-            if !stays(byte(p, n + 1)) {
+            if !stays(wire::byte(p, n + 1)) {
                 return n;
             }
             n += 2;

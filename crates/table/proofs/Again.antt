@@ -19,11 +19,11 @@ use Rattle.spell.specs.Spell as spell
 use Rattle.spell.proofs.Laws.{HexDigit, digit, letter, hex-digit}
 use Rattle.shape.specs.Shape.{anyItem, allItems, countItems, count, isArrayOf}
 use Rattle.shape.specs.Shape as shape
-use Rattle.shape.specs.Rows.{outside, wrongTag}
+use Rattle.shape.specs.Rows.{outside, wrongTag, wrongTags}
 use Rattle.text.specs.Event.{all, isPlainByte, isString, isTag, isTags}
 use Rattle.text.proofs.Pieces.{both, and-true}
 use Rattle.message.specs.declared.Span.{Span}
-use Rattle.message.specs.Lent.{bytesOf, isInside, isSpelled, string2, string4, string5, string7, value2, value4, value5, onValue, ownText, wrongTags}
+use Rattle.message.specs.Lent.{bytesOf, isInside, isSpelled, string2, string4, string5, string7, value2, value4, value5, onValue, ownText}
 use Rattle.message.specs.Lent as lent
 use Rattle.event.specs.Lent.{stringOf, stringsOf, tagOf, tagsOf, tagsIn, tagsAt}
 use Rattle.event.proofs.Walks.{Walk, last, more}

@@ -4,7 +4,7 @@ use mathlib.Core.Path.{_≡_, refl}
 use mathlib.Core.Bool.{true, false}
 use mathlib.Core.Option.{some}
 use mathlib.Core.List.{List, [], _∷_}
-use Prim.Native.Nat.{ℕ}
+use Prim.Native.Nat.{ℕ, _+_}
 use lib.IntN.{ℤ, pos, negsuc}
 use lib.ListN.{length, replicate}
 use Rattle.wire.specs.Bytes.{sameBytes, isHex}
@@ -16,9 +16,22 @@ use Rattle.text.specs.Event.{Event, quoted, membersText, tagText, tagsText, ser
 use Rattle.text.specs.Read.{standsAt, closedAt, pairAt, byteOf, isRaw, bodyFrom, stringAt, membersAt, tagAt, tagsAt, runOf, timeAt, kindAt, pubkeyAt, fieldsAt, opened, readText}
 use Rattle.text.specs.Kinds.{classOf, dOf, keyOf}
 use Rattle.law.specs.Table.{wasEphemeral, duplicate, older, stored, noRoom, verdict, after}
+use Rattle.table.specs.Layout.{idSize, sigSize, idPlace, sigPlace, timePlace, kindPlace, lengthPlace, dOffsetPlace, dLengthPlace, textPlace, slotSize}
 use Rattle.table.specs.Sound.{isCapacity}
 use Rattle.table.specs.Format.{formatRow}
 use Rattle.table.specs.Events.{SignedEvent, signedEvents, classOfEvent, classOfText, timeOfText}
+
+-- each field of a slot begins where the one before it ends
+fields :
+    (sigPlace ≡ idPlace + idSize)
+    × (timePlace ≡ sigPlace + sigSize)
+    × (kindPlace ≡ timePlace + 8)
+    × (lengthPlace ≡ kindPlace + 2)
+    × (dOffsetPlace ≡ lengthPlace + 2)
+    × (dLengthPlace ≡ dOffsetPlace + 2)
+    × (textPlace ≡ dLengthPlace + 2)
+    × (slotSize ≡ 4208)
+fields = (refl, refl, refl, refl, refl, refl, refl, refl)
 
 -- the event of a kind and a time, with d in its tags
 abbrev made : ℕ → ℤ → ℕ → Event

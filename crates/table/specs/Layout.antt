@@ -15,12 +15,44 @@ use Rattle.text.specs.declared.Class.{Class}
 use Rattle.text.specs.declared.Class.the-variants.{Regular, Replaceable, Ephemeral, Addressable}
 use Rattle.law.specs.Cells.{cells}
 
+-- ---- "Slot: id 32; sig 64; created_at 8, two's complement; kind 2; text length 2; d offset 2 and d length 2 ..; text 4,096":
+-- where each field begins
+abbrev pub idSize : ℕ
+idSize = 32
+
+abbrev pub sigSize : ℕ
+sigSize = 64
+
+abbrev pub idPlace : ℕ
+idPlace = 0
+
+abbrev pub sigPlace : ℕ
+sigPlace = 32
+
+abbrev pub timePlace : ℕ
+timePlace = 96
+
+abbrev pub kindPlace : ℕ
+kindPlace = 104
+
+abbrev pub lengthPlace : ℕ
+lengthPlace = 106
+
+abbrev pub dOffsetPlace : ℕ
+dOffsetPlace = 108
+
+abbrev pub dLengthPlace : ℕ
+dLengthPlace = 110
+
+abbrev pub textPlace : ℕ
+textPlace = 112
+
 -- ---- "Header, 16 bytes: capacity N, held count C, slot size 4,208, offset of the first slot 16, each 4 bytes."
 abbrev pub headerSize : ℕ
 headerSize = 16
 
 abbrev pub slotSize : ℕ
-slotSize = 4208
+slotSize = textPlace + mostText
 
 -- N
 unfoldable pub capacityOf : List ℕ → ℕ
@@ -60,29 +92,25 @@ heldSlots b = cells slotSize (countOf b) (drop headerSize b)
 abbrev pub laterSlots : List ℕ → List ℕ
 laterSlots b = part b (slotPlace (countOf b)) ((capacityOf b - countOf b) * slotSize)
 
--- ---- "Slot: id 32; sig 64; created_at 8, two's complement; kind 2; text length 2; d offset 2 and d length 2 ..; text 4,096":
--- the fields of a slot's bytes s
+-- ---- the fields of a slot's bytes s
 unfoldable pub idIn : List ℕ → List ℕ
-idIn s = part s 0 32
+idIn s = part s idPlace idSize
 
 unfoldable pub sigIn : List ℕ → List ℕ
-sigIn s = part s 32 64
+sigIn s = part s sigPlace sigSize
 
 -- the bits of created_at; in a sound slot it is the time as a signed number (proofs/Slots, `sound-signed`)
 abbrev pub timeIn : List ℕ → ℕ
-timeIn s = fieldAt s 96 8
+timeIn s = fieldAt s timePlace 8
 
 unfoldable pub kindIn : List ℕ → ℕ
-kindIn s = fieldAt s 104 2
+kindIn s = fieldAt s kindPlace 2
 
 unfoldable pub lengthIn : List ℕ → ℕ
-lengthIn s = fieldAt s 106 2
+lengthIn s = fieldAt s lengthPlace 2
 
 unfoldable pub dIn : List ℕ → Span
-dIn s = record { at = fieldAt s 108 2; len = fieldAt s 110 2 }
-
-abbrev pub textPlace : ℕ
-textPlace = 112
+dIn s = record { at = fieldAt s dOffsetPlace 2; len = fieldAt s dLengthPlace 2 }
 
 unfoldable pub textIn : List ℕ → List ℕ
 textIn s = part s textPlace (lengthIn s)
@@ -103,9 +131,9 @@ pub record Held : Type 0 where
 
 -- an event that a slot has room for
 pub record Fits (h : Held) : Type 0 where
-  pub id : length (h .id) ≡ 32
+  pub id : length (h .id) ≡ idSize
   pub id-bytes : all isByte (h .id) ≡ true
-  pub sig : length (h .sig) ≡ 64
+  pub sig : length (h .sig) ≡ sigSize
   pub sig-bytes : all isByte (h .sig) ≡ true
   pub event : isFit (h .event) ≡ true
   pub text : length (serialise (h .event)) ≤ mostText

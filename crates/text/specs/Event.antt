@@ -5,6 +5,7 @@ use Prim.Native.Nat.{ℕ}
 use lib.Dec.{eqb, leb}
 use lib.IntN.{ℤ, pos, negℤ}
 use lib.ListN.{length}
+use Rattle.wire.specs.Ascii.{ascii}
 use Rattle.wire.specs.Escape.{escape}
 use Rattle.numeral.specs.Decimal.{digits, decimal}
 use Rattle.wire.specs.Limits.{widest, mostSmall, hexLength, mostTags, mostStrings}
@@ -43,17 +44,17 @@ tagsText ts = 91 ∷ membersText tagText ts
 
 -- [0,"
 abbrev pub opening : List ℕ
-opening = 91 ∷ 48 ∷ 44 ∷ 34 ∷ []
+opening = ascii "[0,\""
 
 -- ",
 abbrev pub closing : List ℕ
-closing = 34 ∷ 44 ∷ []
+closing = ascii "\","
 
 abbrev pub comma : List ℕ
-comma = 44 ∷ []
+comma = ascii ","
 
 abbrev pub bracket : List ℕ
-bracket = 93 ∷ []
+bracket = ascii "]"
 
 -- [0,pubkey,created_at,kind,tags,content] with no white space
 unfoldable pub serialise : Event → List ℕ

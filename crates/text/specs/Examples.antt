@@ -3,6 +3,7 @@ use mathlib.Core.Path.{_≡_, refl}
 use mathlib.Core.Bool.{not}
 use mathlib.Core.List.{[], _∷_, map}
 use lib.Dec.{eqb}
+use Rattle.wire.specs.Ascii.{ascii}
 use Rattle.wire.specs.Bytes.{those}
 use Rattle.wire.specs.Escape.{letterOf}
 use Rattle.utf8.specs.Utf8.{isUtf8, utf8From, leadOf}
@@ -34,9 +35,9 @@ stand-for = refl
 
 -- the string of ,"\\\"n"] at 1 is \"n and ends before the bracket; "\/", "\u0041" and a raw 09 are no spellings of the text; / and 7F stand as they are
 strings :
-    (stringAt (44 ∷ 34 ∷ 92 ∷ 92 ∷ 92 ∷ 34 ∷ 110 ∷ 34 ∷ 93 ∷ []) 1 ≡ got (92 ∷ 34 ∷ 110 ∷ []) 8)
-    × (stringAt (34 ∷ 92 ∷ 47 ∷ 34 ∷ []) 0 ≡ none)
-    × (stringAt (34 ∷ 92 ∷ 117 ∷ 48 ∷ 48 ∷ 52 ∷ 49 ∷ 34 ∷ []) 0 ≡ none)
+    (stringAt (ascii ",\"\\\\\\\"n\"]") 1 ≡ got (ascii "\\\"n") 8)
+    × (stringAt (ascii "\"\\/\"") 0 ≡ none)
+    × (stringAt (ascii "\"\\u0041\"") 0 ≡ none)
     × (stringAt (34 ∷ 9 ∷ 34 ∷ []) 0 ≡ none)
     × (stringAt (34 ∷ 47 ∷ 127 ∷ 34 ∷ []) 0 ≡ got (47 ∷ 127 ∷ []) 4)
 unfolding stringAt bodyFrom byteOf isRaw isPlainByte letterOf isUtf8 utf8From leadOf
@@ -55,8 +56,8 @@ high-kinds = refl
 
 -- ---- d: of the first tag named d, although a later one has more; not of D, dd or an empty name; the second string, not the third
 named :
-    (dOf (((120 ∷ []) ∷ (49 ∷ []) ∷ []) ∷ ((100 ∷ []) ∷ (50 ∷ []) ∷ (51 ∷ []) ∷ []) ∷ ((100 ∷ []) ∷ (52 ∷ []) ∷ []) ∷ []) ≡ 50 ∷ [])
-    × (dOf (((100 ∷ []) ∷ []) ∷ ((100 ∷ []) ∷ (50 ∷ []) ∷ []) ∷ []) ≡ [])
-    × (dOf (((68 ∷ []) ∷ (49 ∷ []) ∷ []) ∷ ((100 ∷ 100 ∷ []) ∷ (50 ∷ []) ∷ []) ∷ ([] ∷ (51 ∷ []) ∷ []) ∷ []) ≡ [])
+    (dOf ((ascii "x" ∷ ascii "1" ∷ []) ∷ (ascii "d" ∷ ascii "2" ∷ ascii "3" ∷ []) ∷ (ascii "d" ∷ ascii "4" ∷ []) ∷ []) ≡ ascii "2")
+    × (dOf ((ascii "d" ∷ []) ∷ (ascii "d" ∷ ascii "2" ∷ []) ∷ []) ≡ [])
+    × (dOf ((ascii "D" ∷ ascii "1" ∷ []) ∷ (ascii "dd" ∷ ascii "2" ∷ []) ∷ ([] ∷ ascii "3" ∷ []) ∷ []) ≡ [])
 unfolding dOf
 named = (refl, refl, refl)

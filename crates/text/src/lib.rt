@@ -3,9 +3,8 @@ ghost use mathlib.Core.Path.{_≡_};
 ghost use mathlib.Core.Bool.{true, false, cond};
 ghost use mathlib.Core.List.{[]};
 ghost use Prim.Native.Nat.{ℕ, _+_, _<_, _≤_};
-ghost use lib.ListN.{length, getD, drop};
+ghost use lib.ListN.{length, drop};
 ghost use Rattle.wire.specs.Escape.{escape};
-ghost use Rattle.wire.specs.Bytes.{isHex};
 ghost use Rattle.utf8.specs.Utf8.{isUtf8};
 ghost use Rattle.text.specs.Event.{Tag, comma, isPubkey};
 ghost use Rattle.text.specs.Read.{got, standsAt, closedAt, isRaw, bodyFrom, stringAt, tagAt, tagsAt, runOf, timeAt, kindAt, readText};
@@ -86,13 +85,7 @@ enum Rest {
     Bad,
 }
 
-const MOST_TEXT: usize = 4096;
-
-const MOST_TAGS: usize = 64;
-
-const MOST_STRINGS: usize = 16;
-
-const MOST_KIND: u64 = 65535;
+const MOST_KIND: u64 = wire::MOST_SMALL as u64;
 
 // What a kind makes of an event.
 pub fn class_of(kind: u16) -> Class
@@ -119,13 +112,6 @@ pub fn class_of(kind: u16) -> Class
     Class::Regular
 }
 
-// The byte at a place, and 0 past the end.
-fn byte(s: &[u8], i: usize) -> u8
-    ensures { λ r. ⌜ r ≡ getD (now (s .entry)) i 0 ⌝ }
-{
-    if i < s.len() { s[i] } else { 0 }
-}
-
 // Whether the bytes of `w` stand at a place.
 fn stands(s: &[u8], at: usize, w: &[u8]) -> bool
     requires { ⌜ noZero (now w) ≡ true ⌝ }
@@ -134,7 +120,7 @@ fn stands(s: &[u8], at: usize, w: &[u8]) -> bool
     let mut i = at;
     let mut k = 0;
     while k < w.len() {
-        if byte(s, i) != w[k] {
+        if wire::byte(s, i) != w[k] {
             return false;
         }
         i += 1;
@@ -213,7 +199,7 @@ fn past_escapes(s: &[u8], at: usize) -> usize
         if s[i] != b'\\' {
             return i;
         }
-        if !is_letter(byte(s, i + 1)) {
+        if !is_letter(wire::byte(s, i + 1)) {
             return i;
         }
         i += 2;
@@ -231,7 +217,7 @@ fn body_end(s: &[u8], at: usize) -> Out
     while i < s.len() {
         let x = s[i];
         if x == b'\\' {
-            if !is_letter(byte(s, i + 1)) {
+            if !is_letter(wire::byte(s, i + 1)) {
                 return Out::Bad;
             }
             i = past_escapes(s, i + 2);
@@ -327,7 +313,7 @@ fn string_end(s: &[u8], at: usize) -> Out
     requires { ⌜ isUtf8 (now s) ≡ true ⌝ }
     ensures { λ r. ⌜ r ≡ endOf (stringAt (now (s .entry)) at) ⌝ }
 {
-    if byte(s, at) != b'"' {
+    if wire::byte(s, at) != b'"' {
         return Out::Bad;
     }
     body_end(s, at + 1)
@@ -338,15 +324,15 @@ fn tag_end(s: &[u8], at: usize) -> Out
     requires { ⌜ isUtf8 (now s) ≡ true ⌝ }
     ensures { λ r. ⌜ r ≡ endOf (tagAt (now (s .entry)) at) ⌝ }
 {
-    if byte(s, at) != b'[' {
+    if wire::byte(s, at) != b'[' {
         return Out::Bad;
     }
     let mut i = at + 1;
-    let mut k = MOST_STRINGS;
+    let mut k = wire::MOST_STRINGS;
     while 0 < k {
         match string_end(s, i) {
             Out::End(n) => {
-                let b = byte(s, n);
+                let b = wire::byte(s, n);
                 if b != b',' {
                     if b != b']' {
                         return Out::Bad;
@@ -415,20 +401,20 @@ fn tags_end(s: &[u8], at: usize) -> Tagged
     requires { ⌜ isUtf8 (now s) ≡ true ⌝ }
     ensures { λ r. ⌜ r ≡ taggedOf Found.Not (at + 1) (tagsAt (now (s .entry)) at) ⌝ }
 {
-    if byte(s, at) != b'[' {
+    if wire::byte(s, at) != b'[' {
         return Tagged::Bad;
     }
     let mut i = at + 1;
-    if byte(s, i) == b']' {
+    if wire::byte(s, i) == b']' {
         return Tagged::End(i + 1, 0, 0);
     }
     let mut d = Found::Not;
-    let mut k = MOST_TAGS;
+    let mut k = wire::MOST_TAGS;
     while 0 < k {
         match tag_end(s, i) {
             Out::End(n) => {
                 d = look(s, i, d);
-                let b = byte(s, n);
+                let b = wire::byte(s, n);
                 if b != b',' {
                     if b != b']' {
                         return Tagged::Bad;
@@ -494,23 +480,17 @@ fn kind_at(s: &[u8], at: usize) -> Kind
     }
 }
 
-fn is_hex_digit(x: u8) -> bool
-    ensures { λ r. ⌜ r ≡ isHex x ⌝ }
-{
-    ((b'0' <= x) & (x <= b'9')) | ((b'a' <= x) & (x <= b'f'))
-}
-
 // With no way out of the loop.
 fn is_pubkey(p: &[u8]) -> bool
     ensures { λ r. ⌜ r ≡ isPubkey (now (p .entry)) ⌝ }
 {
-    if p.len() != 64 {
+    if p.len() != wire::HEX_LENGTH {
         return false;
     }
     let mut hex = true;
     let mut i = 0;
     while i < p.len() {
-        hex = hex & is_hex_digit(p[i]);
+        hex = hex & wire::is_hex_digit(p[i]);
         i += 1;
     }
     hex
@@ -539,12 +519,12 @@ fn rest_at(t: &[u8], at: usize) -> Rest
 {
     match tags_end(t, at) {
         Tagged::End(m, d, d_len) => {
-            if byte(t, m) != b',' {
+            if wire::byte(t, m) != b',' {
                 return Rest::Bad;
             }
             match string_end(t, m + 1) {
                 Out::End(n) => {
-                    if byte(t, n) != b']' {
+                    if wire::byte(t, n) != b']' {
                         return Rest::Bad;
                     }
                     if n + 1 != t.len() {
@@ -564,7 +544,7 @@ pub fn read_text(t: &[u8]) -> TextAnswer
     ensures { λ r. ⌜ r ≡ answerOf (readText (now (t .entry))) ⌝ }
     ensures { λ r. ⌜ numberOf r ≡ rowOf (readText (now (t .entry))) ⌝ }
 {
-    if MOST_TEXT < t.len() {
+    if wire::MOST_TEXT < t.len() {
         return TextAnswer::TooLarge;
     }
     if !is_opened(t) {

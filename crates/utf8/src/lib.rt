@@ -1,7 +1,7 @@
 // UTF-8 (RFC 3629), a character at a time, and ASCII at a run.
 ghost use mathlib.Core.Path.{_≡_};
 ghost use Prim.Native.Nat.{_+_, _≤_, _<_};
-ghost use lib.ListN.{length, getD};
+ghost use lib.ListN.{length};
 ghost use Rattle.utf8.specs.Steps.{Past, Passed, Small};
 ghost use Rattle.utf8.specs.Utf8.{leadOf, isUtf8};
 
@@ -56,13 +56,6 @@ fn past_ascii(s: &[u8], i: usize) -> usize
     k
 }
 
-// The byte at a place, and 0 past the end.
-fn byte(s: &[u8], at: usize) -> u8
-    ensures { λ r. ⌜ r ≡ getD (now (s .entry)) at 0 ⌝ }
-{
-    if at < s.len() { s[at] } else { 0 }
-}
-
 // The place after a character whose first byte stands at i: an octet from lo to hi comes next, and after it so many tails. Or i itself, if
 // that is not what comes.
 fn past_tails(s: &[u8], i: usize, lo: u8, hi: u8, more: u8) -> usize
@@ -70,7 +63,7 @@ fn past_tails(s: &[u8], i: usize, lo: u8, hi: u8, more: u8) -> usize
     requires { ⌜ Small (Want.Tail lo hi more) ⌝ }
     ensures { λ r. ⌜ Passed (Want.Tail lo hi more) (now (s .entry)) (i + 1) i r ⌝ }
 {
-    let a = byte(s, i + 1);
+    let a = wire::byte(s, i + 1);
     if a < lo {
         return i;
     }
@@ -80,7 +73,7 @@ fn past_tails(s: &[u8], i: usize, lo: u8, hi: u8, more: u8) -> usize
     if more == 0 {
         return i + 2;
     }
-    let b = byte(s, i + 2);
+    let b = wire::byte(s, i + 2);
     if b < 0x80 {
         return i;
     }
@@ -90,7 +83,7 @@ fn past_tails(s: &[u8], i: usize, lo: u8, hi: u8, more: u8) -> usize
     if more == 1 {
         return i + 3;
     }
-    let d = byte(s, i + 3);
+    let d = wire::byte(s, i + 3);
     if d < 0x80 {
         return i;
     }

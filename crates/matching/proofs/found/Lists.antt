@@ -12,9 +12,9 @@ use lib.Seq.{take-suc-set, drop-set-add}
 use Rattle.wire.specs.Bytes.{part}
 use Rattle.spell.specs.Spell.{decode}
 use Rattle.json.specs.Grammar.{startAt}
-use Rattle.json.specs.Tree.{Json, arr, Items, nil, item, Got, none, got, depth, treeAt}
+use Rattle.json.specs.Tree.{Json, arr, Items, nil, item, Got, none, got, depth, treeAt, onArray}
 use Rattle.shape.specs.Shape.{anyItem, allItems, countItems, count, isArrayOf}
-use Rattle.shape.specs.Rows.{onArray, wrongList}
+use Rattle.shape.specs.Rows.{wrongList}
 use Rattle.message.specs.declared.Listed.{Listed}
 use Rattle.message.specs.declared.Listed.the-variants.{Absent, At}
 use Rattle.message.specs.Lists.{firstOf, nextOf}

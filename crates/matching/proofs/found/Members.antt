@@ -14,7 +14,7 @@ use Rattle.wire.specs.Bytes.{part}
 use Rattle.wire.specs.Limits.{mostSmall}
 use Rattle.spell.specs.Spell.{decode}
 use Rattle.json.specs.Grammar.{scalarAt, startAt}
-use Rattle.json.specs.Tree.{Json, word, num, str, arr, obj, Items, nil, item, Got, none, got, bind, onLeaf, node, itemsAt, groupAt, depth, treeAt}
+use Rattle.json.specs.Tree.{Json, word, num, str, arr, obj, Items, nil, item, Got, none, got, bind, onLeaf, node, itemsAt, groupAt, depth, treeAt, onArray}
 use Rattle.json.specs.declared.Kind.{Kind}
 use Rattle.json.specs.declared.Kind.the-variants.{Str, Num, Word, None}
 use Rattle.json.specs.declared.Start.{Start}
@@ -25,7 +25,7 @@ use Rattle.numeral.specs.declared.Whole.{Whole}
 use Rattle.numeral.specs.declared.Whole.the-variants.{Value, Large, Malformed}
 use Rattle.rows.specs.Strings.{spelledAt}
 use Rattle.shape.specs.Shape.{anyItem, isArrayOf, isString, isNumber}
-use Rattle.shape.specs.Rows.{onArray, wrongList, wrongSmall}
+use Rattle.shape.specs.Rows.{wrongList, wrongSmall}
 use Rattle.message.specs.declared.Listed.{Listed}
 use Rattle.message.specs.declared.Listed.the-variants.{Absent, At}
 use Rattle.message.specs.Lists.{firstOf, nextOf}

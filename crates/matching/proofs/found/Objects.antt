@@ -11,7 +11,7 @@ use lib.Seq.{take-suc-set}
 use Rattle.wire.specs.Bytes.{part}
 use Rattle.spell.specs.Spell.{decode}
 use Rattle.json.specs.Grammar.{case, startAt, headAt, nextAt}
-use Rattle.json.specs.Tree.{Json, word, num, str, arr, obj, Items, nil, item, Got, none, got, endOf, depth, treeAt}
+use Rattle.json.specs.Tree.{Json, word, num, str, arr, obj, Items, nil, item, Got, none, got, endOf, depth, treeAt, onObject}
 use Rattle.json.specs.declared.Out.{Out}
 use Rattle.json.specs.declared.Out.the-variants.{End, Bad}
 use Rattle.json.specs.declared.Start.{Start}
@@ -19,7 +19,7 @@ use Rattle.json.specs.declared.Next.{Next}
 use Rattle.json.specs.declared.Next.the-variants.{More, Done, Wrong}
 use Rattle.rows.specs.Strings.{spelledAt}
 use Rattle.shape.specs.Shape.{anyItem, allItems, countItems, count, nameAt, isString, isArrayOf, isLetter, isCondition, filterMember, noneTwice, isFilter}
-use Rattle.shape.specs.Rows.{onObject, outside, wrongList, filterCount, filterCounts}
+use Rattle.shape.specs.Rows.{outside, wrongList, filterCount, filterCounts}
 use Rattle.message.specs.declared.Listed.{Listed}
 use Rattle.message.specs.declared.Listed.the-variants.{Absent, At}
 use Rattle.message.specs.Lists.{within}

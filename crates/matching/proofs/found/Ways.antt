@@ -13,13 +13,13 @@ use Rattle.wire.specs.Put.{Puts}
 use Rattle.wire.proofs.Laws.{puts-whole}
 use Rattle.spell.specs.Spell.{decode}
 use Rattle.json.specs.Grammar.{case, startAt, headAt, nextAt}
-use Rattle.json.specs.Tree.{endOf, depth, treeAt}
+use Rattle.json.specs.Tree.{endOf, depth, treeAt, onObject}
 use Rattle.json.specs.declared.Out.{Out}
 use Rattle.json.specs.declared.Start.{Start}
 use Rattle.json.specs.declared.Start.the-variants.{Many}
 use Rattle.json.specs.declared.Next.{Next}
 use Rattle.shape.specs.Shape.{isString, isNumber, isArrayOf, isLetter, isCondition, isFilter}
-use Rattle.shape.specs.Rows.{onObject, wrongList, filterCounts}
+use Rattle.shape.specs.Rows.{wrongList, filterCounts}
 use Rattle.message.specs.declared.Listed.{Listed}
 use Rattle.message.specs.declared.Listed.the-variants.{Absent, At}
 use Rattle.message.specs.declared.FilterParts.{FilterParts}

@@ -1,8 +1,8 @@
 -- A quote, the string, a quote.
 use borrow.Author.Needs.{needs}
-use Rattle.replies.proofs.Written.{part-put}
-use Rattle.replies.proofs.put_part.Statement.{statement}
-use Rattle.replies.proofs.put_part.Tie as tie
+use Rattle.event.proofs.Strings.{part-put}
+use Rattle.event.proofs.put_part.Statement.{statement}
+use Rattle.event.proofs.put_part.Tie as tie
 
 returns : tie.Need-returns
 returns c =

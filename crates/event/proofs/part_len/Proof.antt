@@ -1,8 +1,8 @@
 -- The length of the very part.
 use borrow.Author.Needs.{needs}
-use Rattle.replies.proofs.Written.{part-length}
-use Rattle.replies.proofs.part_len.Statement.{statement}
-use Rattle.replies.proofs.part_len.Tie as tie
+use Rattle.event.proofs.Strings.{part-length}
+use Rattle.event.proofs.part_len.Statement.{statement}
+use Rattle.event.proofs.part_len.Tie as tie
 
 returns : tie.Need-returns
 returns c =

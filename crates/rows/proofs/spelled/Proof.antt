@@ -3,9 +3,9 @@ use borrow.Author.Needs.{needs}
 use mathlib.Core.Path.{sym, _∙_}
 use native.Mathlib.Omega.{arith}
 use Rattle.json.proofs.Spelled.{string-parts}
 use Rattle.rows.specs.Strings.{spelledAt}
-use Rattle.matching.proofs.matcher.spelled.Statement.{statement}
-use Rattle.matching.proofs.matcher.spelled.Tie as tie
+use Rattle.rows.proofs.spelled.Statement.{statement}
+use Rattle.rows.proofs.spelled.Tie as tie
 
 pub spelled-spec : {M : Type 1} → statement M
 unfolding spelledAt

@@ -1,8 +1,0 @@
--- Past the end the default is read.
-use borrow.Author.Needs.{needs}
-use lib.ListN.{List·getD-eq-default}
-use Rattle.json.proofs.byte.Statement.{statement}
-use Rattle.json.proofs.byte.Tie as tie
-
-pub byte-spec : {M : Type 1} → statement M
-byte-spec = tie.close (tie.spec (search needs) (search needs) (λ c. search List·getD-eq-default))
