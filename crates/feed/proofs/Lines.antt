@@ -1,12 +1,14 @@
 -- Where a line ends in a piece, what is kept of a line in its buffer, and the state after a piece.
 use mathlib.Core.Path.{_≡_, refl, sym, ap, _∙_}
-use mathlib.Core.Bool.{Bool, true, false, false≢true}
+use mathlib.Core.Bool.{Bool, true, false, not, _&&_, false≢true}
 use mathlib.Core.List.{List, [], _∷_, _++_, append-assoc, append-nil}
 use Prim.Native.Nat.{ℕ, zero, suc, _+_, _-_, _≤_, _<_, min}
 use native.Mathlib.Numerals.{add-one}
+use native.Mathlib.Nat.{add-suc, add-zero}
 use native.Mathlib.Omega.{arith}
 use native.Mathlib.Decide.{decLe}
 use borrow.Author.Tests.{eq-eqb, ne-eqb, eqb-true}
+use lib.Dec.{eqb}
 use lib.ListN.{length, take, drop, getD, length-append, length-take, drop-of-length-le}
 use lib.Seq.{drop-cons, take-all, take-length, take-append-add, take-take, sets-eq, take-at}
 use Rattle.wire.specs.Bytes.{part}
@@ -16,7 +18,7 @@ use Rattle.law.specs.Lists.{any}
 use Rattle.reply.specs.Program.{tableAfter}
 use Rattle.reply.specs.Feed.{State, mostLine, kept, isEnd, afterByte, afterBytes, before, usedOf, turnState}
 use Rattle.reply.proofs.Feed.{in-pieces}
-use Rattle.feed.specs.Steps.{grown, Keeps, Joins}
+use Rattle.feed.specs.Steps.{NoEnd, EndFrom, grown, Keeps, Joins}
 
 -- ---- a turn of the search for a line's end: x is the whole answer
 module _ (p : List ℕ) (x i : ℕ) where
@@ -37,6 +39,34 @@ module _ (p : List ℕ) (x i : ℕ) where
   end-none h e =
       let z : before (drop i p) ≡ [] = rw (drop-of-length-le p {i = i} h) refl in
       omega (arith, e, ap length z)
+
+-- ---- a block of bytes that end no line
+-- one byte more
+pub none-first : (p : List ℕ) (i : ℕ) → NoEnd p i 0
+none-first p i j h e = omega arith
+
+both : (a b : Bool) → (a && b) ≡ true → (a ≡ true) × (b ≡ true)
+both true b r = (refl, r)
+both false b r = absurd (false≢true r)
+
+pub none-turn : (p : List ℕ) (i k : ℕ) (t : Bool) → (t ≡ true → NoEnd p i k)
+    → (t && not (eqb (getD p (i + k) 0) 0x0a)) ≡ true → NoEnd p i (k + 1)
+none-turn p i k t f e j h q = go (decLe k j) (both t (not (eqb (getD p (i + k) 0) 0x0a)) e)
+  where
+    go : Dec (k ≤ j) → (t ≡ true) × (not (eqb (getD p (i + k) 0) 0x0a) ≡ true) → ⊥
+    go (yes g) z = let w : j ≡ k = omega arith in false≢true (sym (ap not (eq-eqb (getD p (i + k) 0) 0x0a (rw w at q))) ∙ z .1)
+    go (no g) z = f (z .0) j (omega arith) q
+
+-- the search goes on behind the block
+pub end-block : (p : List ℕ) (x i n : ℕ) → i + n ≤ length p → NoEnd p i n → x ≡ i + length (before (drop i p)) → x ≡ i + n + length (before (drop (i + n) p))
+end-block p x i zero h f e = rw (add-zero i) e
+end-block p x i (suc n) h f e =
+    rw (add-suc i n, sym (add-one (i + n)))
+    (end-turn p x (i + n) (omega arith) (f n (omega arith)) (end-block p x i n (omega arith) (λ j g. f j (omega arith)) e))
+
+pub block-passed : (p : List ℕ) (i : ℕ) (t : Bool) → EndFrom p i → 32 ≤ length p - i → (t ≡ true → NoEnd p i 32) → not t ≡ false → EndFrom p (i + 32)
+block-passed p i true f h g e = record { inside = omega arith; rest = end-block p (length (before p)) i 32 (omega arith) (g refl) (f .rest) }
+block-passed p i false f h g e = absurd (false≢true (sym e))
 
 -- ---- a piece with a line's end, and one without
 pub record Ended (p : List ℕ) : Type 0 where

@@ -1,13 +1,24 @@
 -- What private functions hand on.
 use mathlib.Core.Path.{_≡_}
 use mathlib.Core.List.{List, _++_}
-use Prim.Native.Nat.{ℕ, _-_, _≤_, min}
-use lib.ListN.{length, take}
+use Prim.Native.Nat.{ℕ, _+_, _-_, _≤_, _<_, min}
+use lib.ListN.{length, take, drop, getD}
 use Rattle.wire.specs.Put.{put}
 use Rattle.event.specs.declared.Written.{Written}
 use Rattle.reply.specs.Respond.{responded, respondedOut, respondedTable}
-use Rattle.reply.specs.Feed.{mostLine, kept}
+use Rattle.reply.specs.Feed.{mostLine, kept, before}
 
+-- ---- the search for a line's end
+-- none of the n bytes at i ends a line
+abbrev pub NoEnd : (p : List ℕ) (i n : ℕ) → Type 0
+NoEnd p i n = (j : ℕ) → j < n → getD p (i + j) 0 ≡ 0x0a → ⊥
+
+-- no byte before i does: the line's end is looked for from there on
+pub record EndFrom (p : List ℕ) (i : ℕ) : Type 0 where
+  pub inside : i ≤ length p
+  pub rest : length (before p) ≡ i + length (before (drop i p))
+
+-- ---- the line
 -- what is kept of the line so far, n bytes of the line buffer, with the bytes p more
 unfoldable pub grown : (line : List ℕ) → ℕ → (p : List ℕ) → List ℕ
 grown line n p = kept (take n (kept line) ++ p)

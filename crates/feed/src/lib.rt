@@ -1,23 +1,52 @@
 // The program's input, fed in pieces: a call takes a piece up to its first line's end, and answers the line that ends there. The line so far
 // stands in a lent buffer.
 ghost use mathlib.Core.Path.{_≡_};
-ghost use Prim.Native.Nat.{_≤_, min};
+ghost use mathlib.Core.Bool.{true};
+ghost use Prim.Native.Nat.{_+_, _≤_, min};
 ghost use lib.ListN.{length};
 ghost use Rattle.event.specs.Answer.{numberOf};
 ghost use Rattle.reply.specs.Feed.{mostLine, before, turned, turnRow, turnTable, turnLine, turnOut, turnedNumber};
 ghost use Rattle.feed.specs.Finish.{finished, finishRow, finishTable, finishOut};
-ghost use Rattle.feed.specs.Steps.{grown, Keeps, Joins, Answers};
+ghost use Rattle.feed.specs.Steps.{NoEnd, EndFrom, grown, Keeps, Joins, Answers};
 use event::Written;
 use reply::Turned;
 
 // A byte more than a message may have tells that the line is too long.
 const MOST_LINE: usize = wire::MOST_MESSAGE + 1;
 
+// Whether none of the 32 bytes at i ends a line. All are looked at, with no way out of the loop, so that it is compiled to vector code.
+fn none_ends(piece: &[u8], i: usize) -> bool
+    requires { ⌜ i + 32 ≤ length (now piece) ⌝ }
+    ensures { λ r. ⌜ (r ≡ true → NoEnd (now (piece .entry)) i 32) ⌝ }
+{
+    let mut none = true;
+    let mut k = 0;
+    while k < 32 {
+        none = none & (piece[i + k] != b'\n');
+        k += 1;
+    }
+    none
+}
+
+// Past bytes that end no line, 32 at a time.
+fn past_blocks(piece: &[u8]) -> usize
+    ensures { λ r. ⌜ EndFrom (now (piece .entry)) r ⌝ }
+{
+    let mut i = 0;
+    while 32 <= piece.len() - i {
+        if !none_ends(piece, i) {
+            return i;
+        }
+        i += 32;
+    }
+    i
+}
+
 // The place of the piece's first line's end, or the piece's own.
 fn end_at(piece: &[u8]) -> usize
     ensures { λ r. ⌜ r ≡ length (before (now (piece .entry))) ⌝ }
 {
-    let mut i = 0;
+    let mut i = past_blocks(piece);
     while i < piece.len() {
         if piece[i] == b'\n' {
             return i;

@@ -16,7 +16,7 @@ abbrev μ-loop : tie.MeasureT-loop
 μ-loop piece i₀ i = length piece - i
 
 loop-holds : tie.Need-loop-holds Inv-loop μ-loop
-loop-holds c = omega arith
+loop-holds c = c .past-blocks .ensures .rest
 
 returns : tie.Need-returns Inv-loop μ-loop
 returns c = let c2 = c .before .before in end-found _ _ _ (c2 .loop-test .taken) (c .if1 .taken) (c2 .before .loop .inv)
@@ -30,5 +30,5 @@ returns-2 c = end-none _ _ _ (c .loop-test .left) (c .before .loop .inv)
 pub end-at-spec : {M : Type 1} → statement M
 end-at-spec =
     tie.close
-    (tie.spec Inv-loop μ-loop loop-holds (λ c. search needs) returns (λ c. search needs) (λ c. omega arith) loop-again
+    (tie.spec Inv-loop μ-loop (λ c κs. search needs) loop-holds (λ c. search needs) returns (λ c. search needs) (λ c. omega arith) loop-again
     returns-2)
