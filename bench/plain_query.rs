@@ -16,7 +16,7 @@ struct Known<'a> {
     conditions: Vec<(u8, Vec<Cow<'a, [u8]>>)>,
 }
 
-fn decoded(s: &[u8]) -> Cow<'_, [u8]> {
+pub fn decoded(s: &[u8]) -> Cow<'_, [u8]> {
     if s.contains(&b'\\') { Cow::Owned(plain_message::decode(s)) } else { Cow::Borrowed(s) }
 }
 
@@ -116,7 +116,12 @@ pub fn list(b: &[u8], m: &[u8], fs: &[Filter], row: &mut [u16]) -> Result<usize,
     if refused < 9 {
         return Err(refused);
     }
-    if !plain_table::sound(b) {
+    answer(b, m, fs, row, true)
+}
+
+// The same of filters that passed their rows; soundness is tested if that is asked for.
+pub fn answer(b: &[u8], m: &[u8], fs: &[Filter], row: &mut [u16], test: bool) -> Result<usize, u8> {
+    if test && !plain_table::sound(b) {
         return Err(11);
     }
     let held = number(b, 4, 4);

@@ -1,0 +1,191 @@
+// The relay in plain Rust: messages on standard input, one a line, over a fresh table of 8 slots; their replies on standard output. It reads into
+// a chunk of 64 KB, answers the lines that end in it and then writes what they are answered, as the proved program does. With the argument
+// `untested` the table's soundness is not asked.
+#![allow(dead_code)]
+mod plain_event;
+mod plain_json;
+mod plain_message;
+mod plain_query;
+mod plain_sha256;
+mod plain_table;
+
+use plain_message::{Message, Span};
+use plain_table::{number, slot, word, HEADER, SLOT, TEXT};
+use std::fs::File;
+use std::io::{Read, Write};
+use std::os::fd::FromRawFd;
+
+const REASONS: [&str; 13] = [
+    "",
+    "invalid: message too long",
+    "invalid: not UTF-8",
+    "invalid: not JSON",
+    "invalid: string not allowed",
+    "invalid: wrong shape",
+    "invalid: number",
+    "invalid: hex",
+    "invalid: count or length",
+    "invalid: event too large",
+    "invalid: id does not match",
+    "error: bad table",
+    "error: no room",
+];
+
+fn span(m: &[u8], s: Span) -> &[u8] {
+    &m[s.start..s.start + s.len]
+}
+
+// A string as spelled, decoded and escaped between quotes.
+fn put_quoted(out: &mut Vec<u8>, s: &[u8]) {
+    out.push(b'"');
+    if s.iter().any(|&b| matches!(b, b'\\' | 0x00..=0x1f)) {
+        for &b in plain_query::decoded(s).iter() {
+            match b {
+                0x0a => out.extend_from_slice(b"\\n"),
+                0x22 => out.extend_from_slice(b"\\\""),
+                0x5c => out.extend_from_slice(b"\\\\"),
+                0x0d => out.extend_from_slice(b"\\r"),
+                0x09 => out.extend_from_slice(b"\\t"),
+                0x08 => out.extend_from_slice(b"\\b"),
+                0x0c => out.extend_from_slice(b"\\f"),
+                _ => out.push(b),
+            }
+        }
+    } else {
+        out.extend_from_slice(s);
+    }
+    out.push(b'"');
+}
+
+fn put_hex(out: &mut Vec<u8>, s: &[u8]) {
+    const DIGITS: &[u8; 16] = b"0123456789abcdef";
+    for b in s {
+        out.push(DIGITS[(b >> 4) as usize]);
+        out.push(DIGITS[(b & 15) as usize]);
+    }
+}
+
+fn notice(out: &mut Vec<u8>, row: u8) {
+    writeln!(out, "[\"NOTICE\",\"{}\"]", REASONS[row as usize]).unwrap();
+}
+
+fn ok(out: &mut Vec<u8>, id: &[u8], accepted: bool, reason: &str) {
+    out.extend_from_slice(b"[\"OK\",");
+    put_quoted(out, id);
+    out.extend_from_slice(if accepted { b",true,\"" } else { b",false,\"" });
+    out.extend_from_slice(reason.as_bytes());
+    out.extend_from_slice(b"\"]\n");
+}
+
+fn closed(out: &mut Vec<u8>, sub: &[u8], row: u8) {
+    out.extend_from_slice(b"[\"CLOSED\",");
+    put_quoted(out, sub);
+    out.extend_from_slice(b",\"");
+    out.extend_from_slice(REASONS[row as usize].as_bytes());
+    out.extend_from_slice(b"\"]\n");
+}
+
+// The reply to a message that a row from 6 on refuses.
+fn refusal(out: &mut Vec<u8>, m: &[u8], parts: &Message, row: u8) {
+    match parts {
+        Message::Event(e) if plain_message::is_hex(span(m, e.id), 64) => ok(out, span(m, e.id), false, REASONS[row as usize]),
+        Message::Req { subscription, .. } => {
+            let n = plain_query::decoded(span(m, *subscription)).iter().filter(|b| **b & 0xc0 != 0x80).count();
+            if (1..=64).contains(&n) { closed(out, span(m, *subscription), row) } else { notice(out, row) }
+        }
+        _ => notice(out, row),
+    }
+}
+
+// The EVENT reply of a held slot: tags and content stand in its text as they go into the reply.
+fn event(out: &mut Vec<u8>, sub: &[u8], s: &[u8]) {
+    let text = &s[TEXT..TEXT + number(s, 106, 2)];
+    let p = plain_event::read_text(text).unwrap_or_default();
+    out.extend_from_slice(b"[\"EVENT\",");
+    put_quoted(out, sub);
+    out.extend_from_slice(b",{\"id\":\"");
+    put_hex(out, &s[..32]);
+    out.extend_from_slice(b"\",\"pubkey\":");
+    out.extend_from_slice(&text[3..69]);
+    write!(out, ",\"created_at\":{},\"kind\":{},\"tags\":", word(&s[96..]) as i64, number(s, 104, 2)).unwrap();
+    out.extend_from_slice(&text[p.tags..p.content.start - 2]);
+    out.extend_from_slice(b",\"content\":");
+    out.extend_from_slice(&text[p.content.start - 1..text.len() - 1]);
+    out.extend_from_slice(b",\"sig\":\"");
+    put_hex(out, &s[32..96]);
+    out.extend_from_slice(b"\"}]\n");
+}
+
+fn respond(table: &mut [u8], m: &[u8], out: &mut Vec<u8>, test: bool) {
+    let (parts, row) = match plain_message::walk(m) {
+        Ok(read) => read,
+        Err(row) => return notice(out, row),
+    };
+    if row < 6 {
+        return notice(out, row);
+    }
+    if row < 9 {
+        return refusal(out, m, &parts, row);
+    }
+    match &parts {
+        Message::Event(e) => match plain_table::offer_event(table, m, e, test) {
+            0 | 100 => ok(out, span(m, e.id), true, ""),
+            101 => ok(out, span(m, e.id), true, "duplicate: already have this event"),
+            102 => ok(out, span(m, e.id), true, "duplicate: have a newer version"),
+            row => refusal(out, m, &parts, row),
+        },
+        Message::Req { subscription, filters, count } => {
+            let mut slots = [0; 64];
+            match plain_query::answer(table, m, &filters[..*count], &mut slots, test) {
+                Ok(n) => {
+                    let sub = span(m, *subscription);
+                    for &k in &slots[..n] {
+                        event(out, sub, slot(table, k as usize));
+                    }
+                    out.extend_from_slice(b"[\"EOSE\",");
+                    put_quoted(out, sub);
+                    out.extend_from_slice(b"]\n");
+                }
+                Err(row) => refusal(out, m, &parts, row),
+            }
+        }
+        Message::Close(_) => (),
+    }
+}
+
+fn main() {
+    let test = std::env::args().nth(1).as_deref() != Some("untested");
+    let (mut input, mut output) = unsafe { (File::from_raw_fd(0), File::from_raw_fd(1)) };
+    let mut table = vec![0u8; HEADER + 8 * SLOT];
+    plain_table::format(&mut table, 8);
+    let mut chunk = vec![0u8; 65536];
+    let (mut line, mut out) = (Vec::with_capacity(8193), Vec::with_capacity(131072));
+    loop {
+        let n = input.read(&mut chunk).unwrap_or(0);
+        if n == 0 {
+            break;
+        }
+        let mut rest = &chunk[..n];
+        while let Some(end) = rest.iter().position(|&b| b == b'\n') {
+            if line.is_empty() {
+                respond(&mut table, &rest[..end], &mut out, test);
+            } else {
+                line.extend_from_slice(&rest[..end.min(8193 - line.len())]);
+                respond(&mut table, &line, &mut out, test);
+                line.clear();
+            }
+            rest = &rest[end + 1..];
+            if 65536 < out.len() {
+                output.write_all(&out).unwrap();
+                out.clear();
+            }
+        }
+        line.extend_from_slice(&rest[..rest.len().min(8193 - line.len())]);
+        output.write_all(&out).unwrap();
+        out.clear();
+    }
+    if !line.is_empty() {
+        respond(&mut table, &line, &mut out, test);
+        output.write_all(&out).unwrap();
+    }
+}
