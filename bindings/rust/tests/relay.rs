@@ -1,6 +1,6 @@
 //! The library against the stored input and output of the program `relay`, and at its borders.
 
-use plavdrosa::{Feed, Message, Refusal, Table, Verdict, output_size, read, refused, relay, sample, table_size};
+use plavdrosa::{Feed, Message, Refusal, Span, Table, Verdict, output_size, read, refused, relay, sample, table_size};
 
 const STDIN: &[u8] = include_bytes!(concat!(env!("CARGO_MANIFEST_DIR"), "/../../crates/relay/stdin"));
 const STDOUT: &[u8] = include_bytes!(concat!(env!("CARGO_MANIFEST_DIR"), "/../../crates/relay/stdout"));
@@ -119,6 +119,27 @@ fn full_tables_of_every_capacity_are_listed_whole() {
             Err(Refusal::ShortOutput)
         );
     }
+}
+
+#[test]
+fn a_table_moves_to_a_larger_one() {
+    let mut small = vec![0; table_size(3)];
+    let mut large = vec![0; table_size(4)];
+    let mut from = Table::format(&mut small, 3).unwrap();
+    for message in [event(0), event(-1), sample::EVENT.to_vec()] {
+        from.offer(&message).unwrap();
+    }
+    let mut to = Table::format(&mut large, 4).unwrap();
+    let mut out = vec![0; 5000];
+    let subscription = Span { start: 0, len: 1 };
+    for slot in (0..from.len()).rev() {
+        let n = from.slot_event(slot, b"s", subscription, &mut out).unwrap().len();
+        // ["EVENT","s",{..}] becomes ["EVENT",{..}]
+        out[4..13].copy_from_slice(b"[\"EVENT\",");
+        assert_eq!(to.offer(&out[4..n]), Ok(Verdict::Stored));
+    }
+    assert_eq!(to.len(), 3);
+    assert_eq!(to.show(0), from.show(2));
 }
 
 // A regular event of a time, with its id.
