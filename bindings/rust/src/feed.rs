@@ -85,16 +85,7 @@ impl Feed {
         out: &mut [u8],
         each: impl FnMut(&[u8]),
     ) -> Result<usize, Refusal> {
-        let (mut used, mut written) = (0, 0);
-        done(ffi::turn(
-            table.lent(),
-            &mut self.line,
-            &mut self.kept,
-            piece,
-            out,
-            &mut used,
-            &mut written,
-        ))?;
+        let (used, written) = self.fed(table, piece, out)?;
         each_line(&out[..written], each);
         Ok(used)
     }
@@ -112,11 +103,31 @@ impl Feed {
     /// # Ok::<(), plavdrosa::Refusal>(())
     /// ```
     pub fn finish(&mut self, table: &mut Table<'_>, out: &mut [u8], each: impl FnMut(&[u8])) -> Result<(), Refusal> {
+        let written = self.ended(table, out)?;
+        each_line(&out[..written], each);
+        Ok(())
+    }
+
+    // How many bytes of the piece were used up, and how many were written.
+    fn fed(&mut self, table: &mut Table<'_>, piece: &[u8], out: &mut [u8]) -> Result<(usize, usize), Refusal> {
+        let (mut used, mut written) = (0, 0);
+        done(ffi::turn(
+            table.lent(),
+            &mut self.line,
+            &mut self.kept,
+            piece,
+            out,
+            &mut used,
+            &mut written,
+        ))?;
+        Ok((used, written))
+    }
+
+    fn ended(&mut self, table: &mut Table<'_>, out: &mut [u8]) -> Result<usize, Refusal> {
         let mut written = 0;
         done(ffi::finish(table.lent(), &self.line, self.kept, out, &mut written))?;
         self.kept = 0;
-        each_line(&out[..written], each);
-        Ok(())
+        Ok(written)
     }
 }
 
@@ -140,31 +151,23 @@ pub fn relay(
     let mut out = vec![0; crate::output_size(table.capacity())];
     let mut chunk = vec![0; 65_536];
     let mut feed = Feed::new();
-    let mut replies = Vec::new();
-    let add = |replies: &mut Vec<u8>, line: &[u8]| {
-        replies.extend_from_slice(line);
-        replies.push(b'\n');
-    };
     loop {
         let n = match input.read(&mut chunk) {
             Err(e) if e.kind() == std::io::ErrorKind::Interrupted => continue,
             read => read?,
         };
+        if n == 0 {
+            let written = feed.ended(table, &mut out).map_err(std::io::Error::other)?;
+            output.write_all(&out[..written])?;
+            return output.flush();
+        }
         let mut piece = &chunk[..n];
         while !piece.is_empty() {
-            let used = feed.turn(table, piece, &mut out, |line| add(&mut replies, line));
-            piece = &piece[used.map_err(std::io::Error::other)?..];
+            let (used, written) = feed.fed(table, piece, &mut out).map_err(std::io::Error::other)?;
+            output.write_all(&out[..written])?;
+            piece = &piece[used..];
         }
-        if n == 0 {
-            let end = feed.finish(table, &mut out, |line| add(&mut replies, line));
-            end.map_err(std::io::Error::other)?;
-        }
-        output.write_all(&replies)?;
         output.flush()?;
-        replies.clear();
-        if n == 0 {
-            return Ok(());
-        }
     }
 }
 
