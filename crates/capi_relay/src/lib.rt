@@ -199,12 +199,10 @@ pub extern "C" fn plavdrosa_reply(
 }
 
 // ---- What is only told.
-// What the offer of a message would be answered, as plavdrosa_offer tells it; the table is only read.
-#[no_mangle]
-pub extern "C" fn plavdrosa_judge(table: &[u8], message: &[u8]) -> u8
-    ensures { λ r. ⌜ r ≡ offeredNumber (answer (now (table .entry)) (asMessage (now (message .entry)))) ⌝ }
+fn offered_number(x: Offered) -> u8
+    ensures { λ r. ⌜ r ≡ offeredNumber x ⌝ }
 {
-    match offers::judge_message(table, message) {
+    match x {
         Offered::Stored => 0,
         Offered::Ephemeral => 100,
         Offered::Duplicate => 101,
@@ -213,15 +211,29 @@ pub extern "C" fn plavdrosa_judge(table: &[u8], message: &[u8]) -> u8
     }
 }
 
-// The class of a kind: 0 regular, 1 replaceable, 2 ephemeral, 3 addressable.
+// What the offer of a message would be answered, as plavdrosa_offer tells it; the table is only read.
 #[no_mangle]
-pub extern "C" fn plavdrosa_class(kind: u16) -> u8
-    ensures { λ r. ⌜ r ≡ classNumber (classOf kind) ⌝ }
+pub extern "C" fn plavdrosa_judge(table: &[u8], message: &[u8]) -> u8
+    ensures { λ r. ⌜ r ≡ offeredNumber (answer (now (table .entry)) (asMessage (now (message .entry)))) ⌝ }
 {
-    match text::class_of(kind) {
+    offered_number(offers::judge_message(table, message))
+}
+
+fn class_number(x: Class) -> u8
+    ensures { λ r. ⌜ r ≡ classNumber x ⌝ }
+{
+    match x {
         Class::Regular => 0,
         Class::Replaceable => 1,
         Class::Ephemeral => 2,
         Class::Addressable => 3,
     }
+}
+
+// The class of a kind: 0 regular, 1 replaceable, 2 ephemeral, 3 addressable.
+#[no_mangle]
+pub extern "C" fn plavdrosa_class(kind: u16) -> u8
+    ensures { λ r. ⌜ r ≡ classNumber (classOf kind) ⌝ }
+{
+    class_number(text::class_of(kind))
 }

@@ -2,14 +2,23 @@
 use mathlib.Core.Path.{_≡_, refl, sym, _∙_}
 use mathlib.Core.Bool.{Bool, true, false}
 use mathlib.Core.List.{List}
-use Prim.Native.Nat.{ℕ}
+use Prim.Native.Nat.{ℕ, _^_, _<_}
 use borrow.Author.Tests.{eq-eqb, ne-eqb}
+use lib.IntN.{ℤ}
 use lib.ListN.{getD}
+use lib.Signed.{mag}
+use mir.Syntax.{w64}
+use mir.Val.{toZ, ofZ}
+use mir.ValLaws.{toZ-ofZ}
+use Rattle.wire.specs.Field.{signed}
 use Rattle.message.specs.declared.Span.{Span}
 use Rattle.message.specs.declared.EventParts.{EventParts}
 use Rattle.reply.specs.declared.ReplyParts.{ReplyParts}
 use Rattle.reply.specs.declared.ReplyParts.the-variants as parts
 use Rattle.capi_relay.specs.Reply.{spanFrom, eventIn, acceptedIn, replyFrom}
+
+pub signed-back : (z : ℤ) (v : ℕ) → mag z < 2 ^ 63 → z ≡ signed v → toZ w64 (ofZ w64 z) ≡ signed v
+signed-back z v f e = toZ-ofZ w64 z (record { sfits = f }) ∙ e
 
 module _ (l : List ℕ) {v : ℕ} (e : v ≡ getD l 5 0) where
   pub not-accepted : v ≡ 0 → false ≡ acceptedIn l

@@ -1,6 +1,6 @@
 use borrow.Author.Needs.{needs}
 use Rattle.capi_relay.specs.Reply.{eventIn}
-use Rattle.capi.proofs.given.Parts.{signed-back}
+use Rattle.capi_relay.proofs.given.Parts.{signed-back}
 use Rattle.capi_relay.proofs.given.event_in.Statement.{statement}
 use Rattle.capi_relay.proofs.given.event_in.Tie as tie
 
