@@ -254,10 +254,10 @@ uint8_t plavdrosa_read(const uint8_t *bytes, size_t bytes_len, uint64_t *out, si
  *           tags:                 the place of the list's opening bracket.
  *           content, content_len: a string part.
  *  Out:     out:                  the text, from its start; as found on a refusal. PLAVDROSA_MAX_TEXT bytes are always enough.
- *           written:              how many bytes it has; as found on a refusal.
+ *           len:                  how many bytes it has; as found on a refusal.
  */
 uint8_t plavdrosa_serialise(const uint8_t *bytes, size_t bytes_len, size_t pubkey, size_t pubkey_len, int64_t created_at, int64_t kind, size_t tags,
-    size_t content, size_t content_len, uint8_t *out, size_t out_len, size_t *written);
+    size_t content, size_t content_len, uint8_t *out, size_t out_len, size_t *len);
 
 /** Read a serialised text back.
  *
