@@ -54,7 +54,7 @@ unsafe extern "C" {
         content_len: usize,
         out: *mut u8,
         out_len: usize,
-        written: *mut usize,
+        len: *mut usize,
     ) -> u8;
     fn plavdrosa_read_text(bytes: *const u8, bytes_len: usize, out: *mut u64, out_len: usize) -> u8;
     fn plavdrosa_id(
