@@ -4,10 +4,10 @@ use Rattle.capi_relay.proofs.given.accepted_in.Statement.{statement}
 use Rattle.capi_relay.proofs.given.accepted_in.Tie as tie
 
 returns : tie.Need-returns
-returns c = not-accepted _ (c .before .number-in .ensures) (c .if1 .taken)
+returns c = not-accepted (c .before .before .before .args .l .now) (c .before .number-in .ensures) (c .if1 .taken)
 
 returns-2 : tie.Need-returns-2
-returns-2 c = is-accepted _ (c .before .number-in .ensures) (c .if1 .left)
+returns-2 c = is-accepted (c .before .before .before .args .l .now) (c .before .number-in .ensures) (c .if1 .left)
 
 pub accepted-in-spec : {M : Type 1} → statement M
 accepted-in-spec =
