@@ -1,5 +1,8 @@
 /* Plavdrosa: the core of a Nostr relay, each call proved to do what is said of it.
  *
+ * The calls stand in two static libraries, libcapi_relay.a and libcapi.a (`rt staticlib capi_relay`, `rt staticlib capi`), which link beside each
+ * other and need memcpy and memset only.
+ *
  * Every buffer is the caller's: no call allocates, keeps a pointer, or has a state of its own. A slice is a pointer and a length, in this order;
  * the length counts members, not bytes. A pointer is never NULL, also where its length is 0, and lies as its type wants.
  *
@@ -7,7 +10,7 @@
  * answer. On a refusal every lent buffer and every lent number stays as found. Output is written from its start, and its rest stays.
  *
  * What is not checked: that a buffer which is written overlaps no other argument of the same call, that it has the length said, and that nobody
- * else uses it during the call. Each call says this of its Out and In/Out arguments.
+ * else uses it during the call.
  *
  * Strings are parts: a place in a buffer and a length, of what stands between the quotes, as spelled there. Lists are the place of their opening
  * bracket. Parts go in and out as rows of 64-bit numbers; signed numbers are their 64 bits, in two's complement.
@@ -47,7 +50,8 @@ extern "C" {
 
 /* ---- Answers. */
 
-/* What refuses a call, beside the text of the reply that a client gets. Where several hold, the lowest is given. */
+/* What refuses a call, beside the text of the reply that a client gets. Where several hold, the lowest is given; but
+ * plavdrosa_format tests 14 before 13. */
 enum plavdrosa_row {
     PLAVDROSA_DONE = 0,
     PLAVDROSA_TOO_LONG = 1,         /* message over 8,192 bytes; "invalid: message too long" */
@@ -302,7 +306,7 @@ uint8_t plavdrosa_class(uint16_t kind);
  */
 uint8_t plavdrosa_format(uint8_t *table, size_t table_len, size_t capacity);
 
-/** Test whether a table is sound. Every other call on a table does so itself.
+/** Test whether a table is sound. The calls that use its events do so themselves.
  *
  *  Returns: 11 if it is not, or 0.
  *  In:      table: the table.
