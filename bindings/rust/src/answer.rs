@@ -4,7 +4,7 @@
 
 use core::fmt;
 
-/// What refuses a call. Where several hold, the lowest number is given.
+/// What refuses a call. Where several hold, the lowest number is given; but formatting tests 14 before 13.
 ///
 /// ```
 /// use plavdrosa::{Refusal, read};
