@@ -1,0 +1,82 @@
+//! The crate's numbers, texts and sizes against those of the C header.
+
+use plavdrosa::{MAX_CAPACITY, MAX_MESSAGE, MAX_TEXT, Refusal, Verdict, output_size, table_size};
+
+const HEADER: &str = include_str!(concat!(env!("CARGO_MANIFEST_DIR"), "/../../include/plavdrosa.h"));
+
+// The lines of an enum.
+fn rows(name: &str) -> Vec<&'static str> {
+    let start = HEADER.find(&format!("enum {name} {{")).unwrap();
+    let body = &HEADER[start..];
+    body[..body.find('}').unwrap()].lines().skip(1).collect()
+}
+
+// The line that gives a number.
+fn row(name: &str, number: u8) -> &'static str {
+    let given = |line: &&str| {
+        line.split("/*")
+            .next()
+            .unwrap()
+            .trim_end()
+            .trim_end_matches(',')
+            .ends_with(&format!("= {number}"))
+    };
+    rows(name).into_iter().find(given).unwrap()
+}
+
+// TOO_LONG for TooLong.
+fn upper(name: String) -> String {
+    let mut upper = String::new();
+    for (i, letter) in name.char_indices() {
+        if i > 0 && letter.is_uppercase() {
+            upper.push('_');
+        }
+        upper.push(letter.to_ascii_uppercase());
+    }
+    upper
+}
+
+#[test]
+fn refusals_are_the_headers() {
+    assert_eq!(rows("plavdrosa_row").len(), 1 + 14);
+    for number in 1..=14 {
+        let refusal = Refusal::from_number(number).unwrap();
+        let line = row("plavdrosa_row", number);
+        assert!(
+            line.contains(&format!("PLAVDROSA_{} ", upper(format!("{refusal:?}")))),
+            "{line}"
+        );
+        match refusal.text() {
+            Some(text) => assert!(line.contains(&format!("\"{text}\"")), "{line}"),
+            None => assert!(line.contains("no reply"), "{line}"),
+        }
+    }
+}
+
+#[test]
+fn verdicts_are_the_headers() {
+    assert_eq!(rows("plavdrosa_verdict").len(), 4);
+    for verdict in [Verdict::Stored, Verdict::Ephemeral, Verdict::Duplicate, Verdict::Older] {
+        let line = row("plavdrosa_verdict", verdict.number());
+        assert!(
+            line.contains(&format!("PLAVDROSA_{} ", upper(format!("{verdict:?}")))),
+            "{line}"
+        );
+        assert!(line.contains(&format!("\"{}\"", verdict.text())), "{line}");
+    }
+}
+
+#[test]
+fn sizes_are_the_headers() {
+    let defined = |what: &str| assert!(HEADER.contains(&format!("#define PLAVDROSA_{what}\n")), "{what}");
+    defined(&format!("MAX_MESSAGE {MAX_MESSAGE}"));
+    defined(&format!("MAX_TEXT {MAX_TEXT}"));
+    defined(&format!("MAX_CAPACITY {MAX_CAPACITY}"));
+    let slot = table_size(1) - table_size(0);
+    defined(&format!(
+        "TABLE_SIZE(n) ((size_t){} + (size_t)(n) * {slot})",
+        table_size(0)
+    ));
+    let event = output_size(1) - output_size(0);
+    defined(&format!("OUTPUT_SIZE(n) ((size_t)(n) * {event} + {})", output_size(0)));
+}

@@ -1,0 +1,2 @@
+-- Laws of a reply made of numbers.
+pub mod Parts

@@ -1,0 +1,3 @@
+-- What the calls that answer messages and write replies tell Rust and C.
+pub mod Counts
+pub mod Reply

@@ -1,0 +1,109 @@
+/* Each call of the header once, from C99 and from C++: that it links, and that it answers what the header says. */
+#include <stdio.h>
+#include <string.h>
+
+#include "plavdrosa.h"
+
+#define A16 "aaaaaaaaaaaaaaaa"
+#define A64 A16 A16 A16 A16
+#define ZEROS "00000000000000000000000000000000"
+#define ID "afb4d2ec38e45c400ca1b20a5691096d08c2f75986c44f89567e1c4bc5091f3a"
+
+static const char event[] = "[\"EVENT\",{\"id\":\"" ID "\",\"pubkey\":\"" A64 "\",\"created_at\":-7200,\"kind\":30078,"
+    "\"tags\":[[\"d\",\"floor-3/tile-17\"]],\"content\":\"corridor\",\"sig\":\"" ZEROS ZEROS ZEROS ZEROS "\"}]";
+static const char text[] = "[0,\"" A64 "\",-7200,30078,[[\"d\",\"floor-3/tile-17\"]],\"corridor\"]";
+static const char req[] = "[\"REQ\",\"s\",{\"kinds\":[30078],\"limit\":1}]";
+
+static uint8_t table[PLAVDROSA_TABLE_SIZE(2)];
+static uint8_t out[PLAVDROSA_OUTPUT_SIZE(2)];
+static uint8_t line[PLAVDROSA_LINE_SIZE];
+static uint64_t e[PLAVDROSA_EVENT_NUMBERS];
+static uint64_t r[PLAVDROSA_MESSAGE_NUMBERS];
+static int wrong;
+
+/* A string as a slice, without its final zero. */
+#define BYTES(s) (const uint8_t *)(s), strlen(s)
+
+static void expect(int answer, int number, const char *call) {
+    if (answer != number) {
+        printf("%s answered %d, not %d\n", call, answer, number);
+        wrong = 1;
+    }
+}
+
+#define EXPECT(call, number) expect((int)(call), (number), #call)
+
+/* Whether the first bytes of the output are a string's. */
+static int is(size_t written, const char *s) {
+    return written == strlen(s) && memcmp(out, s, written) == 0;
+}
+
+static void texts(void) {
+    size_t n = 0;
+    uint64_t t[PLAVDROSA_TEXT_NUMBERS];
+    EXPECT(plavdrosa_text_row(BYTES("[1")), PLAVDROSA_NOT_JSON);
+    EXPECT(plavdrosa_message_row(BYTES("[1]")), PLAVDROSA_WRONG_SHAPE);
+    EXPECT(plavdrosa_read(BYTES(event), e, PLAVDROSA_EVENT_NUMBERS), PLAVDROSA_DONE);
+    EXPECT(e[0] == PLAVDROSA_EVENT && (int64_t)e[PLAVDROSA_EVENT_CREATED_AT] == -7200, 1);
+    EXPECT(plavdrosa_read(BYTES(req), r, PLAVDROSA_MESSAGE_NUMBERS), PLAVDROSA_DONE);
+    EXPECT(r[0] == PLAVDROSA_REQ && r[PLAVDROSA_REQ_FILTERS] == 1 && r[PLAVDROSA_FILTER(0) + PLAVDROSA_FILTER_LIMIT] == 1, 1);
+    EXPECT(plavdrosa_serialise(BYTES(event), e[3], e[4], (int64_t)e[5], (int64_t)e[6], e[7], e[8], e[9], out, sizeof out, &n), PLAVDROSA_DONE);
+    EXPECT(is(n, text), 1);
+    EXPECT(plavdrosa_read_text(BYTES(text), t, PLAVDROSA_TEXT_NUMBERS), PLAVDROSA_DONE);
+    EXPECT(t[PLAVDROSA_TEXT_KIND], 30078);
+    EXPECT(plavdrosa_id(BYTES(event), e[3], e[4], (int64_t)e[5], (int64_t)e[6], e[7], e[8], e[9], out, PLAVDROSA_ID_SIZE), PLAVDROSA_DONE);
+    EXPECT(out[0] == 0xaf && out[31] == 0x3a, 1);
+    EXPECT(plavdrosa_digest(BYTES(text), out, PLAVDROSA_ID_SIZE), PLAVDROSA_DONE);
+    EXPECT(out[0] == 0xaf && out[31] == 0x3a, 1);
+    EXPECT(plavdrosa_class(30078), PLAVDROSA_CLASS_ADDRESSABLE);
+}
+
+static void tables(void) {
+    size_t place = 0, n = 0;
+    uint16_t slots[PLAVDROSA_MAX_CAPACITY];
+    EXPECT(plavdrosa_sound(table, sizeof table), PLAVDROSA_BAD_TABLE);
+    EXPECT(plavdrosa_format(table, sizeof table, 65), PLAVDROSA_NO_SLOT);
+    EXPECT(plavdrosa_format(table, sizeof table, 3), PLAVDROSA_SHORT_OUTPUT);
+    EXPECT(plavdrosa_format(table, sizeof table, 2), PLAVDROSA_DONE);
+    EXPECT(plavdrosa_sound(table, sizeof table), PLAVDROSA_DONE);
+    EXPECT(plavdrosa_judge(table, sizeof table, BYTES(event)), PLAVDROSA_STORED);
+    EXPECT(plavdrosa_offer(table, sizeof table, BYTES(event)), PLAVDROSA_STORED);
+    EXPECT(plavdrosa_offer_parts(table, sizeof table, BYTES(event), e[1], e[2], e[3], e[4], (int64_t)e[5], (int64_t)e[6], e[7], e[8], e[9],
+        e[10], e[11]), PLAVDROSA_DUPLICATE);
+    EXPECT(plavdrosa_show(table, sizeof table, 1, &place, &n), PLAVDROSA_NO_SLOT);
+    EXPECT(plavdrosa_show(table, sizeof table, 0, &place, &n), PLAVDROSA_DONE);
+    EXPECT(n == strlen(text) && memcmp(table + place, text, n) == 0, 1);
+    EXPECT(plavdrosa_match(BYTES(event), e, PLAVDROSA_EVENT_NUMBERS, BYTES(req), r, PLAVDROSA_MESSAGE_NUMBERS, &n), PLAVDROSA_DONE);
+    EXPECT(n, 1);
+    EXPECT(plavdrosa_list(table, sizeof table, BYTES(req), r, PLAVDROSA_MESSAGE_NUMBERS, slots, PLAVDROSA_MAX_CAPACITY, &n), PLAVDROSA_DONE);
+    EXPECT(n == 1 && slots[0] == 0, 1);
+}
+
+static void replies(void) {
+    size_t n = 0, sent = 0, kept = 0, used = 0;
+    const uint16_t slots[1] = {0};
+    const uint64_t eose[3] = {PLAVDROSA_REPLY_EOSE, 0, 1};
+    EXPECT(plavdrosa_reply(BYTES("s"), eose, 3, out, sizeof out, &n), PLAVDROSA_DONE);
+    EXPECT(is(n, "[\"EOSE\",\"s\"]"), 1);
+    EXPECT(plavdrosa_refused(BYTES("[\"CLOSE\",\"\"]"), PLAVDROSA_BAD_COUNT, out, sizeof out, &n), PLAVDROSA_DONE);
+    EXPECT(is(n, "[\"NOTICE\",\"invalid: count or length\"]"), 1);
+    EXPECT(plavdrosa_slot_event(table, sizeof table, 0, BYTES("s"), 0, 1, out, sizeof out, &n), PLAVDROSA_DONE);
+    EXPECT(memcmp(out, "[\"EVENT\",\"s\",{\"id\":\"" ID, 84), 0);
+    EXPECT(plavdrosa_events(table, sizeof table, slots, 1, BYTES("s"), 0, 1, out, sizeof out, &n, &sent), PLAVDROSA_DONE);
+    EXPECT(sent == 1 && out[n - 1] == '\n', 1);
+    EXPECT(plavdrosa_respond(table, sizeof table, BYTES(event), out, sizeof out, &n), PLAVDROSA_DONE);
+    EXPECT(is(n, "[\"OK\",\"" ID "\",true,\"duplicate: already have this event\"]\n"), 1);
+    EXPECT(plavdrosa_turn(table, sizeof table, line, sizeof line, &kept, BYTES("{}\n["), out, sizeof out, &used, &n), PLAVDROSA_DONE);
+    EXPECT(used == 3 && kept == 0 && is(n, "[\"NOTICE\",\"invalid: wrong shape\"]\n"), 1);
+    EXPECT(plavdrosa_turn(table, sizeof table, line, sizeof line, &kept, BYTES("["), out, sizeof out, &used, &n), PLAVDROSA_DONE);
+    EXPECT(used == 1 && kept == 1 && n == 0, 1);
+    EXPECT(plavdrosa_finish(table, sizeof table, line, sizeof line, kept, out, sizeof out, &n), PLAVDROSA_DONE);
+    EXPECT(is(n, "[\"NOTICE\",\"invalid: not JSON\"]\n"), 1);
+}
+
+int main(void) {
+    texts();
+    tables();
+    replies();
+    return wrong;
+}
