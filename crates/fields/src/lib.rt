@@ -8,6 +8,7 @@ ghost use Rattle.wire.specs.Put.{Puts};
 ghost use Rattle.numeral.specs.Decimal.{digits, decimal};
 ghost use Rattle.fields.specs.Line.{spaceIn, restOf, fieldsFrom, fieldOf, gapOf};
 ghost use Rattle.fields.specs.Number.{grownBy, naturalOf, complementOf, integerOf, isAbsent, countOf};
+ghost use Rattle.fields.specs.Room.{letterOf, turned, lengthAfter, lentAfter, roomAfter};
 ghost use Rattle.fields.specs.Parts.{spanOf, bodyOf, eventOf, listedOf, boundOf, filterOf};
 use message::Body;
 use message::Bound;
@@ -220,8 +221,8 @@ pub fn filter(line: &[u8]) -> FilterParts
     }
 }
 
-// ---- What is written: a space, unless the line begins here, and a field.
-fn put_gap(out: &mut [u8], at: usize) -> usize
+// ---- What is written: a space, unless the line begins here; the same and a field.
+pub fn put_gap(out: &mut [u8], at: usize) -> usize
     ensures { λ r. ⌜ Puts (now (out .entry)) at (gapOf at) r (now (out .exit)) ⌝ }
 {
     if at == 0 {
@@ -260,5 +261,60 @@ pub fn fill(room: &mut [u8], b: u8)
     while i < n {
         room[i] = b;
         i += 1;
+    }
+}
+
+// ---- A room for a table, and lent bytes beside it. Three letters change them:
+//   L len fill      every byte of the room becomes `fill`; its first `len` bytes are the table
+//   B bytes         these bytes to the start of the lent ones
+//   X at bits       turns these bits of a byte of the room over
+// The first byte of a line, and 0 where it has none.
+pub fn letter(line: &[u8]) -> u8
+    ensures { λ r. ⌜ r ≡ letterOf (now (line .entry)) ⌝ }
+{
+    if line.len() == 0 {
+        return 0;
+    }
+    line[0]
+}
+
+// Bits of a byte turned over, where there is one.
+fn turn_over(room: &mut [u8], at: usize, bits: u8)
+    ensures { λ _. ⌜ now (room .exit) ≡ turned (now (room .entry)) at bits ⌝ }
+{
+    if at < room.len() {
+        room[at] = room[at] ^ bits;
+    }
+}
+
+// The length of the table from this line on; n before it.
+pub fn table_len(line: &[u8], n: usize) -> usize
+    ensures { λ r. ⌜ r ≡ lengthAfter (now (line .entry)) n ⌝ }
+{
+    if letter(line) == b'L' {
+        return count(line, 1);
+    }
+    n
+}
+
+// What the line does with the lent bytes, and with the room.
+pub fn change_lent(line: &[u8], lent: &mut [u8])
+    ensures { λ _. ⌜ now (lent .exit) ≡ lentAfter (now (line .entry)) (now (lent .entry)) ⌝ }
+{
+    if letter(line) == b'B' {
+        wire::put(lent, 0, wire::piece(line, 2, 65536));
+    }
+}
+
+pub fn change_room(line: &[u8], room: &mut [u8])
+    ensures { λ _. ⌜ now (room .exit) ≡ roomAfter (now (line .entry)) (now (room .entry)) ⌝ }
+{
+    let b = letter(line);
+    if b == b'L' {
+        fill(room, byte(line, 2));
+        return;
+    }
+    if b == b'X' {
+        turn_over(room, count(line, 1), byte(line, 2));
     }
 }
