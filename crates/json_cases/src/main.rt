@@ -12,6 +12,11 @@ fn respond(s: &[u8]) {
     show(rows::text_row(s), shape::message_row(s));
 }
 
+// The line is the first n bytes of the buffer.
+fn answer(line: &[u8], n: usize) {
+    respond(wire::piece(line, 0, n));
+}
+
 fn main() {
     let mut line = io::large_buffer();
     let mut chunk = io::large_buffer();
@@ -22,7 +27,7 @@ fn main() {
         if !l.some {
             return;
         }
-        respond(wire::piece(&line, 0, l.n));
+        answer(&line, l.n);
         k += 1;
     }
 }

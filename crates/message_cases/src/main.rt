@@ -341,12 +341,16 @@ fn put_answer(out: &mut [u8], line: &[u8]) -> usize {
     }
 }
 
-// Of a line longer than the buffer the first 65,536 bytes are kept, which the same rows refuse.
 fn respond(line: &[u8]) {
     let mut buffer = io::large_buffer();
     let out: &mut [u8] = &mut buffer;
     let n = put_answer(out, line);
     lines::write_line(out, n);
+}
+
+// The line is the first n bytes of the buffer. Of a longer line the first 65,536 bytes are kept, which the same rows refuse.
+fn answer(line: &[u8], n: usize) {
+    respond(wire::piece(line, 0, n));
 }
 
 fn main() {
@@ -359,7 +363,7 @@ fn main() {
         if !l.some {
             return;
         }
-        respond(wire::piece(&line, 0, l.n));
+        answer(&line, l.n);
         k += 1;
     }
 }
