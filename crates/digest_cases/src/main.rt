@@ -260,18 +260,14 @@ fn answer(line: &[u8], n: usize) {
 fn main() {
     let mut line = io::large_buffer();
     let mut chunk = io::large_buffer();
-    let mut r = lines::none();
+    let mut l = lines::none();
     let mut k: u64 = 0;
     while k < 0xffff_ffff_ffff {
-        let l = lines::next(&mut line, &mut chunk, r);
+        l = lines::next(&mut line, &mut chunk, l);
         if !l.some {
             return;
         }
         answer(&line, l.n);
-        r = lines::Rest {
-            at: l.at,
-            end: l.end,
-        };
         k += 1;
     }
 }

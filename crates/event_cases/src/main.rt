@@ -1,12 +1,9 @@
 // Events on standard input, one a line. A line is a message: the lowest of rows 1 to 10 that refuses it when offered, or 0, and, where
 // none of rows 1 to 9 does, the SHA-256 of its text in hex and the text. A line that begins with `T` and a space is a text to read back
 // alone: 9, 5, or 0 and what writing it again gives.
-ghost use Prim.Native.Nat.{_≤_};
-ghost use lib.ListN.{length};
 use event::Written;
 use json::Out;
 use json::Start;
-use libc::STDOUT_FILENO;
 use message::Body;
 use message::EventParts;
 use message::Message;
@@ -140,42 +137,29 @@ fn put_answer(out: &mut [u8], line: &[u8]) -> usize {
     put_offer(out, line)
 }
 
-fn write_line(out: &mut [u8], n: usize) {
-    let e = wire::put(out, n, b"\n");
-    if e <= out.len() {
-        io::write_all(STDOUT_FILENO, &out[..e]);
-    }
-}
-
 fn respond(line: &[u8]) {
     let mut buffer = io::large_buffer();
     let out: &mut [u8] = &mut buffer;
     let n = put_answer(out, line);
-    write_line(out, n);
+    lines::write_line(out, n);
 }
 
 // The line is the first n bytes of the buffer. Of a longer line the first 65,536 bytes are kept, which the same rows refuse.
-fn answer(line: &[u8], n: usize)
-    requires { ⌜ n ≤ length (now line) ⌝ }
-{
-    respond(&line[..n]);
+fn answer(line: &[u8], n: usize) {
+    respond(wire::piece(line, 0, n));
 }
 
 fn main() {
     let mut line = io::large_buffer();
     let mut chunk = io::large_buffer();
-    let mut r = lines::none();
+    let mut l = lines::none();
     let mut k: u64 = 0;
     while k < 0xffff_ffff_ffff {
-        let l = lines::next(&mut line, &mut chunk, r);
+        l = lines::next(&mut line, &mut chunk, l);
         if !l.some {
             return;
         }
         answer(&line, l.n);
-        r = lines::Rest {
-            at: l.at,
-            end: l.end,
-        };
         k += 1;
     }
 }

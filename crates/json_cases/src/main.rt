@@ -1,8 +1,6 @@
 // Of each line of standard input the lowest of rows 1 to 4 that holds of it as a text, and the lowest of rows 1 to 8 that holds of it as a
 // message; 0 for none. A line ends at 0A, which is no part of it; a last line without it counts if it is not empty. Of a longer line the
 // first 65,536 bytes are kept: they are row 1 too.
-ghost use Prim.Native.Nat.{_≤_};
-ghost use lib.ListN.{length};
 use libc::STDOUT_FILENO;
 
 fn show(text: u8, message: u8) {
@@ -15,27 +13,21 @@ fn respond(s: &[u8]) {
 }
 
 // The line is the first n bytes of the buffer.
-fn answer(line: &[u8], n: usize)
-    requires { ⌜ n ≤ length (now line) ⌝ }
-{
-    respond(&line[..n]);
+fn answer(line: &[u8], n: usize) {
+    respond(wire::piece(line, 0, n));
 }
 
 fn main() {
     let mut line = io::large_buffer();
     let mut chunk = io::large_buffer();
-    let mut r = lines::none();
+    let mut l = lines::none();
     let mut k: u64 = 0;
     while k < 0xffff_ffff_ffff {
-        let l = lines::next(&mut line, &mut chunk, r);
+        l = lines::next(&mut line, &mut chunk, l);
         if !l.some {
             return;
         }
         answer(&line, l.n);
-        r = lines::Rest {
-            at: l.at,
-            end: l.end,
-        };
         k += 1;
     }
 }

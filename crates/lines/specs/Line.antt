@@ -1,14 +1,14 @@
 -- Standard input by lines. What stands there is open: of a line that was read this says what holds whatever it is.
 use mathlib.Core.Path.{_≡_}
 use mathlib.Core.List.{List}
+use mathlib.Core.Bool.{false}
 use Prim.Native.Nat.{ℕ, _≤_, _<_}
 use lib.ListN.{length, getD}
-use Rattle.lines.specs.declared.Rest.{Rest}
 use Rattle.lines.specs.declared.Line.{Line}
 
 -- before a byte was read
-abbrev pub nothing : Rest
-nothing = record { at = 0; end = 0 }
+abbrev pub nothing : Line
+nothing = record { some = false; n = 0; at = 0; end = 0 }
 
 -- 01: "0A ends a line and is no part of the message". None of the first n bytes is 0A
 pub record NoEnd (l : List ℕ) (n : ℕ) : Type 0 where

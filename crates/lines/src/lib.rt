@@ -1,15 +1,13 @@
-// Standard input by lines, one at a call: 0A ends a line and is no part of it; a last line without it counts if it is not empty.
+// Standard input by lines, one at a call: 0A ends a line and is no part of it; a last line without it counts if it is not empty. And
+// standard output by lines.
 ghost use mathlib.Core.Path.{_≡_};
+ghost use mathlib.Core.List.{_∷_, []};
 ghost use Prim.Native.Nat.{_≤_};
 ghost use lib.ListN.{length};
+ghost use Rattle.wire.specs.Put.{put};
 ghost use Rattle.lines.specs.Line.{nothing, NoEnd, IsLine};
 use libc::STDIN_FILENO;
-
-// What of the chunk is still to be taken.
-pub struct Rest {
-    pub at: usize,
-    pub end: usize,
-}
+use libc::STDOUT_FILENO;
 
 // Whether there was a line, how many bytes of it the buffer holds, and what of the chunk is still to be taken. A line that fills the
 // buffer may have been longer.
@@ -70,14 +68,20 @@ fn take(line: &mut [u8], n: usize, chunk: &[u8], at: usize, end: usize) -> Taken
     }
 }
 
-pub fn none() -> Rest
+// Before the first line.
+pub fn none() -> Line
     ensures { λ r. ⌜ r ≡ nothing ⌝ }
 {
-    Rest { at: 0, end: 0 }
+    Line {
+        some: false,
+        n: 0,
+        at: 0,
+        end: 0,
+    }
 }
 
-// The next line of standard input, into `line`; `chunk` holds what was read, of which `r` is still to be taken.
-pub fn next(line: &mut [u8], chunk: &mut [u8], r: Rest) -> Line
+// The line of standard input after the line `r`, into `line`; `chunk` holds what was read.
+pub fn next(line: &mut [u8], chunk: &mut [u8], r: Line) -> Line
     ensures { λ l. ⌜ IsLine (now (line .entry)) (now (chunk .entry)) l (now (line .exit)) (now (chunk .exit)) ⌝ }
 {
     let mut n: usize = 0;
@@ -115,4 +119,12 @@ pub fn next(line: &mut [u8], chunk: &mut [u8], r: Rest) -> Line
         at: 0,
         end: 0,
     }
+}
+
+// The first n bytes of `out` and 0A to standard output, which nothing is said of. The 0A is stored there, if it fits.
+pub fn write_line(out: &mut [u8], n: usize)
+    ensures { λ _. ⌜ now (out .exit) ≡ put (now (out .entry)) n (10 ∷ []) ⌝ }
+{
+    let e = wire::put_byte(out, n, b'\n');
+    io::write_all(STDOUT_FILENO, wire::piece(out, 0, e));
 }

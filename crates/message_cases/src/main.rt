@@ -1,11 +1,8 @@
 // Client messages on standard input, one a line: the number of the row that refuses each, or 0 and the message spelled anew from its parts:
 // no white space, strings with the seven escapes, filter fields in the order of 01 and # conditions by their letter's byte.
-ghost use Prim.Native.Nat.{_≤_};
-ghost use lib.ListN.{length};
 use json::Next;
 use json::Out;
 use json::Start;
-use libc::STDOUT_FILENO;
 use message::Body;
 use message::Bound;
 use message::Element;
@@ -344,41 +341,29 @@ fn put_answer(out: &mut [u8], line: &[u8]) -> usize {
     }
 }
 
-fn write_line(out: &mut [u8], n: usize) {
-    let e = wire::put(out, n, b"\n");
-    if e <= out.len() {
-        io::write_all(STDOUT_FILENO, &out[..e]);
-    }
-}
-
 fn respond(line: &[u8]) {
     let mut buffer = io::large_buffer();
     let out: &mut [u8] = &mut buffer;
     let n = put_answer(out, line);
-    write_line(out, n);
+    lines::write_line(out, n);
 }
+
 // The line is the first n bytes of the buffer. Of a longer line the first 65,536 bytes are kept, which the same rows refuse.
-fn answer(line: &[u8], n: usize)
-    requires { ⌜ n ≤ length (now line) ⌝ }
-{
-    respond(&line[..n]);
+fn answer(line: &[u8], n: usize) {
+    respond(wire::piece(line, 0, n));
 }
 
 fn main() {
     let mut line = io::large_buffer();
     let mut chunk = io::large_buffer();
-    let mut r = lines::none();
+    let mut l = lines::none();
     let mut k: u64 = 0;
     while k < 0xffff_ffff_ffff {
-        let l = lines::next(&mut line, &mut chunk, r);
+        l = lines::next(&mut line, &mut chunk, l);
         if !l.some {
             return;
         }
         answer(&line, l.n);
-        r = lines::Rest {
-            at: l.at,
-            end: l.end,
-        };
         k += 1;
     }
 }

@@ -11,8 +11,6 @@
 //   T BUF                                                                    a text read back: its parts, and d's bytes
 //   L BUF at width number                                                    the number into the buffer, and out of it again
 //   D BUF times                                                              the digest of the bytes, so many times over
-ghost use Prim.Native.Nat.{_≤_};
-ghost use lib.ListN.{length};
 use digest::Sha256;
 use event::Written;
 use libc::STDOUT_FILENO;
@@ -29,226 +27,39 @@ use text::Class;
 use text::Text;
 use text::TextAnswer;
 
-// ---- The fields of a line.
-// Where the first space stands from `at` on, or the end.
-fn find(line: &[u8], at: usize) -> usize
-    requires { ⌜ at ≤ length (now line) ⌝ }
-    ensures { λ r. ⌜ (at ≤ r) × (r ≤ length (now (line .entry))) ⌝ }
-{
-    let mut i = at;
-    while i < line.len() {
-        if line[i] == b' ' {
-            return i;
-        }
-        i += 1;
-    }
-    i
-}
-
-// Field number k, and nothing past the last.
-fn field(line: &[u8], k: usize) -> &[u8] {
-    let mut at: usize = 0;
-    let mut i: usize = 0;
-    while i < k {
-        let e = find(line, at);
-        if line.len() <= e {
-            return &line[..0];
-        }
-        at = e + 1;
-        i += 1;
-    }
-    let e = find(line, at);
-    &line[at..e]
-}
-
-// The number of a hex digit, and 0 for any other byte.
-fn nibble(b: u8) -> u8
-    ensures { λ r. ⌜ r ≤ 15 ⌝ }
-{
-    if b < b'0' {
-        return 0;
-    }
-    if b <= b'9' {
-        return b - b'0';
-    }
-    if b < b'a' {
-        return 0;
-    }
-    if b <= b'f' {
-        return b - b'a' + 10;
-    }
-    0
-}
-
-// The bytes that `hex` spells, into `out`; how many there are.
-fn unhex(hex: &[u8], out: &mut [u8]) -> usize
-    ensures { λ r. ⌜ r ≤ length (now (out .entry)) ⌝ }
-{
-    let n = hex.len() / 2;
-    if out.len() < n {
-        return 0;
-    }
-    let mut i = 0;
-    while i < n {
-        out[i] = nibble(hex[2 * i]) * 16 + nibble(hex[2 * i + 1]);
-        i += 1;
-    }
-    n
-}
-
-// A digit more of a number below 2^64.
-fn grown(v: u64, b: u8) -> u64 {
-    if b < b'0' {
-        return 0;
-    }
-    if b'9' < b {
-        return 0;
-    }
-    if 1844674407370955161 < v {
-        return 0;
-    }
-    let d = (b - b'0') as u64;
-    if 0xffff_ffff_ffff_ffff - v * 10 < d {
-        return 0;
-    }
-    v * 10 + d
-}
-
-fn natural(p: &[u8]) -> u64 {
-    let mut v: u64 = 0;
-    let mut i = 0;
-    while i < p.len() {
-        v = grown(v, p[i]);
-        i += 1;
-    }
-    v
-}
-
-// 2^64 less a number.
-fn complement(v: u64) -> u64 {
-    if v == 0 {
-        return 0;
-    }
-    0xffff_ffff_ffff_ffff - v + 1
-}
-
-fn integer(p: &[u8]) -> i64 {
-    if p.len() == 0 {
-        return 0;
-    }
-    if p[0] == b'-' {
-        return wire::to_signed(complement(natural(&p[1..])));
-    }
-    wire::to_signed(natural(p))
-}
-
-fn is_absent(p: &[u8]) -> bool {
-    if p.len() == 0 {
-        return true;
-    }
-    p[0] == b'x'
-}
-
-fn count(line: &[u8], k: usize) -> usize {
-    natural(field(line, k)) as usize
-}
-
-fn span(line: &[u8], k: usize) -> Span {
-    Span {
-        start: count(line, k),
-        len: count(line, next(k)),
-    }
-}
-
-fn next(k: usize) -> usize {
-    if k < 100 { k + 1 } else { k }
-}
-
-fn listed(p: &[u8]) -> Listed {
-    if is_absent(p) {
-        return Listed::Absent;
-    }
-    Listed::At(natural(p) as usize)
-}
-
-fn bound(p: &[u8]) -> Bound {
-    if is_absent(p) {
-        return Bound::Absent;
-    }
-    Bound::Number(integer(p))
-}
-
 // ---- What is written.
-// A space, unless the line begins here.
-fn put_gap(out: &mut [u8], at: usize) -> usize {
-    if at == 0 {
-        return 0;
-    }
-    wire::put(out, at, b" ")
-}
-
-fn put_word(out: &mut [u8], at: usize, word: &[u8]) -> usize {
-    let a = put_gap(out, at);
-    wire::put(out, a, word)
-}
-
-fn put_number(out: &mut [u8], at: usize, n: u64) -> usize {
-    let a = put_gap(out, at);
-    numeral::put_natural(out, a, n)
-}
-
-fn put_integer(out: &mut [u8], at: usize, z: i64) -> usize {
-    let a = put_gap(out, at);
-    numeral::put_decimal(out, a, z)
-}
-
 fn put_row(out: &mut [u8], at: usize, row: u8) -> usize {
-    put_number(out, at, row as u64)
+    fields::put_number(out, at, row as u64)
 }
 
 fn put_hex(out: &mut [u8], at: usize, p: &[u8]) -> usize {
-    let a = put_gap(out, at);
+    let a = fields::put_gap(out, at);
     event::put_hex(out, a, p)
 }
 
 fn put_span(out: &mut [u8], at: usize, p: Span) -> usize {
-    let a = put_number(out, at, p.start as u64);
-    put_number(out, a, p.len as u64)
+    let a = fields::put_number(out, at, p.start as u64);
+    fields::put_number(out, a, p.len as u64)
 }
 
 fn put_listed(out: &mut [u8], at: usize, x: Listed) -> usize {
     match x {
-        Listed::Absent => put_word(out, at, b"x"),
-        Listed::At(v) => put_number(out, at, v as u64),
+        Listed::Absent => fields::put_word(out, at, b"x"),
+        Listed::At(v) => fields::put_number(out, at, v as u64),
     }
 }
 
 fn put_bound(out: &mut [u8], at: usize, x: Bound) -> usize {
     match x {
-        Bound::Absent => put_word(out, at, b"x"),
-        Bound::Number(z) => put_integer(out, at, z),
+        Bound::Absent => fields::put_word(out, at, b"x"),
+        Bound::Number(z) => fields::put_integer(out, at, z),
     }
 }
 
 // ---- B and E: the parts of an event.
-fn body(line: &[u8], pubkey: usize, rest: usize) -> Body
-    requires { ⌜ rest ≤ 20 ⌝ }
-{
-    Body {
-        pubkey: span(line, pubkey),
-        created_at: integer(field(line, rest)),
-        kind: integer(field(line, rest + 1)),
-        tags: count(line, rest + 2),
-        content: span(line, rest + 3),
-    }
-}
-
 // The first n bytes.
 fn put_head(out: &mut [u8], at: usize, p: &[u8], n: usize) -> usize {
-    if p.len() < n {
-        return at;
-    }
-    put_hex(out, at, &p[..n])
+    put_hex(out, at, wire::piece(p, 0, n))
 }
 
 // The id, or four zero bytes of it where a row refuses the parts.
@@ -279,12 +90,9 @@ fn put_written(out: &mut [u8], at: usize, lent: &[u8], w: Written) -> usize {
         }
         Written::Wrote(n) => {
             let a = put_row(out, at, 0);
-            let c = put_number(out, a, n as u64);
+            let c = fields::put_number(out, a, n as u64);
             let d = put_print(out, c, lent);
-            if lent.len() < n {
-                return d;
-            }
-            put_word(out, d, &lent[..n])
+            fields::put_word(out, d, wire::piece(lent, 0, n))
         }
     }
 }
@@ -303,48 +111,39 @@ fn put_text(out: &mut [u8], at: usize, b: &[u8], p: Body, room: usize) -> usize 
 }
 
 fn put_body(out: &mut [u8], line: &[u8], b: &[u8]) -> usize {
-    let p = body(line, 2, 4);
+    let p = fields::body(fields::from(line, 2));
     let a = put_row(out, 0, message::body_row(b, p));
     let c = put_id(out, a, b, p);
-    put_text(out, c, b, p, count(line, 9))
+    put_text(out, c, b, p, fields::count(line, 9))
 }
 
 fn put_event(out: &mut [u8], line: &[u8], b: &[u8]) -> usize {
-    let p = EventParts {
-        id: span(line, 2),
-        body: body(line, 4, 6),
-        sig: span(line, 11),
-    };
+    let p = fields::event(fields::from(line, 2));
     let a = put_row(out, 0, message::event_row(b, p));
     put_row(out, a, event::offered_row(b, p))
 }
 
 // ---- F: the parts of a filter.
 fn put_filter(out: &mut [u8], line: &[u8], b: &[u8]) -> usize {
-    let p = FilterParts {
-        ids: listed(field(line, 2)),
-        authors: listed(field(line, 3)),
-        kinds: listed(field(line, 4)),
-        since: bound(field(line, 5)),
-        until: bound(field(line, 6)),
-        limit: bound(field(line, 7)),
-        conditions: listed(field(line, 8)),
-    };
-    put_row(out, 0, message::filter_row(b, p))
+    put_row(
+        out,
+        0,
+        message::filter_row(b, fields::filter(fields::from(line, 2))),
+    )
 }
 
 // ---- M: a message.
 fn put_named(out: &mut [u8], at: usize, x: Named) -> usize {
     match x {
         Named::Id(p) => {
-            let a = put_word(out, at, b"id");
+            let a = fields::put_word(out, at, b"id");
             put_span(out, a, p)
         }
         Named::Subscription(p) => {
-            let a = put_word(out, at, b"sub");
+            let a = fields::put_word(out, at, b"sub");
             put_span(out, a, p)
         }
-        Named::Nothing => put_word(out, at, b"none"),
+        Named::Nothing => fields::put_word(out, at, b"none"),
     }
 }
 
@@ -352,9 +151,9 @@ fn put_body_parts(out: &mut [u8], at: usize, p: Body) -> usize {
     let pubkey = p.pubkey;
     let content = p.content;
     let a = put_span(out, at, pubkey);
-    let b = put_integer(out, a, p.created_at);
-    let c = put_integer(out, b, p.kind);
-    let d = put_number(out, c, p.tags as u64);
+    let b = fields::put_integer(out, a, p.created_at);
+    let c = fields::put_integer(out, b, p.kind);
+    let d = fields::put_number(out, c, p.tags as u64);
     put_span(out, d, content)
 }
 
@@ -362,7 +161,7 @@ fn put_event_parts(out: &mut [u8], at: usize, p: EventParts) -> usize {
     let id = p.id;
     let body = p.body;
     let sig = p.sig;
-    let w = put_word(out, at, b"EVENT");
+    let w = fields::put_word(out, at, b"EVENT");
     let a = put_span(out, w, id);
     let b = put_body_parts(out, a, body);
     put_span(out, b, sig)
@@ -388,7 +187,7 @@ fn put_filter_parts(out: &mut [u8], at: usize, p: FilterParts) -> usize {
 // The subscription id, and the parts of the first filter.
 fn put_req(out: &mut [u8], at: usize, s: &[u8], p: ReqParts) -> usize {
     let subscription = p.subscription;
-    let w = put_word(out, at, b"REQ");
+    let w = fields::put_word(out, at, b"REQ");
     let a = put_span(out, w, subscription);
     put_filter_parts(out, a, message::filter_at(s, p.filters))
 }
@@ -398,7 +197,7 @@ fn put_read(out: &mut [u8], at: usize, s: &[u8], m: Message) -> usize {
         Message::Event(p) => put_event_parts(out, at, p),
         Message::Req(p) => put_req(out, at, s, p),
         Message::Close(p) => {
-            let a = put_word(out, at, b"CLOSE");
+            let a = fields::put_word(out, at, b"CLOSE");
             put_span(out, a, p)
         }
         Message::Refused(row) => put_row(out, at, row),
@@ -414,14 +213,14 @@ fn put_message(out: &mut [u8], s: &[u8]) -> usize {
 
 // ---- N and K: order and class.
 fn put_newer(out: &mut [u8], line: &[u8], b: &[u8]) -> usize {
-    let n = count(line, 2);
+    let n = fields::count(line, 2);
     if b.len() < n {
         return 0;
     }
     if event::newer(
-        integer(field(line, 3)),
+        fields::integer(fields::field(line, 3)),
         &b[..n],
-        integer(field(line, 4)),
+        fields::integer(fields::field(line, 4)),
         &b[n..],
     ) {
         return wire::put(out, 0, b"newer");
@@ -430,7 +229,7 @@ fn put_newer(out: &mut [u8], line: &[u8], b: &[u8]) -> usize {
 }
 
 fn put_class(out: &mut [u8], line: &[u8]) -> usize {
-    let kind = natural(field(line, 2));
+    let kind = fields::natural(fields::field(line, 2));
     if 65535 < kind {
         return 0;
     }
@@ -444,16 +243,7 @@ fn put_class(out: &mut [u8], line: &[u8]) -> usize {
 
 // ---- T: a text read back.
 fn put_d(out: &mut [u8], at: usize, t: &[u8], d: Span) -> usize {
-    let start = d.start;
-    let len = d.len;
-    if t.len() < start {
-        return at;
-    }
-    if t.len() - start < len {
-        return at;
-    }
-    let end = start + len;
-    put_word(out, at, &t[start..end])
+    fields::put_word(out, at, wire::piece(t, d.start, d.len))
 }
 
 fn put_places(out: &mut [u8], t: &[u8], x: Text) -> usize {
@@ -466,9 +256,9 @@ fn put_places(out: &mut [u8], t: &[u8], x: Text) -> usize {
         len: x.d_len,
     };
     let a = put_row(out, 0, 0);
-    let b = put_integer(out, a, x.time);
-    let c = put_number(out, b, x.kind as u64);
-    let e = put_number(out, c, x.tags as u64);
+    let b = fields::put_integer(out, a, x.time);
+    let c = fields::put_number(out, b, x.kind as u64);
+    let e = fields::put_number(out, c, x.tags as u64);
     let f = put_span(out, e, content);
     let g = put_span(out, f, d);
     put_d(out, g, t, d)
@@ -484,21 +274,21 @@ fn put_again(out: &mut [u8], t: &[u8]) -> usize {
 
 // ---- L: little-endian fields, and two's complement.
 fn put_field(out: &mut [u8], line: &[u8], b: &mut [u8]) -> usize {
-    let at = count(line, 2);
-    let width = count(line, 3);
-    let v = natural(field(line, 4));
+    let at = fields::count(line, 2);
+    let width = fields::count(line, 3);
+    let v = fields::natural(fields::field(line, 4));
     let end = wire::put_le(b, at, width, v);
-    let a = put_number(out, 0, end as u64);
-    let c = put_number(out, a, wire::le_at(b, at, width));
+    let a = fields::put_number(out, 0, end as u64);
+    let c = fields::put_number(out, a, wire::le_at(b, at, width));
     let z = wire::to_signed(v);
-    let d = put_integer(out, c, z);
-    let e = put_number(out, d, wire::to_unsigned(z));
+    let d = fields::put_integer(out, c, z);
+    let e = fields::put_number(out, d, wire::to_unsigned(z));
     put_hex(out, e, b)
 }
 
 // ---- D: long messages.
 fn put_digest(out: &mut [u8], line: &[u8], b: &[u8]) -> usize {
-    let times = natural(field(line, 2));
+    let times = fields::natural(fields::field(line, 2));
     let mut st = Sha256::new();
     let mut k: u64 = 0;
     while k < times {
@@ -513,10 +303,7 @@ fn put_digest(out: &mut [u8], line: &[u8], b: &[u8]) -> usize {
 }
 
 fn put_answer(out: &mut [u8], line: &[u8], b: &mut [u8]) -> usize {
-    if line.len() == 0 {
-        return 0;
-    }
-    match line[0] {
+    match fields::letter(line) {
         b'B' => put_body(out, line, b),
         b'E' => put_event(out, line, b),
         b'F' => put_filter(out, line, b),
@@ -530,25 +317,18 @@ fn put_answer(out: &mut [u8], line: &[u8], b: &mut [u8]) -> usize {
     }
 }
 
-fn write_line(out: &mut [u8], n: usize) {
-    let e = wire::put(out, n, b"\n");
-    if e <= out.len() {
-        io::write_all(STDOUT_FILENO, &out[..e]);
-    }
-}
-
 fn respond(line: &[u8]) {
     let mut out = io::large_buffer();
     let mut space = io::large_buffer();
-    let n = unhex(field(line, 1), &mut space);
+    let n = spell::put_unhex(&mut space, 0, fields::field(line, 1));
     let k = put_answer(&mut out, line, &mut space[..n]);
-    write_line(&mut out, k);
+    lines::write_line(&mut out, k);
 }
 
 // A line of 65,536 bytes or more is cut off.
 fn answer(line: &[u8], n: usize) {
     if n < line.len() {
-        respond(&line[..n]);
+        respond(wire::piece(line, 0, n));
     } else {
         io::write_all(STDOUT_FILENO, b"too long\n");
     }
@@ -557,18 +337,14 @@ fn answer(line: &[u8], n: usize) {
 fn main() {
     let mut line = io::large_buffer();
     let mut chunk = io::large_buffer();
-    let mut r = lines::none();
+    let mut l = lines::none();
     let mut k: u64 = 0;
     while k < 0xffff_ffff_ffff {
-        let l = lines::next(&mut line, &mut chunk, r);
+        l = lines::next(&mut line, &mut chunk, l);
         if !l.some {
             return;
         }
         answer(&line, l.n);
-        r = lines::Rest {
-            at: l.at,
-            end: l.end,
-        };
         k += 1;
     }
 }

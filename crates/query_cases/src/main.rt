@@ -21,192 +21,23 @@ ghost use mathlib.Core.Path.{_≡_};
 ghost use Prim.Native.Nat.{_≤_};
 ghost use lib.ListN.{length};
 use libc::STDOUT_FILENO;
-use message::Body;
-use message::Bound;
 use message::EventParts;
 use message::FilterParts;
-use message::Listed;
 use message::Message;
-use message::Span;
 use query::Listing;
 use query::Matched;
 use table::Offered;
 
-// ---- The fields of a line.
-// Where the first space stands from `at` on, or the end.
-fn find(line: &[u8], at: usize) -> usize
-    requires { ⌜ at ≤ length (now line) ⌝ }
-    ensures { λ r. ⌜ (at ≤ r) × (r ≤ length (now (line .entry))) ⌝ }
-{
-    let mut i = at;
-    while i < line.len() {
-        if line[i] == b' ' {
-            return i;
-        }
-        i += 1;
-    }
-    i
-}
-
-// Field number k, and nothing past the last.
-fn field(line: &[u8], k: usize) -> &[u8] {
-    let mut at: usize = 0;
-    let mut i: usize = 0;
-    while i < k {
-        let e = find(line, at);
-        if line.len() <= e {
-            return &line[..0];
-        }
-        at = e + 1;
-        i += 1;
-    }
-    let e = find(line, at);
-    &line[at..e]
-}
-
-// A digit more of a number below 2^64.
-fn grown(v: u64, b: u8) -> u64 {
-    if b < b'0' {
-        return 0;
-    }
-    if b'9' < b {
-        return 0;
-    }
-    if 1844674407370955161 < v {
-        return 0;
-    }
-    let d = (b - b'0') as u64;
-    if 0xffff_ffff_ffff_ffff - v * 10 < d {
-        return 0;
-    }
-    v * 10 + d
-}
-
-fn natural(p: &[u8]) -> u64 {
-    let mut v: u64 = 0;
-    let mut i = 0;
-    while i < p.len() {
-        v = grown(v, p[i]);
-        i += 1;
-    }
-    v
-}
-
-// 2^64 less a number.
-fn complement(v: u64) -> u64 {
-    if v == 0 {
-        return 0;
-    }
-    0xffff_ffff_ffff_ffff - v + 1
-}
-
-fn integer(p: &[u8]) -> i64 {
-    if p.len() == 0 {
-        return 0;
-    }
-    if p[0] == b'-' {
-        return wire::to_signed(complement(natural(&p[1..])));
-    }
-    wire::to_signed(natural(p))
-}
-
-fn is_absent(p: &[u8]) -> bool {
-    if p.len() == 0 {
-        return true;
-    }
-    p[0] == b'x'
-}
-
-fn count(line: &[u8], k: usize) -> usize {
-    natural(field(line, k)) as usize
-}
-
-fn byte(line: &[u8], k: usize) -> u8 {
-    (natural(field(line, k)) % 256) as u8
-}
-
-fn short(line: &[u8], k: usize) -> u16 {
-    (natural(field(line, k)) % 65536) as u16
-}
-
-fn listed(line: &[u8], k: usize) -> Listed {
-    let p = field(line, k);
-    if is_absent(p) {
-        return Listed::Absent;
-    }
-    Listed::At(natural(p) as usize)
-}
-
-fn bound(line: &[u8], k: usize) -> Bound {
-    let p = field(line, k);
-    if is_absent(p) {
-        return Bound::Absent;
-    }
-    Bound::Number(integer(p))
-}
-
-fn span(line: &[u8], k: usize) -> Span
-    requires { ⌜ k ≤ 20 ⌝ }
-{
-    Span {
-        start: count(line, k),
-        len: count(line, k + 1),
-    }
-}
-
-fn parts(line: &[u8]) -> EventParts {
-    let body = Body {
-        pubkey: span(line, 3),
-        created_at: integer(field(line, 5)),
-        kind: integer(field(line, 6)),
-        tags: count(line, 7),
-        content: span(line, 8),
-    };
-    EventParts {
-        id: span(line, 1),
-        body,
-        sig: span(line, 10),
-    }
-}
-
-fn filter(line: &[u8], k: usize) -> FilterParts
-    requires { ⌜ k ≤ 40 ⌝ }
-{
-    FilterParts {
-        ids: listed(line, k),
-        authors: listed(line, k + 1),
-        kinds: listed(line, k + 2),
-        since: bound(line, k + 3),
-        until: bound(line, k + 4),
-        limit: bound(line, k + 5),
-        conditions: listed(line, k + 6),
-    }
-}
-
-fn filters(line: &[u8], k: usize) -> [FilterParts; 4]
-    requires { ⌜ k ≤ 13 ⌝ }
-{
-    let a = filter(line, k);
-    let b = filter(line, k + 7);
-    let c = filter(line, k + 14);
-    let d = filter(line, k + 21);
+// The four filters that begin at the line's start.
+fn filters(line: &[u8]) -> [FilterParts; 4] {
+    let a = fields::filter(line);
+    let b = fields::filter(fields::from(line, 7));
+    let c = fields::filter(fields::from(line, 14));
+    let d = fields::filter(fields::from(line, 21));
     [a, b, c, d]
 }
 
 // ---- What is written.
-// A space, unless the line begins here.
-fn put_gap(out: &mut [u8], at: usize) -> usize {
-    if at == 0 {
-        return 0;
-    }
-    wire::put(out, at, b" ")
-}
-
-fn put_number(out: &mut [u8], at: usize, n: u64) -> usize {
-    let a = put_gap(out, at);
-    numeral::put_natural(out, a, n)
-}
-
 fn put_sound(out: &mut [u8], table: &[u8]) -> usize {
     if slots::sound(table) {
         return wire::put(out, 0, b"sound");
@@ -218,7 +49,7 @@ fn put_matched(out: &mut [u8], x: Matched) -> usize {
     match x {
         Matched::Matches => wire::put(out, 0, b"matches"),
         Matched::Differs => wire::put(out, 0, b"differs"),
-        Matched::Refused(row) => put_number(out, 0, row as u64),
+        Matched::Refused(row) => fields::put_number(out, 0, row as u64),
     }
 }
 
@@ -237,7 +68,7 @@ fn changed(row: &[u16], fill: u16) -> usize
 }
 
 fn put_short(out: &mut [u8], at: usize, x: u16) -> usize {
-    put_number(out, at, x as u64)
+    fields::put_number(out, at, x as u64)
 }
 
 // The first n numbers of a row.
@@ -261,12 +92,12 @@ fn put_changed(out: &mut [u8], at: usize, row: &[u16], fill: u16) -> usize {
 fn put_listing(out: &mut [u8], x: Listing, row: &[u16], fill: u16) -> usize {
     match x {
         Listing::Count(n) => {
-            let a = put_number(out, 0, 0);
-            let b = put_number(out, a, n as u64);
+            let a = fields::put_number(out, 0, 0);
+            let b = fields::put_number(out, a, n as u64);
             put_changed(out, b, row, fill)
         }
         Listing::Refused(r) => {
-            let a = put_number(out, 0, r as u64);
+            let a = fields::put_number(out, 0, r as u64);
             put_changed(out, a, row, fill)
         }
     }
@@ -295,21 +126,21 @@ fn put_list(
     fs: [FilterParts; 4],
     n: usize,
 ) -> usize {
-    let fill = short(line, 1);
+    let fill = fields::short(line, 1);
     let mut row = [fill; 80];
-    let x = list(table, m, fs, n, &mut row, count(line, 2));
+    let x = list(table, m, fs, n, &mut row, fields::count(line, 2));
     put_listing(out, x, &row, fill)
 }
 
 fn put_req(out: &mut [u8], line: &[u8], lent: &[u8], table: &[u8]) -> usize {
-    let m = wire::piece(lent, count(line, 3), count(line, 4));
+    let m = wire::piece(lent, fields::count(line, 3), fields::count(line, 4));
     match message::read(m) {
         Message::Req(p) => {
             let f = message::filters_at(m, p.filters);
             let fs = f.parts;
             put_list(out, line, table, m, fs, f.n)
         }
-        Message::Refused(row) => put_number(out, 0, row as u64),
+        Message::Refused(row) => fields::put_number(out, 0, row as u64),
         Message::Event(_) => wire::put(out, 0, b"no REQ"),
         Message::Close(_) => wire::put(out, 0, b"no REQ"),
     }
@@ -322,18 +153,18 @@ fn put_asked(out: &mut [u8], b: &[u8], p: EventParts, m: &[u8]) -> usize {
             let fs = f.parts;
             put_matched(out, matching::matched(b, p, m, fs, f.n))
         }
-        Message::Refused(row) => put_number(out, 0, row as u64),
+        Message::Refused(row) => fields::put_number(out, 0, row as u64),
         Message::Event(_) => wire::put(out, 0, b"no REQ"),
         Message::Close(_) => wire::put(out, 0, b"no REQ"),
     }
 }
 
 fn put_met(out: &mut [u8], line: &[u8], lent: &[u8]) -> usize {
-    let b = wire::piece(lent, count(line, 1), count(line, 2));
-    let m = wire::piece(lent, count(line, 3), count(line, 4));
+    let b = wire::piece(lent, fields::count(line, 1), fields::count(line, 2));
+    let m = wire::piece(lent, fields::count(line, 3), fields::count(line, 4));
     match message::read(b) {
         Message::Event(p) => put_asked(out, b, p, m),
-        Message::Refused(row) => put_number(out, 0, row as u64),
+        Message::Refused(row) => fields::put_number(out, 0, row as u64),
         Message::Req(_) => wire::put(out, 0, b"no EVENT"),
         Message::Close(_) => wire::put(out, 0, b"no EVENT"),
     }
@@ -351,28 +182,38 @@ fn row_of(x: Offered) -> u64 {
 
 // The row of an offer, and the table's count.
 fn put_offer(out: &mut [u8], line: &[u8], lent: &[u8], table: &mut [u8]) -> usize {
-    let m = wire::piece(lent, count(line, 1), count(line, 2));
-    let a = put_number(out, 0, row_of(offers::offer_message(table, m)));
-    put_number(out, a, wire::le_at(table, 4, 4))
+    let m = wire::piece(lent, fields::count(line, 1), fields::count(line, 2));
+    let a = fields::put_number(out, 0, row_of(offers::offer_message(table, m)));
+    fields::put_number(out, a, wire::le_at(table, 4, 4))
 }
 
 fn put_answer(out: &mut [u8], line: &[u8], lent: &[u8], table: &mut [u8]) -> usize {
-    if line.len() == 0 {
-        return 0;
-    }
-    match line[0] {
+    match fields::letter(line) {
         b'F' => {
-            let row = slots::format(table, count(line, 1));
-            put_number(out, 0, row as u64)
+            let row = slots::format(table, fields::count(line, 1));
+            fields::put_number(out, 0, row as u64)
         }
         b'M' => put_offer(out, line, lent, table),
         b'X' => put_sound(out, table),
         b'R' => put_req(out, line, lent, table),
-        b'Q' => put_list(out, line, table, lent, filters(line, 4), count(line, 3)),
+        b'Q' => put_list(
+            out,
+            line,
+            table,
+            lent,
+            filters(fields::from(line, 4)),
+            fields::count(line, 3),
+        ),
         b'W' => put_met(out, line, lent),
         b'E' => put_matched(
             out,
-            matching::matched(lent, parts(line), lent, filters(line, 13), count(line, 12)),
+            matching::matched(
+                lent,
+                fields::event(fields::from(line, 1)),
+                lent,
+                filters(fields::from(line, 13)),
+                fields::count(line, 12),
+            ),
         ),
         _ => 0,
     }
@@ -385,82 +226,35 @@ fn put_call(out: &mut [u8], line: &[u8], lent: &[u8], room: &mut [u8], n: usize)
     put_answer(out, line, lent, &mut room[..n])
 }
 
-// ---- What a line changes besides.
-fn fill(room: &mut [u8], b: u8) {
-    let n = room.len();
-    let mut i = 0;
-    while i < n {
-        room[i] = b;
-        i += 1;
-    }
-}
-
-fn turn_over(room: &mut [u8], at: usize, bits: u8) {
-    if at < room.len() {
-        room[at] = room[at] ^ bits;
-    }
-}
-
-// The length of the table from this line on.
-fn prepare(line: &[u8], lent: &mut [u8], room: &mut [u8], n: usize) -> usize {
-    if line.len() == 0 {
-        return n;
-    }
-    match line[0] {
-        b'L' => {
-            fill(room, byte(line, 2));
-            count(line, 1)
-        }
-        b'B' => {
-            wire::put(lent, 0, wire::piece(line, 2, 65536));
-            n
-        }
-        b'X' => {
-            turn_over(room, count(line, 1), byte(line, 2));
-            n
-        }
-        _ => n,
-    }
-}
-
-fn write_line(out: &mut [u8], n: usize) {
-    let e = wire::put(out, n, b"\n");
-    if e <= out.len() {
-        io::write_all(STDOUT_FILENO, &out[..e]);
-    }
-}
-
 fn step(line: &[u8], lent: &mut [u8], room: &mut [u8], n: usize) -> usize {
-    let len = prepare(line, lent, room, n);
+    fields::change_lent(line, lent);
+    fields::change_room(line, room);
+    let len = fields::table_len(line, n);
     let mut out = io::buffer();
     let a = put_call(&mut out, line, lent, room, len);
-    write_line(&mut out, a);
+    lines::write_line(&mut out, a);
     len
 }
 
 // A line of 65,536 bytes or more is cut off.
 fn respond(line: &[u8], k: usize, lent: &mut [u8], room: &mut [u8], n: usize) -> usize {
-    if k < line.len() {
-        return step(&line[..k], lent, room, n);
+    if line.len() <= k {
+        io::write_all(STDOUT_FILENO, b"too long\n");
+        return n;
     }
-    io::write_all(STDOUT_FILENO, b"too long\n");
-    n
+    step(wire::piece(line, 0, k), lent, room, n)
 }
 
 fn run(line: &mut [u8], chunk: &mut [u8], lent: &mut [u8], room: &mut [u8]) {
     let mut n: usize = 0;
-    let mut r = lines::none();
+    let mut l = lines::none();
     let mut k: u64 = 0;
     while k < 0xffff_ffff_ffff {
-        let l = lines::next(line, chunk, r);
+        l = lines::next(line, chunk, l);
         if !l.some {
             return;
         }
         n = respond(line, l.n, lent, room, n);
-        r = lines::Rest {
-            at: l.at,
-            end: l.end,
-        };
         k += 1;
     }
 }

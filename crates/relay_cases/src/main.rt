@@ -45,9 +45,7 @@ fn least(a: usize, b: usize) -> usize
 }
 
 fn write_out(out: &[u8], n: usize) {
-    if n <= out.len() {
-        io::write_all(STDOUT_FILENO, &out[..n]);
-    }
+    io::write_all(STDOUT_FILENO, wire::piece(out, 0, n));
 }
 
 // A piece, line by line; how many bytes the line has then.
@@ -97,15 +95,6 @@ fn feed_all(table: &mut [u8], line: &mut [u8], r: Run, p: &[u8], out: &mut [u8])
     k
 }
 
-fn fill(bytes: &mut [u8], b: u8) {
-    let n = bytes.len();
-    let mut i = 0;
-    while i < n {
-        bytes[i] = b;
-        i += 1;
-    }
-}
-
 // One byte, many times.
 fn feed_many(
     table: &mut [u8],
@@ -117,7 +106,7 @@ fn feed_many(
 ) -> usize {
     let cut = r.cut;
     let mut bytes = io::buffer();
-    fill(&mut bytes, b);
+    fields::fill(&mut bytes, b);
     let mut k = r.n;
     let mut rest = count;
     while 0 < rest {
@@ -208,18 +197,14 @@ fn respond(
 
 fn read_all(table: &mut [u8], line: &mut [u8], given: &mut [u8], chunk: &mut [u8], out: &mut [u8]) {
     let mut now = Run { n: 0, cut: 0 };
-    let mut r = lines::none();
+    let mut l = lines::none();
     let mut k: u64 = 0;
     while k < 0xffff_ffff_ffff {
-        let l = lines::next(given, chunk, r);
+        l = lines::next(given, chunk, l);
         if !l.some {
             return;
         }
         now = respond(table, line, now, given, l.n, out);
-        r = lines::Rest {
-            at: l.at,
-            end: l.end,
-        };
         k += 1;
     }
 }

@@ -7,11 +7,11 @@ use Rattle.relay_cases.proofs.read_all.Statement.{statement}
 use Rattle.relay_cases.proofs.read_all.Tie as tie
 
 abbrev Inv-loop : tie.InvT-loop
-Inv-loop table₀ line₀ given₀ chunk₀ out₀ now₀ r₀ k₀ table line given chunk out now r k =
+Inv-loop table₀ line₀ given₀ chunk₀ out₀ now₀ l₀ k₀ table line given chunk out now l k =
     (k ≤ 0xffffffffffff) × (length table ≡ length table₀) × (length line ≡ length line₀) × (length out ≡ length out₀) × (length given ≡ length given₀) × (length chunk ≡ length chunk₀)
 
 abbrev μ-loop : tie.MeasureT-loop
-μ-loop table₀ line₀ given₀ chunk₀ out₀ now₀ r₀ k₀ table line given chunk out now r k = 0xffffffffffff - k
+μ-loop table₀ line₀ given₀ chunk₀ out₀ now₀ l₀ k₀ table line given chunk out now l k = 0xffffffffffff - k
 
 loop-holds : tie.Need-loop-holds Inv-loop μ-loop
 loop-holds c = search needs

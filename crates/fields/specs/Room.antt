@@ -1,0 +1,32 @@
+-- A room for a table and lent bytes beside it, and what a line does with them, by its first letter.
+use mathlib.Core.Bool.{cond}
+use mathlib.Core.List.{List}
+use Prim.Native.Nat.{ℕ, _%_}
+use lib.Bits.{bitXor}
+use lib.Dec.{eqb}
+use lib.ListN.{length, getD, set, replicate}
+use Rattle.wire.specs.Bytes.{part}
+use Rattle.wire.specs.Put.{put}
+use Rattle.fields.specs.Number.{countOf}
+
+-- the first byte, and 0 where there is none
+unfoldable pub letterOf : List ℕ → ℕ
+letterOf l = getD l 0 0
+
+-- L len fill: the table has `len` bytes from here on
+unfoldable pub lengthAfter : List ℕ → ℕ → ℕ
+lengthAfter l n = cond (eqb (letterOf l) 76) (countOf l 1) n
+
+-- B bytes: all that stands behind the letter and the space
+unfoldable pub lentAfter : List ℕ → List ℕ → List ℕ
+lentAfter l lent = cond (eqb (letterOf l) 66) (put lent 0 (part l 2 65536)) lent
+
+-- a byte with some of its bits turned over; past the end there is none
+unfoldable pub turned : List ℕ → ℕ → ℕ → List ℕ
+turned room at bits = set room at (bitXor (getD room at 0) bits)
+
+-- L len fill, and X at bits
+unfoldable pub roomAfter : List ℕ → List ℕ → List ℕ
+roomAfter l room =
+    cond (eqb (letterOf l) 76) (replicate (length room) (countOf l 2 % 256))
+    (cond (eqb (letterOf l) 88) (turned room (countOf l 1) (countOf l 2 % 256)) room)
