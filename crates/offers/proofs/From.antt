@@ -36,6 +36,7 @@ use Rattle.table.specs.Layout.{slotSize, textPlace, slotBytes}
 use Rattle.table.specs.Offer.{messageOfferRow, partsIn, partsOf, heldOf}
 use Rattle.table.proofs.Rows.{message-rows, event-rows}
 use Rattle.offers.specs.Slot.{headOf}
+use Rattle.offers.specs.Taken.{Made, Makes}
 use Rattle.offers.proofs.Makes.{lentPart, given, lent-most, both-short, made}
 
 module _ (m : List ℕ) where
@@ -103,13 +104,9 @@ module _ (m : List ℕ) where
       go (message.Refused r) e = unread e
 
   -- ---- the slot made from a message, o at exit; d is what was lent, zeros
-  abbrev Made : ℕ → List ℕ → Type 0
-  Made r o = (r ≡ messageOfferRow m) × (r ≡ 0 → o ≡ slotBytes (heldOf m (partsOf m)))
-
   module _ (d : List ℕ) (zs : d ≡ replicate slotSize 0) {s : SentText} (a : s ≡ sentText m (lentPart d)) where
-    pub from-refused : {r : ℕ} {o : List ℕ} → sentTextNumber s ≡ sentRow m (lentPart d) → s ≡ sent.Refused r → Made r o
-    from-refused q e =
-        (sym (ap sentTextNumber e) ∙ q ∙ sent-row (lentPart d) (lent-most zs), λ z. absurd (sent-refused m (lentPart d) (sym a ∙ e) z))
+    pub from-refused : {r : ℕ} {o : List ℕ} → sentTextNumber s ≡ sentRow m (lentPart d) → s ≡ sent.Refused r → Makes m (sent.Refused r) o
+    from-refused q e = record { is = (sym (ap sentTextNumber e) ∙ q ∙ sent-row (lentPart d) (lent-most zs), sent-refused m (lentPart d) (sym a ∙ e)) }
 
     module _ {p : EventParts} {n : ℕ} (e : s ≡ sent.Wrote p n) where
       told : (readOf m ≡ message.Event p) × AsOffered m p (lentPart d) (written.Wrote n) (sentOut m (lentPart d))
@@ -119,9 +116,25 @@ module _ (m : List ℕ) where
       from-short = let (f, (w, (q, y))) = told in both-short m p d zs w q refl
 
       pub from-event : {y : List ℕ} → y ≡ sentOut m (lentPart d) → {r : ℕ} {u : List ℕ}
-          → ((v : Event) → readText (part (given d y) textPlace n) ≡ read v → Puts (given d y) 0 (headOf m p n (textOf v)) r u) → Made 0 u
+          → ((v : Event) → readText (part (given d y) textPlace n) ≡ read v → Puts (given d y) 0 (headOf m p n (textOf v)) r u)
+          → Makes m (sent.Wrote p n) u
       unfolding partsOf
       from-event o g =
           let (f, (w, (q, y))) = told in
           let (k, l) = made m p d zs w q refl (o ∙ y) g in
-          (k ∙ sym (event-rows m p f .as-parts), λ z. l z ∙ ap (λ x. slotBytes (heldOf m (partsIn x))) (sym f))
+          record { is = (f, (k ∙ sym (event-rows m p f .as-parts), l refl ∙ ap (λ x. slotBytes (heldOf m (partsIn x))) (sym f))) }
+
+-- ---- what was made: the row alone
+module _ (m : List ℕ) {s : SentText} {o : List ℕ} (k : Makes m s o) where
+  pub made-wrote : {p : EventParts} {n : ℕ} → s ≡ sent.Wrote p n
+      → (readOf m ≡ message.Event p) × ((0 ≡ messageOfferRow m) × (o ≡ slotBytes (heldOf m (partsOf m))))
+  made-wrote {p} {n} e = let h : Made m (sent.Wrote p n) o = rw e at (k .is) in h
+
+  pub made-refused : {r : ℕ} → s ≡ sent.Refused r → (r ≡ messageOfferRow m) × (r ≡ 0 → ⊥)
+  made-refused {r} e = let h : Made m (sent.Refused r) o = rw e at (k .is) in h
+
+  pub row-none : {p : EventParts} {n : ℕ} → s ≡ sent.Wrote p n → (0 ≡ messageOfferRow m) × (_≡_ {A = ℕ} 0 0 → o ≡ slotBytes (heldOf m (partsOf m)))
+  row-none e = let (f, (z, q)) = made-wrote e in (z, λ w. q)
+
+  pub row-some : {r : ℕ} → s ≡ sent.Refused r → (r ≡ messageOfferRow m) × (r ≡ 0 → o ≡ slotBytes (heldOf m (partsOf m)))
+  row-some e = let (f, n) = made-refused e in (f, λ z. absurd (n z))

@@ -1,5 +1,7 @@
--- Row: 01's number of what an offer is answered. Slot: an offer by the bytes of the slot that it would fill, as the code has it. Demand3: what a
+-- Row: 01's number of what an offer is answered. Slot: an offer by the bytes of the slot that it would fill, as the code has it. Taken: a message read, and offered if
+-- it is an EVENT. Demand3: what a
 -- list of calls leaves.
 pub mod Row
 pub mod Slot
+pub mod Taken
 pub mod Demand3

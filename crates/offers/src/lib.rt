@@ -13,6 +13,8 @@ ghost use Rattle.text.specs.Event.{Event};
 ghost use Rattle.text.specs.Read.{read, readText};
 ghost use Rattle.text.specs.Answer.{textOf};
 ghost use Rattle.text.specs.Kinds.{isEphemeral, classOf};
+ghost use Rattle.message.specs.Read.{readOf};
+ghost use Rattle.table.specs.declared.Offered.the-variants as offered;
 ghost use Rattle.event.specs.Lent.{said};
 ghost use Rattle.event.specs.Answer.{offeredRow};
 ghost use Rattle.law.specs.Lists.{any, find};
@@ -21,7 +23,16 @@ ghost use Rattle.table.specs.Sound.{sound};
 ghost use Rattle.table.specs.Offer.{asMessage, asParts, partsOf, messageOfferRow, heldOf, answer, numberOf, isStored, next};
 ghost use Rattle.slots.specs.Slots.{sameIdIn, sameKeyIn, from};
 ghost use Rattle.offers.specs.Row.{offerRow};
+ghost use Rattle.offers.specs.Taken.{Makes, takenAs, taken, takenNumber, takenRow, takenTable};
 ghost use Rattle.offers.specs.Slot.{newerIn, New, answerFor, offeredTo, HasRoom, storedFor, offeredNext, countFrom, ifAddressable, numbersOf, headOf};
+
+// What taking a message gives: the place of an EVENT's id in it, and what its offer is answered; or what else was read.
+pub enum Taken {
+    Event(message::Span, table::Offered),
+    Req(message::ReqParts),
+    Close(message::Span),
+    Refused(u8),
+}
 
 // ---- the slot that an event given as parts would fill
 // The bytes of up to 128 hex digits that a part spells.
@@ -99,17 +110,28 @@ fn make_slot(out: &mut [u8], b: &[u8], p: message::EventParts) -> u8
     }
 }
 
-// The same, of the event of a message, or the lowest of rows 1 to 10: the reader tests its parts, and nobody tests them again.
+// The same, of the event of a message, with its parts; or the lowest of rows 1 to 10: the reader tests its parts, and nobody tests them again.
+fn make_event(out: &mut [u8], m: &[u8]) -> event::SentText
+    requires { ⌜ now out ≡ replicate slotSize 0 ⌝ }
+    ensures { λ r. ⌜ Makes (now (m .entry)) r (now (out .exit)) ⌝ }
+{
+    match event::sent_text(m, &mut out[slots::TEXT_PLACE..slots::SLOT_SIZE]) {
+        event::SentText::Wrote(p, n) => {
+            put_fields(out, m, p, n);
+            event::SentText::Wrote(p, n)
+        }
+        event::SentText::Refused(row) => event::SentText::Refused(row),
+    }
+}
+
+// The row alone.
 fn make_from(out: &mut [u8], m: &[u8]) -> u8
     requires { ⌜ now out ≡ replicate slotSize 0 ⌝ }
     ensures { λ r. ⌜ r ≡ messageOfferRow (now (m .entry)) ⌝ }
     ensures { λ r. ⌜ (r ≡ 0 → now (out .exit) ≡ slotBytes (heldOf (now (m .entry)) (partsOf (now (m .entry))))) ⌝ }
 {
-    match event::sent_text(m, &mut out[slots::TEXT_PLACE..slots::SLOT_SIZE]) {
-        event::SentText::Wrote(p, n) => {
-            put_fields(out, m, p, n);
-            0
-        }
+    match make_event(out, m) {
+        event::SentText::Wrote(_, _) => 0,
         event::SentText::Refused(row) => row,
     }
 }
@@ -311,4 +333,36 @@ pub fn judge_message(table: &[u8], m: &[u8]) -> table::Offered
         return table::Offered::Refused(row);
     }
     judge(table, &new)
+}
+
+// What a message gives that a row refuses as an offer: it is read again.
+fn untaken(m: &[u8], row: u8) -> Taken
+    ensures { λ r. ⌜ r ≡ takenAs (offered.Refused row) (readOf (now (m .entry))) ⌝ }
+{
+    match message::read(m) {
+        message::Message::Event(p) => {
+            let id = p.id;
+            Taken::Event(id, table::Offered::Refused(row))
+        }
+        message::Message::Req(q) => Taken::Req(q),
+        message::Message::Close(s) => Taken::Close(s),
+        message::Message::Refused(r) => Taken::Refused(r),
+    }
+}
+
+// A message taken: an EVENT is offered, and its id told; of anything else what was read is told, and the table stays. A valid EVENT is read once.
+pub fn take(table: &mut [u8], m: &[u8]) -> Taken
+    ensures { λ r. ⌜ r ≡ taken (now (table .entry)) (now (m .entry)) ⌝ }
+    ensures { λ r. ⌜ takenNumber r ≡ takenRow (now (table .entry)) (now (m .entry)) ⌝ }
+    ensures { λ _. ⌜ now (table .exit) ≡ takenTable (now (table .entry)) (now (m .entry)) ⌝ }
+{
+    let mut new = [0u8; slots::SLOT_SIZE];
+    match make_event(&mut new, m) {
+        event::SentText::Wrote(p, _) => {
+            let id = p.id;
+            let a = offer_slot(table, &new);
+            Taken::Event(id, a)
+        }
+        event::SentText::Refused(row) => untaken(m, row),
+    }
 }

@@ -41,6 +41,10 @@ use Rattle.table.specs.declared.Offered.{Offered}
 use Rattle.table.specs.declared.Offered.the-variants as offered
 use Rattle.table.proofs.Bytes.{clauses}
 use Rattle.table.proofs.Rows.{event-rows}
+use Rattle.offers.specs.Taken as taking
+use Rattle.offers.specs.declared.Taken.{Taken}
+use Rattle.offers.specs.declared.Taken.the-variants as takes
+use Rattle.offers.proofs.Takes.{took-event, took-req, took-close, took-refused, table-event, table-req, table-close, table-refused}
 use Rattle.query.specs.Answer.{answerList, filtersAt, answerTo, listingRow, listed, listedRow}
 use Rattle.query.specs.declared.Listing.{Listing}
 use Rattle.query.specs.declared.Listing.the-variants as listing
@@ -188,15 +192,19 @@ module _ (b m : List ℕ) (p : EventParts) (e : readOf m ≡ message.Event p) wh
     unfolding respondedTable respondRow
     event-short q = (said-short (response b m) out (room .no q), rw (lt-ltb (length out) (length (response b m)) (room .no q)) refl)
 
-    pub event-put : f ≡ true → {a : Offered} {t o₁ o₂ : List ℕ} {n r : ℕ} → a ≡ answer b (asParts m p) → t ≡ next b (asParts m p) → Puts out 0 (okText (said m (p .id)) a) n o₁
+    pub event-said : f ≡ true → {a : Offered} {t o₁ o₂ : List ℕ} {n r : ℕ} → a ≡ answer b (asMessage m) → t ≡ next b (asMessage m) → Puts out 0 (okText (said m (p .id)) a) n o₁
         → Puts o₁ n (0x0a ∷ []) r o₂ → Said (response b m) out (sent.Wrote r) o₂ × (t ≡ respondedTable b m out)
     unfolding respondedTable respondRow
-    event-put q {a} ea et x y =
+    event-said q {a} ea et x y =
         let h = room .yes q in
-        let z : ended (okText (said m (p .id)) a) ≡ response b m = ap (λ v. ended (okText (said m (p .id)) v)) (ea ∙ parts-answer) ∙ sym ok-line in (
+        let z : ended (okText (said m (p .id)) a) ≡ response b m = ap (λ v. ended (okText (said m (p .id)) v)) ea ∙ sym ok-line in (
           said-put (response b m) out h (rw z at (puts-then x y)),
-          rw (le-ltb (length out) (length (response b m)) h) (et ∙ parts-next ∙ sym (read-event b m p e .1)),
+          rw (le-ltb (length out) (length (response b m)) h) (et ∙ sym (read-event b m p e .1)),
         )
+
+    pub event-put : f ≡ true → {a : Offered} {t o₁ o₂ : List ℕ} {n r : ℕ} → a ≡ answer b (asParts m p) → t ≡ next b (asParts m p) → Puts out 0 (okText (said m (p .id)) a) n o₁
+        → Puts o₁ n (0x0a ∷ []) r o₂ → Said (response b m) out (sent.Wrote r) o₂ × (t ≡ respondedTable b m out)
+    event-put q ea et x y = event-said q (ea ∙ parts-answer) (et ∙ parts-next) x y
 
 -- ---- EVENTs and EOSE
 -- what is left of a room, by what was answered
@@ -354,3 +362,32 @@ responds-close b m out {x} {p} a e =
     let (y, t) = read-close b m p (sym a ∙ e) in
     let z : response b m ≡ [] = ap written y in
     responds b m out (said-as (sym z) (said-put [] out (omega arith) (puts-none out 0 (omega arith)))) (table-stays b m out t)
+
+-- ---- a message that was taken; t is the table at exit
+module _ (b m out : List ℕ) {x : Taken} (a : x ≡ taking.taken b m) {t : List ℕ} (et : t ≡ taking.takenTable b m) where
+  with-table : {r : Written} {o : List ℕ} → t ≡ b → Responds b m out r o b → Responds b m out r o t
+  with-table z k = (k .0, (k .1 .0, (k .1 .1 .0, z ∙ k .1 .1 .1)))
+
+  pub taken-event : 116 ≤ length out → {i : Span} {v : Offered} → x ≡ takes.Event i v → {o₁ o₂ : List ℕ} {n r : ℕ} → Puts out 0 (okText (said m i) v) n o₁
+      → Puts o₁ n (0x0a ∷ []) r o₂ → Responds b m out (sent.Wrote r) o₂ t
+  taken-event h {i} {v} e {o₁} {o₂} {n} {r} y z =
+      let k = took-event b m a e in
+      let w : Puts out 0 (okText (said m (k .parts .id)) v) n o₁ = rw (k .id) at y in
+      let (f, g) = event-said b m (k .parts) (k .is) out (longest-fits b m (k .parts) (k .is) (length out) h) refl (k .says) (et ∙ table-event b m (k .is)) w z in
+      responds b m out f g
+
+  pub taken-req : {q : ReqParts} → x ≡ takes.Req q → readOf m ≡ message.Req q
+  taken-req e = took-req b m a e
+
+  pub taken-request : {q : ReqParts} → x ≡ takes.Req q → {r : Written} {o : List ℕ} → Said (response t m) out r o → Responds b m out r o t
+  taken-request {q} e {r} {o} s =
+      let f = took-req b m a e in
+      let z : t ≡ b = et ∙ table-req b m f in
+      let y : Said (response b m) out r o = rw z at s in
+      with-table z (responds-request b m out refl f y)
+
+  pub taken-close : {p : Span} → x ≡ takes.Close p → Responds b m out (sent.Wrote 0) out t
+  taken-close e = let f = took-close b m a e in with-table (et ∙ table-close b m f) (responds-close b m out refl f)
+
+  pub taken-refused : {k : ℕ} {n : Named} → x ≡ takes.Refused k → n ≡ namedFor m k → {r : Written} {o : List ℕ} → Said (ended (namingText m n k)) out r o → Responds b m out r o t
+  taken-refused e en s = let f = took-refused b m a e in with-table (et ∙ table-refused b m f) (responds-refused b m out refl f en s)

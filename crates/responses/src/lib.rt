@@ -1,6 +1,7 @@
 // One message answered into a lent output, over a lent table; and the reply to a refused message alone. Every reply's length is known before
 // its first byte is written.
 ghost use mathlib.Core.Path.{_≡_};
+ghost use mathlib.Core.Bool.{true};
 ghost use Prim.Native.Nat.{_+_, _≤_};
 ghost use lib.ListN.{length};
 ghost use Rattle.wire.specs.Put.{Puts};
@@ -20,6 +21,7 @@ use message::Message;
 use message::Named;
 use message::ReqParts;
 use message::Span;
+use offers::Taken;
 use query::Listing;
 use slot_replies::Left;
 use table::Offered;
@@ -264,6 +266,39 @@ fn respond_request(table: &[u8], m: &[u8], q: ReqParts, out: &mut [u8]) -> Writt
     }
 }
 
+// Whether a message is taken before it is known what it is: the longest OK has room, and the message begins as EVENTs mostly do. Either way it gets
+// the same reply.
+fn taken_first(m: &[u8], room: usize) -> bool
+    ensures { λ r. ⌜ (r ≡ true → 116 ≤ room) ⌝ }
+{
+    if room < LONGEST_OK {
+        return false;
+    }
+    if m.len() < 3 {
+        return false;
+    }
+    m[2] == b'E'
+}
+
+// One message, where the longest OK has room: an EVENT is offered as it is read, and its parts are tested once.
+fn respond_taken(table: &mut [u8], m: &[u8], out: &mut [u8]) -> Written
+    requires { ⌜ 116 ≤ length (now out) ⌝ }
+    ensures { λ r. ⌜ r ≡ responded (now (table .entry)) (now (m .entry)) (now (out .entry)) ⌝ }
+    ensures { λ r. ⌜ numberOf r ≡ respondRow (now (table .entry)) (now (m .entry)) (now (out .entry)) ⌝ }
+    ensures { λ _. ⌜ now (out .exit) ≡ respondedOut (now (table .entry)) (now (m .entry)) (now (out .entry)) ⌝ }
+    ensures { λ _. ⌜ now (table .exit) ≡ respondedTable (now (table .entry)) (now (m .entry)) (now (out .entry)) ⌝ }
+{
+    match offers::take(table, m) {
+        Taken::Event(id, a) => {
+            let n = put_ok(out, m, id, a);
+            Written::Wrote(wire::put(out, n, b"\n"))
+        }
+        Taken::Req(q) => respond_request(table, m, q, out),
+        Taken::Close(_) => Written::Wrote(0),
+        Taken::Refused(row) => respond_refused(m, named_for(m, row), row, out),
+    }
+}
+
 // One message answered, each reply ended with 0A, and the table updated. 13 is the only refusal; table and output then stay as found.
 pub fn respond(table: &mut [u8], m: &[u8], out: &mut [u8]) -> Written
     ensures { λ r. ⌜ r ≡ responded (now (table .entry)) (now (m .entry)) (now (out .entry)) ⌝ }
@@ -271,6 +306,9 @@ pub fn respond(table: &mut [u8], m: &[u8], out: &mut [u8]) -> Written
     ensures { λ _. ⌜ now (out .exit) ≡ respondedOut (now (table .entry)) (now (m .entry)) (now (out .entry)) ⌝ }
     ensures { λ _. ⌜ now (table .exit) ≡ respondedTable (now (table .entry)) (now (m .entry)) (now (out .entry)) ⌝ }
 {
+    if taken_first(m, out.len()) {
+        return respond_taken(table, m, out);
+    }
     match message::read(m) {
         Message::Event(p) => respond_event(table, m, p, out),
         Message::Req(q) => respond_request(table, m, q, out),
