@@ -4,7 +4,7 @@ ghost use mathlib.Core.Bool.{true, false};
 ghost use mathlib.Core.List.{map};
 ghost use mathlib.Core.Option.{some};
 ghost use lib.ListN.{take};
-ghost use Rattle.wire.specs.Bytes.{part};
+ghost use Rattle.wire.specs.Bytes.{part, sameBytes};
 ghost use Rattle.spell.specs.Spell.{decode};
 ghost use Rattle.json.specs.Grammar.{startAt};
 ghost use Rattle.text.specs.Event.{all};
@@ -112,7 +112,26 @@ fn holds(b: &[u8], tags: usize, letter: u8, m: &[u8], spans: &[usize]) -> bool
     false
 }
 
-// Whether a spelled string is one of those that the spans tell.
+// Whether two slices hold the same bytes. Past the first they are compared with no way out of the loop, so that the compiler takes many at a time.
+fn same_bytes(p: &[u8], q: &[u8]) -> bool
+    ensures { λ r. ⌜ r ≡ sameBytes (now (p .entry)) (now (q .entry)) ⌝ }
+{
+    if p.len() != q.len() {
+        return false;
+    }
+    if wire::byte(p, 0) != wire::byte(q, 0) {
+        return false;
+    }
+    let mut same = true;
+    let mut i = 0;
+    while i < p.len() {
+        same = same & (p[i] == q[i]);
+        i += 1;
+    }
+    same
+}
+
+// Whether a spelled string is one of those that the spans tell. Most are spelled by the same bytes; only where they are not, escapes are read.
 fn among(v: &[u8], m: &[u8], spans: &[usize]) -> bool
     ensures { λ r. ⌜ r ≡ isMember (spelledBy (now (m .entry)) (now (spans .entry))) (decode (now (v .entry))) ⌝ }
 {
@@ -120,6 +139,9 @@ fn among(v: &[u8], m: &[u8], spans: &[usize]) -> bool
     while j < spans.len() {
         let at = spans[j - 1];
         let n = spans[j];
+        if same_bytes(v, wire::piece(m, at, n)) {
+            return true;
+        }
         if spell::same(v, wire::piece(m, at, n)) {
             return true;
         }
