@@ -25,8 +25,12 @@ lentAfter l lent = cond (eqb (letterOf l) 66) (put lent 0 (part l 2 65536)) lent
 unfoldable pub turned : List ℕ → ℕ → ℕ → List ℕ
 turned room at bits = set room at (bitXor (getD room at 0) bits)
 
+-- every byte b
+abbrev pub filled : List ℕ → ℕ → List ℕ
+filled room b = replicate (length room) b
+
 -- L len fill, and X at bits
 unfoldable pub roomAfter : List ℕ → List ℕ → List ℕ
 roomAfter l room =
-    cond (eqb (letterOf l) 76) (replicate (length room) (countOf l 2 % 256))
+    cond (eqb (letterOf l) 76) (filled room (countOf l 2 % 256))
     (cond (eqb (letterOf l) 88) (turned room (countOf l 1) (countOf l 2 % 256)) room)

@@ -8,7 +8,7 @@ ghost use Rattle.wire.specs.Put.{Puts};
 ghost use Rattle.numeral.specs.Decimal.{digits, decimal};
 ghost use Rattle.fields.specs.Line.{spaceIn, restOf, fieldsFrom, fieldOf, gapOf};
 ghost use Rattle.fields.specs.Number.{grownBy, naturalOf, complementOf, integerOf, isAbsent, countOf};
-ghost use Rattle.fields.specs.Room.{letterOf, turned, lengthAfter, lentAfter, roomAfter};
+ghost use Rattle.fields.specs.Room.{filled, letterOf, turned, lengthAfter, lentAfter, roomAfter};
 ghost use Rattle.fields.specs.Parts.{spanOf, bodyOf, eventOf, listedOf, boundOf, filterOf};
 use message::Body;
 use message::Bound;
@@ -254,7 +254,7 @@ pub fn put_integer(out: &mut [u8], at: usize, z: i64) -> usize
 
 // Every byte of a buffer becomes b.
 pub fn fill(room: &mut [u8], b: u8)
-    ensures { λ _. ⌜ now (room .exit) ≡ replicate (length (now (room .entry))) b ⌝ }
+    ensures { λ _. ⌜ now (room .exit) ≡ filled (now (room .entry)) b ⌝ }
 {
     let n = room.len();
     let mut i = 0;
