@@ -21,13 +21,14 @@ use Rattle.table.specs.Events.{signedEvents, inSlot, view}
 use Rattle.table.specs.Sound.{sound}
 use Rattle.table.specs.Offer.{answerOf, isStored}
 use Rattle.table.specs.declared.Offered.{Offered}
-use Rattle.table.specs.declared.Offered.the-variants.{Refused}
+use Rattle.table.specs.declared.Offered.the-variants.{Stored, Refused}
 use Rattle.table.proofs.Bytes.{clauses}
 use Rattle.table.proofs.Stored.{length-view}
-use Rattle.slots.specs.Slots.{sameKeyIn, from}
-use Rattle.offers.specs.Slot.{New, answerFor, offeredTo, HasRoom, slotOf, countFrom, storedFor, offeredNext}
+use Rattle.offers.specs.Slot.{New, answerFor, offeredTo, slotOf, DecidedAs, Decides, HasRoom, countFrom, storedFor, offeredNext}
+use Rattle.offers.specs.declared.Decided.{Decided}
+use Rattle.offers.specs.declared.Decided.the-variants.{Fills, Answered}
 use Rattle.offers.proofs.First.{find-most}
-use Rattle.offers.proofs.Held.{slot-is, keys}
+use Rattle.offers.proofs.Held.{keys}
 use Rattle.offers.proofs.Verdicts.{newerHeld, lacks, by-class}
 
 -- a slot written whole
@@ -82,25 +83,22 @@ module _ (b s : List ℕ) (n : New s) (h : HasRoom b s) where
       go true q e = omega (arith, ltb-true (slotOf b s) (countOf b) q, clauses b g .count)
       go false q e = omega (arith, leb-false (capacityOf b) (countOf b) e, at-most)
 
-  module _ {c : ℕ} (l : c ≡ fieldAt b 4 4) where
-    count-is : c ≡ countOf b
-    unfolding countOf
-    count-is = l
+  module _ {k : ℕ} (o : k ≡ slotOf b s) where
+    pub fits : (k < mostSlots) × (slotPlace k + slotSize ≤ length b)
+    fits =
+        let q = clauses b g in
+        let r : k < capacityOf b = omega (arith, o, room) in
+        let f = q .fit in
+        let t = q .high in
+        (omega arith, omega arith)
 
-    pub count-few : c ≤ mostSlots
-    count-few = let q = clauses b g in omega (arith, count-is, q .count, q .high)
+    module _ {c : ℕ} (l : c ≡ fieldAt b 4 4) where
+      count-is : c ≡ countOf b
+      unfolding countOf
+      count-is = l
 
-    module _ {k : ℕ} (o : k ≡ find (sameKeyIn s) (from b 0 c)) where
-      slot-found : k ≡ slotOf b s
-      slot-found = o ∙ ap (λ m. find (sameKeyIn s) (from b 0 m)) count-is ∙ sym (slot-is b s g (n .ok (means .0)))
-
-      pub fits : (k < mostSlots) × (slotPlace k + slotSize ≤ length b)
-      fits =
-          let q = clauses b g in
-          let r : k < capacityOf b = omega (arith, slot-found, room) in
-          let f = q .fit in
-          let t = q .high in
-          (omega arith, omega arith)
+      pub count-few : c ≤ mostSlots
+      count-few = let q = clauses b g in omega (arith, count-is, q .count, q .high)
 
       pub stored-is : {y p : List ℕ} {m r : ℕ} → y ≡ s → m ≡ countFrom c k
           → Puts (putMid (slotPlace k) (slotPlace k + slotSize - slotPlace k) b y) countPlace (leBytes 4 m) r p → p ≡ storedFor b s
@@ -111,26 +109,33 @@ module _ (b s : List ℕ) (n : New s) (h : HasRoom b s) where
           = rw (z, e) (lent-put b (slotPlace k) slotSize s (n .long) (fits .1)) in
           u .bytes
           ∙ ap₂ (λ x v. put x countPlace (leBytes 4 v)) w f
-          ∙ ap₂ (λ j i. put (put b (slotPlace j) s) countPlace (leBytes 4 (countFrom i j))) slot-found count-is
+          ∙ ap₂ (λ j i. put (put b (slotPlace j) s) countPlace (leBytes 4 (countFrom i j))) o count-is
 
 -- ---- an offer to a table that is sound or not
 module _ (b s : List ℕ) {x : Bool} (f : x ≡ sound b) where
-  pub not-sound : x ≡ false → Refused 11 ≡ offeredTo b s
+  pub not-sound : x ≡ false → Decides b s (offeredTo b s) (Answered (Refused 11))
   unfolding offeredTo
-  not-sound e = sym (ap (λ t. cond t (answerFor b s) (Refused 11)) (sym f ∙ e))
+  not-sound e = record { is = (sym (ap (λ t. cond t (answerFor b s) (Refused 11)) (sym f ∙ e)), refl) }
 
-  pub is-judged : {a : Offered} → x ≡ true → a ≡ answerFor b s → a ≡ offeredTo b s
+  pub is-judged : {d : Decided} → x ≡ true → Decides b s (answerFor b s) d → Decides b s (offeredTo b s) d
   unfolding offeredTo
-  is-judged e j = j ∙ sym (ap (λ t. cond t (answerFor b s) (Refused 11)) (sym f ∙ e))
+  is-judged e j = rw (sym f ∙ e) j
 
-module _ (b s : List ℕ) {a : Offered} (j : a ≡ offeredTo b s) {y : Bool} (k : y ≡ isStored a) where
-  pub nothing-stored : y ≡ false → (a ≡ offeredTo b s) × (b ≡ offeredNext b s)
+-- ---- what was decided of an offer
+module _ (b s : List ℕ) {d : Decided} (j : Decides b s (offeredTo b s) d) where
+  pub skipped : {a : Offered} → d ≡ Answered a → (a ≡ offeredTo b s) × (b ≡ offeredNext b s)
   unfolding offeredNext
-  nothing-stored h = (j, sym (ap (λ t. cond t (storedFor b s) b) (sym (k ∙ ap isStored j) ∙ h)))
+  skipped {a} e =
+      let (f, n) : DecidedAs b s (offeredTo b s) (Answered a) = rw e at (j .is) in
+      (f, sym (ap (λ t. cond t (storedFor b s) b) (sym (ap isStored f) ∙ n)))
 
-  pub has-room : y ≡ true → HasRoom b s
-  has-room h = record { stored = sym (k ∙ ap isStored j) ∙ h }
+  module _ {k : ℕ} (e : d ≡ Fills k) where
+    pub fills : (Stored ≡ offeredTo b s) × (k ≡ slotOf b s)
+    fills = let h : DecidedAs b s (offeredTo b s) (Fills k) = rw e at (j .is) in h
 
-  pub all-stored : {o : List ℕ} → y ≡ true → o ≡ storedFor b s → (a ≡ offeredTo b s) × (o ≡ offeredNext b s)
-  unfolding offeredNext
-  all-stored h z = (j, z ∙ sym (ap (λ t. cond t (storedFor b s) b) (sym (k ∙ ap isStored j) ∙ h)))
+    pub has-room : HasRoom b s × (k ≡ slotOf b s)
+    has-room = (record { stored = sym (ap isStored (fills .0)) }, fills .1)
+
+    pub filled : {o : List ℕ} → o ≡ storedFor b s → (Stored ≡ offeredTo b s) × (o ≡ offeredNext b s)
+    unfolding offeredNext
+    filled z = (fills .0, z ∙ sym (ap (λ t. cond t (storedFor b s) b) (sym (ap isStored (fills .0)))))

@@ -1,5 +1,5 @@
 -- The verdict: a law for each way out. The premises are the facts of the path, in the order of the code.
-use mathlib.Core.Path.{_≡_, sym, ap, ap₂, _∙_}
+use mathlib.Core.Path.{_≡_, refl, sym, ap, ap₂, _∙_}
 use mathlib.Core.Bool.{Bool, true, false, not, _&&_}
 use mathlib.Core.List.{List, []}
 use Prim.Native.Nat.{ℕ, _≤_, _<_}
@@ -20,11 +20,13 @@ use Rattle.table.specs.Layout.{capacityOf, countOf, kindIn, idIn, heldSlots, sl
 use Rattle.table.specs.Events.{signedEvents, inSlot, view}
 use Rattle.table.specs.Sound.{sound, slotSound}
 use Rattle.table.specs.Offer.{answerOf}
-use Rattle.table.specs.declared.Offered.the-variants.{Ephemeral, Duplicate, Older, Stored, Refused}
+use Rattle.table.specs.declared.Offered.the-variants.{Ephemeral, Duplicate, Older, Refused}
 use Rattle.table.proofs.Stored.{length-view}
 use Rattle.table.proofs.Shown.{slot-entry}
 use Rattle.slots.specs.Slots.{sameIdIn, sameKeyIn, from}
-use Rattle.offers.specs.Slot.{newerIn, New, answerFor, slotOf}
+use Rattle.offers.specs.Slot.{newerIn, New, answerFor, slotOf, Decides}
+use Rattle.offers.specs.declared.Decided.{Decided}
+use Rattle.offers.specs.declared.Decided.the-variants.{Fills, Answered}
 use Rattle.offers.proofs.Held.{ids, slot-is, keys, newers}
 
 -- the questions of the verdict on slot s: a newer event with its key is held; no slot is left for it
@@ -35,6 +37,9 @@ abbrev pub lacks : List ℕ → List ℕ → Bool
 lacks b s = lacksSlot signedEvents (capacityOf b) (view b) (inSlot s)
 
 module _ (b s : List ℕ) (g : sound b ≡ true) (n : New s) where
+  abbrev Says : Decided → Type 0
+  Says d = Decides b s (answerFor b s) d
+
   pub by-class : answerFor b s ≡ answerOf 0 (firstOf (isEphemeral (kindIn s)) (any (hasId signedEvents (inSlot s)) (view b)) (newerHeld b s) (lacks b s))
   unfolding answerFor verdict
   by-class = ap (λ x. answerOf 0 (firstOf x (any (hasId signedEvents (inSlot s)) (view b)) (newerHeld b s) (lacks b s))) (n .class)
@@ -44,9 +49,11 @@ module _ (b s : List ℕ) (g : sound b ≡ true) (n : New s) where
     unfolding kindIn
     class-is = sym (q ∙ ap isEphemeral p)
 
-    pub was-ephemeral : x ≡ true → Ephemeral ≡ answerFor b s
-    was-ephemeral e =
-        sym (by-class ∙ ap (λ t. answerOf 0 (firstOf t (any (hasId signedEvents (inSlot s)) (view b)) (newerHeld b s) (lacks b s))) (class-is ∙ e))
+    pub was-ephemeral : x ≡ true → Says (Answered Ephemeral)
+    was-ephemeral e = record {
+      is =
+          (sym (by-class ∙ ap (λ t. answerOf 0 (firstOf t (any (hasId signedEvents (inSlot s)) (view b)) (newerHeld b s) (lacks b s))) (class-is ∙ e)), refl);
+    }
 
     module _ (e : x ≡ false) {c : ℕ} (l : c ≡ fieldAt b 4 4) {y : Bool} (f : y ≡ any (sameIdIn s) (from b 0 c)) where
       pub lasts : slotSound s ≡ true
@@ -62,11 +69,11 @@ module _ (b s : List ℕ) (g : sound b ≡ true) (n : New s) where
           ∙ ap₂ (λ t u. answerOf 0 (firstOf t u (newerHeld b s) (lacks b s))) (class-is ∙ e)
           (ids b s g ∙ sym (f ∙ ap (λ m. any (sameIdIn s) (from b 0 m)) count-is))
 
-      pub was-duplicate : y ≡ true → Duplicate ≡ answerFor b s
-      was-duplicate h = sym (by-id ∙ ap (λ u. answerOf 0 (firstOf false u (newerHeld b s) (lacks b s))) h)
+      pub was-duplicate : y ≡ true → Says (Answered Duplicate)
+      was-duplicate h = record { is = (sym (by-id ∙ ap (λ u. answerOf 0 (firstOf false u (newerHeld b s) (lacks b s))) h), refl) }
 
       module _ (h : y ≡ false) {j : ℕ} (o : j ≡ find (sameKeyIn s) (from b 0 c)) where
-        pub place-is : j ≡ slotOf b s
+        place-is : j ≡ slotOf b s
         place-is = o ∙ ap (λ m. find (sameKeyIn s) (from b 0 m)) count-is ∙ sym (slot-is b s g lasts)
 
         by-key : answerFor b s ≡ answerOf 0 (firstOf false false (ltb j c && newerIn (getD (heldSlots b) j []) s) (not (ltb j c) && leb (capacityOf b) c))
@@ -84,21 +91,21 @@ module _ (b s : List ℕ) (g : sound b ≡ true) (n : New s) where
               ∙ ap (λ t. answerOf 0 (firstOf false false (t && newerIn (getD (heldSlots b) j []) s) (not t && leb (capacityOf b) c))) (lt-ltb j c i)
               ∙ ap (λ t. answerOf 0 (firstOf false false t false)) (ap (λ r. newerIn r s) (slot-entry b j (rw count-is at i) ∙ sym a) ∙ sym v)
 
-          pub was-older : w ≡ true → Older ≡ answerFor b s
-          was-older z = sym (by-time ∙ ap (λ t. answerOf 0 (firstOf false false t false)) z)
+          pub was-older : w ≡ true → Says (Answered Older)
+          was-older z = record { is = (sym (by-time ∙ ap (λ t. answerOf 0 (firstOf false false t false)) z), refl) }
 
-          pub was-newer : w ≡ false → Stored ≡ answerFor b s
-          was-newer z = sym (by-time ∙ ap (λ t. answerOf 0 (firstOf false false t false)) z)
+          pub was-newer : w ≡ false → Says (Fills j)
+          was-newer z = record { is = (sym (by-time ∙ ap (λ t. answerOf 0 (firstOf false false t false)) z), place-is) }
 
         module _ (i : c ≤ j) {u : Bool} (r : u ≡ leb (capacityOf b) c) where
           by-room : answerFor b s ≡ answerOf 0 (firstOf false false false u)
           by-room = by-key ∙ ap₂ (λ t a. answerOf 0 (firstOf false false (t && newerIn (getD (heldSlots b) j []) s) (not t && a))) (le-ltb j c i) (sym r)
 
-          pub no-room : u ≡ true → Refused 12 ≡ answerFor b s
-          no-room z = sym (by-room ∙ ap (λ t. answerOf 0 (firstOf false false false t)) z)
+          pub no-room : u ≡ true → Says (Answered (Refused 12))
+          no-room z = record { is = (sym (by-room ∙ ap (λ t. answerOf 0 (firstOf false false false t)) z), refl) }
 
-          pub was-stored : u ≡ false → Stored ≡ answerFor b s
-          was-stored z = sym (by-room ∙ ap (λ t. answerOf 0 (firstOf false false false t)) z)
+          pub was-stored : u ≡ false → Says (Fills j)
+          was-stored z = record { is = (sym (by-room ∙ ap (λ t. answerOf 0 (firstOf false false false t)) z), place-is) }
 
 -- ---- what a comparison of two slots answers
 pub newer-by : (s t : List ℕ) (a b : ℤ) {r : Bool} {x y : ℕ} {i j : List ℕ} → SFits w64 a → SFits w64 b

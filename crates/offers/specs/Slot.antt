@@ -25,7 +25,9 @@ use Rattle.table.specs.Events.{signedEvents, inSlot, classOfText, view}
 use Rattle.table.specs.Sound.{slotSound, sound}
 use Rattle.table.specs.Offer.{answerOf, isStored}
 use Rattle.table.specs.declared.Offered.{Offered}
-use Rattle.table.specs.declared.Offered.the-variants.{Refused}
+use Rattle.table.specs.declared.Offered.the-variants.{Stored, Refused}
+use Rattle.offers.specs.declared.Decided.{Decided}
+use Rattle.offers.specs.declared.Decided.the-variants.{Fills, Answered}
 
 -- ---- the verdict
 -- the event of slot s is newer than that of slot t
@@ -46,14 +48,22 @@ answerFor b s = answerOf 0 (verdict signedEvents (capacityOf b) (view b) (some (
 unfoldable pub offeredTo : List ℕ → List ℕ → Offered
 offeredTo b s = cond (sound b) (answerFor b s) (Refused 11)
 
+-- "over the slot with its key, else in slot C"
+unfoldable pub slotOf : List ℕ → List ℕ → ℕ
+slotOf b s = find (hasKey signedEvents (inSlot s)) (view b)
+
+-- what is decided of an offer s to the table b that is answered a
+abbrev pub DecidedAs : (b s : List ℕ) → Offered → Decided → Type 0
+DecidedAs b s a (Fills k) = (Stored ≡ a) × (k ≡ slotOf b s)
+DecidedAs b s a (Answered x) = (x ≡ a) × (isStored x ≡ false)
+
+pub record Decides (b s : List ℕ) (a : Offered) (d : Decided) : Type 0 where
+  pub is : DecidedAs b s a d
+
 -- ---- the store
 -- the verdict is stored
 pub record HasRoom (b s : List ℕ) : Type 0 where
   pub stored : isStored (offeredTo b s) ≡ true
-
--- "over the slot with its key, else in slot C"
-unfoldable pub slotOf : List ℕ → List ℕ → ℕ
-slotOf b s = find (hasKey signedEvents (inSlot s)) (view b)
 
 -- the count c once slot k is filled
 abbrev pub countFrom : ℕ → ℕ → ℕ

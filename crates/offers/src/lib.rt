@@ -20,11 +20,11 @@ ghost use Rattle.event.specs.Answer.{offeredRow};
 ghost use Rattle.law.specs.Lists.{any, find};
 ghost use Rattle.table.specs.Layout.{slotSize, textPlace, capacityOf, slotBytes};
 ghost use Rattle.table.specs.Sound.{sound};
-ghost use Rattle.table.specs.Offer.{asMessage, asParts, partsOf, messageOfferRow, heldOf, answer, numberOf, isStored, next};
+ghost use Rattle.table.specs.Offer.{asMessage, asParts, partsOf, messageOfferRow, heldOf, answer, numberOf, next};
 ghost use Rattle.slots.specs.Slots.{sameIdIn, sameKeyIn, from};
 ghost use Rattle.offers.specs.Row.{offerRow};
 ghost use Rattle.offers.specs.Taken.{Makes, takenAs, taken, takenNumber, takenRow, takenTable};
-ghost use Rattle.offers.specs.Slot.{newerIn, New, answerFor, offeredTo, HasRoom, storedFor, offeredNext, countFrom, ifAddressable, numbersOf, headOf};
+ghost use Rattle.offers.specs.Slot.{newerIn, New, answerFor, offeredTo, Decides, HasRoom, slotOf, storedFor, offeredNext, countFrom, ifAddressable, numbersOf, headOf};
 
 // What taking a message gives: the place of an EVENT's id in it, and what its offer is answered; or what else was read.
 pub enum Taken {
@@ -32,6 +32,12 @@ pub enum Taken {
     Req(message::ReqParts),
     Close(message::Span),
     Refused(u8),
+}
+
+// What is decided of an offer: the slot that it fills, or what it is answered where nothing is stored.
+enum Decided {
+    Fills(usize),
+    Answered(table::Offered),
 }
 
 // ---- the slot that an event given as parts would fill
@@ -195,58 +201,47 @@ fn newer_than(s: &[u8], t: &[u8]) -> bool
     )
 }
 
-// "Verdicts of an offer .. first that applies", and row 12 where a new slot is needed and all are in use.
-fn verdict(table: &[u8], new: &[u8]) -> table::Offered
+// "Verdicts of an offer .. first that applies", and row 12 where a new slot is needed and all are in use. The key is looked for once: the slot
+// found is the one that a store fills.
+fn verdict(table: &[u8], new: &[u8]) -> Decided
     requires { ⌜ sound (now table) ≡ true ⌝ }
     requires { ⌜ New (now new) ⌝ }
-    ensures { λ r. ⌜ r ≡ answerFor (now (table .entry)) (now (new .entry)) ⌝ }
+    ensures { λ r. ⌜ Decides (now (table .entry)) (now (new .entry)) (answerFor (now (table .entry)) (now (new .entry))) r ⌝ }
 {
     if is_ephemeral(wire::le_at(new, slots::KIND_PLACE, 2)) {
-        return table::Offered::Ephemeral;
+        return Decided::Answered(table::Offered::Ephemeral);
     }
     let c = wire::le_at(table, 4, 4) as usize;
     let held = id_held(table, c, new);
     let full = is_full(table, c);
     if held {
-        return table::Offered::Duplicate;
+        return Decided::Answered(table::Offered::Duplicate);
     }
     let k = find_key(table, c, new);
     if k < c {
         if newer_than(slots::slot(table, k), new) {
-            return table::Offered::Older;
+            return Decided::Answered(table::Offered::Older);
         }
-        return table::Offered::Stored;
+        return Decided::Fills(k);
     }
     if full {
-        return table::Offered::Refused(12);
+        return Decided::Answered(table::Offered::Refused(12));
     }
-    table::Offered::Stored
+    Decided::Fills(k)
 }
 
 // Row 11, then the verdict, on an event that would fill the slot `new`.
-fn judge(table: &[u8], new: &[u8]) -> table::Offered
+fn judge(table: &[u8], new: &[u8]) -> Decided
     requires { ⌜ New (now new) ⌝ }
-    ensures { λ r. ⌜ r ≡ offeredTo (now (table .entry)) (now (new .entry)) ⌝ }
+    ensures { λ r. ⌜ Decides (now (table .entry)) (now (new .entry)) (offeredTo (now (table .entry)) (now (new .entry))) r ⌝ }
 {
     if !slots::sound(table) {
-        return table::Offered::Refused(11);
+        return Decided::Answered(table::Offered::Refused(11));
     }
     verdict(table, new)
 }
 
 // ---- the store
-fn is_stored(a: table::Offered) -> bool
-    ensures { λ r. ⌜ r ≡ isStored a ⌝ }
-{
-    match a {
-        table::Offered::Stored => true,
-        table::Offered::Ephemeral => false,
-        table::Offered::Duplicate => false,
-        table::Offered::Older => false,
-        table::Offered::Refused(_) => false,
-    }
-}
-
 // The slot writer: the slot's part of the table is lent to it.
 fn write_slot(slot: &mut [u8], new: &[u8])
     requires { ⌜ (length (now slot) ≡ slotSize) × (length (now new) ≡ slotSize) ⌝ }
@@ -267,13 +262,13 @@ fn count_after(c: usize, k: usize) -> usize
 }
 
 // "stored, over the slot with its key, else in slot C. A store writes only the bytes of the one slot it fills, and the count."
-fn store(table: &mut [u8], new: &[u8])
+fn store(table: &mut [u8], new: &[u8], k: usize)
     requires { ⌜ New (now new) ⌝ }
     requires { ⌜ HasRoom (now table) (now new) ⌝ }
+    requires { ⌜ k ≡ slotOf (now table) (now new) ⌝ }
     ensures { λ _. ⌜ now (table .exit) ≡ storedFor (now (table .entry)) (now (new .entry)) ⌝ }
 {
     let c = wire::le_at(table, 4, 4) as usize;
-    let k = find_key(table, c, new);
     let a = slots::HEADER_SIZE + k * slots::SLOT_SIZE;
     let e = a + slots::SLOT_SIZE;
     write_slot(&mut table[a..e], new);
@@ -285,12 +280,13 @@ fn offer_slot(table: &mut [u8], new: &[u8]) -> table::Offered
     ensures { λ r. ⌜ r ≡ offeredTo (now (table .entry)) (now (new .entry)) ⌝ }
     ensures { λ _. ⌜ now (table .exit) ≡ offeredNext (now (table .entry)) (now (new .entry)) ⌝ }
 {
-    let a = judge(table, new);
-    if !is_stored(a) {
-        return a;
+    match judge(table, new) {
+        Decided::Fills(k) => {
+            store(table, new, k);
+            table::Offered::Stored
+        }
+        Decided::Answered(a) => a,
     }
-    store(table, new);
-    a
 }
 
 // ---- the calls
@@ -332,7 +328,10 @@ pub fn judge_message(table: &[u8], m: &[u8]) -> table::Offered
     if row != 0 {
         return table::Offered::Refused(row);
     }
-    judge(table, &new)
+    match judge(table, &new) {
+        Decided::Fills(_) => table::Offered::Stored,
+        Decided::Answered(a) => a,
+    }
 }
 
 // What a message gives that a row refuses as an offer: it is read again.

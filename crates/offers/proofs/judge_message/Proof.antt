@@ -3,6 +3,7 @@ use mathlib.Core.Path.{refl}
 use borrow.Author.Needs.{needs}
 use Rattle.table.specs.Offer.{asMessage}
 use Rattle.offers.proofs.Offers.{refused, is-new, judged}
+use Rattle.offers.proofs.Stores.{skipped, fills}
 use Rattle.offers.proofs.judge_message.Statement.{statement}
 use Rattle.offers.proofs.judge_message.Tie as tie
 
@@ -21,10 +22,23 @@ judge-requires c κs =
 
 returns-2 : tie.Need-returns-2
 returns-2 c =
-    let c2 = c .before .before in
-    let c4 = c2 .before .before in
-    let a = c4 .before .before .before .before .args in
-    judged (a .table .now) (asMessage (a .m .now)) (c4 .make-from .ensures .0) (c2 .if1 .left) (c4 .make-from .ensures .1) (c .judge .ensures)
+    let j = c .before .before in
+    let l = j .before .before in
+    let m = l .before .before in
+    let a = m .before .before .before .before .args in
+    judged (a .table .now) (asMessage (a .m .now)) (m .make-from .ensures .0) (l .if1 .left) (m .make-from .ensures .1)
+    (fills _ _ (j .judge .ensures) (c .enum-told .given .1) .0)
+
+returns-3 : tie.Need-returns-3
+returns-3 c =
+    let j = c .before .before .before in
+    let l = j .before .before in
+    let m = l .before .before in
+    let a = m .before .before .before .before .args in
+    judged (a .table .now) (asMessage (a .m .now)) (m .make-from .ensures .0) (l .if1 .left) (m .make-from .ensures .1)
+    (skipped _ _ (j .judge .ensures) (c .before .a .given .1) .0)
 
 pub judge-message-spec : {M : Type 1} → statement M
-judge-message-spec = tie.close (tie.spec (search needs) (λ c κs. refl) returns (search needs) judge-requires returns-2)
+judge-message-spec =
+    tie.close
+    (tie.spec (search needs) (λ c κs. refl) returns (search needs) judge-requires (search needs) (search needs) returns-2 returns-3)

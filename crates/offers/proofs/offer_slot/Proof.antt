@@ -1,27 +1,24 @@
--- By the verdict: only what is stored is written.
+-- By what was decided: only what is stored is written.
 use borrow.Author.Needs.{needs}
-use borrow.Author.Tests.{not-true, not-false}
-use Rattle.offers.proofs.Stores.{nothing-stored, has-room, all-stored}
+use Rattle.offers.proofs.Stores.{skipped, has-room, filled}
 use Rattle.offers.proofs.offer_slot.Statement.{statement}
 use Rattle.offers.proofs.offer_slot.Tie as tie
 
-returns : tie.Need-returns
-returns c =
-    let c1 = c .before in
-    nothing-stored _ _ (c1 .before .judge .ensures) (c1 .is-stored .ensures) (not-true _ (c .if1 .taken))
-
 store-requires : tie.Need-store-requires
 store-requires c κs =
-    let c1 = c .before in
-    let c3 = c1 .before .before in
-    (c3 .before .before .before .before .pre, has-room _ _ (c3 .judge .ensures) (c1 .before .is-stored .ensures) (not-false _ (c1 .if1 .left)))
+    let j = c .before .before .before .before in
+    (j .before .before .before .before .pre, has-room _ _ (j .judge .ensures) (c .before .before .k .given .1))
+
+returns : tie.Need-returns
+returns c =
+    let s = c .before .before in
+    let k = s .before .before .before in
+    filled _ _ (k .before .before .judge .ensures) (k .k .given .1) (s .store .ensures)
 
 returns-2 : tie.Need-returns-2
-returns-2 c =
-    let c2 = c .before .before in
-    let c4 = c2 .before .before in
-    let c5 = c4 .before in
-    all-stored _ _ (c5 .before .judge .ensures) (c5 .is-stored .ensures) (not-false _ (c4 .if1 .left)) (c2 .store .ensures)
+returns-2 c = skipped _ _ (c .before .before .before .judge .ensures) (c .before .a .given .1)
 
 pub offer-slot-spec : {M : Type 1} → statement M
-offer-slot-spec = tie.close (tie.spec (λ c κs. search needs) (λ c κs. search needs) (search needs) returns store-requires (search needs) returns-2)
+offer-slot-spec =
+    tie.close
+    (tie.spec (λ c κs. search needs) (search needs) store-requires (search needs) (search needs) returns (search needs) returns-2)
