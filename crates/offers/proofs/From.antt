@@ -8,7 +8,7 @@ use native.Mathlib.Omega.{arith}
 use lib.Dec.{eqb}
 use lib.ListN.{length, replicate}
 use borrow.Author.Tests.{eqb-true, eqb-false, eq-eqb, le-leb, lt-leb}
-use Rattle.wire.specs.Limits.{mostText, sigLength}
+use Rattle.wire.specs.Limits.{mostText, hexLength, sigLength}
 use Rattle.wire.specs.Bytes.{part}
 use Rattle.wire.specs.Put.{Puts}
 use Rattle.text.specs.Event.{Event}
@@ -25,7 +25,6 @@ use Rattle.message.specs.declared.Message.the-variants as message
 use Rattle.message.specs.declared.EventParts.{EventParts}
 use Rattle.message.proofs.Reading.{row-read}
 use Rattle.message.proofs.Order.{Late, rows-first, rows-late, text-clean}
-use Rattle.event.specs.Lent.{said}
 use Rattle.event.specs.Sent.{unreadRow, sentRowOf, sentRow, sentText, sentOut, sentTextNumber}
 use Rattle.event.specs.declared.SentText.{SentText}
 use Rattle.event.specs.declared.SentText.the-variants as sent
@@ -35,9 +34,9 @@ use Rattle.event.proofs.Sent.{some-row, sent-wrote, sent-refused}
 use Rattle.table.specs.Layout.{slotSize, textPlace, slotBytes}
 use Rattle.table.specs.Offer.{messageOfferRow, partsIn, partsOf, heldOf}
 use Rattle.table.proofs.Rows.{message-rows, event-rows}
-use Rattle.offers.specs.Slot.{headOf}
+use Rattle.offers.specs.Slot.{SpellsHex, headOf}
 use Rattle.offers.specs.Taken.{Made, Makes}
-use Rattle.offers.proofs.Makes.{lentPart, given, lent-most, both-short, made}
+use Rattle.offers.proofs.Makes.{lentPart, given, lent-most, ready, made}
 
 module _ (m : List ℕ) where
   read-row : {x : Message} → readOf m ≡ x → messageRow m ≡ reader.rowOf x
@@ -112,8 +111,9 @@ module _ (m : List ℕ) where
       told : (readOf m ≡ message.Event p) × AsOffered m p (lentPart d) (written.Wrote n) (sentOut m (lentPart d))
       told = sent-wrote m (lentPart d) (sym a ∙ e)
 
-      pub from-short : (length (said m (p .id)) ≤ sigLength) × (length (said m (p .sig)) ≤ sigLength)
-      from-short = let (f, (w, (q, y))) = told in both-short m p d zs w q refl
+      pub from-ready : {y : List ℕ} → y ≡ sentOut m (lentPart d)
+          → (SpellsHex m (p .id) hexLength × SpellsHex m (p .sig) sigLength) × (slotSize ≤ length (given d y))
+      from-ready o = let (f, (w, (q, y))) = told in ready m p d zs w q refl (o ∙ y)
 
       pub from-event : {y : List ℕ} → y ≡ sentOut m (lentPart d) → {r : ℕ} {u : List ℕ}
           → ((v : Event) → readText (part (given d y) textPlace n) ≡ read v → Puts (given d y) 0 (headOf m p n (textOf v)) r u)

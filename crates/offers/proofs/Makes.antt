@@ -7,7 +7,7 @@ use native.Mathlib.Omega.{arith}
 use lib.Dec.{eqb}
 use lib.ListN.{length, take, drop, replicate, length-append, length-replicate, replicate-append-replicate, drop-of-length-le}
 use lib.Seq.{take-all, take-append-seam, drop-append-seam}
-use borrow.Author.Tests.{eqb-true, eq-eqb}
+use borrow.Author.Tests.{eqb-true, eq-eqb, not-false}
 use borrow.Rule.Slice.PartMut.{putMid}
 use Rattle.wire.specs.Limits.{mostText, hexLength, sigLength}
 use Rattle.wire.specs.Bytes.{part}
@@ -26,19 +26,21 @@ use Rattle.text.specs.declared.Text.{Text}
 use Rattle.text.specs.declared.TextAnswer.{TextAnswer}
 use Rattle.text.specs.declared.TextAnswer.the-variants as answer
 use Rattle.text.proofs.RoundTrip.{read-back}
+use Rattle.message.specs.declared.Span.{Span}
 use Rattle.message.specs.declared.EventParts.{EventParts}
-use Rattle.message.specs.Lent.{string5, string7, body5, event5, event7}
+use Rattle.message.specs.Lent.{isSpelled, string5, string7, body5, body7, event5, event7}
 use Rattle.event.specs.Lent.{said, eventOf}
 use Rattle.event.specs.Lent as lent
 use Rattle.event.specs.Answer.{offeredRow, offeredTextRow, offered, offeredOut, answered, outputAfter, numberOf}
 use Rattle.event.specs.declared.Written.{Written}
 use Rattle.event.specs.declared.Written.the-variants as written
 use Rattle.event.proofs.Decoded.{or-neither}
+use Rattle.event.proofs.Fit.{and-fails}
 use Rattle.event.proofs.Answers.{offered-small, row-alone-most}
 use Rattle.table.specs.Layout.{Held, Fits, slotSize, textPlace, dIfAddressable, dPlace, textBytes, slotBytes}
 use Rattle.table.specs.Offer.{asParts, heldOf, isValid}
-use Rattle.table.proofs.Valid.{clean, hex-part, sig-length, valid-fits}
-use Rattle.offers.specs.Slot.{ifAddressable, numbersOf, headOf}
+use Rattle.table.proofs.Valid.{clean, valid-fits}
+use Rattle.offers.specs.Slot.{SpellsHex, ifAddressable, numbersOf, headOf}
 
 -- ---- the front of an array that something was put into whole
 module _ {d s o : List ℕ} {n m : ℕ} (room : length o ≡ m) (p : Puts d 0 s n o) (h : length s ≤ m) where
@@ -117,6 +119,11 @@ d-if Replaceable v = (refl, refl)
 d-if Ephemeral v = (refl, refl)
 d-if Addressable v = (refl, refl)
 
+-- a part that rows 5 and 7 let pass
+hex-spelled : (k : ℕ) (b : List ℕ) (q : Span) → string5 b q ≡ false → string7 k b q ≡ false → SpellsHex b q k
+unfolding string5 string7
+hex-spelled k b q e f = not-false _ (and-fails (isSpelled b q) _ (not-false (isSpelled b q) e) f)
+
 -- ---- parts p over the buffer b
 module _ (b : List ℕ) (p : EventParts) where
   -- an offer that no row refuses
@@ -124,14 +131,18 @@ module _ (b : List ℕ) (p : EventParts) where
     fits : Fits (heldOf b p)
     fits = valid-fits (asParts b p) (eq-eqb (offeredRow b p) 0 e)
 
-    id-short : length (said b (p .id)) ≤ sigLength
+    id-hex : SpellsHex b (p .id) hexLength
     unfolding event5 event7
-    id-short =
+    id-hex =
         let n = clean b p e in
-        omega (arith, hex-part hexLength b (p .id) (or-neither (string5 b (p .id)) _ (n .not5) .0) (or-neither (string7 hexLength b (p .id)) _ (n .not7) .0))
+        hex-spelled hexLength b (p .id) (or-neither (string5 b (p .id)) _ (n .not5) .0) (or-neither (string7 hexLength b (p .id)) _ (n .not7) .0)
 
-    sig-short : length (said b (p .sig)) ≤ sigLength
-    sig-short = omega (arith, sig-length b p e)
+    sig-hex : SpellsHex b (p .sig) sigLength
+    unfolding event5 event7
+    sig-hex =
+        let n = clean b p e in
+        hex-spelled sigLength b (p .sig) (or-neither (body5 b (p .body)) _ (or-neither (string5 b (p .id)) _ (n .not5) .1) .1)
+        (or-neither (body7 b (p .body)) _ (or-neither (string7 hexLength b (p .id)) _ (n .not7) .1) .1)
 
     reads : readText (lent.textOf b (p .body)) ≡ read (eventOf b (p .body))
     unfolding heldOf lent.textOf
@@ -190,9 +201,6 @@ module _ (b : List ℕ) (p : EventParts) where
       pub row-none : offeredRow b p ≡ 0
       row-none = sym row-is ∙ ap numberOf e
 
-      pub both-short : (length (said b (p .id)) ≤ sigLength) × (length (said b (p .sig)) ≤ sigLength)
-      both-short = (id-short row-none, sig-short row-none)
-
       text-row : offeredTextRow b p (lentPart d) ≡ 0
       text-row = sym q ∙ ap numberOf e
 
@@ -214,6 +222,14 @@ module _ (b : List ℕ) (p : EventParts) where
 
         came-back : given d y ≡ replicate textPlace 0 ++ textBytes (lent.textOf b (p .body))
         came-back = lent-zeros textPlace mostText slotSize (omega arith) zs y ∙ ap (λ z. replicate textPlace 0 ++ z) text-is
+
+        pub ready : (SpellsHex b (p .id) hexLength × SpellsHex b (p .sig) sigLength) × (slotSize ≤ length (given d y))
+        unfolding textBytes
+        ready =
+            let t = lent.textOf b (p .body) in
+            let m = offered-small b p row-none in
+            let l : length (given d y) ≡ textPlace + (length t + (mostText - length t)) = ap length came-back ∙ simp (length-append, length-replicate) (omega arith) in
+            ((id-hex row-none, sig-hex row-none), omega arith)
 
         pub made : {r : ℕ} {u : List ℕ}
             → ((v : Event) → readText (part (given d y) textPlace n) ≡ read v → Puts (given d y) 0 (headOf b p n (textOf v)) r u)

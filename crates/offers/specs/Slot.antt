@@ -7,13 +7,15 @@ use mathlib.Core.List.{List, _++_}
 use Prim.Native.Nat.{ℕ, _+_}
 use lib.Dec.{ltb}
 use lib.ListN.{length}
+use Rattle.wire.specs.Bytes.{part}
 use Rattle.wire.specs.Field.{leBytes, signed, unsigned}
 use Rattle.wire.specs.Put.{put}
-use Rattle.spell.specs.Spell.{unhex}
+use Rattle.spell.specs.Spell.{unhex, isHexOf}
 use Rattle.text.specs.Kinds.{isEphemeral, classOf}
 use Rattle.text.specs.declared.Class.{Class}
 use Rattle.text.specs.declared.Class.the-variants.{Regular, Replaceable, Ephemeral, Addressable}
 use Rattle.text.specs.declared.Text.{Text}
+use Rattle.message.specs.declared.Span.{Span}
 use Rattle.message.specs.declared.EventParts.{EventParts}
 use Rattle.event.specs.Lent.{said}
 use Rattle.event.specs.Order.{isNewer}
@@ -77,6 +79,10 @@ unfoldable pub offeredNext : List ℕ → List ℕ → List ℕ
 offeredNext b s = cond (isStored (offeredTo b s)) (storedFor b s) b
 
 -- ---- the bytes before the text, by what is read from it
+-- the part p of the buffer c spells n digits of lower-case hex
+abbrev pub SpellsHex : List ℕ → Span → ℕ → Type 0
+SpellsHex c p n = isHexOf n (part c (p .start) (p .len)) ≡ true
+
 -- d's place is 0 unless the kind is addressable
 abbrev pub ifAddressable : Class → ℕ → ℕ
 ifAddressable Regular x = 0

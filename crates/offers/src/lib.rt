@@ -2,13 +2,13 @@
 // writes. The definitions are table/specs/Offer; what the code goes by on the way stands in specs/.
 ghost use mathlib.Core.Path.{_≡_};
 ghost use mathlib.Core.Bool.{true};
-ghost use Prim.Native.Nat.{ℕ, _≤_};
+ghost use Prim.Native.Nat.{ℕ, _+_, _≤_};
 ghost use lib.Dec.{leb};
 ghost use lib.ListN.{length, replicate};
-ghost use Rattle.wire.specs.Limits.{mostSlots, sigLength};
-ghost use Rattle.wire.specs.Bytes.{part};
+ghost use Rattle.wire.specs.Limits.{mostSlots, hexLength, sigLength};
+ghost use Rattle.wire.specs.Bytes.{part, isHex};
 ghost use Rattle.wire.specs.Put.{Puts};
-ghost use Rattle.spell.specs.Spell.{unhex};
+ghost use Rattle.spell.specs.Spell.{hexVal, unhex, all};
 ghost use Rattle.text.specs.Event.{Event};
 ghost use Rattle.text.specs.Read.{read, readText};
 ghost use Rattle.text.specs.Answer.{textOf};
@@ -24,7 +24,7 @@ ghost use Rattle.table.specs.Offer.{asMessage, asParts, partsOf, messageOfferRo
 ghost use Rattle.slots.specs.Slots.{sameIdIn, sameKeyIn, from};
 ghost use Rattle.offers.specs.Row.{offerRow};
 ghost use Rattle.offers.specs.Taken.{Makes, takenAs, taken, takenNumber, takenRow, takenTable};
-ghost use Rattle.offers.specs.Slot.{newerIn, New, answerFor, offeredTo, Decides, HasRoom, slotOf, storedFor, offeredNext, countFrom, ifAddressable, numbersOf, headOf};
+ghost use Rattle.offers.specs.Slot.{newerIn, New, answerFor, offeredTo, Decides, HasRoom, slotOf, storedFor, offeredNext, countFrom, SpellsHex, ifAddressable, numbersOf, headOf};
 
 // What taking a message gives: the place of an EVENT's id in it, and what its offer is answered; or what else was read.
 pub enum Taken {
@@ -41,14 +41,42 @@ enum Decided {
 }
 
 // ---- the slot that an event given as parts would fill
-// The bytes of up to 128 hex digits that a part spells.
-fn put_spelled(out: &mut [u8], at: usize, b: &[u8], p: message::Span) -> usize
-    requires { ⌜ length (said (now b) p) ≤ sigLength ⌝ }
+// The number of a digit of lower-case hex, told with no branch.
+fn digit(x: u8) -> u8
+    requires { ⌜ isHex x ≡ true ⌝ }
+    ensures { λ r. ⌜ (r ≡ hexVal x) × (r ≤ 15) ⌝ }
+{
+    x % 16 + 9 * (x / 64)
+}
+
+// The bytes that pairs of such digits stand for. No way out of the loop, so that the compiler takes many at a time.
+fn put_digits(out: &mut [u8], at: usize, s: &[u8]) -> usize
+    requires { ⌜ all isHex (now s) ≡ true ⌝ }
+    requires { ⌜ at + length (now s) ≤ length (now out) ⌝ }
+    ensures { λ r. ⌜ Puts (now (out .entry)) at (unhex (now (s .entry))) r (now (out .exit)) ⌝ }
+{
+    let n = s.len() / 2;
+    let mut k = 0;
+    while k < n {
+        out[at + k] = digit(s[2 * k]) * 16 + digit(s[2 * k + 1]);
+        k += 1;
+    }
+    at + k
+}
+
+// The bytes of the n hex digits that a part spells. A part of n bytes has no escapes: they are the digits.
+fn put_spelled(out: &mut [u8], at: usize, b: &[u8], p: message::Span, n: usize) -> usize
+    requires { ⌜ SpellsHex (now b) p n ⌝ }
+    requires { ⌜ (n ≤ sigLength) × (at + n ≤ length (now out)) ⌝ }
     ensures { λ r. ⌜ Puts (now (out .entry)) at (unhex (said (now (b .entry)) p)) r (now (out .exit)) ⌝ }
 {
+    let s = wire::piece(b, p.start, p.len);
+    if s.len() == n {
+        return put_digits(out, at, s);
+    }
     let mut hex = [0u8; wire::SIG_LENGTH];
-    let n = spell::put_decoded(&mut hex, 0, wire::piece(b, p.start, p.len));
-    spell::put_unhex(out, at, &hex[..n])
+    let k = spell::put_decoded(&mut hex, 0, s);
+    put_digits(out, at, &hex[..k])
 }
 
 // A number of d's place: 0 unless the kind is addressable.
@@ -76,21 +104,21 @@ fn put_numbers(out: &mut [u8], at: usize, n: usize, t: text::Text) -> usize
 
 // Id, signature and numbers, before the text.
 fn put_head(out: &mut [u8], b: &[u8], p: message::EventParts, n: usize, t: text::Text) -> usize
-    requires { ⌜ length (said (now b) (p .id)) ≤ sigLength ⌝ }
-    requires { ⌜ length (said (now b) (p .sig)) ≤ sigLength ⌝ }
+    requires { ⌜ SpellsHex (now b) (p .id) hexLength × SpellsHex (now b) (p .sig) sigLength ⌝ }
+    requires { ⌜ slotSize ≤ length (now out) ⌝ }
     ensures { λ r. ⌜ Puts (now (out .entry)) 0 (headOf (now (b .entry)) p n t) r (now (out .exit)) ⌝ }
 {
     let id = p.id;
     let sig = p.sig;
-    let a = put_spelled(out, 0, b, id);
-    let c = put_spelled(out, a, b, sig);
+    let a = put_spelled(out, 0, b, id, wire::HEX_LENGTH);
+    let c = put_spelled(out, a, b, sig, wire::SIG_LENGTH);
     put_numbers(out, c, n, t)
 }
 
 // The head of a slot in which the text, of n bytes, is written: its numbers are read back from there.
 fn put_fields(out: &mut [u8], b: &[u8], p: message::EventParts, n: usize) -> usize
-    requires { ⌜ length (said (now b) (p .id)) ≤ sigLength ⌝ }
-    requires { ⌜ length (said (now b) (p .sig)) ≤ sigLength ⌝ }
+    requires { ⌜ SpellsHex (now b) (p .id) hexLength × SpellsHex (now b) (p .sig) sigLength ⌝ }
+    requires { ⌜ slotSize ≤ length (now out) ⌝ }
     ensures { λ r. ⌜ ((e : Event) → readText (part (now (out .entry)) textPlace n) ≡ read e → Puts (now (out .entry)) 0 (headOf (now (b .entry)) p n (textOf e)) r (now (out .exit))) ⌝ }
 {
     match text::read_text(wire::piece(out, slots::TEXT_PLACE, n)) {

@@ -5,7 +5,7 @@ use native.Mathlib.Omega.{arith}
 use borrow.Author.Needs.{needs}
 use lib.ListN.{length, length-replicate}
 use Rattle.table.specs.Layout.{slotSize}
-use Rattle.offers.proofs.From.{from-short, from-event, from-refused}
+use Rattle.offers.proofs.From.{from-ready, from-event, from-refused}
 use Rattle.offers.proofs.make_event.Statement.{statement}
 use Rattle.offers.proofs.make_event.Tie as tie
 
@@ -20,7 +20,8 @@ put-fields-requires c κs =
     let c2 = c .before .before in
     let c6 = c2 .before .before .before .before in
     let a = c6 .before .before .before .before in
-    from-short _ (a .args .out .now) (a .pre) (c6 .sent-text .ensures .0) (c2 .p .given .1)
+    let o = c6 .sent-text .ensures in
+    from-ready _ (a .args .out .now) (a .pre) (o .0) (c2 .p .given .1) (o .1 .1)
 
 returns : tie.Need-returns
 returns c =

@@ -5,7 +5,7 @@ use native.Mathlib.Omega.{arith}
 use borrow.Author.Needs.{needs}
 use lib.ListN.{length, length-replicate}
 use Rattle.table.specs.Layout.{slotSize}
-use Rattle.offers.proofs.Makes.{made-none, both-short, made}
+use Rattle.offers.proofs.Makes.{made-none, ready, made}
 use Rattle.offers.proofs.make_slot.Statement.{statement}
 use Rattle.offers.proofs.make_slot.Tie as tie
 
@@ -21,7 +21,7 @@ put-fields-requires c κs =
     let c6 = c2 .before .before .before .before in
     let a = c6 .before .before .before .before in
     let o = c6 .offered-text .ensures in
-    both-short _ _ (a .args .out .now) (a .pre) (o .0) (o .1 .0) (c2 .n .given .1)
+    ready _ _ (a .args .out .now) (a .pre) (o .0) (o .1 .0) (c2 .n .given .1) (o .1 .1)
 
 returns : tie.Need-returns
 returns c =
