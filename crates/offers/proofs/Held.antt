@@ -1,13 +1,14 @@
 -- The verdict over the bytes of the held slots: ids, keys and times compared there are those of the events held.
 use mathlib.Core.Path.{_≡_, refl, sym, ap, ap₂, _∙_}
-use mathlib.Core.Bool.{Bool, true, _&&_}
+use mathlib.Core.Bool.{Bool, true, false, _&&_}
 use mathlib.Core.List.{List, []}
-use Prim.Native.Nat.{ℕ}
+use Prim.Native.Nat.{ℕ, _-_}
+use native.Mathlib.Omega.{arith}
 use lib.Dec.{eqb, ltb}
-use lib.ListN.{getD, drop}
+use lib.ListN.{length, getD, drop, List·getD-eq-default}
 use borrow.Author.Tests.{eqb-true, eq-eqb}
-use Rattle.wire.specs.Bytes.{sameBytes}
-use Rattle.wire.specs.Field.{signed}
+use Rattle.wire.specs.Bytes.{sameBytes, part}
+use Rattle.wire.specs.Field.{fieldAt, signed}
 use Rattle.wire.proofs.Bytes.{same-equal, equal-same}
 use Rattle.text.specs.Event.{all}
 use Rattle.text.specs.Kinds.{classOf}
@@ -16,7 +17,7 @@ use Rattle.law.specs.Lists.{any, find}
 use Rattle.law.specs.Table.{hasId, hasKey, hasKeyNewer}
 use Rattle.law.proofs.Cells.{length-cells}
 use Rattle.event.specs.Order.{isNewer, newer-is}
-use Rattle.table.specs.Layout.{headerSize, slotSize, countOf, timeIn, kindIn, idIn, textIn, heldSlots}
+use Rattle.table.specs.Layout.{headerSize, slotSize, countOf, timeIn, kindIn, idIn, lengthIn, dIn, textIn, heldSlots}
 use Rattle.table.specs.Events.{signedEvents, inSlot, timeOfText, view}
 use Rattle.table.specs.Events as events
 use Rattle.table.specs.Sound.{slotSound, slotsSound, noneTwice, noKeyTwice, sound}
@@ -26,26 +27,49 @@ use Rattle.table.proofs.Stored.{length-view}
 use Rattle.slots.specs.Slots.{hasKeyIn, pubkeyIn, dBytesIn, sameIdIn, sameKeyIn, from}
 use Rattle.slots.proofs.Pairs.{any-map, any-as, none-map, none-as}
 use Rattle.slots.proofs.Keys.{key-same}
-use Rattle.offers.specs.Slot.{newerIn, slotOf}
+use Rattle.offers.specs.Slot.{newerIn, dLast, slotOf}
 use Rattle.offers.proofs.First.{find-map, find-as, find-any, first-decides}
 
--- ---- keys of three slots
+-- ---- keys of slots
+same-parts : (s t : List ℕ) → sameKeyIn s t ≡ true
+    → (kindIn t ≡ kindIn s) × (hasKeyIn (classOf (kindIn t)) ≡ true) × (pubkeyIn t ≡ pubkeyIn s) × (dBytesIn t ≡ dBytesIn s)
+unfolding sameKeyIn
+same-parts s t h =
+    let a = both (eqb (kindIn t) (kindIn s)) (hasKeyIn (classOf (kindIn t)) && (sameBytes (pubkeyIn t) (pubkeyIn s) && sameBytes (dBytesIn t) (dBytesIn s))) h in
+    let b = both (hasKeyIn (classOf (kindIn t))) (sameBytes (pubkeyIn t) (pubkeyIn s) && sameBytes (dBytesIn t) (dBytesIn s)) (a .1) in
+    let c = both (sameBytes (pubkeyIn t) (pubkeyIn s)) (sameBytes (dBytesIn t) (dBytesIn s)) (b .1) in
+    (eqb-true (kindIn t) (kindIn s) (a .0), b .0, same-equal (pubkeyIn t) (pubkeyIn s) (c .0), same-equal (dBytesIn t) (dBytesIn s) (c .1))
+
 tied : (s x y : List ℕ) → sameKeyIn s x ≡ true → sameKeyIn s y ≡ true → sameKeyIn x y ≡ true
 unfolding sameKeyIn
 tied s x y e f =
-    let (a, b, c, d) = parts x e in
-    let (i, j, k, l) = parts y f in
+    let (a, b, c, d) = same-parts s x e in
+    let (i, j, k, l) = same-parts s y f in
     and-true (eqb (kindIn y) (kindIn x)) _ (eq-eqb (kindIn y) (kindIn x) (i ∙ sym a))
     (and-true (hasKeyIn (classOf (kindIn y))) _ j
     (and-true (sameBytes (pubkeyIn y) (pubkeyIn x)) (sameBytes (dBytesIn y) (dBytesIn x)) (equal-same (pubkeyIn y) (pubkeyIn x) (k ∙ sym c)) (equal-same (dBytesIn y) (dBytesIn x) (l ∙ sym d))))
+
+-- d that ends otherwise
+pub other-end : (s t : List ℕ) → (dLast t ≡ dLast s → ⊥) → false ≡ sameKeyIn s t
+unfolding dLast
+other-end s t n = go (sameKeyIn s t) refl
   where
-    parts : (t : List ℕ) → sameKeyIn s t ≡ true
-        → (kindIn t ≡ kindIn s) × (hasKeyIn (classOf (kindIn t)) ≡ true) × (pubkeyIn t ≡ pubkeyIn s) × (dBytesIn t ≡ dBytesIn s)
-    parts t h =
-        let a = both (eqb (kindIn t) (kindIn s)) (hasKeyIn (classOf (kindIn t)) && (sameBytes (pubkeyIn t) (pubkeyIn s) && sameBytes (dBytesIn t) (dBytesIn s))) h in
-        let b = both (hasKeyIn (classOf (kindIn t))) (sameBytes (pubkeyIn t) (pubkeyIn s) && sameBytes (dBytesIn t) (dBytesIn s)) (a .1) in
-        let c = both (sameBytes (pubkeyIn t) (pubkeyIn s)) (sameBytes (dBytesIn t) (dBytesIn s)) (b .1) in
-        (eqb-true (kindIn t) (kindIn s) (a .0), b .0, same-equal (pubkeyIn t) (pubkeyIn s) (c .0), same-equal (dBytesIn t) (dBytesIn s) (c .1))
+    go : (b : Bool) → sameKeyIn s t ≡ b → false ≡ b
+    go true e = absurd (n (ap (λ d. getD d (length d - 1) 0) (same-parts s t e .3)))
+    go false e = refl
+
+-- how the code finds the last byte: n, at and len are the slot's numbers, t its text, d the bytes of d
+module _ (s : List ℕ) {n at len : ℕ} {t d : List ℕ} (x : n ≡ fieldAt s 106 2) (y : at ≡ fieldAt s 108 2) (z : len ≡ fieldAt s 110 2) (p : t ≡ part s 112 n) (q : d ≡ part t at len) where
+  d-bytes : d ≡ dBytesIn s
+  unfolding dBytesIn dIn textIn lengthIn
+  d-bytes = q ∙ ap (λ r. part r at len) (p ∙ ap (part s 112) x) ∙ ap₂ (part (part s 112 (fieldAt s 106 2))) y z
+
+  pub last-is : getD d (length d - 1) 0 ≡ dLast s
+  unfolding dLast
+  last-is = ap (λ r. getD r (length r - 1) 0) d-bytes
+
+  pub no-last : length d ≡ 0 → 0 ≡ dLast s
+  no-last e = sym (List·getD-eq-default d 0 (omega arith)) ∙ last-is
 
 -- ---- times
 time-of : (s : List ℕ) → slotSound s ≡ true → timeOfText (textIn s) ≡ signed (timeIn s)

@@ -4,9 +4,9 @@ use mathlib.Core.Path.{_≡_}
 use mathlib.Core.Bool.{Bool, true, false, cond}
 use mathlib.Core.Option.{some}
 use mathlib.Core.List.{List, _++_}
-use Prim.Native.Nat.{ℕ, _+_}
+use Prim.Native.Nat.{ℕ, _+_, _-_}
 use lib.Dec.{ltb}
-use lib.ListN.{length}
+use lib.ListN.{length, getD}
 use Rattle.wire.specs.Bytes.{part}
 use Rattle.wire.specs.Field.{leBytes, signed, unsigned}
 use Rattle.wire.specs.Put.{put}
@@ -28,6 +28,7 @@ use Rattle.table.specs.Sound.{slotSound, sound}
 use Rattle.table.specs.Offer.{answerOf, isStored}
 use Rattle.table.specs.declared.Offered.{Offered}
 use Rattle.table.specs.declared.Offered.the-variants.{Stored, Refused}
+use Rattle.slots.specs.Slots.{dBytesIn}
 use Rattle.offers.specs.declared.Decided.{Decided}
 use Rattle.offers.specs.declared.Decided.the-variants.{Fills, Answered}
 
@@ -35,6 +36,10 @@ use Rattle.offers.specs.declared.Decided.the-variants.{Fills, Answered}
 -- the event of slot s is newer than that of slot t
 unfoldable pub newerIn : List ℕ → List ℕ → Bool
 newerIn s t = isNewer (signed (timeIn s)) (idIn s) (signed (timeIn t)) (idIn t)
+
+-- the last byte of d, and 0 where there is none
+unfoldable pub dLast : List ℕ → ℕ
+dLast s = getD (dBytesIn s) (length (dBytesIn s) - 1) 0
 
 -- the bytes of a slot that a valid event would fill
 pub record New (s : List ℕ) : Type 0 where

@@ -24,7 +24,7 @@ ghost use Rattle.table.specs.Offer.{asMessage, asParts, partsOf, messageOfferRo
 ghost use Rattle.slots.specs.Slots.{sameIdIn, sameKeyIn, from};
 ghost use Rattle.offers.specs.Row.{offerRow};
 ghost use Rattle.offers.specs.Taken.{Makes, takenAs, taken, takenNumber, takenRow, takenTable};
-ghost use Rattle.offers.specs.Slot.{newerIn, New, answerFor, offeredTo, Decides, HasRoom, slotOf, storedFor, offeredNext, countFrom, SpellsHex, ifAddressable, numbersOf, headOf};
+ghost use Rattle.offers.specs.Slot.{newerIn, dLast, New, answerFor, offeredTo, Decides, HasRoom, slotOf, storedFor, offeredNext, countFrom, SpellsHex, ifAddressable, numbersOf, headOf};
 
 // What taking a message gives: the place of an EVENT's id in it, and what its offer is answered; or what else was read.
 pub enum Taken {
@@ -201,13 +201,39 @@ fn is_full(table: &[u8], c: usize) -> bool
     wire::le_at(table, 0, 4) as usize <= c
 }
 
+// The last byte of a slot's d, and 0 where it has none: slots with one key have it alike.
+fn d_last(s: &[u8]) -> u8
+    ensures { λ r. ⌜ r ≡ dLast (now (s .entry)) ⌝ }
+{
+    let n = wire::le_at(s, slots::LENGTH_PLACE, 2) as usize;
+    let at = wire::le_at(s, slots::D_OFFSET_PLACE, 2) as usize;
+    let len = wire::le_at(s, slots::D_LENGTH_PLACE, 2) as usize;
+    let d = wire::piece(wire::piece(s, slots::TEXT_PLACE, n), at, len);
+    if d.len() == 0 {
+        return 0;
+    }
+    d[d.len() - 1]
+}
+
+// Whether slot t has the key of slot s, whose d ends with `last`: compared whole only where d ends alike.
+fn has_key(s: &[u8], last: u8, t: &[u8]) -> bool
+    requires { ⌜ last ≡ dLast (now s) ⌝ }
+    ensures { λ r. ⌜ r ≡ sameKeyIn (now (s .entry)) (now (t .entry)) ⌝ }
+{
+    if d_last(t) != last {
+        return false;
+    }
+    slots::same_key(s, t)
+}
+
 // The first of slots 0 to c-1 that has the key of the slot `new`, or c.
 fn find_key(table: &[u8], c: usize, new: &[u8]) -> usize
     ensures { λ r. ⌜ r ≡ find (sameKeyIn (now (new .entry))) (from (now (table .entry)) 0 c) ⌝ }
 {
+    let last = d_last(new);
     let mut k = 0;
     while k < c {
-        if slots::same_key(new, slots::slot(table, k)) {
+        if has_key(new, last, slots::slot(table, k)) {
             return k;
         }
         k += 1;

@@ -10,10 +10,10 @@ use Rattle.offers.proofs.find_key.Statement.{statement}
 use Rattle.offers.proofs.find_key.Tie as tie
 
 abbrev Inv-loop : tie.InvT-loop
-Inv-loop table c new k₀ k = (k ≤ c) × (find (sameKeyIn new) (from table 0 c) ≡ k + find (sameKeyIn new) (from table k (c - k)))
+Inv-loop table c new last k₀ k = (k ≤ c) × (find (sameKeyIn new) (from table 0 c) ≡ k + find (sameKeyIn new) (from table k (c - k)))
 
 abbrev μ-loop : tie.MeasureT-loop
-μ-loop table c new k₀ k = c - k
+μ-loop table c new last k₀ k = c - k
 
 returns : tie.Need-returns Inv-loop μ-loop
 returns c =
@@ -23,7 +23,7 @@ returns c =
     let c4 = c3 .before in
     let l = c4 .loop in
     sym
-    (find-met _ (l .k) _ _ (l .inv .1) (c3 .loop-test .taken) (sym (c1 .same-key .ensures ∙ ap (sameKeyIn _) (c2 .slot .ensures)) ∙ c .if1 .taken))
+    (find-met _ (l .k) _ _ (l .inv .1) (c3 .loop-test .taken) (sym (c1 .has-key .ensures ∙ ap (sameKeyIn _) (c2 .slot .ensures)) ∙ c .if1 .taken))
 
 loop-again : tie.Need-loop-again Inv-loop μ-loop
 loop-again c =
@@ -32,7 +32,7 @@ loop-again c =
     let c3 = c2 .before in
     let c4 = c3 .before in
     let l = c4 .loop in
-    (search needs, find-more _ (l .k) _ _ (l .inv .1) (c3 .loop-test .taken) (sym (c1 .same-key .ensures ∙ ap (sameKeyIn _) (c2 .slot .ensures)) ∙ c .if1 .left))
+    (search needs, find-more _ (l .k) _ _ (l .inv .1) (c3 .loop-test .taken) (sym (c1 .has-key .ensures ∙ ap (sameKeyIn _) (c2 .slot .ensures)) ∙ c .if1 .left))
 
 returns-2 : tie.Need-returns-2 Inv-loop μ-loop
 returns-2 c = let l = c .before .loop in sym (find-end _ (l .k) _ _ (l .inv .1) (c .loop-test .left))
@@ -40,5 +40,5 @@ returns-2 c = let l = c .before .loop in sym (find-end _ (l .k) _ _ (l .inv .1) 
 pub find-key-spec : {M : Type 1} → statement M
 find-key-spec =
     tie.close
-    (tie.spec Inv-loop μ-loop (λ c. (search needs, simp (sub-zero, zero-add))) (λ c κs. search needs) (λ c κs. search needs) returns
-    (search needs) (search needs) loop-again returns-2)
+    (tie.spec Inv-loop μ-loop (λ c κs. search needs) (λ c. (search needs, simp (sub-zero, zero-add))) (λ c κs. search needs)
+    (λ c κs. c .before .before .before .d-last .ensures) returns (search needs) (search needs) loop-again returns-2)
