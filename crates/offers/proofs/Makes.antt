@@ -104,6 +104,9 @@ module _ (a k n : ℕ) (s : n ≡ a + k) {d : List ℕ} (e : d ≡ replicate n 0
 abbrev pub lentPart : List ℕ → List ℕ
 lentPart d = part d textPlace (slotSize - textPlace)
 
+pub slot-long : {d : List ℕ} → d ≡ replicate slotSize 0 → length d ≡ slotSize
+slot-long zs = ap length zs ∙ length-replicate {A = ℕ} slotSize 0
+
 blank : {d : List ℕ} → d ≡ replicate slotSize 0 → lentPart d ≡ replicate mostText 0
 blank zs = part-zeros textPlace mostText slotSize (omega arith) zs
 

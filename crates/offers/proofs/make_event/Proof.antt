@@ -1,19 +1,10 @@
 -- A row refuses the message, or the text of its event is written and the head before it.
-use mathlib.Core.Path.{_≡_, ap, _∙_}
-use Prim.Native.Nat.{ℕ}
 use native.Mathlib.Omega.{arith}
 use borrow.Author.Needs.{needs}
-use lib.ListN.{length, length-replicate}
-use Rattle.table.specs.Layout.{slotSize}
+use Rattle.offers.proofs.Makes.{slot-long}
 use Rattle.offers.proofs.From.{from-ready, from-event, from-refused}
 use Rattle.offers.proofs.make_event.Statement.{statement}
 use Rattle.offers.proofs.make_event.Tie as tie
-
-part-sent-text-end : tie.Need-part-sent-text-end
-part-sent-text-end c =
-    let a = c .before .before in
-    let l : length (a .args .out .now) ≡ slotSize = ap length (a .pre) ∙ length-replicate {A = ℕ} slotSize 0 in
-    omega arith
 
 put-fields-requires : tie.Need-put-fields-requires
 put-fields-requires c κs =
@@ -43,5 +34,5 @@ returns-2 c =
 pub make-event-spec : {M : Type 1} → statement M
 make-event-spec =
     tie.close
-    (tie.spec (search needs) (search needs) part-sent-text-end (λ c κs. search needs)
+    (tie.spec (search needs) (search needs) (λ c. omega (arith, slot-long (c .before .before .pre))) (λ c κs. search needs)
     (search needs) put-fields-requires (search needs) (search needs) returns (search needs) returns-2)

@@ -1,19 +1,9 @@
 -- A row refuses the parts, or the text is written and the head before it.
-use mathlib.Core.Path.{_≡_, ap, _∙_}
-use Prim.Native.Nat.{ℕ}
 use native.Mathlib.Omega.{arith}
 use borrow.Author.Needs.{needs}
-use lib.ListN.{length, length-replicate}
-use Rattle.table.specs.Layout.{slotSize}
-use Rattle.offers.proofs.Makes.{made-none, ready, made}
+use Rattle.offers.proofs.Makes.{slot-long, made-none, ready, made}
 use Rattle.offers.proofs.make_slot.Statement.{statement}
 use Rattle.offers.proofs.make_slot.Tie as tie
-
-part-offered-text-end : tie.Need-part-offered-text-end
-part-offered-text-end c =
-    let a = c .before .before in
-    let l : length (a .args .out .now) ≡ slotSize = ap length (a .pre) ∙ length-replicate {A = ℕ} slotSize 0 in
-    omega arith
 
 put-fields-requires : tie.Need-put-fields-requires
 put-fields-requires c κs =
@@ -43,5 +33,5 @@ returns-2 c =
 pub make-slot-spec : {M : Type 1} → statement M
 make-slot-spec =
     tie.close
-    (tie.spec (search needs) (search needs) part-offered-text-end (λ c κs. search needs)
+    (tie.spec (search needs) (search needs) (λ c. omega (arith, slot-long (c .before .before .pre))) (λ c κs. search needs)
     (search needs) put-fields-requires (search needs) (search needs) returns (search needs) returns-2)

@@ -6,15 +6,9 @@ use Rattle.offers.proofs.newer_than.Tie as tie
 
 returns : tie.Need-returns
 returns c =
-    let c1 = c .before in
-    let c2 = c1 .before in
-    let c3 = c2 .before in
-    let c4 = c3 .before in
-    let c5 = c4 .before in
-    let c6 = c5 .before in
-    newer-by _ _ _ _ (record { sfits = c5 .to-signed .ok }) (record { sfits = c3 .to-signed2 .ok }) (c .newer .ensures)
-    (c5 .to-signed .ensures) (c6 .le-at .ensures .is) (c3 .to-signed2 .ensures) (c4 .le-at2 .ensures .is) (c2 .piece .ensures)
-    (c1 .piece2 .ensures)
+    newer-by _ _ _ _ (record { sfits = c .before .before .before .before .before .to-signed .ok }) (record { sfits = c .before .before .before .to-signed2 .ok }) (c .newer .ensures)
+    (c .before .before .before .before .before .to-signed .ensures) (c .before .before .before .before .before .before .le-at .ensures .is) (c .before .before .before .to-signed2 .ensures) (c .before .before .before .before .le-at2 .ensures .is)
+    (c .before .before .piece .ensures) (c .before .piece2 .ensures)
 
 pub newer-than-spec : {M : Type 1} → statement M
 newer-than-spec =

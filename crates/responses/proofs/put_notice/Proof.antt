@@ -4,15 +4,8 @@ use Rattle.responses.proofs.Lines.{notice-put}
 use Rattle.responses.proofs.put_notice.Statement.{statement}
 use Rattle.responses.proofs.put_notice.Tie as tie
 
-returns : tie.Need-returns
-returns c =
-    let c2 = c .before .before in
-    let c7 = c2 .before .before .before .before .before in
-    let c11 = c7 .before .before .before .before in
-    notice-put _ (c11 .put .ensures) (c7 .put-reason .ensures) (c2 .put2 .ensures)
-
 pub put-notice-spec : {M : Type 1} → statement M
 put-notice-spec =
     tie.close
-    (tie.spec (λ c. search needs) (λ c κs. search needs) (λ c κs. search needs) (λ c. search needs)
-    (λ c κs. search needs) (λ c. search needs) returns)
+    (tie.spec (λ c. search needs) (λ c κs. search needs) (λ c κs. search needs) (λ c. search needs) (λ c κs. search needs) (λ c. search needs)
+    (λ c. notice-put _ (c .before .before .before .before .before .before .before .before .before .before .before .put .ensures) (c .before .before .before .before .before .before .before .put-reason .ensures) (c .before .before .put2 .ensures)))

@@ -7,22 +7,6 @@ use Rattle.responses.specs.Line.{verdictText}
 use Rattle.responses.proofs.put_verdict.Statement.{statement}
 use Rattle.responses.proofs.put_verdict.Tie as tie
 
-returns : tie.Need-returns
-unfolding verdictText quoted escape escOne letterOf
-returns c = verdict-put _ (c .before .before .before .before .before .enum-told .given .1) (c .before .before .put .ensures)
-
-returns-2 : tie.Need-returns-2
-unfolding verdictText quoted escape escOne letterOf
-returns-2 c = verdict-put _ (c .before .before .before .before .before .enum-told2 .given .1) (c .before .before .put2 .ensures)
-
-returns-3 : tie.Need-returns-3
-unfolding verdictText quoted escape escOne letterOf
-returns-3 c = verdict-put _ (c .before .before .before .before .before .enum-told3 .given .1) (c .before .before .put3 .ensures)
-
-returns-4 : tie.Need-returns-4
-unfolding verdictText quoted escape escOne letterOf
-returns-4 c = verdict-put _ (c .before .before .before .before .before .enum-told4 .given .1) (c .before .before .put4 .ensures)
-
 returns-5 : tie.Need-returns-5
 returns-5 c =
     let c2 = c .before .before in
@@ -31,10 +15,15 @@ returns-5 c =
     false-put _ (c10 .a .given .1) (c6 .put5 .ensures) (c2 .put-reason .ensures)
 
 pub put-verdict-spec : {M : Type 1} → statement M
+unfolding verdictText quoted escape escOne letterOf
 put-verdict-spec =
     tie.close
     (tie.spec (λ c. search needs) (λ c. search needs) (λ c κs. search needs) (λ c. search needs) (λ c. search needs)
     (λ c κs. search needs) (λ c. search needs) (λ c. search needs) (λ c κs. search needs) (λ c. search needs)
     (λ c. search needs) (λ c κs. search needs) (λ c. search needs) (λ c. search needs) (λ c κs. search needs)
-    (λ c κs. search needs) (λ c. search needs) returns (λ c. search needs) returns-2 (λ c. search needs) returns-3
-    (λ c. search needs) returns-4 (λ c. search needs) returns-5)
+    (λ c κs. search needs)
+    (λ c. search needs) (λ c. verdict-put _ (c .before .before .before .before .before .enum-told .given .1) (c .before .before .put .ensures))
+    (λ c. search needs) (λ c. verdict-put _ (c .before .before .before .before .before .enum-told2 .given .1) (c .before .before .put2 .ensures))
+    (λ c. search needs) (λ c. verdict-put _ (c .before .before .before .before .before .enum-told3 .given .1) (c .before .before .put3 .ensures))
+    (λ c. search needs) (λ c. verdict-put _ (c .before .before .before .before .before .enum-told4 .given .1) (c .before .before .put4 .ensures))
+    (λ c. search needs) returns-5)
