@@ -5,8 +5,8 @@ use Prim.Native.Nat.{_≤_, _-_}
 use native.Mathlib.Omega.{arith}
 use native.Mathlib.Numerals.{add-one}
 use Rattle.digest.specs.Block.{K, rounds}
-use Rattle.digest.proofs.all_rounds.Statement.{statement}
-use Rattle.digest.proofs.all_rounds.Tie as tie
+use Rattle.digest.proofs.block.all_rounds.Statement.{statement}
+use Rattle.digest.proofs.block.all_rounds.Tie as tie
 
 abbrev Inv-loop : tie.InvT-loop
 Inv-loop w s₀ t₀ s t = (s ≡ rounds w s₀ t) × (t ≤ 64)

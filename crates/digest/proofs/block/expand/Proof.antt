@@ -8,8 +8,8 @@ use lib.ListN.{length, take, drop, length-set, length-replicate}
 use lib.Seq.{take-all}
 use Rattle.digest.specs.Block.{words, next, schedule}
 use Rattle.digest.proofs.Laws.{filled, next-take, word-part}
-use Rattle.digest.proofs.expand.Statement.{statement}
-use Rattle.digest.proofs.expand.Tie as tie
+use Rattle.digest.proofs.block.expand.Statement.{statement}
+use Rattle.digest.proofs.block.expand.Tie as tie
 
 abbrev Inv-loop : tie.InvT-loop
 Inv-loop s from w₀ i₀ w i = (take i w ≡ words (take 64 (drop from s)) i) × (length w ≡ 64) × (i ≤ 16)

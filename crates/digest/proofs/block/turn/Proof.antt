@@ -1,8 +1,8 @@
 -- `turn` is a round: the sums are rewritten by what each callee ensures. Assumes nothing.
 use borrow.Author.Needs.{needs}
 use Rattle.digest.specs.Block.{round}
-use Rattle.digest.proofs.turn.Statement.{statement}
-use Rattle.digest.proofs.turn.Tie as tie
+use Rattle.digest.proofs.block.turn.Statement.{statement}
+use Rattle.digest.proofs.block.turn.Tie as tie
 
 returns : tie.Need-returns
 unfolding round
