@@ -1,0 +1,3 @@
+-- Parts of messages and texts as rows of numbers, both ways.
+pub mod Numbers
+pub mod Parts
