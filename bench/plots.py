@@ -25,7 +25,7 @@ TABLES = [
     ("Lines", "program", "The program", 1.3),
 ]
 
-LABEL, BARS, VALUE, LINE, TOP = 400, 380, 60, 22, 64
+BARS, VALUE, LINE, TOP, LETTER = 400, 60, 22, 64, 7.8
 
 
 def cells(line):
@@ -46,8 +46,12 @@ def tables(text):
 
 def drawing(title, goal, rows):
     most = max(1.0, goal, *(ratio for _, ratio in rows))
-    width, height = LABEL + BARS + VALUE, TOP + LINE * len(rows) + 12
-    x = lambda ratio: LABEL + BARS * ratio / most
+    left = max(160, int(LETTER * max(len(name) for name, _ in rows)) + 24)
+    width, height = left + BARS + VALUE, TOP + LINE * len(rows) + 12
+
+    def x(ratio):
+        return left + BARS * ratio / most
+
     out = [
         f'<svg xmlns="http://www.w3.org/2000/svg" width="{width}" height="{height}" viewBox="0 0 {width} {height}" font-family="sans-serif" font-size="13">',
         f"<title>{html.escape(title)}: proved time over plain Rust's</title>",
@@ -60,8 +64,8 @@ def drawing(title, goal, rows):
     for i, (name, ratio) in enumerate(rows):
         y = TOP + LINE * i
         colour = "#a40" if ratio > goal else "#468"
-        out.append(f'<text x="{LABEL - 10}" y="{y + 15}" text-anchor="end">{html.escape(name)}</text>')
-        out.append(f'<rect x="{LABEL}" y="{y + 3}" width="{x(ratio) - LABEL:.1f}" height="{LINE - 6}" fill="{colour}"/>')
+        out.append(f'<text x="{left - 10}" y="{y + 15}" text-anchor="end">{html.escape(name)}</text>')
+        out.append(f'<rect x="{left}" y="{y + 3}" width="{x(ratio) - left:.1f}" height="{LINE - 6}" fill="{colour}"/>')
         out.append(f'<text x="{x(ratio) + 6:.1f}" y="{y + 15}" stroke="#fff" stroke-width="3" paint-order="stroke">{ratio:.2f}</text>')
     bottom = height - 8
     out.append(f'<line x1="{x(1):.1f}" x2="{x(1):.1f}" y1="{TOP - 4}" y2="{bottom}" stroke="#000" stroke-width="0.7"/>')

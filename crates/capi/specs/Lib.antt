@@ -3,3 +3,4 @@ pub mod Calls
 pub mod Digest
 pub mod Table
 pub mod Query
+pub mod Claims

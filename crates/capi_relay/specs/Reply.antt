@@ -5,30 +5,29 @@ use Prim.Native.Nat.{ℕ}
 use mathlib.Core.Bool.{Bool, true, false, cond}
 use mathlib.Core.List.{List}
 use lib.Dec.{eqb, leb}
-use lib.ListN.{drop, getD}
 use Rattle.message.specs.declared.Span.{Span}
 use Rattle.event.specs.declared.Written.{Written}
 use Rattle.event.specs.declared.Written.the-variants as sent
 use Rattle.reply.specs.Lent.{replied, repliedOut}
 use Rattle.reply.specs.declared.ReplyParts.{ReplyParts}
 use Rattle.reply.specs.declared.ReplyParts.the-variants as parts
-use Rattle.numbers.specs.Parts.{spanFrom, eventFrom}
+use Rattle.numbers.specs.Parts.{numberFrom, rowFrom, spanFrom, eventFrom}
 
 -- a string part lent as two numbers
 abbrev pub spanOf : ℕ → ℕ → Span
 spanOf a n = record { start = a; len = n }
 
 abbrev pub nameFrom : List ℕ → Span
-nameFrom l = spanFrom (drop 1 l) 0
+nameFrom l = spanFrom (rowFrom l 1) 0
 
 abbrev pub reasonFrom : List ℕ → Span
-reasonFrom l = spanFrom (drop 3 l) 0
+reasonFrom l = spanFrom (rowFrom l 3) 0
 
 abbrev pub acceptedIn : List ℕ → Bool
-acceptedIn l = cond (eqb (getD l 5 0) 0) false true
+acceptedIn l = cond (eqb (numberFrom l 5) 0) false true
 
 abbrev pub formOf : List ℕ → ℕ
-formOf l = getD l 0 0
+formOf l = numberFrom l 0
 
 abbrev pub isForm : ℕ → Bool
 isForm f = cond (eqb f 0) false (leb f 5)
@@ -37,7 +36,7 @@ isForm f = cond (eqb f 0) false (leb f 5)
 unfoldable pub replyFrom : ℕ → List ℕ → ReplyParts
 replyFrom f l =
     cond (eqb f 1) (parts.Ok (nameFrom l) (acceptedIn l) (reasonFrom l))
-    (cond (eqb f 2) (parts.Event (nameFrom l) (eventFrom (drop 3 l)))
+    (cond (eqb f 2) (parts.Event (nameFrom l) (eventFrom (rowFrom l 3)))
     (cond (eqb f 3) (parts.Eose (nameFrom l))
     (cond (eqb f 4) (parts.Closed (nameFrom l) (reasonFrom l)) (parts.Notice (nameFrom l)))))
 

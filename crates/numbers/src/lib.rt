@@ -1,10 +1,10 @@
 // Parts of messages and texts as rows of 64-bit numbers, and back, for callers that can lend nothing else. A number past the end of a row is 0.
 ghost use mathlib.Core.Path.{_≡_};
 ghost use Prim.Native.Nat.{_≤_};
-ghost use lib.ListN.{take, drop, getD};
+ghost use lib.ListN.{take};
 ghost use Rattle.wire.specs.Put.{Puts};
 ghost use Rattle.numbers.specs.Numbers.{placeOf, flagOf, bitsOf, eventNumbers, filterNumbers, partsNumbers, textNumbers};
-ghost use Rattle.numbers.specs.Parts.{spanFrom, eventFrom, listedFrom, boundFrom, filterFrom, filtersFrom};
+ghost use Rattle.numbers.specs.Parts.{numberFrom, rowFrom, spanFrom, eventFrom, listedFrom, boundFrom, filterFrom, filtersFrom};
 use message::Body;
 use message::Bound;
 use message::EventParts;
@@ -150,7 +150,7 @@ pub fn text_numbers(x: Text) -> [u64; 7]
 
 // ---- What is read.
 pub fn number_in(l: &[u64], i: usize) -> u64
-    ensures { λ r. ⌜ r ≡ getD (now (l .entry)) i 0 ⌝ }
+    ensures { λ r. ⌜ r ≡ numberFrom (now (l .entry)) i ⌝ }
 {
     if i < l.len() {
         return l[i];
@@ -212,7 +212,7 @@ pub fn filters_from(l: &[u64]) -> [FilterParts; 4]
 
 // The numbers from k on.
 pub fn behind(l: &[u64], k: usize) -> &[u64]
-    ensures { λ r. ⌜ now r ≡ drop k (now (l .entry)) ⌝ }
+    ensures { λ r. ⌜ now r ≡ rowFrom (now (l .entry)) k ⌝ }
 {
     let n = l.len();
     if n < k {
