@@ -24,33 +24,8 @@ extern "C" {
     fn plavdrosa_message_row(bytes: *const u8, len: usize) -> u8;
     fn plavdrosa_read(bytes: *const u8, len: usize, out: *mut u64, out_len: usize) -> u8;
     fn plavdrosa_read_text(bytes: *const u8, len: usize, out: *mut u64, out_len: usize) -> u8;
-    fn plavdrosa_serialise(
-        bytes: *const u8,
-        len: usize,
-        pubkey: usize,
-        pubkey_len: usize,
-        created_at: i64,
-        kind: i64,
-        tags: usize,
-        content: usize,
-        content_len: usize,
-        out: *mut u8,
-        out_len: usize,
-        written: *mut usize,
-    ) -> u8;
-    fn plavdrosa_id(
-        bytes: *const u8,
-        len: usize,
-        pubkey: usize,
-        pubkey_len: usize,
-        created_at: i64,
-        kind: i64,
-        tags: usize,
-        content: usize,
-        content_len: usize,
-        out: *mut u8,
-        out_len: usize,
-    ) -> u8;
+    fn plavdrosa_serialise(bytes: *const u8, len: usize, event: *const u64, event_len: usize, out: *mut u8, out_len: usize, written: *mut usize) -> u8;
+    fn plavdrosa_id(bytes: *const u8, len: usize, event: *const u64, event_len: usize, out: *mut u8, out_len: usize) -> u8;
 }
 
 fn proved_digest(bytes: &[u8]) -> [u8; 32] {
@@ -98,46 +73,24 @@ fn plain_read_text(bytes: &[u8], out: &mut [u64; 7]) -> u8 {
     }
 }
 
-fn proved_serialise(b: &[u8], p: &Body, out: &mut [u8]) -> Result<usize, u8> {
+// The numbers of an EVENT, with no id and no signature.
+fn body_numbers(p: &Body) -> [u64; 12] {
     let (k, c) = (p.pubkey, p.content);
+    let place = |n: usize| n as u64;
+    [1, 0, 0, place(k.start), place(k.len), p.created_at as u64, p.kind as u64, place(p.tags), place(c.start), place(c.len), 0, 0]
+}
+
+fn proved_serialise(b: &[u8], p: &Body, out: &mut [u8]) -> Result<usize, u8> {
+    let e = body_numbers(p);
     let mut n = 0usize;
-    let row = unsafe {
-        plavdrosa_serialise(
-            b.as_ptr(),
-            b.len(),
-            k.start,
-            k.len,
-            p.created_at,
-            p.kind,
-            p.tags,
-            c.start,
-            c.len,
-            out.as_mut_ptr(),
-            out.len(),
-            &mut n,
-        )
-    };
+    let row = unsafe { plavdrosa_serialise(b.as_ptr(), b.len(), e.as_ptr(), e.len(), out.as_mut_ptr(), out.len(), &mut n) };
     if row == 0 { Ok(n) } else { Err(row) }
 }
 
 fn proved_id(b: &[u8], p: &Body) -> Result<[u8; 32], u8> {
-    let (k, c) = (p.pubkey, p.content);
+    let e = body_numbers(p);
     let mut out = [0u8; 32];
-    let row = unsafe {
-        plavdrosa_id(
-            b.as_ptr(),
-            b.len(),
-            k.start,
-            k.len,
-            p.created_at,
-            p.kind,
-            p.tags,
-            c.start,
-            c.len,
-            out.as_mut_ptr(),
-            32,
-        )
-    };
+    let row = unsafe { plavdrosa_id(b.as_ptr(), b.len(), e.as_ptr(), e.len(), out.as_mut_ptr(), 32) };
     if row == 0 { Ok(out) } else { Err(row) }
 }
 

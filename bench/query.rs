@@ -15,7 +15,6 @@ extern "C" {
         message_len: usize,
         request: *const u64,
         request_len: usize,
-        matches: *mut usize,
     ) -> u8;
     fn plavdrosa_list(
         table: *const u8,
@@ -31,13 +30,11 @@ extern "C" {
 }
 
 fn matched(b: &[u8], e: &[u64], m: &[u8], r: &[u64]) -> Result<bool, u8> {
-    let mut k = 7;
-    let row = unsafe { plavdrosa_match(b.as_ptr(), b.len(), e.as_ptr(), e.len(), m.as_ptr(), m.len(), r.as_ptr(), r.len(), &mut k) };
-    if row != 0 {
-        assert_eq!(k, 7);
-        return Err(row);
+    match unsafe { plavdrosa_match(b.as_ptr(), b.len(), e.as_ptr(), e.len(), m.as_ptr(), m.len(), r.as_ptr(), r.len()) } {
+        0 => Ok(true),
+        103 => Ok(false),
+        row => Err(row),
     }
-    Ok(k == 1)
 }
 
 fn list(t: &[u8], m: &[u8], r: &[u64], out: &mut [u16]) -> Result<usize, u8> {

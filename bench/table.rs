@@ -8,23 +8,7 @@ extern "C" {
     fn plavdrosa_format(table: *mut u8, len: usize, capacity: usize) -> u8;
     fn plavdrosa_sound(table: *const u8, len: usize) -> u8;
     fn plavdrosa_offer(table: *mut u8, len: usize, message: *const u8, message_len: usize) -> u8;
-    fn plavdrosa_offer_parts(
-        table: *mut u8,
-        len: usize,
-        bytes: *const u8,
-        bytes_len: usize,
-        id: usize,
-        id_len: usize,
-        pubkey: usize,
-        pubkey_len: usize,
-        created_at: i64,
-        kind: i64,
-        tags: usize,
-        content: usize,
-        content_len: usize,
-        sig: usize,
-        sig_len: usize,
-    ) -> u8;
+    fn plavdrosa_offer_parts(table: *mut u8, len: usize, bytes: *const u8, bytes_len: usize, event: *const u64, event_len: usize) -> u8;
     fn plavdrosa_show(table: *const u8, len: usize, slot: usize, place: *mut usize, text_len: *mut usize) -> u8;
 }
 
@@ -41,26 +25,12 @@ fn offer(t: &mut [u8], m: &[u8]) -> u8 {
 }
 
 fn offer_parts(t: &mut [u8], m: &[u8], e: &Event) -> u8 {
-    let b = &e.body;
-    unsafe {
-        plavdrosa_offer_parts(
-            t.as_mut_ptr(),
-            t.len(),
-            m.as_ptr(),
-            m.len(),
-            e.id.start,
-            e.id.len,
-            b.pubkey.start,
-            b.pubkey.len,
-            b.created_at,
-            b.kind,
-            b.tags,
-            b.content.start,
-            b.content.len,
-            e.sig.start,
-            e.sig.len,
-        )
-    }
+    let mut n = crate::body_numbers(&e.body);
+    n[1] = e.id.start as u64;
+    n[2] = e.id.len as u64;
+    n[10] = e.sig.start as u64;
+    n[11] = e.sig.len as u64;
+    unsafe { plavdrosa_offer_parts(t.as_mut_ptr(), t.len(), m.as_ptr(), m.len(), n.as_ptr(), n.len()) }
 }
 
 fn show(t: &[u8], slot: usize) -> Result<(usize, usize), u8> {

@@ -12,6 +12,7 @@
 static const char event[] = "[\"EVENT\",{\"id\":\"" ID "\",\"pubkey\":\"" A64 "\",\"created_at\":-7200,\"kind\":30078,"
     "\"tags\":[[\"d\",\"floor-3/tile-17\"]],\"content\":\"corridor\",\"sig\":\"" ZEROS ZEROS ZEROS ZEROS "\"}]";
 static const char text[] = "[0,\"" A64 "\",-7200,30078,[[\"d\",\"floor-3/tile-17\"]],\"corridor\"]";
+static const char other[] = "[\"REQ\",\"s\",{\"kinds\":[1]}]";
 static const char req[] = "[\"REQ\",\"s\",{\"kinds\":[30078],\"limit\":1}]";
 
 static uint8_t table[PLAVDROSA_TABLE_SIZE(2)];
@@ -19,6 +20,7 @@ static uint8_t out[PLAVDROSA_OUTPUT_SIZE(2)];
 static uint8_t line[PLAVDROSA_LINE_SIZE];
 static uint64_t e[PLAVDROSA_EVENT_NUMBERS];
 static uint64_t r[PLAVDROSA_MESSAGE_NUMBERS];
+static uint64_t o[PLAVDROSA_MESSAGE_NUMBERS];
 static int wrong;
 
 /* A string as a slice, without its final zero. */
@@ -46,16 +48,36 @@ static void texts(void) {
     EXPECT(plavdrosa_read(BYTES(event), e, PLAVDROSA_EVENT_NUMBERS), PLAVDROSA_DONE);
     EXPECT(e[0] == PLAVDROSA_EVENT && (int64_t)e[PLAVDROSA_EVENT_CREATED_AT] == -7200, 1);
     EXPECT(plavdrosa_read(BYTES(req), r, PLAVDROSA_MESSAGE_NUMBERS), PLAVDROSA_DONE);
+    EXPECT(plavdrosa_read(BYTES(other), o, PLAVDROSA_MESSAGE_NUMBERS), PLAVDROSA_DONE);
     EXPECT(r[0] == PLAVDROSA_REQ && r[PLAVDROSA_REQ_FILTERS] == 1 && r[PLAVDROSA_FILTER(0) + PLAVDROSA_FILTER_LIMIT] == 1, 1);
-    EXPECT(plavdrosa_serialise(BYTES(event), e[3], e[4], (int64_t)e[5], (int64_t)e[6], e[7], e[8], e[9], out, sizeof out, &n), PLAVDROSA_DONE);
+    EXPECT(plavdrosa_serialise(BYTES(event), e, PLAVDROSA_EVENT_NUMBERS, out, sizeof out, &n), PLAVDROSA_DONE);
     EXPECT(is(n, text), 1);
     EXPECT(plavdrosa_read_text(BYTES(text), t, PLAVDROSA_TEXT_NUMBERS), PLAVDROSA_DONE);
     EXPECT(t[PLAVDROSA_TEXT_KIND], 30078);
-    EXPECT(plavdrosa_id(BYTES(event), e[3], e[4], (int64_t)e[5], (int64_t)e[6], e[7], e[8], e[9], out, PLAVDROSA_ID_SIZE), PLAVDROSA_DONE);
+    EXPECT(plavdrosa_id(BYTES(event), e, PLAVDROSA_EVENT_NUMBERS, out, PLAVDROSA_ID_SIZE), PLAVDROSA_DONE);
     EXPECT(out[0] == 0xaf && out[31] == 0x3a, 1);
     EXPECT(plavdrosa_digest(BYTES(text), out, PLAVDROSA_ID_SIZE), PLAVDROSA_DONE);
     EXPECT(out[0] == 0xaf && out[31] == 0x3a, 1);
     EXPECT(plavdrosa_class(30078), PLAVDROSA_CLASS_ADDRESSABLE);
+}
+
+/* The digest of the text, cut anywhere. */
+static void pieces(void) {
+    uint8_t state[PLAVDROSA_DIGEST_STATE_SIZE + 1];
+    size_t cut;
+    state[PLAVDROSA_DIGEST_STATE_SIZE] = 7;
+    EXPECT(plavdrosa_digest_start(state, PLAVDROSA_DIGEST_STATE_SIZE - 1), PLAVDROSA_SHORT_OUTPUT);
+    for (cut = 0; cut <= strlen(text); cut++) {
+        EXPECT(plavdrosa_digest_start(state, sizeof state), PLAVDROSA_DONE);
+        EXPECT(plavdrosa_digest_update(state, sizeof state, (const uint8_t *)text, cut), PLAVDROSA_DONE);
+        EXPECT(plavdrosa_digest_update(state, sizeof state, (const uint8_t *)text + cut, strlen(text) - cut), PLAVDROSA_DONE);
+        EXPECT(plavdrosa_digest_finish(state, sizeof state, out, PLAVDROSA_ID_SIZE), PLAVDROSA_DONE);
+        EXPECT(out[0] == 0xaf && out[31] == 0x3a && state[PLAVDROSA_DIGEST_STATE_SIZE] == 7, 1);
+    }
+    EXPECT(plavdrosa_digest_finish(state, sizeof state, out, PLAVDROSA_ID_SIZE - 1), PLAVDROSA_SHORT_OUTPUT);
+    memset(state + 96, 0xff, 8);
+    EXPECT(plavdrosa_digest_update(state, sizeof state, BYTES("")), PLAVDROSA_BAD_COUNT);
+    EXPECT(plavdrosa_digest_finish(state, sizeof state, out, PLAVDROSA_ID_SIZE), PLAVDROSA_BAD_COUNT);
 }
 
 static void tables(void) {
@@ -68,13 +90,13 @@ static void tables(void) {
     EXPECT(plavdrosa_sound(table, sizeof table), PLAVDROSA_DONE);
     EXPECT(plavdrosa_judge(table, sizeof table, BYTES(event)), PLAVDROSA_STORED);
     EXPECT(plavdrosa_offer(table, sizeof table, BYTES(event)), PLAVDROSA_STORED);
-    EXPECT(plavdrosa_offer_parts(table, sizeof table, BYTES(event), e[1], e[2], e[3], e[4], (int64_t)e[5], (int64_t)e[6], e[7], e[8], e[9],
-        e[10], e[11]), PLAVDROSA_DUPLICATE);
+    EXPECT(plavdrosa_offer_parts(table, sizeof table, BYTES(event), e, PLAVDROSA_EVENT_NUMBERS), PLAVDROSA_DUPLICATE);
     EXPECT(plavdrosa_show(table, sizeof table, 1, &place, &n), PLAVDROSA_NO_SLOT);
     EXPECT(plavdrosa_show(table, sizeof table, 0, &place, &n), PLAVDROSA_DONE);
     EXPECT(n == strlen(text) && memcmp(table + place, text, n) == 0, 1);
-    EXPECT(plavdrosa_match(BYTES(event), e, PLAVDROSA_EVENT_NUMBERS, BYTES(req), r, PLAVDROSA_MESSAGE_NUMBERS, &n), PLAVDROSA_DONE);
-    EXPECT(n, 1);
+    EXPECT(plavdrosa_match(BYTES(event), e, PLAVDROSA_EVENT_NUMBERS, BYTES(req), r, PLAVDROSA_MESSAGE_NUMBERS), PLAVDROSA_MATCHES);
+    EXPECT(plavdrosa_match(BYTES(event), e, PLAVDROSA_EVENT_NUMBERS, BYTES(other), o, PLAVDROSA_MESSAGE_NUMBERS), PLAVDROSA_DIFFERS);
+    EXPECT(plavdrosa_match(BYTES(event), e, PLAVDROSA_EVENT_NUMBERS, BYTES(req), r, 0), PLAVDROSA_BAD_COUNT);
     EXPECT(plavdrosa_list(table, sizeof table, BYTES(req), r, PLAVDROSA_MESSAGE_NUMBERS, slots, PLAVDROSA_MAX_CAPACITY, &n), PLAVDROSA_DONE);
     EXPECT(n == 1 && slots[0] == 0, 1);
 }
@@ -103,6 +125,7 @@ static void replies(void) {
 
 int main(void) {
     texts();
+    pieces();
     tables();
     replies();
     return wrong;

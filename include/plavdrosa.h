@@ -48,6 +48,9 @@ extern "C" {
 /* The bytes of an id and of a digest. */
 #define PLAVDROSA_ID_SIZE 32
 
+/* The bytes of the state of a digest that is fed by pieces. */
+#define PLAVDROSA_DIGEST_STATE_SIZE 104
+
 /* ---- Answers. */
 
 /* What refuses a call, beside the text of the reply that a client gets. Where several hold, the lowest is given; but
@@ -76,6 +79,12 @@ enum plavdrosa_verdict {
     PLAVDROSA_EPHEMERAL = 100,      /* not kept; true, "" */
     PLAVDROSA_DUPLICATE = 101,      /* its id is held; true, "duplicate: already have this event" */
     PLAVDROSA_OLDER = 102           /* a newer event with its key is held; true, "duplicate: have a newer version" */
+};
+
+/* What plavdrosa_match answers where nothing refuses it. */
+enum plavdrosa_matched {
+    PLAVDROSA_MATCHES = 0,
+    PLAVDROSA_DIFFERS = 103
 };
 
 /* What a kind makes of an event. */
@@ -252,16 +261,14 @@ uint8_t plavdrosa_read(const uint8_t *bytes, size_t bytes_len, uint64_t *out, si
 /** Serialise an event: the text that is hashed.
  *
  *  Returns: the lowest of 2 and 4 to 9 that refuses the parts, 13 if the output has no room, or 0.
- *  In:      bytes:                what the parts are places of.
- *           pubkey, pubkey_len:   a string part.
- *           created_at, kind:     numbers.
- *           tags:                 the place of the list's opening bracket.
- *           content, content_len: a string part.
- *  Out:     out:                  the text, from its start; as found on a refusal. PLAVDROSA_MAX_TEXT bytes are always enough.
- *           len:                  how many bytes it has; as found on a refusal.
+ *  In:      bytes: what the parts are places of.
+ *           event: the numbers of an EVENT, as plavdrosa_read writes them; those of its id and signature are not looked at, and a number past
+ *                  the row's end is 0.
+ *  Out:     out:   the text, from its start; as found on a refusal. PLAVDROSA_MAX_TEXT bytes are always enough.
+ *           len:   how many bytes it has; as found on a refusal.
  */
-uint8_t plavdrosa_serialise(const uint8_t *bytes, size_t bytes_len, size_t pubkey, size_t pubkey_len, int64_t created_at, int64_t kind, size_t tags,
-    size_t content, size_t content_len, uint8_t *out, size_t out_len, size_t *len);
+uint8_t plavdrosa_serialise(const uint8_t *bytes, size_t bytes_len, const uint64_t *event, size_t event_len, uint8_t *out, size_t out_len,
+    size_t *len);
 
 /** Read a serialised text back.
  *
@@ -275,11 +282,10 @@ uint8_t plavdrosa_read_text(const uint8_t *bytes, size_t bytes_len, uint64_t *ou
 /** Compute an event's id.
  *
  *  Returns: the lowest of 2 and 4 to 9 that refuses the parts, 13 if the output has fewer than 32 bytes, or 0.
- *  In:      bytes and the parts as of plavdrosa_serialise.
- *  Out:     out: the id, in its first 32 bytes; as found on a refusal.
+ *  In:      bytes, event: as of plavdrosa_serialise.
+ *  Out:     out:          the id, in its first 32 bytes; as found on a refusal.
  */
-uint8_t plavdrosa_id(const uint8_t *bytes, size_t bytes_len, size_t pubkey, size_t pubkey_len, int64_t created_at, int64_t kind, size_t tags,
-    size_t content, size_t content_len, uint8_t *out, size_t out_len);
+uint8_t plavdrosa_id(const uint8_t *bytes, size_t bytes_len, const uint64_t *event, size_t event_len, uint8_t *out, size_t out_len);
 
 /** Compute a SHA-256.
  *
@@ -288,6 +294,33 @@ uint8_t plavdrosa_id(const uint8_t *bytes, size_t bytes_len, size_t pubkey, size
  *  Out:     out:   the digest, in its first 32 bytes; as found on a refusal.
  */
 uint8_t plavdrosa_digest(const uint8_t *bytes, size_t bytes_len, uint8_t *out, size_t out_len);
+
+/** Start a SHA-256 that is fed by pieces.
+ *
+ *  A state is PLAVDROSA_DIGEST_STATE_SIZE bytes: the hash value, the block that is being filled, and how many bytes were fed, the most significant
+ *  byte first. Any bytes are some state. It may be copied, kept in a file, and gone on with from any copy; bytes behind it are not looked at, and stay.
+ *
+ *  Returns: 13 if the state has fewer bytes, or 0.
+ *  Out:     state: the state of nothing fed; as found on a refusal.
+ */
+uint8_t plavdrosa_digest_start(uint8_t *state, size_t state_len);
+
+/** Feed a piece.
+ *
+ *  Returns: 13 if the state has fewer bytes than PLAVDROSA_DIGEST_STATE_SIZE, 8 if more than 2^61 - 1 bytes would be fed in all, or 0.
+ *  In/Out:  state: the state; as found on a refusal.
+ *  In:      bytes: the piece.
+ */
+uint8_t plavdrosa_digest_update(uint8_t *state, size_t state_len, const uint8_t *bytes, size_t bytes_len);
+
+/** Compute the SHA-256 of all pieces. The state stays, and may be fed on.
+ *
+ *  Returns: 13 if the state has fewer bytes than PLAVDROSA_DIGEST_STATE_SIZE, 8 if it counts more than 2^61 - 1 bytes, 13 if the output has fewer
+ *           than 32, or 0.
+ *  In:      state: the state.
+ *  Out:     out:   the digest, in its first 32 bytes; as found on a refusal.
+ */
+uint8_t plavdrosa_digest_finish(const uint8_t *state, size_t state_len, uint8_t *out, size_t out_len);
 
 /** Tell the class of a kind. It refuses none.
  *
@@ -324,13 +357,11 @@ uint8_t plavdrosa_offer(uint8_t *table, size_t table_len, const uint8_t *message
 /** Offer an event to a table, as parts.
  *
  *  Returns: an enum plavdrosa_verdict, or the lowest of 2 and 4 to 12 that refuses it.
- *  In/Out:  table:       the table; as found unless the answer is PLAVDROSA_STORED.
- *  In:      bytes:       what the parts are places of.
- *           id, id_len:  a string part, as are pubkey, content and sig with their lengths.
- *           created_at, kind, tags: as of plavdrosa_serialise.
+ *  In/Out:  table: the table; as found unless the answer is PLAVDROSA_STORED.
+ *  In:      bytes: what the parts are places of.
+ *           event: the numbers of an EVENT, as plavdrosa_read writes them; a number past the row's end is 0.
  */
-uint8_t plavdrosa_offer_parts(uint8_t *table, size_t table_len, const uint8_t *bytes, size_t bytes_len, size_t id, size_t id_len, size_t pubkey,
-    size_t pubkey_len, int64_t created_at, int64_t kind, size_t tags, size_t content, size_t content_len, size_t sig, size_t sig_len);
+uint8_t plavdrosa_offer_parts(uint8_t *table, size_t table_len, const uint8_t *bytes, size_t bytes_len, const uint64_t *event, size_t event_len);
 
 /** Tell what plavdrosa_offer would answer, without storing.
  *
@@ -354,15 +385,14 @@ uint8_t plavdrosa_show(const uint8_t *table, size_t table_len, size_t slot, size
 
 /** Tell whether an event matches some of a REQ's filters.
  *
- *  Returns: the lowest of 2 and 4 to 9 that refuses the parts of the event or of the filters, or 0.
+ *  Returns: an enum plavdrosa_matched, or the lowest of 2 and 4 to 9 that refuses the parts of the event or of the filters.
  *  In:      bytes:   what the event's parts are places of.
  *           event:   the numbers of an EVENT, as plavdrosa_read writes them; a number past the row's end is 0.
  *           message: what the filters' parts are places of.
  *           request: the numbers of a REQ, as plavdrosa_read writes them; a number past the row's end is 0.
- *  Out:     matches: 1 if it does, 0 if it does not; as found on a refusal.
  */
 uint8_t plavdrosa_match(const uint8_t *bytes, size_t bytes_len, const uint64_t *event, size_t event_len, const uint8_t *message, size_t message_len,
-    const uint64_t *request, size_t request_len, size_t *matches);
+    const uint64_t *request, size_t request_len);
 
 /** List the slots that a REQ is answered with, newest first.
  *

@@ -3,7 +3,8 @@
 #![forbid(unsafe_code)]
 
 use crate::answer::done;
-use crate::{Refusal, Span, ffi};
+use crate::message::event_numbers;
+use crate::{EventParts, Refusal, Span, ffi};
 
 /// What is hashed of an event, as parts of a buffer.
 ///
@@ -108,7 +109,7 @@ pub fn class(kind: u16) -> Class {
 /// ```
 pub fn serialise<'o>(bytes: &[u8], body: &Body, out: &'o mut [u8]) -> Result<&'o [u8], Refusal> {
     let mut written = 0;
-    done(ffi::serialise(bytes, body, out, &mut written))?;
+    done(ffi::serialise(bytes, &body_numbers(body), out, &mut written))?;
     Ok(&out[..written])
 }
 
@@ -146,7 +147,7 @@ pub fn read_text(text: &[u8]) -> Result<TextParts, Refusal> {
 /// ```
 pub fn id(bytes: &[u8], body: &Body) -> Result<[u8; 32], Refusal> {
     let mut out = [0; 32];
-    done(ffi::id(bytes, body, &mut out))?;
+    done(ffi::id(bytes, &body_numbers(body), &mut out))?;
     Ok(out)
 }
 
@@ -160,4 +161,108 @@ pub fn digest(bytes: &[u8]) -> Result<[u8; 32], Refusal> {
     let mut out = [0; 32];
     done(ffi::digest(bytes, &mut out))?;
     Ok(out)
+}
+
+// The numbers of an event that has no id and no signature.
+fn body_numbers(body: &Body) -> [u64; 12] {
+    event_numbers(&EventParts {
+        body: *body,
+        ..EventParts::default()
+    })
+}
+
+/// A SHA-256 that is fed by pieces.
+///
+/// Its state is 104 bytes, which may be kept and gone on with: [`Digest::state`] and [`Digest::from_state`].
+///
+/// ```
+/// use plavdrosa::{Digest, digest};
+/// let mut pieces = Digest::new();
+/// pieces.update(b"corr")?;
+/// let mut kept = Digest::from_state(*pieces.state());
+/// kept.update(b"idor")?;
+/// assert_eq!(kept.finish(), digest(b"corridor"));
+/// # Ok::<(), plavdrosa::Refusal>(())
+/// ```
+#[derive(Clone, Copy, Debug, PartialEq, Eq, Hash)]
+pub struct Digest {
+    state: [u8; Digest::STATE_SIZE],
+}
+
+impl Digest {
+    /// The bytes of a state.
+    ///
+    /// ```
+    /// assert_eq!(plavdrosa::Digest::STATE_SIZE, 104);
+    /// ```
+    pub const STATE_SIZE: usize = 104;
+
+    /// A digest of nothing fed.
+    ///
+    /// ```
+    /// use plavdrosa::{Digest, digest};
+    /// assert_eq!(Digest::new().finish(), digest(b""));
+    /// ```
+    pub fn new() -> Digest {
+        let mut state = [0; Digest::STATE_SIZE];
+        ffi::digest_start(&mut state);
+        Digest { state }
+    }
+
+    /// Feeds a piece. Refused by 8 if more than 2^61 - 1 bytes would be fed in all; the digest is then as it was.
+    ///
+    /// ```
+    /// use plavdrosa::{Digest, Refusal};
+    /// let mut state = *Digest::new().state();
+    /// state[96..].fill(0xff);
+    /// let mut over = Digest::from_state(state);
+    /// assert_eq!(over.update(b""), Err(Refusal::BadCount));
+    /// assert_eq!(*over.state(), state);
+    /// ```
+    pub fn update(&mut self, bytes: &[u8]) -> Result<(), Refusal> {
+        done(ffi::digest_update(&mut self.state, bytes))
+    }
+
+    /// The SHA-256 of all that was fed. It may be fed on. Refused by 8 if the state counts more than 2^61 - 1 bytes.
+    ///
+    /// ```
+    /// use plavdrosa::Digest;
+    /// let mut pieces = Digest::new();
+    /// pieces.update(b"a")?;
+    /// pieces.update(b"bc")?;
+    /// assert_eq!(pieces.finish()?[..4], [0xba, 0x78, 0x16, 0xbf]);
+    /// # Ok::<(), plavdrosa::Refusal>(())
+    /// ```
+    pub fn finish(&self) -> Result<[u8; 32], Refusal> {
+        let mut out = [0; 32];
+        done(ffi::digest_finish(&self.state, &mut out))?;
+        Ok(out)
+    }
+
+    /// The state, as bytes.
+    ///
+    /// ```
+    /// use plavdrosa::Digest;
+    /// assert_eq!(Digest::new().state()[..4], [0x6a, 0x09, 0xe6, 0x67]);
+    /// ```
+    pub fn state(&self) -> &[u8; Digest::STATE_SIZE] {
+        &self.state
+    }
+
+    /// A digest that goes on from a state. Any bytes are some state.
+    ///
+    /// ```
+    /// use plavdrosa::Digest;
+    /// let started = Digest::new();
+    /// assert_eq!(Digest::from_state(*started.state()), started);
+    /// ```
+    pub fn from_state(state: [u8; Digest::STATE_SIZE]) -> Digest {
+        Digest { state }
+    }
+}
+
+impl Default for Digest {
+    fn default() -> Digest {
+        Digest::new()
+    }
 }

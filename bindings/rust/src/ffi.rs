@@ -3,8 +3,7 @@
 //! Each call is sound because a slice gives a pointer that is never null, lies as its type wants and has the length said; because a `&mut`
 //! overlaps no other argument; and because the calls keep no pointer. `include/plavdrosa.h` says the same of C's callers.
 
-use crate::event::Body;
-use crate::message::{EventParts, Span};
+use crate::message::Span;
 
 unsafe extern "C" {
     fn plavdrosa_respond(
@@ -45,13 +44,8 @@ unsafe extern "C" {
     fn plavdrosa_serialise(
         bytes: *const u8,
         bytes_len: usize,
-        pubkey: usize,
-        pubkey_len: usize,
-        created_at: i64,
-        kind: i64,
-        tags: usize,
-        content: usize,
-        content_len: usize,
+        event: *const u64,
+        event_len: usize,
         out: *mut u8,
         out_len: usize,
         len: *mut usize,
@@ -60,17 +54,15 @@ unsafe extern "C" {
     fn plavdrosa_id(
         bytes: *const u8,
         bytes_len: usize,
-        pubkey: usize,
-        pubkey_len: usize,
-        created_at: i64,
-        kind: i64,
-        tags: usize,
-        content: usize,
-        content_len: usize,
+        event: *const u64,
+        event_len: usize,
         out: *mut u8,
         out_len: usize,
     ) -> u8;
     fn plavdrosa_digest(bytes: *const u8, bytes_len: usize, out: *mut u8, out_len: usize) -> u8;
+    fn plavdrosa_digest_start(state: *mut u8, state_len: usize) -> u8;
+    fn plavdrosa_digest_update(state: *mut u8, state_len: usize, bytes: *const u8, bytes_len: usize) -> u8;
+    fn plavdrosa_digest_finish(state: *const u8, state_len: usize, out: *mut u8, out_len: usize) -> u8;
     fn plavdrosa_class(kind: u16) -> u8;
     fn plavdrosa_format(table: *mut u8, table_len: usize, capacity: usize) -> u8;
     fn plavdrosa_sound(table: *const u8, table_len: usize) -> u8;
@@ -80,17 +72,8 @@ unsafe extern "C" {
         table_len: usize,
         bytes: *const u8,
         bytes_len: usize,
-        id: usize,
-        id_len: usize,
-        pubkey: usize,
-        pubkey_len: usize,
-        created_at: i64,
-        kind: i64,
-        tags: usize,
-        content: usize,
-        content_len: usize,
-        sig: usize,
-        sig_len: usize,
+        event: *const u64,
+        event_len: usize,
     ) -> u8;
     fn plavdrosa_judge(table: *const u8, table_len: usize, message: *const u8, message_len: usize) -> u8;
     fn plavdrosa_show(table: *const u8, table_len: usize, slot: usize, place: *mut usize, len: *mut usize) -> u8;
@@ -103,7 +86,6 @@ unsafe extern "C" {
         message_len: usize,
         request: *const u64,
         request_len: usize,
-        matches: *mut usize,
     ) -> u8;
     fn plavdrosa_list(
         table: *const u8,
@@ -228,18 +210,13 @@ pub(crate) fn read(bytes: &[u8], out: &mut [u64]) -> u8 {
     unsafe { plavdrosa_read(bytes.as_ptr(), bytes.len(), out.as_mut_ptr(), out.len()) }
 }
 
-pub(crate) fn serialise(bytes: &[u8], body: &Body, out: &mut [u8], written: &mut usize) -> u8 {
+pub(crate) fn serialise(bytes: &[u8], event: &[u64], out: &mut [u8], written: &mut usize) -> u8 {
     unsafe {
         plavdrosa_serialise(
             bytes.as_ptr(),
             bytes.len(),
-            body.pubkey.start,
-            body.pubkey.len,
-            body.created_at,
-            body.kind,
-            body.tags,
-            body.content.start,
-            body.content.len,
+            event.as_ptr(),
+            event.len(),
             out.as_mut_ptr(),
             out.len(),
             written,
@@ -251,18 +228,13 @@ pub(crate) fn read_text(bytes: &[u8], out: &mut [u64]) -> u8 {
     unsafe { plavdrosa_read_text(bytes.as_ptr(), bytes.len(), out.as_mut_ptr(), out.len()) }
 }
 
-pub(crate) fn id(bytes: &[u8], body: &Body, out: &mut [u8]) -> u8 {
+pub(crate) fn id(bytes: &[u8], event: &[u64], out: &mut [u8]) -> u8 {
     unsafe {
         plavdrosa_id(
             bytes.as_ptr(),
             bytes.len(),
-            body.pubkey.start,
-            body.pubkey.len,
-            body.created_at,
-            body.kind,
-            body.tags,
-            body.content.start,
-            body.content.len,
+            event.as_ptr(),
+            event.len(),
             out.as_mut_ptr(),
             out.len(),
         )
@@ -271,6 +243,18 @@ pub(crate) fn id(bytes: &[u8], body: &Body, out: &mut [u8]) -> u8 {
 
 pub(crate) fn digest(bytes: &[u8], out: &mut [u8]) -> u8 {
     unsafe { plavdrosa_digest(bytes.as_ptr(), bytes.len(), out.as_mut_ptr(), out.len()) }
+}
+
+pub(crate) fn digest_start(state: &mut [u8]) -> u8 {
+    unsafe { plavdrosa_digest_start(state.as_mut_ptr(), state.len()) }
+}
+
+pub(crate) fn digest_update(state: &mut [u8], bytes: &[u8]) -> u8 {
+    unsafe { plavdrosa_digest_update(state.as_mut_ptr(), state.len(), bytes.as_ptr(), bytes.len()) }
+}
+
+pub(crate) fn digest_finish(state: &[u8], out: &mut [u8]) -> u8 {
+    unsafe { plavdrosa_digest_finish(state.as_ptr(), state.len(), out.as_mut_ptr(), out.len()) }
 }
 
 pub(crate) fn class(kind: u16) -> u8 {
@@ -289,24 +273,15 @@ pub(crate) fn offer(table: &mut [u8], message: &[u8]) -> u8 {
     unsafe { plavdrosa_offer(table.as_mut_ptr(), table.len(), message.as_ptr(), message.len()) }
 }
 
-pub(crate) fn offer_parts(table: &mut [u8], bytes: &[u8], parts: &EventParts) -> u8 {
+pub(crate) fn offer_parts(table: &mut [u8], bytes: &[u8], event: &[u64]) -> u8 {
     unsafe {
         plavdrosa_offer_parts(
             table.as_mut_ptr(),
             table.len(),
             bytes.as_ptr(),
             bytes.len(),
-            parts.id.start,
-            parts.id.len,
-            parts.body.pubkey.start,
-            parts.body.pubkey.len,
-            parts.body.created_at,
-            parts.body.kind,
-            parts.body.tags,
-            parts.body.content.start,
-            parts.body.content.len,
-            parts.sig.start,
-            parts.sig.len,
+            event.as_ptr(),
+            event.len(),
         )
     }
 }
@@ -319,7 +294,7 @@ pub(crate) fn show(table: &[u8], slot: usize, place: &mut usize, len: &mut usize
     unsafe { plavdrosa_show(table.as_ptr(), table.len(), slot, place, len) }
 }
 
-pub(crate) fn matches(bytes: &[u8], event: &[u64], message: &[u8], request: &[u64], matches: &mut usize) -> u8 {
+pub(crate) fn matches(bytes: &[u8], event: &[u64], message: &[u8], request: &[u64]) -> u8 {
     unsafe {
         plavdrosa_match(
             bytes.as_ptr(),
@@ -330,7 +305,6 @@ pub(crate) fn matches(bytes: &[u8], event: &[u64], message: &[u8], request: &[u6
             message.len(),
             request.as_ptr(),
             request.len(),
-            matches,
         )
     }
 }

@@ -51,7 +51,7 @@ pub mod sample;
 mod table;
 
 pub use answer::{Refusal, Verdict};
-pub use event::{Body, Class, TextParts, class, digest, id, read_text, serialise};
+pub use event::{Body, Class, Digest, TextParts, class, digest, id, read_text, serialise};
 pub use feed::Feed;
 #[cfg(feature = "std")]
 pub use feed::relay;

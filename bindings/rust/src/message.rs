@@ -11,6 +11,9 @@ use crate::{Refusal, ffi};
 /// The most numbers of a message's row: a REQ of four filters.
 const MESSAGE_NUMBERS: usize = 44;
 
+// What is answered where an event matches no filter.
+const DIFFERS: u8 = 103;
+
 /// A string part: where it stands between its quotes, as spelled there.
 ///
 /// ```
@@ -190,16 +193,10 @@ pub fn read(message: &[u8]) -> Result<Message, Refusal> {
 /// # Ok::<(), plavdrosa::Refusal>(())
 /// ```
 pub fn matches(bytes: &[u8], event: &EventParts, message: &[u8], request: &ReqParts) -> Result<bool, Refusal> {
-    let mut found = 0;
-    let row = ffi::matches(
-        bytes,
-        &event_numbers(event),
-        message,
-        &request_numbers(request),
-        &mut found,
-    );
-    done(row)?;
-    Ok(found == 1)
+    match ffi::matches(bytes, &event_numbers(event), message, &request_numbers(request)) {
+        DIFFERS => Ok(false),
+        row => done(row).map(|()| true),
+    }
 }
 
 fn place(number: u64) -> usize {

@@ -4,7 +4,7 @@
 
 use crate::answer::{done, verdict};
 use crate::feed::each_line;
-use crate::message::request_numbers;
+use crate::message::{event_numbers, request_numbers};
 use crate::{EventParts, Refusal, ReqParts, Span, Verdict, ffi, table_size};
 
 /// A sound table over a buffer that the caller lends for as long as it lives. Nobody else can write it meanwhile, so it stays sound.
@@ -139,7 +139,7 @@ impl<'a> Table<'a> {
     /// # Ok::<(), plavdrosa::Refusal>(())
     /// ```
     pub fn offer_parts(&mut self, bytes: &[u8], parts: &EventParts) -> Result<Verdict, Refusal> {
-        verdict(ffi::offer_parts(self.bytes, bytes, parts))
+        verdict(ffi::offer_parts(self.bytes, bytes, &event_numbers(parts)))
     }
 
     /// Tells what [`Table::offer`] would answer, without storing.

@@ -1,6 +1,6 @@
 //! The crate's numbers, texts and sizes against those of the C header.
 
-use plavdrosa::{MAX_CAPACITY, MAX_MESSAGE, MAX_TEXT, Refusal, Verdict, output_size, table_size};
+use plavdrosa::{Digest, MAX_CAPACITY, MAX_MESSAGE, MAX_TEXT, Refusal, Verdict, output_size, table_size};
 
 const HEADER: &str = include_str!(concat!(env!("CARGO_MANIFEST_DIR"), "/../../include/plavdrosa.h"));
 
@@ -67,11 +67,19 @@ fn verdicts_are_the_headers() {
 }
 
 #[test]
+fn what_matching_answers_is_the_headers() {
+    assert_eq!(rows("plavdrosa_matched").len(), 2);
+    assert!(row("plavdrosa_matched", 0).contains("PLAVDROSA_MATCHES "));
+    assert!(row("plavdrosa_matched", 103).contains("PLAVDROSA_DIFFERS "));
+}
+
+#[test]
 fn sizes_are_the_headers() {
     let defined = |what: &str| assert!(HEADER.contains(&format!("#define PLAVDROSA_{what}\n")), "{what}");
     defined(&format!("MAX_MESSAGE {MAX_MESSAGE}"));
     defined(&format!("MAX_TEXT {MAX_TEXT}"));
     defined(&format!("MAX_CAPACITY {MAX_CAPACITY}"));
+    defined(&format!("DIGEST_STATE_SIZE {}", Digest::STATE_SIZE));
     let slot = table_size(1) - table_size(0);
     defined(&format!(
         "TABLE_SIZE(n) ((size_t){} + (size_t)(n) * {slot})",

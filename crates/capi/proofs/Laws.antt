@@ -1,28 +1,17 @@
--- What an answer of the digest says of its message; a law for each way out of a call that writes into a lent row; the numbers of filters.
+-- A law for each way out of a call that writes into a lent row; the numbers of a REQ.
 use mathlib.Core.Path.{_≡_, refl, sym, ap, _∙_}
 use mathlib.Core.Bool.{Bool, true, false}
-use mathlib.Core.List.{List, [], _∷_, _++_}
-use Prim.Native.Nat.{ℕ, suc, _+_, _-_, _*_, _^_, _≤_, _<_}
-use native.Mathlib.Decide.{decLe}
+use mathlib.Core.List.{List, [], _++_}
+use Prim.Native.Nat.{ℕ, _≤_, _<_}
 use native.Mathlib.Omega.{arith}
 use borrow.Author.Tests.{le-leb, lt-leb, eq-eqb, ne-eqb, eqb-true, eqb-false}
 use lib.Dec.{eqb}
-use lib.IntN.{ℤ}
-use lib.ListN.{length, take, drop, getD, length-append, length-take, length-drop, drop-of-length-le}
-use lib.Seq.{drop-cons, take-nil, take-append-seam}
-use lib.Signed.{mag}
-use mir.Syntax.{w64}
-use mir.Val.{toZ, ofZ, SFits}
-use mir.ValLaws.{toZ-ofZ}
-use Rattle.digest.specs.declared.Answer.the-variants.{Done, TooLong}
-use Rattle.digest.specs.declared.Digest.{Digest}
-use Rattle.digest.specs.Digest.{digest, digestBytes}
-use Rattle.digest.specs.State.{most, digested}
-use Rattle.digest.specs.Pieces.{digest-done, digest-refused}
-use Rattle.wire.specs.Put.{put, Puts}
-use Rattle.wire.specs.Field.{unsigned}
-use Rattle.wire.proofs.Laws.{put-over, puts-none, puts-whole, puts-then}
+use lib.ListN.{length, take, drop, length-append, length-take}
+use lib.Seq.{take-append-seam}
+use Rattle.wire.specs.Put.{Puts}
+use Rattle.wire.proofs.Laws.{puts-none, puts-whole, puts-then}
 use Rattle.message.specs.declared.Body.{Body}
+use Rattle.message.specs.declared.EventParts.{EventParts}
 use Rattle.message.specs.declared.FilterParts.{FilterParts}
 use Rattle.message.specs.declared.Message.{Message}
 use Rattle.message.specs.declared.Message.the-variants as message
@@ -31,43 +20,10 @@ use Rattle.message.specs.Parts.{filtersAt}
 use Rattle.message.specs.Read.{readOf, rowOf}
 use Rattle.event.specs.Answer.{numberOf, serialised, serialisedOut}
 use Rattle.event.specs.declared.Written.{Written}
-use Rattle.capi.specs.Numbers.{filterNumbers, partsNumbers, messageNumbers, bodyFrom}
-use Rattle.capi.specs.Calls.{digestRow, digestOut, lentRow, lentOut, readRow, readOut, lengthOr}
-
-length-digest : (l : List ℕ) → length (digest l) ≡ 32
-unfolding digest digestBytes
-length-digest l = refl
-
-module _ (l out : List ℕ) (d : Digest) (e : d ≡ digested l) where
-  pub taken : d .answer ≡ Done → (length l ≤ most) × (d .bytes ≡ digest l)
-  taken a = go (decLe (length l) most)
-    where
-      go : Dec (length l ≤ most) → (length l ≤ most) × (d .bytes ≡ digest l)
-      go (yes h) = (h, ap (λ (x : Digest). x .bytes) (e ∙ digest-done l h))
-      go (no h) = let f : d ≡ _ = e ∙ digest-refused l (omega arith) in absurd (let z : _≡_ {A = ℕ} 0 1 = cc in omega arith)
-
-  pub over : d .answer ≡ TooLong → most < length l
-  over a = go (decLe (length l) most)
-    where
-      go : Dec (length l ≤ most) → most < length l
-      go (yes h) = let f : d ≡ _ = e ∙ digest-done l h in absurd (let z : _≡_ {A = ℕ} 0 1 = cc in omega arith)
-      go (no h) = omega arith
-
-  -- the three ways out
-  pub refused : d .answer ≡ TooLong → (8 ≡ digestRow l out) × (out ≡ digestOut l out)
-  unfolding digestRow digestOut
-  refused a = simp (lt-leb (length l) most (over a)) (refl, refl)
-
-  pub short : d .answer ≡ Done → length out < 32 → (13 ≡ digestRow l out) × (out ≡ digestOut l out)
-  unfolding digestRow digestOut
-  short a h = simp (le-leb (length l) most (taken a .0), lt-leb 32 (length out) h) (refl, refl)
-
-  pub wrote : (r : ℕ) (o : List ℕ) → d .answer ≡ Done → 32 ≤ length out → Puts out 0 (d .bytes) r o → (0 ≡ digestRow l out) × (o ≡ digestOut l out)
-  unfolding digestRow digestOut
-  wrote r o a h p =
-      let q : length (digest l) ≤ length out = omega (arith, length-digest l) in
-      simp (le-leb (length l) most (taken a .0), le-leb 32 (length out) h)
-      (refl, p .bytes ∙ rw (taken a .1) (put-over out (digest l) q ∙ rw (length-digest l)))
+use Rattle.numbers.specs.Numbers.{partsNumbers, messageNumbers}
+use Rattle.numbers.specs.Parts.{eventFrom}
+use Rattle.numbers.proofs.Laws.{length-parts}
+use Rattle.capi.specs.Calls.{lentRow, lentOut, readRow, readOut, lengthOr}
 
 -- ---- row r, or the list l into a row that has room for k
 module _ (r k : ℕ) (l out : List ℕ) where
@@ -90,15 +46,13 @@ module _ (r k : ℕ) (l out : List ℕ) where
         let b = le-leb k (length out) h in
         (simp (a, b), rw (a, b, sym e) (p .bytes))
 
-pub puts-as : {d l l′ o : List ℕ} {i r : ℕ} → l ≡ l′ → Puts d i l r o → Puts d i l′ r o
-puts-as e p = rw (sym e) p
+-- what was put where no row refuses it
+pub lent-on : (r k : ℕ) (l m out : List ℕ) {o : List ℕ} {x : ℕ} → r ≡ 0 → l ≡ m → x ≡ lentRow 0 k out → o ≡ lentOut 0 k l out → (x ≡ lentRow r k out) × (o ≡ lentOut r k m out)
+lent-on r k l m out z e a b = rw (z, sym e) (a, b)
 
--- ---- signed numbers: what is lent on is the number itself
-pub bits-back : (x : ℤ) {r : ℕ} → mag x < 2 ^ 63 → r ≡ unsigned (toZ w64 (ofZ w64 x)) → r ≡ unsigned x
-bits-back x f e = e ∙ ap unsigned (toZ-ofZ w64 x (record { sfits = f }))
-
-pub body-back : (a n : ℕ) (t k : ℤ) (g c m : ℕ) {x : Body} → SFits w64 t → SFits w64 k → x ≡ bodyFrom a n (toZ w64 (ofZ w64 t)) (toZ w64 (ofZ w64 k)) g c m → x ≡ bodyFrom a n t k g c m
-body-back a n t k g c m ft fk e = rw (toZ-ofZ w64 t ft, toZ-ofZ w64 k fk) at e
+-- ---- an event of numbers
+pub body-of : (e : List ℕ) {p : EventParts} → p ≡ eventFrom e → p .body ≡ eventFrom e .body
+body-of e h = ap (λ (y : EventParts). y .body) h
 
 module _ (b : List ℕ) (p : Body) (out : List ℕ) {x : Body} {w : Written} {o : List ℕ} (g : x ≡ p) (e : w ≡ serialised b x out) (f : o ≡ serialisedOut b x out) where
   written-as : {v : Written} → w ≡ v → v ≡ serialised b p out
@@ -111,27 +65,6 @@ module _ (b : List ℕ) (p : Body) (out : List ℕ) {x : Body} {w : Written} {o 
   pub said-length : {v : Written} (m : ℕ) → w ≡ v →
       (numberOf v ≡ numberOf (serialised b p out)) × ((o ≡ serialisedOut b p out) × (lengthOr v m ≡ lengthOr (serialised b p out) m))
   said-length m h = (ap numberOf (written-as h), (bytes-as, ap (λ z. lengthOr z m) (written-as h)))
-
--- ---- filters: ten numbers each, and those that are left after i
-pub length-parts : (ps : List FilterParts) → length (partsNumbers ps) ≡ 10 * length ps
-length-parts [] = refl
-length-parts (p ∷ ps) = let h = length-parts ps in simp length-append (omega arith)
-
-module _ (fs : List FilterParts) (n i : ℕ) where
-  abbrev pub leftParts : List ℕ
-  leftParts = partsNumbers (take (n - i) (drop i fs))
-
-  pub filters-turn : (z : FilterParts) → i < n → i < length fs → leftParts ≡ filterNumbers (getD fs i z) ++ partsNumbers (take (n - (i + 1)) (drop (i + 1) fs))
-  filters-turn z h k =
-      let m : n - i ≡ suc (n - (i + 1)) = omega arith in
-      let e : suc i ≡ i + 1 = omega arith in
-      rw (m, drop-cons fs i z k, e) refl
-
-  pub filters-spent : length fs ≤ i → leftParts ≡ []
-  filters-spent h = rw (drop-of-length-le fs {i = i} h, take-nil {A = FilterParts} (n - i)) refl
-
-  pub filters-end : n ≤ i → leftParts ≡ []
-  filters-end h = let m : n - i ≡ 0 = omega arith in rw m refl
 
 -- the filters of a REQ stand in four places
 pub four-parts : (s : List ℕ) (at : ℕ) {f : Filters} → f ≡ filtersAt s at → length (f .parts) ≡ 4

@@ -4,19 +4,17 @@ use mathlib.Core.List.{List}
 use Prim.Native.Nat.{ℕ}
 use Rattle.message.specs.declared.EventParts.{EventParts}
 use Rattle.message.specs.declared.FilterParts.{FilterParts}
-use Rattle.query.specs.Answer.{matched, matchNumber, listed, listedRow, numberOf}
+use Rattle.numbers.specs.Parts.{eventFrom, filtersFrom, filterCount}
+use Rattle.query.specs.Answer.{matched, listed, listedRow, numberOf}
 use Rattle.query.specs.declared.Matched.{Matched}
 use Rattle.query.specs.declared.Listing.{Listing}
-use Rattle.capi.specs.Query.{filtersFrom, filterCount, partsFrom, matchOf, matchesOr, listOf, listOut, countOr}
+use Rattle.capi.specs.Query.{matchOf, matchedNumber, listOf, listOut, countOr}
+
+pub said-match : (b e m l : List ℕ) {p : EventParts} {fs : List FilterParts} {n : ℕ} {x v : Matched} → p ≡ eventFrom e → fs ≡ filtersFrom l →
+    n ≡ filterCount l → x ≡ matched b p m fs n → x ≡ v → matchedNumber v ≡ matchedNumber (matchOf b e m l)
+said-match b e m l f g h a q = ap matchedNumber (sym q ∙ (rw (f, g, h) at a))
 
 -- with k in the lent number
-pub said-match : (b e m l : List ℕ) {p : EventParts} {fs : List FilterParts} {n : ℕ} {x v : Matched} (k : ℕ) → p ≡ partsFrom e → fs ≡ filtersFrom l →
-    n ≡ filterCount l → x ≡ matched b p m fs n → x ≡ v →
-    (matchNumber v ≡ matchNumber (matchOf b e m l)) × (matchesOr v k ≡ matchesOr (matchOf b e m l) k)
-said-match b e m l {v = v} k f g h a q =
-    let z : v ≡ matchOf b e m l = sym q ∙ (rw (f, g, h) at a) in
-    (ap matchNumber z, ap (λ (y : Matched). matchesOr y k) z)
-
 pub said-list : (t m l row : List ℕ) {fs : List FilterParts} {n : ℕ} {x v : Listing} {o : List ℕ} (k : ℕ) → fs ≡ filtersFrom l → n ≡ filterCount l →
     x ≡ listed t m fs n row → o ≡ listedRow t m fs n row → x ≡ v →
     (numberOf v ≡ numberOf (listOf t m l row)) × ((o ≡ listOut t m l row) × (countOr v k ≡ countOr (listOf t m l row) k))

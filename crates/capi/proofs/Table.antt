@@ -3,7 +3,6 @@ use mathlib.Core.Path.{_≡_, refl, sym, ap, _∙_}
 use mathlib.Core.Bool.{Bool, true, false}
 use mathlib.Core.List.{List}
 use Prim.Native.Nat.{ℕ}
-use Rattle.message.specs.declared.Body.{Body}
 use Rattle.message.specs.declared.EventParts.{EventParts}
 use Rattle.table.specs.Sound.{sound}
 use Rattle.table.specs.Format.{shownRow}
@@ -11,7 +10,7 @@ use Rattle.table.specs.Offer.{asParts, answer, next}
 use Rattle.table.specs.declared.Offered.{Offered}
 use Rattle.slots.specs.Shown.{shownAt, numberOf}
 use Rattle.slots.specs.declared.Shown.{Shown}
-use Rattle.capi.specs.Table.{soundRow, offeredNumber, shownPlace, shownLength, eventFrom}
+use Rattle.capi.specs.Table.{soundRow, offeredNumber, shownPlace, shownLength}
 
 pub sound-0 : (t : List ℕ) {x : Bool} → x ≡ sound t → x ≡ true → 0 ≡ soundRow t
 unfolding soundRow
@@ -20,10 +19,6 @@ sound-0 t e h = rw (sym e ∙ h) refl
 pub unsound-11 : (t : List ℕ) {x : Bool} → x ≡ sound t → x ≡ false → 11 ≡ soundRow t
 unfolding soundRow
 unsound-11 t e h = rw (sym e ∙ h) refl
-
--- parts whose body is another that is equal
-pub event-as : (i n s m : ℕ) {y z : Body} {x : EventParts} → x ≡ eventFrom i n y s m → y ≡ z → x ≡ eventFrom i n z s m
-event-as i n s m f e = f ∙ ap (λ (w : Body). eventFrom i n w s m) e
 
 pub offered-as : (t b : List ℕ) {p q : EventParts} {x : Offered} {o : List ℕ} {r : ℕ} → p ≡ q → r ≡ offeredNumber x → x ≡ answer t (asParts b p) →
     o ≡ next t (asParts b p) → (r ≡ offeredNumber (answer t (asParts b q))) × (o ≡ next t (asParts b q))

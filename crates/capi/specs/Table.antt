@@ -1,9 +1,7 @@
--- Calls on a table for Rust and C: what they answer as numbers, and the parts that they make of numbers.
+-- Calls on a table for Rust and C: what they answer as numbers.
 use Prim.Native.Nat.{ℕ}
 use mathlib.Core.List.{List}
 use mathlib.Core.Bool.{cond}
-use Rattle.message.specs.declared.Body.{Body}
-use Rattle.message.specs.declared.EventParts.{EventParts}
 use Rattle.table.specs.Sound.{sound}
 use Rattle.table.specs.declared.Offered.{Offered}
 use Rattle.table.specs.declared.Offered.the-variants as offered
@@ -30,6 +28,3 @@ shownPlace (shown.Refused r) m = m
 abbrev pub shownLength : Shown → ℕ → ℕ
 shownLength (shown.At v n) m = n
 shownLength (shown.Refused r) m = m
-
-abbrev pub eventFrom : ℕ → ℕ → Body → ℕ → ℕ → EventParts
-eventFrom i n b s m = record { id = record { start = i; len = n }; body = b; sig = record { start = s; len = m } }

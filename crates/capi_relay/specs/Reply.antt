@@ -1,41 +1,33 @@
 -- A reply as a row of numbers. The first says which it is: 1 OK, 2 EVENT, 3 EOSE, 4 CLOSED, 5 NOTICE. The next two are the place and length of its
 -- id, of its subscription id, or of the reason of a NOTICE. Then come those of the reason, and for an OK a number that is 0 for false; or the twelve
--- numbers of an EVENT (capi/specs/Numbers, `eventNumbers`). A number past the end of the row is 0.
-use Prim.Native.Nat.{ℕ, _+_}
+-- numbers of an EVENT (numbers/specs/Numbers, `eventNumbers`). A number past the end of the row is 0.
+use Prim.Native.Nat.{ℕ}
 use mathlib.Core.Bool.{Bool, true, false, cond}
 use mathlib.Core.List.{List}
 use lib.Dec.{eqb, leb}
-use lib.ListN.{getD}
-use Rattle.wire.specs.Field.{signed}
 use Rattle.message.specs.declared.Span.{Span}
-use Rattle.message.specs.declared.EventParts.{EventParts}
 use Rattle.event.specs.declared.Written.{Written}
 use Rattle.event.specs.declared.Written.the-variants as sent
 use Rattle.reply.specs.Lent.{replied, repliedOut}
 use Rattle.reply.specs.declared.ReplyParts.{ReplyParts}
 use Rattle.reply.specs.declared.ReplyParts.the-variants as parts
-use Rattle.capi.specs.Numbers.{bodyFrom}
-use Rattle.capi.specs.Table.{eventFrom}
+use Rattle.numbers.specs.Parts.{numberFrom, rowFrom, spanFrom, eventFrom}
 
--- a string part, and one of two numbers from k on
+-- a string part lent as two numbers
 abbrev pub spanOf : ℕ → ℕ → Span
 spanOf a n = record { start = a; len = n }
 
-abbrev pub spanFrom : List ℕ → ℕ → Span
-spanFrom l k = spanOf (getD l k 0) (getD l (k + 1) 0)
+abbrev pub nameFrom : List ℕ → Span
+nameFrom l = spanFrom (rowFrom l 1) 0
 
--- the twelve numbers of an EVENT stand from the fourth number on
-unfoldable pub eventIn : List ℕ → EventParts
-eventIn l =
-    eventFrom (getD l 4 0) (getD l 5 0)
-    (bodyFrom (getD l 6 0) (getD l 7 0) (signed (getD l 8 0)) (signed (getD l 9 0)) (getD l 10 0) (getD l 11 0) (getD l 12 0))
-    (getD l 13 0) (getD l 14 0)
+abbrev pub reasonFrom : List ℕ → Span
+reasonFrom l = spanFrom (rowFrom l 3) 0
 
 abbrev pub acceptedIn : List ℕ → Bool
-acceptedIn l = cond (eqb (getD l 5 0) 0) false true
+acceptedIn l = cond (eqb (numberFrom l 5) 0) false true
 
 abbrev pub formOf : List ℕ → ℕ
-formOf l = getD l 0 0
+formOf l = numberFrom l 0
 
 abbrev pub isForm : ℕ → Bool
 isForm f = cond (eqb f 0) false (leb f 5)
@@ -43,10 +35,10 @@ isForm f = cond (eqb f 0) false (leb f 5)
 -- the parts of a row whose first number is f
 unfoldable pub replyFrom : ℕ → List ℕ → ReplyParts
 replyFrom f l =
-    cond (eqb f 1) (parts.Ok (spanFrom l 1) (acceptedIn l) (spanFrom l 3))
-    (cond (eqb f 2) (parts.Event (spanFrom l 1) (eventIn l))
-    (cond (eqb f 3) (parts.Eose (spanFrom l 1))
-    (cond (eqb f 4) (parts.Closed (spanFrom l 1) (spanFrom l 3)) (parts.Notice (spanFrom l 1)))))
+    cond (eqb f 1) (parts.Ok (nameFrom l) (acceptedIn l) (reasonFrom l))
+    (cond (eqb f 2) (parts.Event (nameFrom l) (eventFrom (rowFrom l 3)))
+    (cond (eqb f 3) (parts.Eose (nameFrom l))
+    (cond (eqb f 4) (parts.Closed (nameFrom l) (reasonFrom l)) (parts.Notice (nameFrom l)))))
 
 -- the reply written; a row of no form is refused by 5, "wrong shape", before all else
 unfoldable pub writtenReply : List ℕ → List ℕ → List ℕ → Written

@@ -3,13 +3,11 @@
 ghost use mathlib.Core.Path.{_≡_};
 ghost use Rattle.event.specs.Answer.{numberOf};
 ghost use Rattle.text.specs.Kinds.{classOf};
-ghost use Rattle.table.specs.Offer.{asMessage, answer};
 ghost use Rattle.reply.specs.Respond.{responded, respondRow, respondedOut, respondedTable, slotEvent, slotEventRow, slotEventOut, sentEvents, eventsRow, sentEventsOut};
 ghost use Rattle.reply.specs.Feed.{turned, turnRow, turnTable, turnLine, turnOut};
 ghost use Rattle.feed.specs.Finish.{finished, finishRow, finishTable, finishOut};
 ghost use Rattle.responses.specs.Refused.{refusedReply, refusedRow, refusedOut};
 ghost use Rattle.capi.specs.Calls.{lengthOr};
-ghost use Rattle.capi.specs.Table.{offeredNumber};
 ghost use Rattle.capi_relay.specs.Counts.{usedOr, keptOr, writtenOr, bytesOr, slotsOr, classNumber};
 ghost use Rattle.capi_relay.specs.Reply.{spanOf, writtenReply, writtenReplyOut};
 
@@ -19,7 +17,6 @@ use event::Written;
 use message::Span;
 use reply::Sent;
 use reply::Turned;
-use table::Offered;
 use text::Class;
 
 // The number of what was answered; how many bytes were written goes to `written`.
@@ -186,7 +183,7 @@ pub extern "C" fn plavdrosa_reply(
     ensures { λ _. ⌜ now (out .exit) ≡ writtenReplyOut (now (bytes .entry)) (now (reply .entry)) (now (out .entry)) ⌝ }
     ensures { λ _. ⌜ now (written .exit) ≡ lengthOr (writtenReply (now (bytes .entry)) (now (reply .entry)) (now (out .entry))) (now (written .entry)) ⌝ }
 {
-    let form = given::number_in(reply, 0);
+    let form = numbers::number_in(reply, 0);
     if form == 0 {
         return 5;
     }
@@ -199,26 +196,6 @@ pub extern "C" fn plavdrosa_reply(
 }
 
 // ---- What is only told.
-fn offered_number(x: Offered) -> u8
-    ensures { λ r. ⌜ r ≡ offeredNumber x ⌝ }
-{
-    match x {
-        Offered::Stored => 0,
-        Offered::Ephemeral => 100,
-        Offered::Duplicate => 101,
-        Offered::Older => 102,
-        Offered::Refused(r) => r,
-    }
-}
-
-// What the offer of a message would be answered, as plavdrosa_offer tells it; the table is only read.
-#[no_mangle]
-pub extern "C" fn plavdrosa_judge(table: &[u8], message: &[u8]) -> u8
-    ensures { λ r. ⌜ r ≡ offeredNumber (answer (now (table .entry)) (asMessage (now (message .entry)))) ⌝ }
-{
-    offered_number(offers::judge_message(table, message))
-}
-
 fn class_number(x: Class) -> u8
     ensures { λ r. ⌜ r ≡ classNumber x ⌝ }
 {

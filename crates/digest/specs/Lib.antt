@@ -1,9 +1,11 @@
--- SHA-256 as FIPS 180-4 gives it, and a digest that is fed piece by piece. Words to State are the definitions; Parts, Pieces and Vectors are
+-- SHA-256 as FIPS 180-4 gives it, and a digest that is fed piece by piece. Words to Bytes are the definitions; Parts, Pieces, Back and Vectors are
 -- theorems.
 pub mod Words
 pub mod Block
 pub mod Digest
 pub mod State
+pub mod Bytes
 pub mod Parts
 pub mod Pieces
+pub mod Back
 pub mod Vectors

@@ -17,7 +17,7 @@ unfolding firstBytes
 first-take l zero h = refl
 first-take l (suc n) h = rw (first-take l n (omega arith), take-suc l n 0 h)
 
-length-first : (l : List ℕ) (n : ℕ) → length (firstBytes l n) ≡ n
+pub length-first : (l : List ℕ) (n : ℕ) → length (firstBytes l n) ≡ n
 unfolding firstBytes
 length-first l zero = refl
 length-first l (suc n) = length-append (firstBytes l n) (getD l n 0 ∷ []) ∙ rw (length-first l n) (omega arith)

@@ -2,23 +2,15 @@
 use mathlib.Core.Path.{_≡_, refl, sym, _∙_}
 use mathlib.Core.Bool.{Bool, true, false}
 use mathlib.Core.List.{List}
-use Prim.Native.Nat.{ℕ, _^_, _<_}
+use Prim.Native.Nat.{ℕ}
 use borrow.Author.Tests.{eq-eqb, ne-eqb}
-use lib.IntN.{ℤ}
-use lib.ListN.{getD}
-use lib.Signed.{mag}
-use mir.Syntax.{w64}
-use mir.Val.{toZ, ofZ}
-use mir.ValLaws.{toZ-ofZ}
-use Rattle.wire.specs.Field.{signed}
+use lib.ListN.{drop, getD}
 use Rattle.message.specs.declared.Span.{Span}
 use Rattle.message.specs.declared.EventParts.{EventParts}
 use Rattle.reply.specs.declared.ReplyParts.{ReplyParts}
 use Rattle.reply.specs.declared.ReplyParts.the-variants as parts
-use Rattle.capi_relay.specs.Reply.{spanFrom, eventIn, acceptedIn, replyFrom}
-
-pub signed-back : (z : ℤ) (v : ℕ) → mag z < 2 ^ 63 → z ≡ signed v → toZ w64 (ofZ w64 z) ≡ signed v
-signed-back z v f e = toZ-ofZ w64 z (record { sfits = f }) ∙ e
+use Rattle.numbers.specs.Parts.{eventFrom}
+use Rattle.capi_relay.specs.Reply.{nameFrom, reasonFrom, acceptedIn, replyFrom}
 
 module _ (l : List ℕ) {v : ℕ} (e : v ≡ getD l 5 0) where
   pub not-accepted : v ≡ 0 → false ≡ acceptedIn l
@@ -27,12 +19,12 @@ module _ (l : List ℕ) {v : ℕ} (e : v ≡ getD l 5 0) where
   pub is-accepted : (v ≡ 0 → ⊥) → true ≡ acceptedIn l
   is-accepted h = rw (ne-eqb (getD l 5 0) 0 (λ q. h (e ∙ q))) refl
 
-module _ (f : ℕ) (l : List ℕ) {s : Span} (e : s ≡ spanFrom l 1) where
-  pub is-ok : {a : Bool} {r : Span} → f ≡ 1 → a ≡ acceptedIn l → r ≡ spanFrom l 3 → parts.Ok s a r ≡ replyFrom f l
+module _ (f : ℕ) (l : List ℕ) {s : Span} (e : s ≡ nameFrom l) where
+  pub is-ok : {a : Bool} {r : Span} → f ≡ 1 → a ≡ acceptedIn l → r ≡ reasonFrom l → parts.Ok s a r ≡ replyFrom f l
   unfolding replyFrom
   is-ok h a r = rw (h, e, a, r) refl
 
-  pub is-event : {p : EventParts} → f ≡ 2 → p ≡ eventIn l → parts.Event s p ≡ replyFrom f l
+  pub is-event : {p : EventParts} → f ≡ 2 → p ≡ eventFrom (drop 3 l) → parts.Event s p ≡ replyFrom f l
   unfolding replyFrom
   is-event h p = rw (h, e, p) refl
 
@@ -40,7 +32,7 @@ module _ (f : ℕ) (l : List ℕ) {s : Span} (e : s ≡ spanFrom l 1) where
   unfolding replyFrom
   is-eose h = rw (h, e) refl
 
-  pub is-closed : {r : Span} → f ≡ 4 → r ≡ spanFrom l 3 → parts.Closed s r ≡ replyFrom f l
+  pub is-closed : {r : Span} → f ≡ 4 → r ≡ reasonFrom l → parts.Closed s r ≡ replyFrom f l
   unfolding replyFrom
   is-closed h r = rw (h, e, r) refl
 

@@ -1,2 +1,0 @@
--- Laws of parts made of numbers.
-pub mod Parts

@@ -1,0 +1,15 @@
+use mathlib.Core.Path.{ap, _∙_}
+use borrow.Author.Needs.{needs}
+use Rattle.capi.specs.Table.{offeredNumber}
+use Rattle.capi.proofs.tables.plavdrosa_offer.Statement.{statement}
+use Rattle.capi.proofs.tables.plavdrosa_offer.Tie as tie
+
+returns : tie.Need-returns
+returns c =
+    let o = c .before .before .before in
+    (c .offered-number .ensures ∙ ap offeredNumber (o .offer-message .ensures .0), o .offer-message .ensures .1 .1)
+
+pub plavdrosa-offer-spec : {M : Type 1} → statement M
+plavdrosa-offer-spec =
+    tie.close
+    (tie.spec (λ c κs. search needs) (λ c κs. search needs) (λ c. search needs) returns)

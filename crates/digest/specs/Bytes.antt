@@ -1,0 +1,23 @@
+-- A state as bytes, for callers that can lend nothing else: the hash value, the block that is being filled and the count of bytes, the most
+-- significant byte first. Any 104 bytes are some state.
+use Prim.Native.Nat.{ℕ, _+_, _*_, _^_}
+use mathlib.Core.List.{List, _++_}
+use lib.ListN.{drop}
+use Rattle.digest.specs.declared.Sha256.{Sha256}
+use Rattle.digest.specs.Block as block
+use Rattle.digest.specs.Digest.{bytesOf, digestBytes}
+use Rattle.digest.specs.State.{firstBytes}
+
+-- how many bytes that is
+abbrev pub stateSize : ℕ
+stateSize = 104
+
+unfoldable pub stateBytes : Sha256 → List ℕ
+stateBytes s = digestBytes (s .words) 32 ++ (s .block ++ bytesOf (s .total) 8)
+
+-- the number in the eight bytes from 96 on
+abbrev pub totalIn : List ℕ → ℕ
+totalIn l = block.wordAt l 96 * 2 ^ 32 + block.wordAt l 100
+
+unfoldable pub stateIn : List ℕ → Sha256
+stateIn l = record { words = block.words l 8; block = firstBytes (drop 32 l) 64; total = totalIn l }
