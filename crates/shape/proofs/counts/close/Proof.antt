@@ -1,7 +1,7 @@
 use Rattle.shape.specs.Walk.{closed}
 use borrow.Author.Needs.{needs}
-use Rattle.shape.proofs.close.Statement.{statement}
-use Rattle.shape.proofs.close.Tie as tie
+use Rattle.shape.proofs.counts.close.Statement.{statement}
+use Rattle.shape.proofs.counts.close.Tie as tie
 
 pub close-spec : {M : Type 1} → statement M
 unfolding closed

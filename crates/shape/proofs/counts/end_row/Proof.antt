@@ -2,8 +2,8 @@ use Rattle.shape.proofs.Tests.{tests}
 use Rattle.shape.specs.Walk.{endRow}
 use borrow.Author.Tests.{eq-eqb}
 use borrow.Author.Needs.{needs}
-use Rattle.shape.proofs.end_row.Statement.{statement}
-use Rattle.shape.proofs.end_row.Tie as tie
+use Rattle.shape.proofs.counts.end_row.Statement.{statement}
+use Rattle.shape.proofs.counts.end_row.Tie as tie
 
 pub end-row-spec : {M : Type 1} → statement M
 unfolding endRow

@@ -1,8 +1,8 @@
 use borrow.Author.Needs.{needs}
 use mathlib.Core.Path.{refl}
 use Rattle.shape.specs.Walk.{isIn}
-use Rattle.shape.proofs.is_in.Statement.{statement}
-use Rattle.shape.proofs.is_in.Tie as tie
+use Rattle.shape.proofs.counts.is_in.Statement.{statement}
+use Rattle.shape.proofs.counts.is_in.Tie as tie
 
 pub is-in-spec : {M : Type 1} → statement M
 unfolding isIn

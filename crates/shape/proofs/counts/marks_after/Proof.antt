@@ -2,8 +2,8 @@ use borrow.Author.Needs.{needs}
 use borrow.Author.Tests.{lt-ltb, le-ltb}
 use native.Mathlib.Omega.{arith}
 use Rattle.shape.specs.Walk.{marksAfter}
-use Rattle.shape.proofs.marks_after.Statement.{statement}
-use Rattle.shape.proofs.marks_after.Tie as tie
+use Rattle.shape.proofs.counts.marks_after.Statement.{statement}
+use Rattle.shape.proofs.counts.marks_after.Tie as tie
 
 pub marks-after-spec : {M : Type 1} → statement M
 unfolding marksAfter

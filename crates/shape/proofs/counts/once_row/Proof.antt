@@ -1,7 +1,7 @@
 use Rattle.shape.specs.Walk.{onceRow}
 use borrow.Author.Needs.{needs}
-use Rattle.shape.proofs.once_row.Statement.{statement}
-use Rattle.shape.proofs.once_row.Tie as tie
+use Rattle.shape.proofs.counts.once_row.Statement.{statement}
+use Rattle.shape.proofs.counts.once_row.Tie as tie
 
 pub once-row-spec : {M : Type 1} → statement M
 unfolding onceRow

@@ -1,7 +1,7 @@
 use borrow.Author.Needs.{needs}
 use Rattle.shape.specs.Walk.{stepped}
-use Rattle.shape.proofs.step.Statement.{statement}
-use Rattle.shape.proofs.step.Tie as tie
+use Rattle.shape.proofs.counts.step.Statement.{statement}
+use Rattle.shape.proofs.counts.step.Tie as tie
 
 returns : tie.Need-returns
 unfolding stepped

@@ -1,7 +1,7 @@
 use Rattle.shape.proofs.Tests.{tests}
 use Rattle.shape.specs.Walk.{elementForm}
-use Rattle.shape.proofs.element_form.Statement.{statement}
-use Rattle.shape.proofs.element_form.Tie as tie
+use Rattle.shape.proofs.forms.element_form.Statement.{statement}
+use Rattle.shape.proofs.forms.element_form.Tie as tie
 
 pub element-form-spec : {M : Type 1} → statement M
 unfolding elementForm

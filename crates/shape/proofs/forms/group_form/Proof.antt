@@ -1,7 +1,7 @@
 use Rattle.shape.proofs.Tests.{tests}
 use Rattle.shape.specs.Walk.{groupForm}
-use Rattle.shape.proofs.group_form.Statement.{statement}
-use Rattle.shape.proofs.group_form.Tie as tie
+use Rattle.shape.proofs.forms.group_form.Statement.{statement}
+use Rattle.shape.proofs.forms.group_form.Tie as tie
 
 pub group-form-spec : {M : Type 1} → statement M
 unfolding groupForm

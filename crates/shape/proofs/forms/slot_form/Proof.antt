@@ -1,8 +1,8 @@
 use Rattle.shape.proofs.Tests.{tests}
 use Rattle.shape.specs.Walk.{slotForm}
 use borrow.Author.Needs.{needs}
-use Rattle.shape.proofs.slot_form.Statement.{statement}
-use Rattle.shape.proofs.slot_form.Tie as tie
+use Rattle.shape.proofs.forms.slot_form.Statement.{statement}
+use Rattle.shape.proofs.forms.slot_form.Tie as tie
 
 pub slot-form-spec : {M : Type 1} → statement M
 unfolding slotForm

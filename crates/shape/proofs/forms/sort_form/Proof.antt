@@ -1,7 +1,7 @@
 use borrow.Author.Needs.{needs}
 use Rattle.shape.specs.Values.{formOf}
-use Rattle.shape.proofs.sort_form.Statement.{statement}
-use Rattle.shape.proofs.sort_form.Tie as tie
+use Rattle.shape.proofs.forms.sort_form.Statement.{statement}
+use Rattle.shape.proofs.forms.sort_form.Tie as tie
 
 pub sort-form-spec : {M : Type 1} → statement M
 unfolding formOf

@@ -1,8 +1,8 @@
 use borrow.Author.Needs.{needs}
 use Rattle.shape.specs.Shape.{wordOf}
 use Rattle.shape.specs.Walk.{wordForm}
-use Rattle.shape.proofs.word_form.Statement.{statement}
-use Rattle.shape.proofs.word_form.Tie as tie
+use Rattle.shape.proofs.forms.word_form.Statement.{statement}
+use Rattle.shape.proofs.forms.word_form.Tie as tie
 
 returns-2 : tie.Need-returns-2
 unfolding wordForm wordOf

@@ -1,8 +1,8 @@
 use borrow.Author.Needs.{needs}
 use mathlib.Core.Path.{sym, refl, _∙_}
 use Rattle.shape.proofs.Names.{condition-plain}
-use Rattle.shape.proofs.condition_slot.Statement.{statement}
-use Rattle.shape.proofs.condition_slot.Tie as tie
+use Rattle.shape.proofs.items.condition_slot.Statement.{statement}
+use Rattle.shape.proofs.items.condition_slot.Tie as tie
 
 returns : tie.Need-returns
 returns c =

@@ -12,8 +12,8 @@ use Rattle.shape.specs.Shape.{isCondition}
 use Rattle.shape.specs.Walk.{conditionSlot}
 use Rattle.wire.proofs.Bytes.{same-equal}
 use Rattle.shape.proofs.Names.{condition-letter, condition-none, one-more}
-use Rattle.shape.proofs.escaped_condition.Statement.{statement}
-use Rattle.shape.proofs.escaped_condition.Tie as tie
+use Rattle.shape.proofs.items.escaped_condition.Statement.{statement}
+use Rattle.shape.proofs.items.escaped_condition.Tie as tie
 
 abbrev Inv-loop : tie.InvT-loop
 Inv-loop p b₀ b = (65 ≤ b) × (b ≤ 123) × ((k : ℕ) → 65 ≤ k → k < b → sameBytes (decode p) (35 ∷ k ∷ []) ≡ false)

@@ -1,7 +1,7 @@
 use Rattle.shape.specs.Walk.{eventSlot}
 use borrow.Author.Needs.{needs}
-use Rattle.shape.proofs.event_slot.Statement.{statement}
-use Rattle.shape.proofs.event_slot.Tie as tie
+use Rattle.shape.proofs.items.event_slot.Statement.{statement}
+use Rattle.shape.proofs.items.event_slot.Tie as tie
 
 returns-2 : tie.Need-returns-2
 unfolding eventSlot

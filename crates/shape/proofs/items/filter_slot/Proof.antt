@@ -1,7 +1,7 @@
 use Rattle.shape.specs.Walk.{filterSlot}
 use borrow.Author.Needs.{needs}
-use Rattle.shape.proofs.filter_slot.Statement.{statement}
-use Rattle.shape.proofs.filter_slot.Tie as tie
+use Rattle.shape.proofs.items.filter_slot.Statement.{statement}
+use Rattle.shape.proofs.items.filter_slot.Tie as tie
 
 returns-2 : tie.Need-returns-2
 unfolding filterSlot

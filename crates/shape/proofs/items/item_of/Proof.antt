@@ -1,7 +1,7 @@
 use Rattle.shape.specs.Walk.{itemOf}
 use borrow.Author.Needs.{needs}
-use Rattle.shape.proofs.item_of.Statement.{statement}
-use Rattle.shape.proofs.item_of.Tie as tie
+use Rattle.shape.proofs.items.item_of.Statement.{statement}
+use Rattle.shape.proofs.items.item_of.Tie as tie
 
 pub item-of-spec : {M : Type 1} → statement M
 unfolding itemOf

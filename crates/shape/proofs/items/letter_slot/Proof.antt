@@ -3,8 +3,8 @@ use mathlib.Core.Path.{sym, _∙_}
 use native.Mathlib.Omega.{arith}
 use Rattle.shape.specs.Walk.{letterSlot}
 use Rattle.shape.proofs.Names.{within-ends}
-use Rattle.shape.proofs.letter_slot.Statement.{statement}
-use Rattle.shape.proofs.letter_slot.Tie as tie
+use Rattle.shape.proofs.items.letter_slot.Statement.{statement}
+use Rattle.shape.proofs.items.letter_slot.Tie as tie
 
 pub letter-slot-spec : {M : Type 1} → statement M
 unfolding letterSlot

@@ -1,7 +1,7 @@
 use Rattle.shape.specs.Walk.{memberOf}
 use borrow.Author.Needs.{needs}
-use Rattle.shape.proofs.member.Statement.{statement}
-use Rattle.shape.proofs.member.Tie as tie
+use Rattle.shape.proofs.items.member.Statement.{statement}
+use Rattle.shape.proofs.items.member.Tie as tie
 
 pub member-spec : {M : Type 1} → statement M
 unfolding memberOf

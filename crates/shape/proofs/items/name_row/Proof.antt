@@ -1,7 +1,7 @@
 use Rattle.shape.specs.Walk.{nameRow}
 use borrow.Author.Needs.{needs}
-use Rattle.shape.proofs.name_row.Statement.{statement}
-use Rattle.shape.proofs.name_row.Tie as tie
+use Rattle.shape.proofs.items.name_row.Statement.{statement}
+use Rattle.shape.proofs.items.name_row.Tie as tie
 
 pub name-row-spec : {M : Type 1} → statement M
 unfolding nameRow

@@ -1,8 +1,8 @@
 use Rattle.shape.proofs.Tests.{tests}
 use Rattle.shape.specs.Walk.{nameSlot}
 use borrow.Author.Needs.{needs}
-use Rattle.shape.proofs.name_slot.Statement.{statement}
-use Rattle.shape.proofs.name_slot.Tie as tie
+use Rattle.shape.proofs.items.name_slot.Statement.{statement}
+use Rattle.shape.proofs.items.name_slot.Tie as tie
 
 pub name-slot-spec : {M : Type 1} → statement M
 unfolding nameSlot

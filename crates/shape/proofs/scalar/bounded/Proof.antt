@@ -1,7 +1,7 @@
 use Rattle.shape.proofs.Tests.{tests}
 use Rattle.shape.specs.Walk.{bounds}
-use Rattle.shape.proofs.bounded.Statement.{statement}
-use Rattle.shape.proofs.bounded.Tie as tie
+use Rattle.shape.proofs.scalar.bounded.Statement.{statement}
+use Rattle.shape.proofs.scalar.bounded.Tie as tie
 
 pub bounded-spec : {M : Type 1} → statement M
 unfolding bounds

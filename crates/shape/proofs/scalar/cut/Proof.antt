@@ -1,7 +1,7 @@
 use borrow.Author.Needs.{needs}
 use Rattle.shape.proofs.Places.{cut-past, cut-rest, cut-none}
-use Rattle.shape.proofs.cut.Statement.{statement}
-use Rattle.shape.proofs.cut.Tie as tie
+use Rattle.shape.proofs.scalar.cut.Statement.{statement}
+use Rattle.shape.proofs.scalar.cut.Tie as tie
 
 pub cut-spec : {M : Type 1} → statement M
 cut-spec =

@@ -1,7 +1,7 @@
 use Rattle.shape.specs.Walk.{hexRow}
 use borrow.Author.Needs.{needs}
-use Rattle.shape.proofs.hex_row.Statement.{statement}
-use Rattle.shape.proofs.hex_row.Tie as tie
+use Rattle.shape.proofs.scalar.hex_row.Statement.{statement}
+use Rattle.shape.proofs.scalar.hex_row.Tie as tie
 
 pub hex-row-spec : {M : Type 1} → statement M
 unfolding hexRow

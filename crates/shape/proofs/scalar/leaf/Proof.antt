@@ -3,8 +3,8 @@ use mathlib.Core.Path.{sym, _∙_}
 use native.Mathlib.Omega.{arith}
 use Rattle.shape.specs.Walk.{judgedOf, rowOf}
 use Rattle.shape.proofs.Places.{string-within, string-inner, scalar-string}
-use Rattle.shape.proofs.leaf.Statement.{statement}
-use Rattle.shape.proofs.leaf.Tie as tie
+use Rattle.shape.proofs.scalar.leaf.Statement.{statement}
+use Rattle.shape.proofs.scalar.leaf.Tie as tie
 
 add-cut : tie.Need-add-cut
 add-cut c =

@@ -1,8 +1,8 @@
 use borrow.Author.Needs.{needs}
 use Rattle.shape.specs.Walk.{numberRow}
 use Rattle.shape.proofs.Tests.{tests}
-use Rattle.shape.proofs.number_row.Statement.{statement}
-use Rattle.shape.proofs.number_row.Tie as tie
+use Rattle.shape.proofs.scalar.number_row.Statement.{statement}
+use Rattle.shape.proofs.scalar.number_row.Tie as tie
 
 pub number-row-spec : {M : Type 1} → statement M
 unfolding numberRow

@@ -1,7 +1,7 @@
 use borrow.Author.Needs.{needs}
 use Rattle.shape.specs.Walk.{rangeRow}
-use Rattle.shape.proofs.small_row.Statement.{statement}
-use Rattle.shape.proofs.small_row.Tie as tie
+use Rattle.shape.proofs.scalar.small_row.Statement.{statement}
+use Rattle.shape.proofs.scalar.small_row.Tie as tie
 
 pub small-row-spec : {M : Type 1} → statement M
 unfolding rangeRow

@@ -1,8 +1,8 @@
 use Rattle.shape.proofs.Tests.{tests}
 use Rattle.shape.specs.Walk.{stringForm}
 use borrow.Author.Needs.{needs}
-use Rattle.shape.proofs.string_form.Statement.{statement}
-use Rattle.shape.proofs.string_form.Tie as tie
+use Rattle.shape.proofs.scalar.string_form.Statement.{statement}
+use Rattle.shape.proofs.scalar.string_form.Tie as tie
 
 pub string-form-spec : {M : Type 1} → statement M
 unfolding stringForm

@@ -1,7 +1,7 @@
 use Rattle.shape.specs.Walk.{stringRow}
 use borrow.Author.Needs.{needs}
-use Rattle.shape.proofs.string_row.Statement.{statement}
-use Rattle.shape.proofs.string_row.Tie as tie
+use Rattle.shape.proofs.scalar.string_row.Statement.{statement}
+use Rattle.shape.proofs.scalar.string_row.Tie as tie
 
 pub string-row-spec : {M : Type 1} → statement M
 unfolding stringRow

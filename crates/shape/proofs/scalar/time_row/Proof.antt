@@ -1,7 +1,7 @@
 use borrow.Author.Needs.{needs}
 use Rattle.shape.specs.Walk.{rangeRow}
-use Rattle.shape.proofs.time_row.Statement.{statement}
-use Rattle.shape.proofs.time_row.Tie as tie
+use Rattle.shape.proofs.scalar.time_row.Statement.{statement}
+use Rattle.shape.proofs.scalar.time_row.Tie as tie
 
 pub time-row-spec : {M : Type 1} → statement M
 unfolding rangeRow
