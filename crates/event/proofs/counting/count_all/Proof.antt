@@ -8,8 +8,8 @@ use Rattle.json.specs.Tree.{treeAt}
 use Rattle.event.specs.Walk.{Counts, allTagsText}
 use Rattle.event.proofs.Walks.{Left, left-start, left-gone, left-wrong, left-done, left-more, counts-chain}
 use Rattle.event.proofs.Tags.{tags-printer}
-use Rattle.event.proofs.count_all.Statement.{statement}
-use Rattle.event.proofs.count_all.Tie as tie
+use Rattle.event.proofs.counting.count_all.Statement.{statement}
+use Rattle.event.proofs.counting.count_all.Tie as tie
 
 abbrev Inv-loop : tie.InvT-loop
 Inv-loop n b first o₀ i₀ k₀ o i k = Left Counts (treeAt b 7) b first (allTagsText b) n k i o

@@ -4,8 +4,8 @@ use native.Mathlib.Omega.{arith}
 use borrow.Author.Needs.{needs}
 use Rattle.event.proofs.Strings.{string-ends, string-done, string-empty}
 use Rattle.event.proofs.Lengths.{string-count}
-use Rattle.event.proofs.count_string.Statement.{statement}
-use Rattle.event.proofs.count_string.Tie as tie
+use Rattle.event.proofs.counting.count_string.Statement.{statement}
+use Rattle.event.proofs.counting.count_string.Tie as tie
 
 add-piece : tie.Need-add-piece
 add-piece c =

@@ -3,8 +3,8 @@ use mathlib.Core.Path.{sym, _∙_}
 use borrow.Author.Needs.{needs}
 use Rattle.event.proofs.Walks.{counts-chain}
 use Rattle.event.proofs.Tags.{tag-bare, tag-empty, tag-many}
-use Rattle.event.proofs.count_tag.Statement.{statement}
-use Rattle.event.proofs.count_tag.Tie as tie
+use Rattle.event.proofs.counting.count_tag.Statement.{statement}
+use Rattle.event.proofs.counting.count_tag.Tie as tie
 
 returns : tie.Need-returns
 returns c =

@@ -1,8 +1,8 @@
 -- Row 13, or a put that fits.
 use borrow.Author.Needs.{needs}
 use Rattle.event.proofs.Answers.{too-short, room-for}
-use Rattle.event.proofs.give.Statement.{statement}
-use Rattle.event.proofs.give.Tie as tie
+use Rattle.event.proofs.tested.give.Statement.{statement}
+use Rattle.event.proofs.tested.give.Tie as tie
 
 returns : tie.Need-returns
 returns c = let a = c .before .before .before .args in too-short (a .t .now) (a .out .now) (c .if1 .taken)

@@ -1,8 +1,8 @@
 -- Row 9, or the digest.
 use borrow.Author.Needs.{needs}
 use Rattle.event.proofs.Answers.{text-large, text-hashed}
-use Rattle.event.proofs.hashed.Statement.{statement}
-use Rattle.event.proofs.hashed.Tie as tie
+use Rattle.event.proofs.tested.hashed.Statement.{statement}
+use Rattle.event.proofs.tested.hashed.Tie as tie
 
 returns : tie.Need-returns
 returns c = text-large _ (c .if1 .taken)

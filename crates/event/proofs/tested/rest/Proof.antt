@@ -3,8 +3,8 @@ use mathlib.Core.Path.{sym, _∙_}
 use borrow.Author.Needs.{needs}
 use Rattle.event.proofs.Answers.{room-kept, prefix-length, large-offered, own-id, other-id}
 use Rattle.event.proofs.Complete.{event-complete}
-use Rattle.event.proofs.rest.Statement.{statement}
-use Rattle.event.proofs.rest.Tie as tie
+use Rattle.event.proofs.tested.rest.Statement.{statement}
+use Rattle.event.proofs.tested.rest.Tie as tie
 
 put-whole-requires : tie.Need-put-whole-requires
 put-whole-requires c κs =

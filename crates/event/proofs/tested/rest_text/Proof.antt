@@ -1,8 +1,8 @@
 -- The row that testing tells, or the text that it left in the buffer.
 use borrow.Author.Needs.{needs}
 use Rattle.event.proofs.Answers.{text-inside, text-length, then-given, rows-first}
-use Rattle.event.proofs.rest_text.Statement.{statement}
-use Rattle.event.proofs.rest_text.Tie as tie
+use Rattle.event.proofs.tested.rest_text.Statement.{statement}
+use Rattle.event.proofs.tested.rest_text.Tie as tie
 
 array-share-prefix-t : tie.Need-array-share-prefix-t
 array-share-prefix-t c = let c1 = c .before in text-inside _ _ (c1 .before .before .before .rest .ensures) (c1 .n .given .1)

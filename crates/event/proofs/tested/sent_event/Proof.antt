@@ -1,8 +1,8 @@
 -- The row, or the parts beside the length.
 use borrow.Author.Needs.{needs}
 use Rattle.event.proofs.Sent.{event-wrote, event-refused}
-use Rattle.event.proofs.sent_event.Statement.{statement}
-use Rattle.event.proofs.sent_event.Tie as tie
+use Rattle.event.proofs.tested.sent_event.Statement.{statement}
+use Rattle.event.proofs.tested.sent_event.Tie as tie
 
 returns : tie.Need-returns
 returns c = event-wrote _ _ _ (c .before .before .before .before .before .rest-text .ensures) (c .before .n .given .1)

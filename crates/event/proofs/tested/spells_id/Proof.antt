@@ -1,8 +1,8 @@
 -- The hex of 32 bytes fills the buffer.
 use borrow.Author.Needs.{needs}
 use Rattle.event.proofs.Answers.{hex-whole, id-spelled}
-use Rattle.event.proofs.spells_id.Statement.{statement}
-use Rattle.event.proofs.spells_id.Tie as tie
+use Rattle.event.proofs.tested.spells_id.Statement.{statement}
+use Rattle.event.proofs.tested.spells_id.Tie as tie
 
 returns : tie.Need-returns
 returns c =

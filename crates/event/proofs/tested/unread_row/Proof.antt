@@ -5,8 +5,8 @@ use lib.Dec.{leb}
 use borrow.Author.Needs.{needs}
 use borrow.Author.Tests.{le-leb, lt-leb}
 use Rattle.message.specs.Read.{isEvent}
-use Rattle.event.proofs.unread_row.Statement.{statement}
-use Rattle.event.proofs.unread_row.Tie as tie
+use Rattle.event.proofs.tested.unread_row.Statement.{statement}
+use Rattle.event.proofs.tested.unread_row.Tie as tie
 
 returns : tie.Need-returns
 returns c =

@@ -1,7 +1,7 @@
 -- By what begins there.
 use borrow.Author.Needs.{needs}
-use Rattle.event.proofs.begun.Statement.{statement}
-use Rattle.event.proofs.begun.Tie as tie
+use Rattle.event.proofs.writing.begun.Statement.{statement}
+use Rattle.event.proofs.writing.begun.Tie as tie
 
 returns : tie.Need-returns
 returns c = simp (← c .before .before .before .before .begin .ensures, c .before .before .first .given .1, c .if1 .taken)

@@ -2,8 +2,8 @@
 use mathlib.Core.Path.{_∙_}
 use borrow.Author.Needs.{needs}
 use Rattle.event.specs.Walk.{firstTag}
-use Rattle.event.proofs.first_tag.Statement.{statement}
-use Rattle.event.proofs.first_tag.Tie as tie
+use Rattle.event.proofs.writing.first_tag.Statement.{statement}
+use Rattle.event.proofs.writing.first_tag.Tie as tie
 
 returns : tie.Need-returns
 unfolding firstTag

@@ -1,8 +1,8 @@
 -- By the test.
 use borrow.Author.Tests.{lt-ltb, le-ltb}
 use native.Mathlib.Omega.{arith}
-use Rattle.event.proofs.hex_digit.Statement.{statement}
-use Rattle.event.proofs.hex_digit.Tie as tie
+use Rattle.event.proofs.writing.hex_digit.Statement.{statement}
+use Rattle.event.proofs.writing.hex_digit.Tie as tie
 
 returns : tie.Need-returns
 returns c = rw (lt-ltb (c .before .args .d) 10 (c .if1 .taken))

@@ -1,7 +1,7 @@
 -- The end, or the place itself.
 use borrow.Author.Needs.{needs}
-use Rattle.event.proofs.past.Statement.{statement}
-use Rattle.event.proofs.past.Tie as tie
+use Rattle.event.proofs.writing.past.Statement.{statement}
+use Rattle.event.proofs.writing.past.Tie as tie
 
 returns : tie.Need-returns
 returns c = simp (← c .before .before .before .value .ensures, c .before .n .given .1)

@@ -8,8 +8,8 @@ use Rattle.json.specs.Tree.{treeAt}
 use Rattle.event.specs.Walk.{puts, allTagsText}
 use Rattle.event.proofs.Walks.{Left, left-start, left-gone, left-wrong, left-done, left-more, puts-chain}
 use Rattle.event.proofs.Tags.{tags-printer}
-use Rattle.event.proofs.put_all.Statement.{statement}
-use Rattle.event.proofs.put_all.Tie as tie
+use Rattle.event.proofs.writing.put_all.Statement.{statement}
+use Rattle.event.proofs.writing.put_all.Tie as tie
 
 abbrev Inv-loop : tie.InvT-loop
 Inv-loop out₀ at b first o₀ i₀ k₀ comma bracket out o i k = Left puts (treeAt b 7) b first (allTagsText b) (out₀, at) k i (out, o) × (length out ≡ length out₀)

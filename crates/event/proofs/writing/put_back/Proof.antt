@@ -1,8 +1,8 @@
 -- Four puts in a row.
 use borrow.Author.Needs.{needs}
 use Rattle.event.proofs.Text.{back-put}
-use Rattle.event.proofs.put_back.Statement.{statement}
-use Rattle.event.proofs.put_back.Tie as tie
+use Rattle.event.proofs.writing.put_back.Statement.{statement}
+use Rattle.event.proofs.writing.put_back.Tie as tie
 
 returns : tie.Need-returns
 returns c =

@@ -2,8 +2,8 @@
 use mathlib.Core.Path.{_∙_}
 use borrow.Author.Needs.{needs}
 use Rattle.event.proofs.Text.{front-put}
-use Rattle.event.proofs.put_front.Statement.{statement}
-use Rattle.event.proofs.put_front.Tie as tie
+use Rattle.event.proofs.writing.put_front.Statement.{statement}
+use Rattle.event.proofs.writing.put_front.Tie as tie
 
 same-length : tie.Need-same-length
 same-length c =

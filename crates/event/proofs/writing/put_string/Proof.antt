@@ -3,8 +3,8 @@ use mathlib.Core.Path.{sym, _∙_}
 use native.Mathlib.Omega.{arith}
 use borrow.Author.Needs.{needs}
 use Rattle.event.proofs.Strings.{string-ends, string-piece, string-done, string-empty}
-use Rattle.event.proofs.put_string.Statement.{statement}
-use Rattle.event.proofs.put_string.Tie as tie
+use Rattle.event.proofs.writing.put_string.Statement.{statement}
+use Rattle.event.proofs.writing.put_string.Tie as tie
 
 add-piece : tie.Need-add-piece
 add-piece c =

@@ -3,8 +3,8 @@ use mathlib.Core.Path.{sym, _∙_}
 use borrow.Author.Needs.{needs}
 use Rattle.event.proofs.Walks.{puts-chain}
 use Rattle.event.proofs.Tags.{tag-bare, tag-empty, tag-many}
-use Rattle.event.proofs.put_tag.Statement.{statement}
-use Rattle.event.proofs.put_tag.Tie as tie
+use Rattle.event.proofs.writing.put_tag.Statement.{statement}
+use Rattle.event.proofs.writing.put_tag.Tie as tie
 
 returns : tie.Need-returns
 returns c =

@@ -4,8 +4,8 @@ use borrow.Author.Needs.{needs}
 use Rattle.event.specs.Walk.{puts}
 use Rattle.event.proofs.Walks.{puts-chain}
 use Rattle.event.proofs.Tags.{some-tags, no-tags}
-use Rattle.event.proofs.put_tags_from.Statement.{statement}
-use Rattle.event.proofs.put_tags_from.Tie as tie
+use Rattle.event.proofs.writing.put_tags_from.Statement.{statement}
+use Rattle.event.proofs.writing.put_tags_from.Tie as tie
 
 returns : tie.Need-returns
 returns c =

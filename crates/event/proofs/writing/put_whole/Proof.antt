@@ -1,8 +1,8 @@
 -- Both halves.
 use borrow.Author.Needs.{needs}
 use Rattle.event.proofs.Text.{text-put}
-use Rattle.event.proofs.put_whole.Statement.{statement}
-use Rattle.event.proofs.put_whole.Tie as tie
+use Rattle.event.proofs.writing.put_whole.Statement.{statement}
+use Rattle.event.proofs.writing.put_whole.Tie as tie
 
 returns : tie.Need-returns
 returns c =
