@@ -4,8 +4,8 @@ use borrow.Author.Needs.{needs}
 use mathlib.Core.Path.{refl}
 use denote.Ref.{now}
 use Rattle.spell.proofs.Chars.{here, char-raw}
-use Rattle.spell.proofs.char_at.Statement.{statement}
-use Rattle.spell.proofs.char_at.Tie as tie
+use Rattle.spell.proofs.escapes.char_at.Statement.{statement}
+use Rattle.spell.proofs.escapes.char_at.Tie as tie
 
 returns : tie.Need-returns
 returns c =

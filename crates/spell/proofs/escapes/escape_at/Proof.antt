@@ -6,8 +6,8 @@ use native.Mathlib.Omega.{arith}
 use borrow.Author.Needs.{needs}
 use denote.Ref.{now}
 use Rattle.spell.proofs.Chars.{here, there, four-there, char-short, char-unicode, no-pair}
-use Rattle.spell.proofs.escape_at.Statement.{statement}
-use Rattle.spell.proofs.escape_at.Tie as tie
+use Rattle.spell.proofs.escapes.escape_at.Statement.{statement}
+use Rattle.spell.proofs.escapes.escape_at.Tie as tie
 
 returns : tie.Need-returns
 returns c =

@@ -2,8 +2,8 @@
 use native.Mathlib.Omega.{arith}
 use borrow.Author.Needs.{needs}
 use Rattle.spell.specs.Spell.{four}
-use Rattle.spell.proofs.hex4.Statement.{statement}
-use Rattle.spell.proofs.hex4.Tie as tie
+use Rattle.spell.proofs.escapes.hex4.Statement.{statement}
+use Rattle.spell.proofs.escapes.hex4.Tie as tie
 
 pub hex4-spec : {M : Type 1} → statement M
 unfolding four

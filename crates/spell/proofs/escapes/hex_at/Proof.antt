@@ -2,8 +2,8 @@
 use native.Mathlib.Omega.{arith}
 use borrow.Author.Needs.{needs}
 use Rattle.spell.specs.Spell.{fourAt}
-use Rattle.spell.proofs.hex_at.Statement.{statement}
-use Rattle.spell.proofs.hex_at.Tie as tie
+use Rattle.spell.proofs.escapes.hex_at.Statement.{statement}
+use Rattle.spell.proofs.escapes.hex_at.Tie as tie
 
 pub hex-at-spec : {M : Type 1} → statement M
 unfolding fourAt

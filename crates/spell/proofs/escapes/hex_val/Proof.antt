@@ -5,8 +5,8 @@ use native.Mathlib.Omega.{arith}
 use borrow.Author.Needs.{needs}
 use borrow.Author.Tests.{lt-ltb, le-ltb, le-leb, lt-leb}
 use Rattle.spell.specs.Spell.{hexVal}
-use Rattle.spell.proofs.hex_val.Statement.{statement}
-use Rattle.spell.proofs.hex_val.Tie as tie
+use Rattle.spell.proofs.escapes.hex_val.Statement.{statement}
+use Rattle.spell.proofs.escapes.hex_val.Tie as tie
 
 module _ (x : ℕ) where
   below : x < 0x30 → hexVal x ≡ 0

@@ -3,8 +3,8 @@ use borrow.Author.Needs.{needs}
 use native.Mathlib.Omega.{arith}
 use Rattle.spell.specs.Spell.{pairOf}
 use mathlib.Core.Path.{refl}
-use Rattle.spell.proofs.pair_code.Statement.{statement}
-use Rattle.spell.proofs.pair_code.Tie as tie
+use Rattle.spell.proofs.escapes.pair_code.Statement.{statement}
+use Rattle.spell.proofs.escapes.pair_code.Tie as tie
 
 pub pair-code-spec : {M : Type 1} → statement M
 unfolding pairOf

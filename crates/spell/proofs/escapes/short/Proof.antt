@@ -1,8 +1,8 @@
 -- An arm for each letter, and the rest.
 use Rattle.spell.specs.Spell.{shortOf}
 use Rattle.wire.proofs.Laws.{tests}
-use Rattle.spell.proofs.short.Statement.{statement}
-use Rattle.spell.proofs.short.Tie as tie
+use Rattle.spell.proofs.escapes.short.Statement.{statement}
+use Rattle.spell.proofs.escapes.short.Tie as tie
 
 pub short-spec : {M : Type 1} → statement M
 unfolding shortOf

@@ -4,8 +4,8 @@ use borrow.Author.Needs.{needs}
 use mathlib.Core.Path.{sym, _∙_}
 use Rattle.spell.specs.Spell.{unicodeOf}
 use Rattle.spell.proofs.Chars.{pair-bounds}
-use Rattle.spell.proofs.unicode.Statement.{statement}
-use Rattle.spell.proofs.unicode.Tie as tie
+use Rattle.spell.proofs.escapes.unicode.Statement.{statement}
+use Rattle.spell.proofs.escapes.unicode.Tie as tie
 
 pair-code-requires : tie.Need-pair-code-requires
 pair-code-requires c κs = pair-bounds _ _ _ _ (sym (c .before .is-pair .ensures) ∙ c .if1 .taken)

@@ -3,8 +3,8 @@ use native.Mathlib.Omega.{arith}
 use borrow.Author.Needs.{needs}
 use denote.Ref.{now}
 use Rattle.spell.proofs.Chars.{step-raw, step-in, step-out, utf8-below, within-few, raw-small, code-small}
-use Rattle.spell.proofs.advance.Statement.{statement}
-use Rattle.spell.proofs.advance.Tie as tie
+use Rattle.spell.proofs.steps.advance.Statement.{statement}
+use Rattle.spell.proofs.steps.advance.Tie as tie
 
 octet-requires : tie.Need-octet-requires
 octet-requires c κs =

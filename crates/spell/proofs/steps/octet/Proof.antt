@@ -4,8 +4,8 @@ use borrow.Author.Needs.{needs}
 use mathlib.Core.Path.{refl, ap}
 use lib.ListN.{length}
 use Rattle.spell.proofs.Chars.{at-index, utf8-1, utf8-2, utf8-3, utf8-4}
-use Rattle.spell.proofs.octet.Statement.{statement}
-use Rattle.spell.proofs.octet.Tie as tie
+use Rattle.spell.proofs.steps.octet.Statement.{statement}
+use Rattle.spell.proofs.steps.octet.Tie as tie
 
 returns : tie.Need-returns
 returns c =

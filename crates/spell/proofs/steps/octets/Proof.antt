@@ -1,8 +1,8 @@
 -- Each return is the definition's case with the same tests.
 use Rattle.spell.specs.Spell.{utf8Of}
 use Rattle.wire.proofs.Laws.{tests}
-use Rattle.spell.proofs.octets.Statement.{statement}
-use Rattle.spell.proofs.octets.Tie as tie
+use Rattle.spell.proofs.steps.octets.Statement.{statement}
+use Rattle.spell.proofs.steps.octets.Tie as tie
 
 pub octets-spec : {M : Type 1} → statement M
 unfolding utf8Of

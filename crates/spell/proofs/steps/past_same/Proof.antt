@@ -6,8 +6,8 @@ use Prim.Native.Nat.{_-_}
 use lib.ListN.{length}
 use Rattle.spell.specs.Steps.{Same}
 use Rattle.spell.proofs.Runs.{same-start, same-byte, same-pair}
-use Rattle.spell.proofs.past_same.Statement.{statement}
-use Rattle.spell.proofs.past_same.Tie as tie
+use Rattle.spell.proofs.steps.past_same.Statement.{statement}
+use Rattle.spell.proofs.steps.past_same.Tie as tie
 
 abbrev Inv-loop : tie.InvT-loop
 Inv-loop p i n₀ n = Same p i n

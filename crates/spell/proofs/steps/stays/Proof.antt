@@ -4,8 +4,8 @@ use native.Mathlib.Omega.{arith}
 use Rattle.wire.specs.Escape.{letterOf, escOne}
 use Rattle.spell.specs.Spell.{shortOf}
 use Rattle.spell.proofs.Runs.{stays-no}
-use Rattle.spell.proofs.stays.Statement.{statement}
-use Rattle.spell.proofs.stays.Tie as tie
+use Rattle.spell.proofs.steps.stays.Statement.{statement}
+use Rattle.spell.proofs.steps.stays.Tie as tie
 
 pub stays-spec : {M : Type 1} → statement M
 unfolding escOne shortOf letterOf
