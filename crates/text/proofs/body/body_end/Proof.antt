@@ -9,8 +9,8 @@ use lib.ListN.{length, drop}
 use Rattle.text.specs.Read.{bodyFrom}
 use Rattle.text.specs.Parts.{endOf}
 use Rattle.text.proofs.Ways.{body-over, body-pair, body-unknown, body-quote, body-low, body-high}
-use Rattle.text.proofs.body_end.Statement.{statement}
-use Rattle.text.proofs.body_end.Tie as tie
+use Rattle.text.proofs.body.body_end.Statement.{statement}
+use Rattle.text.proofs.body.body_end.Tie as tie
 
 abbrev Inv-loop : tie.InvT-loop
 Inv-loop s at i₀ run₀ i run = (run < 16) × (endOf (bodyFrom false at (drop at s)) ≡ endOf (bodyFrom false i (drop i s)))

@@ -7,8 +7,8 @@ use borrow.Author.Tests.{not-false}
 use lib.ListN.{length}
 use Rattle.text.specs.Parts.{Passes}
 use Rattle.text.proofs.Ways.{body-pair}
-use Rattle.text.proofs.past_escapes.Statement.{statement}
-use Rattle.text.proofs.past_escapes.Tie as tie
+use Rattle.text.proofs.body.past_escapes.Statement.{statement}
+use Rattle.text.proofs.body.past_escapes.Tie as tie
 
 abbrev Inv-loop : tie.InvT-loop
 Inv-loop s at i₀ i = Passes s at i

@@ -6,8 +6,8 @@ use borrow.Author.Needs.{needs}
 use lib.ListN.{length}
 use Rattle.text.specs.Parts.{Passes}
 use Rattle.text.proofs.Blocks.{pass-on}
-use Rattle.text.proofs.past_raw.Statement.{statement}
-use Rattle.text.proofs.past_raw.Tie as tie
+use Rattle.text.proofs.body.past_raw.Statement.{statement}
+use Rattle.text.proofs.body.past_raw.Tie as tie
 
 abbrev Inv-loop : tie.InvT-loop
 Inv-loop s at i₀ i = (i ≤ length s) × Passes s at i

@@ -3,8 +3,8 @@ use native.Mathlib.Omega.{arith}
 use Prim.Native.Nat.{_-_}
 use borrow.Author.Needs.{needs}
 use Rattle.text.proofs.Blocks.{Tested, tested-none, tested-more, tested-all}
-use Rattle.text.proofs.raw_run.Statement.{statement}
-use Rattle.text.proofs.raw_run.Tie as tie
+use Rattle.text.proofs.body.raw_run.Statement.{statement}
+use Rattle.text.proofs.body.raw_run.Tie as tie
 
 abbrev Inv-loop : tie.InvT-loop
 Inv-loop s i n₀ k₀ n k = Tested s i n k

@@ -8,8 +8,8 @@ use lib.ListN.{length, drop}
 use Rattle.text.specs.Read.{standsAt}
 use Rattle.text.proofs.Pieces.{in-text}
 use Rattle.text.proofs.Ways.{no-zero, stands-out, stands-step}
-use Rattle.text.proofs.stands.Statement.{statement}
-use Rattle.text.proofs.stands.Tie as tie
+use Rattle.text.proofs.body.stands.Statement.{statement}
+use Rattle.text.proofs.body.stands.Tie as tie
 
 abbrev Inv-loop : tie.InvT-loop
 Inv-loop s at w i₀ k₀ i k = standsAt s (drop k w) i ≡ standsAt s w at

@@ -4,8 +4,8 @@ use native.Mathlib.Omega.{arith}
 use borrow.Author.Needs.{needs}
 use Rattle.text.proofs.Pieces.{in-text}
 use Rattle.text.proofs.Ways.{string-other, string-is}
-use Rattle.text.proofs.string_end.Statement.{statement}
-use Rattle.text.proofs.string_end.Tie as tie
+use Rattle.text.proofs.body.string_end.Statement.{statement}
+use Rattle.text.proofs.body.string_end.Tie as tie
 
 pub string-end-spec : {M : Type 1} → statement M
 string-end-spec =

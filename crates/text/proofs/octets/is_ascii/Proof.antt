@@ -10,8 +10,8 @@ use Rattle.utf8.specs.Utf8.{utf8From, isUtf8}
 use Rattle.utf8.specs.declared.Want.the-variants.{Lead}
 use Rattle.utf8.proofs.Laws.{over}
 use Rattle.text.proofs.Blocks.{ascii-more}
-use Rattle.text.proofs.is_ascii.Statement.{statement}
-use Rattle.text.proofs.is_ascii.Tie as tie
+use Rattle.text.proofs.octets.is_ascii.Statement.{statement}
+use Rattle.text.proofs.octets.is_ascii.Tie as tie
 
 abbrev Inv-loop : tie.InvT-loop
 Inv-loop s high₀ i₀ high i = high ≡ false → isUtf8 s ≡ utf8From Lead (drop i s)

@@ -1,8 +1,8 @@
 -- ASCII is UTF-8; else all of it is asked for.
 use mathlib.Core.Path.{sym}
 use borrow.Author.Needs.{needs}
-use Rattle.text.proofs.is_text.Statement.{statement}
-use Rattle.text.proofs.is_text.Tie as tie
+use Rattle.text.proofs.octets.is_text.Statement.{statement}
+use Rattle.text.proofs.octets.is_text.Tie as tie
 
 pub is-text-spec : {M : Type 1} → statement M
 is-text-spec =

@@ -5,8 +5,8 @@ use borrow.Author.Needs.{needs}
 use lib.ListN.{length}
 use Rattle.utf8.specs.Utf8.{isUtf8}
 use Rattle.text.proofs.Windows.{Seen, seen-none, seen-more, seen-all}
-use Rattle.text.proofs.is_utf8.Statement.{statement}
-use Rattle.text.proofs.is_utf8.Tie as tie
+use Rattle.text.proofs.octets.is_utf8.Statement.{statement}
+use Rattle.text.proofs.octets.is_utf8.Tie as tie
 
 abbrev Inv-loop : tie.InvT-loop
 Inv-loop s c₀ b₀ a₀ wrong₀ i₀ c b a wrong i = Seen (isUtf8 s) s i c b a wrong

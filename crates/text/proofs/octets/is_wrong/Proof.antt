@@ -1,8 +1,8 @@
 -- The definition's tests.
 use borrow.Author.Needs.{needs}
 use Rattle.text.specs.Windows.{isWrong}
-use Rattle.text.proofs.is_wrong.Statement.{statement}
-use Rattle.text.proofs.is_wrong.Tie as tie
+use Rattle.text.proofs.octets.is_wrong.Statement.{statement}
+use Rattle.text.proofs.octets.is_wrong.Tie as tie
 
 pub is-wrong-spec : {M : Type 1} → statement M
 unfolding isWrong

@@ -3,8 +3,8 @@ use mathlib.Core.Path.{sym, _∙_}
 use borrow.Author.Needs.{needs}
 use borrow.Author.Tests.{not-true, not-false}
 use Rattle.text.proofs.Fields.{opens-short, opens-other, opens-no, opens-is}
-use Rattle.text.proofs.is_opened.Statement.{statement}
-use Rattle.text.proofs.is_opened.Tie as tie
+use Rattle.text.proofs.parts.is_opened.Statement.{statement}
+use Rattle.text.proofs.parts.is_opened.Tie as tie
 
 returns-3 : tie.Need-returns-3
 returns-3 c =

@@ -9,8 +9,8 @@ use lib.ListN.{length, drop}
 use Rattle.wire.specs.Bytes.{isHex}
 use Rattle.text.specs.Event.{all, isPubkey}
 use Rattle.text.proofs.Ways.{hex-over, hex-more}
-use Rattle.text.proofs.is_pubkey.Statement.{statement}
-use Rattle.text.proofs.is_pubkey.Tie as tie
+use Rattle.text.proofs.parts.is_pubkey.Statement.{statement}
+use Rattle.text.proofs.parts.is_pubkey.Tie as tie
 
 abbrev Inv-loop : tie.InvT-loop
 Inv-loop p hex₀ i₀ hex i = isPubkey p ≡ (hex && all isHex (drop i p))

@@ -1,8 +1,8 @@
 -- What `numeral` says of the bytes before the comma; a number below 0 has bits far above the largest kind.
 use borrow.Author.Needs.{needs}
 use Rattle.text.proofs.Fields.{kind-past, kind-large, kind-malformed, kind-over, kind-is}
-use Rattle.text.proofs.kind_at.Statement.{statement}
-use Rattle.text.proofs.kind_at.Tie as tie
+use Rattle.text.proofs.parts.kind_at.Statement.{statement}
+use Rattle.text.proofs.parts.kind_at.Tie as tie
 
 returns-2 : tie.Need-returns-2
 returns-2 c =

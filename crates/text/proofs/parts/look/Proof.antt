@@ -3,8 +3,8 @@ use mathlib.Core.Path.{refl, sym, _∙_}
 use borrow.Author.Needs.{needs}
 use Rattle.text.proofs.Rows.{stands-inside}
 use Rattle.text.proofs.Named.{look-known, look-d, look-other}
-use Rattle.text.proofs.look.Statement.{statement}
-use Rattle.text.proofs.look.Tie as tie
+use Rattle.text.proofs.parts.look.Statement.{statement}
+use Rattle.text.proofs.parts.look.Tie as tie
 
 pub look-spec : {M : Type 1} → statement M
 look-spec =

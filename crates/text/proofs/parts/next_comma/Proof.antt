@@ -6,8 +6,8 @@ use borrow.Author.Needs.{needs}
 use lib.ListN.{length, drop}
 use Rattle.text.specs.Read.{runOf}
 use Rattle.text.proofs.Ways.{comma-none, comma-here, comma-later}
-use Rattle.text.proofs.next_comma.Statement.{statement}
-use Rattle.text.proofs.next_comma.Tie as tie
+use Rattle.text.proofs.parts.next_comma.Statement.{statement}
+use Rattle.text.proofs.parts.next_comma.Tie as tie
 
 abbrev Inv-loop : tie.InvT-loop
 Inv-loop s at i₀ i = at + length (runOf (drop at s)) ≡ i + length (runOf (drop i s))

@@ -5,8 +5,8 @@ use native.Mathlib.Omega.{arith}
 use borrow.Author.Needs.{needs}
 use Rattle.text.proofs.Pieces.{in-text}
 use Rattle.text.proofs.Texts.{rest-tags, rest-comma, rest-string, rest-bracket, rest-long, rest-got, string-long}
-use Rattle.text.proofs.rest_at.Statement.{statement}
-use Rattle.text.proofs.rest_at.Tie as tie
+use Rattle.text.proofs.parts.rest_at.Statement.{statement}
+use Rattle.text.proofs.parts.rest_at.Tie as tie
 
 returns : tie.Need-returns
 returns c =

@@ -7,8 +7,8 @@ use borrow.Author.Needs.{needs}
 use borrow.Author.Tests.{not-true, not-false}
 use Rattle.text.proofs.Ways.{body-inside}
 use Rattle.text.proofs.Named.{second-none, second-bad, second-empty, second-is}
-use Rattle.text.proofs.second_at.Statement.{statement}
-use Rattle.text.proofs.second_at.Tie as tie
+use Rattle.text.proofs.parts.second_at.Statement.{statement}
+use Rattle.text.proofs.parts.second_at.Tie as tie
 
 inside : (c : tie.After-known-told) → (c .before .before .before .before .before .before .before .before .args .i + 4 + 2 + 1 ≤ c .before .n .given .0 .0) × (c .before .n .given .0 .0 ≤ length (c .before .before .before .before .before .before .before .before .args .s .now))
 inside c = body-inside _ _ _ (sym (c .before .before .before .body-end .ensures) ∙ c .before .n .given .1)

@@ -6,8 +6,8 @@ use Rattle.text.specs.Read.{stringAt, tagAt, membersAt}
 use Rattle.text.specs.Parts.{endOf}
 use Rattle.text.proofs.Pieces.{in-text}
 use Rattle.text.proofs.Ways.{tag-other, tag-open, turn-out, turn-bad, turn-more, turn-done, turn-wrong}
-use Rattle.text.proofs.tag_end.Statement.{statement}
-use Rattle.text.proofs.tag_end.Tie as tie
+use Rattle.text.proofs.parts.tag_end.Statement.{statement}
+use Rattle.text.proofs.parts.tag_end.Tie as tie
 
 abbrev Inv-loop : tie.InvT-loop
 Inv-loop s at i₀ k₀ i k = endOf (membersAt (stringAt s) s k i) ≡ endOf (tagAt s at)

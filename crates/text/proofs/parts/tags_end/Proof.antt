@@ -8,8 +8,8 @@ use Rattle.text.specs.Parts.{taggedOf}
 use Rattle.text.specs.declared.Found.the-variants.{Not}
 use Rattle.text.proofs.Pieces.{in-text}
 use Rattle.text.proofs.Named.{tags-other, tags-empty, tags-open, tags-out, tags-bad, tags-more, tags-done, tags-wrong}
-use Rattle.text.proofs.tags_end.Statement.{statement}
-use Rattle.text.proofs.tags_end.Tie as tie
+use Rattle.text.proofs.parts.tags_end.Statement.{statement}
+use Rattle.text.proofs.parts.tags_end.Tie as tie
 
 abbrev Inv-loop : tie.InvT-loop
 Inv-loop s at i₀ d₀ k₀ i d k = taggedOf d i (membersAt (tagAt s) s k i) ≡ taggedOf Not (at + 1) (tagsAt s at)

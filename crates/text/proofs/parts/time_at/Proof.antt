@@ -1,8 +1,8 @@
 -- What `numeral` says of the bytes before the comma.
 use borrow.Author.Needs.{needs}
 use Rattle.text.proofs.Fields.{time-past, time-large, time-malformed, time-is}
-use Rattle.text.proofs.time_at.Statement.{statement}
-use Rattle.text.proofs.time_at.Tie as tie
+use Rattle.text.proofs.parts.time_at.Statement.{statement}
+use Rattle.text.proofs.parts.time_at.Tie as tie
 
 pub time-at-spec : {M : Type 1} → statement M
 time-at-spec =

@@ -1,8 +1,8 @@
 -- Both cases compute.
 use borrow.Author.Needs.{needs}
 use Rattle.text.specs.Answer.{dSpan}
-use Rattle.text.proofs.with_d.Statement.{statement}
-use Rattle.text.proofs.with_d.Tie as tie
+use Rattle.text.proofs.parts.with_d.Statement.{statement}
+use Rattle.text.proofs.parts.with_d.Tie as tie
 
 pub with-d-spec : {M : Type 1} → statement M
 unfolding dSpan
