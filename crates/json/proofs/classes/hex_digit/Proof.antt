@@ -1,8 +1,8 @@
 -- Each range is tested as the definition has it.
 use borrow.Author.Needs.{needs}
 use Rattle.json.specs.Grammar.{classOf}
-use Rattle.json.proofs.hex_digit.Statement.{statement}
-use Rattle.json.proofs.hex_digit.Tie as tie
+use Rattle.json.proofs.classes.hex_digit.Statement.{statement}
+use Rattle.json.proofs.classes.hex_digit.Tie as tie
 
 pub hex-digit-spec : {M : Type 1} → statement M
 unfolding classOf

@@ -2,8 +2,8 @@
 use borrow.Author.Needs.{needs}
 use Rattle.json.specs.Grammar.{classOf}
 use Rattle.json.proofs.Bytes.{tests}
-use Rattle.json.proofs.is.Statement.{statement}
-use Rattle.json.proofs.is.Tie as tie
+use Rattle.json.proofs.classes.is.Statement.{statement}
+use Rattle.json.proofs.classes.is.Tie as tie
 
 pub is-spec : {M : Type 1} → statement M
 unfolding classOf

@@ -3,8 +3,8 @@ use native.Mathlib.Omega.{arith}
 use borrow.Author.Needs.{needs}
 use Rattle.json.specs.Grammar.{oneAt}
 use Rattle.json.proofs.Bytes.{class-within}
-use Rattle.json.proofs.one.Statement.{statement}
-use Rattle.json.proofs.one.Tie as tie
+use Rattle.json.proofs.classes.one.Statement.{statement}
+use Rattle.json.proofs.classes.one.Tie as tie
 
 add-t7 : tie.Need-add-t7
 add-t7 c =

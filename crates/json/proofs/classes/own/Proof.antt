@@ -8,8 +8,8 @@ use borrow.Author.Tests.{le-leb, lt-leb, eq-eqb, ne-eqb}
 use lib.Dec.{leb, eqb}
 use Rattle.json.specs.Grammar.{classOf}
 use Rattle.json.specs.declared.Class.the-variants.{Plain}
-use Rattle.json.proofs.own.Statement.{statement}
-use Rattle.json.proofs.own.Tie as tie
+use Rattle.json.proofs.classes.own.Statement.{statement}
+use Rattle.json.proofs.classes.own.Tie as tie
 
 ranges : (b : ℕ) → ((leb 32 b && not (eqb b 34)) && not (eqb b 92)) ≡ classOf Plain b
 unfolding classOf

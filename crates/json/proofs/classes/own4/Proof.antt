@@ -5,8 +5,8 @@ use Prim.Native.Nat.{ℕ}
 use native.Mathlib.Omega.{arith}
 use borrow.Author.Needs.{needs}
 use Rattle.json.proofs.Ends.{all-both, chars-four}
-use Rattle.json.proofs.own4.Statement.{statement}
-use Rattle.json.proofs.own4.Tie as tie
+use Rattle.json.proofs.classes.own4.Statement.{statement}
+use Rattle.json.proofs.classes.own4.Tie as tie
 
 returns : tie.Need-returns
 returns c =

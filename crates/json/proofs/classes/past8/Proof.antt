@@ -5,8 +5,8 @@ use native.Mathlib.Omega.{arith}
 use borrow.Author.Needs.{needs}
 use Rattle.json.specs.Grammar.{Skips, charsAt}
 use Rattle.json.proofs.Ends.{all-both, chars-eight}
-use Rattle.json.proofs.past8.Statement.{statement}
-use Rattle.json.proofs.past8.Tie as tie
+use Rattle.json.proofs.classes.past8.Statement.{statement}
+use Rattle.json.proofs.classes.past8.Tie as tie
 
 returns : tie.Need-returns
 returns c = record { same = refl; on = omega arith }

@@ -8,8 +8,8 @@ use borrow.Author.Tests.{le-leb, lt-leb}
 use lib.Dec.{leb}
 use Rattle.json.specs.Grammar.{within, classOf}
 use Rattle.json.specs.declared.Class.the-variants.{Plain}
-use Rattle.json.proofs.plain.Statement.{statement}
-use Rattle.json.proofs.plain.Tie as tie
+use Rattle.json.proofs.classes.plain.Statement.{statement}
+use Rattle.json.proofs.classes.plain.Tie as tie
 
 high : (b : ℕ) → 93 ≤ b → leb 93 b ≡ classOf Plain b
 unfolding classOf

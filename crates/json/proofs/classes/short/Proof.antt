@@ -1,8 +1,8 @@
 -- Each byte is tested as the definition has it.
 use Rattle.json.specs.Grammar.{classOf}
 use Rattle.json.proofs.Bytes.{tests}
-use Rattle.json.proofs.short.Statement.{statement}
-use Rattle.json.proofs.short.Tie as tie
+use Rattle.json.proofs.classes.short.Statement.{statement}
+use Rattle.json.proofs.classes.short.Tie as tie
 
 pub short-spec : {M : Type 1} → statement M
 unfolding classOf

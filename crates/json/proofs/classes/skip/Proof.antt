@@ -7,8 +7,8 @@ use borrow.Author.Needs.{needs}
 use lib.ListN.{length, getD}
 use Rattle.json.specs.Grammar.{classOf, past}
 use Rattle.json.proofs.Bytes.{class-within, past-more, past-none}
-use Rattle.json.proofs.skip.Statement.{statement}
-use Rattle.json.proofs.skip.Tie as tie
+use Rattle.json.proofs.classes.skip.Statement.{statement}
+use Rattle.json.proofs.classes.skip.Tie as tie
 
 abbrev Inv-loop : tie.InvT-loop
 Inv-loop s at class i₀ i = past class s i ≡ past class s at

@@ -6,8 +6,8 @@ use borrow.Author.Tests.{eq-eqb, ne-eqb}
 use Rattle.json.specs.Grammar.{classOf, oneAt}
 use Rattle.json.specs.declared.Class.the-variants.{Byte}
 use Rattle.json.proofs.Bytes.{byte-not-zero, class-within}
-use Rattle.json.proofs.this.Statement.{statement}
-use Rattle.json.proofs.this.Tie as tie
+use Rattle.json.proofs.classes.this.Statement.{statement}
+use Rattle.json.proofs.classes.this.Tie as tie
 
 add-t7 : tie.Need-add-t7
 unfolding classOf

@@ -3,8 +3,8 @@ use mathlib.Core.Path.{ap, _∙_}
 use borrow.Author.Needs.{needs}
 use Rattle.json.specs.Grammar.{tokenAt}
 use Rattle.json.specs.declared.Out.the-variants.{End}
-use Rattle.json.proofs.token.Statement.{statement}
-use Rattle.json.proofs.token.Tie as tie
+use Rattle.json.proofs.classes.token.Statement.{statement}
+use Rattle.json.proofs.classes.token.Tie as tie
 
 pub token-spec : {M : Type 1} → statement M
 unfolding tokenAt

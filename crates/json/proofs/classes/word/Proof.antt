@@ -6,8 +6,8 @@ use borrow.Author.Needs.{needs}
 use lib.ListN.{length, drop}
 use Rattle.json.specs.Grammar.{wordAt}
 use Rattle.json.proofs.Bytes.{no-zero, word-out, word-step}
-use Rattle.json.proofs.word.Statement.{statement}
-use Rattle.json.proofs.word.Tie as tie
+use Rattle.json.proofs.classes.word.Statement.{statement}
+use Rattle.json.proofs.classes.word.Tie as tie
 
 abbrev Inv-loop : tie.InvT-loop
 Inv-loop s at w i₀ k₀ i k = (k ≤ length w) × (wordAt s (drop k w) i ≡ wordAt s w at)

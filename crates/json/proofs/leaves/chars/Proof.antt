@@ -6,8 +6,8 @@ use borrow.Author.Needs.{needs}
 use lib.ListN.{length}
 use Rattle.json.specs.Grammar.{charsAt}
 use Rattle.json.proofs.Ends.{escaped-ends, chars-more, chars-none, char-plain, char-escaped, chars-past}
-use Rattle.json.proofs.chars.Statement.{statement}
-use Rattle.json.proofs.chars.Tie as tie
+use Rattle.json.proofs.leaves.chars.Statement.{statement}
+use Rattle.json.proofs.leaves.chars.Tie as tie
 
 abbrev Inv-loop : tie.InvT-loop
 Inv-loop s at i₀ i = charsAt s i ≡ charsAt s at

@@ -4,8 +4,8 @@ use borrow.Author.Needs.{needs}
 use Rattle.json.specs.Grammar.{classOf, oneAt, digitsAt}
 use Rattle.json.specs.declared.Out.the-variants.{End}
 use Rattle.json.proofs.Bytes.{digits-are}
-use Rattle.json.proofs.digits.Statement.{statement}
-use Rattle.json.proofs.digits.Tie as tie
+use Rattle.json.proofs.leaves.digits.Statement.{statement}
+use Rattle.json.proofs.leaves.digits.Tie as tie
 
 pub digits-spec : {M : Type 1} → statement M
 unfolding classOf oneAt digitsAt

@@ -2,8 +2,8 @@
 use mathlib.Core.Path.{refl, _∙_}
 use borrow.Author.Needs.{needs}
 use Rattle.json.specs.Grammar.{classOf, escapedAt}
-use Rattle.json.proofs.escaped.Statement.{statement}
-use Rattle.json.proofs.escaped.Tie as tie
+use Rattle.json.proofs.leaves.escaped.Statement.{statement}
+use Rattle.json.proofs.leaves.escaped.Tie as tie
 
 pub escaped-spec : {M : Type 1} → statement M
 unfolding classOf escapedAt

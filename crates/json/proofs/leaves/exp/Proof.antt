@@ -2,8 +2,8 @@
 use mathlib.Core.Path.{refl, _∙_}
 use borrow.Author.Needs.{needs}
 use Rattle.json.specs.Grammar.{classOf, expAt}
-use Rattle.json.proofs.exp.Statement.{statement}
-use Rattle.json.proofs.exp.Tie as tie
+use Rattle.json.proofs.leaves.exp.Statement.{statement}
+use Rattle.json.proofs.leaves.exp.Tie as tie
 
 pub exp-spec : {M : Type 1} → statement M
 unfolding classOf expAt

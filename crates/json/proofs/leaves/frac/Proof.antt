@@ -2,8 +2,8 @@
 use mathlib.Core.Path.{_∙_}
 use borrow.Author.Needs.{needs}
 use Rattle.json.specs.Grammar.{fracAt}
-use Rattle.json.proofs.frac.Statement.{statement}
-use Rattle.json.proofs.frac.Tie as tie
+use Rattle.json.proofs.leaves.frac.Statement.{statement}
+use Rattle.json.proofs.leaves.frac.Tie as tie
 
 pub frac-spec : {M : Type 1} → statement M
 unfolding fracAt

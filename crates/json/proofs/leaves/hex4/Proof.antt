@@ -2,8 +2,8 @@
 use mathlib.Core.Path.{refl, _∙_}
 use borrow.Author.Needs.{needs}
 use Rattle.json.specs.Grammar.{classOf, hexAt}
-use Rattle.json.proofs.hex4.Statement.{statement}
-use Rattle.json.proofs.hex4.Tie as tie
+use Rattle.json.proofs.leaves.hex4.Statement.{statement}
+use Rattle.json.proofs.leaves.hex4.Tie as tie
 
 pub hex4-spec : {M : Type 1} → statement M
 unfolding classOf hexAt

@@ -2,8 +2,8 @@
 use mathlib.Core.Path.{_∙_}
 use borrow.Author.Needs.{needs}
 use Rattle.json.specs.Grammar.{intAt}
-use Rattle.json.proofs.int.Statement.{statement}
-use Rattle.json.proofs.int.Tie as tie
+use Rattle.json.proofs.leaves.int.Statement.{statement}
+use Rattle.json.proofs.leaves.int.Tie as tie
 
 pub int-spec : {M : Type 1} → statement M
 unfolding intAt

@@ -2,8 +2,8 @@
 use mathlib.Core.Path.{_∙_}
 use borrow.Author.Needs.{needs}
 use Rattle.json.specs.Grammar.{literalAt}
-use Rattle.json.proofs.literal.Statement.{statement}
-use Rattle.json.proofs.literal.Tie as tie
+use Rattle.json.proofs.leaves.literal.Statement.{statement}
+use Rattle.json.proofs.leaves.literal.Tie as tie
 
 pub literal-spec : {M : Type 1} → statement M
 unfolding literalAt

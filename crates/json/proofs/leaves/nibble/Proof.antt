@@ -5,8 +5,8 @@ use borrow.Author.Needs.{needs}
 use Rattle.json.specs.Grammar.{classOf, oneAt}
 use Rattle.json.specs.declared.Class.the-variants.{Hex}
 use Rattle.json.proofs.Bytes.{class-within}
-use Rattle.json.proofs.nibble.Statement.{statement}
-use Rattle.json.proofs.nibble.Tie as tie
+use Rattle.json.proofs.leaves.nibble.Statement.{statement}
+use Rattle.json.proofs.leaves.nibble.Tie as tie
 
 add-t6 : tie.Need-add-t6
 unfolding classOf

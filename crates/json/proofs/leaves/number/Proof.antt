@@ -2,8 +2,8 @@
 use mathlib.Core.Path.{_∙_}
 use borrow.Author.Needs.{needs}
 use Rattle.json.specs.Grammar.{numberAt}
-use Rattle.json.proofs.number.Statement.{statement}
-use Rattle.json.proofs.number.Tie as tie
+use Rattle.json.proofs.leaves.number.Statement.{statement}
+use Rattle.json.proofs.leaves.number.Tie as tie
 
 pub number-spec : {M : Type 1} → statement M
 unfolding numberAt
