@@ -7,13 +7,15 @@ use Prim.Native.Nat.{ℕ, zero, suc, _+_, _-_, _/_, _%_, _≤_, _<_}
 use native.Mathlib.Decide.{decLt}
 use native.Mathlib.Numerals.{add-one}
 use native.Mathlib.Omega.{arith}
-use borrow.Author.Tests.{lt-ltb, le-ltb, le-leb, lt-leb, ne-eqb, eqb-true, leb-true}
-use lib.Dec.{ltb, leb, eqb, lit≤}
+use borrow.Author.Tests.{lt-ltb, le-ltb, le-leb, ne-eqb, eqb-true, leb-true}
+use lib.Dec.{ltb, leb, eqb}
 use lib.ListN.{length, getD, drop}
 use lib.Seq.{drop-cons, drop-length}
-use Rattle.utf8.specs.Utf8.{leadOf, next, utf8From, isUtf8}
+use Rattle.wire.specs.Bytes.{isControl}
+use Rattle.wire.proofs.Escapes.{control-high}
+use Rattle.utf8.specs.Utf8.{next, utf8From, isUtf8}
 use Rattle.utf8.specs.declared.Want.{Want}
-use Rattle.utf8.specs.declared.Want.the-variants.{Lead, Tail, Bad}
+use Rattle.utf8.specs.declared.Want.the-variants.{Lead}
 use Rattle.utf8.specs.Abnf.{Octets, utf8-1, utf8-2, utf8-3-e0, utf8-3-e1, utf8-3-ed, utf8-3-ee, utf8-4-f0, utf8-4-f1, utf8-4-f4}
 use Rattle.utf8.proofs.Abnf.{as-in-abnf}
 use Rattle.utf8.proofs.States.{Reached, lead-reached, next-reached, lead-low, low-lead}
@@ -22,7 +24,7 @@ use Rattle.json.proofs.Ends.{one-is, one-ends, byte-is}
 use Rattle.json.proofs.Spelled.{Char, Chars, chars-sound}
 use Rattle.json.proofs.Spelled as json
 use Rattle.spell.specs.declared.Char as spell
-use Rattle.spell.specs.Spell.{hexVal, four, fourAt, shortOf, isPair, pairOf, unicodeOf, charOf, chars, charsFrom, utf8Of, bytesOf, joined, decode, isSurrogate, isControl, isRefused, any, refuses}
+use Rattle.spell.specs.Spell.{hexVal, four, fourAt, shortOf, isPair, pairOf, unicodeOf, charOf, chars, charsFrom, utf8Of, bytesOf, joined, decode, isSurrogate, isRefused, any, refuses}
 use Rattle.text.specs.Event.{all, isPlainByte, isString}
 
 -- ---- Bools
@@ -246,19 +248,11 @@ module _ (n : ℕ) where
 -- ---- plain bytes
 pub plain-high : (x : ℕ) → 0x20 ≤ x → isPlainByte x ≡ true
 unfolding isPlainByte
-plain-high x h = rw (le-leb 0x20 x h)
+plain-high x h = ap not (control-high x h)
 
 plain-low : (n : ℕ) → isControl n ≡ false → isPlainByte n ≡ true
 unfolding isPlainByte
-plain-low n e = elim (decLt n 0x20) [ yes h ↦ rw (lt-leb 0x20 n h) (one (eqb n 0x8) (eqb n 0x9) (eqb n 0xa) (eqb n 0xc) (eqb n 0xd) (rw (lt-ltb n 0x20 h) at e)) | no h ↦ rw (le-leb 0x20 n (omega arith)) ]
-  where
-    one : (a b c d f : Bool) → (not a && (not b && (not c && (not d && not f)))) ≡ false → (a || (b || (c || (d || f)))) ≡ true
-    one true b c d f e = refl
-    one false true c d f e = refl
-    one false false true d f e = refl
-    one false false false true f e = refl
-    one false false false false true e = refl
-    one false false false false false e = absurd (let z : _≡_ {A = ℕ} 0 1 = cc in omega arith)
+plain-low n e = ap not e
 
 plain-of : (n : ℕ) (t : List ℕ) → isControl n ≡ false → all isPlainByte t ≡ true → all isPlainByte (utf8Of n ++ t) ≡ true
 unfolding utf8Of all

@@ -10,8 +10,7 @@ use lib.Dec.{ltb, lit<}
 use lib.IntN.{ℤ, pos, negsuc, negℤ}
 use lib.ListN.{length, getD, take, drop}
 use lib.Seq.{take-add, drop-drop, drop-cons}
-use Rattle.utf8.specs.Utf8.{next, utf8From, isUtf8}
-use Rattle.utf8.specs.declared.Want.{Want}
+use Rattle.utf8.specs.Utf8.{utf8From, isUtf8}
 use Rattle.utf8.specs.declared.Want.the-variants.{Lead}
 use Rattle.utf8.proofs.States.{lead-reached, utf8-cut}
 use Rattle.json.specs.Grammar.{case, past, charsAt, tokenAt, openedAt, stringAt, scalarAt, startAt, nextAt, wsAt, isSpelling}

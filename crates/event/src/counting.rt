@@ -1,10 +1,12 @@
-// How long that text is, up to the most that a number holds.
+// How long the text of the event that parts spell is, up to the most that a number holds.
 ghost use mathlib.Core.Path.{_≡_};
 ghost use mathlib.Core.Bool.{false};
 ghost use Prim.Native.Nat.{_+_, min};
 ghost use lib.ListN.{length};
 ghost use Rattle.json.specs.Tree.{treeAt, itemsAt};
-ghost use Rattle.event.specs.Walk.{tagDepth, stringDepth, Counts, mostLength, Does, stringText, stringsText, oneTagText, allTagsText};
+ghost use Rattle.text.specs.Event.{tagsText};
+ghost use Rattle.event.specs.Lent.{tagsAt};
+ghost use Rattle.event.specs.Walk.{tagDepth, stringDepth, Counts, mostLength, lengthOf, Does, stringText, stringsText, oneTagText, allTagsText};
 use crate::Reached;
 use crate::writing;
 
@@ -121,4 +123,17 @@ pub(crate) fn count_all(n: usize, b: &[u8], first: usize) -> Reached
         k += 1;
     }
     Reached { at: o, next: i }
+}
+
+// How long the text of the tags is, up to the most that a number holds.
+pub(crate) fn tags_len(b: &[u8], tags: usize) -> usize
+    ensures { λ r. ⌜ r ≡ lengthOf (tagsText (tagsAt (now (b .entry)) tags)) ⌝ }
+{
+    match writing::first_tag(b, tags) {
+        json::Out::End(first) => {
+            let w = count_all(1, b, first);
+            w.at
+        }
+        json::Out::Bad => 2,
+    }
 }

@@ -58,7 +58,7 @@ pub fn put_part(out: &mut [u8], at: usize, b: &[u8], s: message::Span) -> usize
     wire::put(out, c, b"\"")
 }
 
-// How long that is, but for the quotes.
+// How long a string part is once it is decoded and escaped, but for the quotes.
 pub fn part_len(b: &[u8], s: message::Span) -> usize
     ensures { λ r. ⌜ r ≡ length (escape (said (now (b .entry)) s)) ⌝ }
 {
@@ -91,19 +91,6 @@ pub fn put_text(out: &mut [u8], at: usize, b: &[u8], p: message::Body) -> usize
     writing::put_whole(out, at, b, p, known)
 }
 
-// How long the text of the tags is, up to the most that a number holds.
-pub fn tags_len(b: &[u8], tags: usize) -> usize
-    ensures { λ r. ⌜ r ≡ lengthOf (tagsText (tagsAt (now (b .entry)) tags)) ⌝ }
-{
-    match writing::first_tag(b, tags) {
-        json::Out::End(first) => {
-            let w = counting::count_all(1, b, first);
-            w.at
-        }
-        json::Out::Bad => 2,
-    }
-}
-
 // How long the text is, up to the most that a number holds: parts of absurd buffers may overlap.
 pub fn text_len(b: &[u8], p: message::Body) -> usize
     ensures { λ r. ⌜ r ≡ lengthOf (textOf (now (b .entry)) p) ⌝ }
@@ -116,13 +103,14 @@ pub fn text_len(b: &[u8], p: message::Body) -> usize
     );
     let c = counting::more(a, numeral::decimal_len(p.created_at));
     let d = counting::more(c, numeral::natural_len(kind_of(p.kind)));
-    let e = counting::more(d, tags_len(b, p.tags));
+    let e = counting::more(d, counting::tags_len(b, p.tags));
     counting::more(
         e,
         spell::escaped_len(wire::piece(b, content.start, content.len)),
     )
 }
 
+// The hex digits of bytes, in lower case, into `out` from `at` on; the index after them.
 pub fn put_hex(out: &mut [u8], at: usize, s: &[u8]) -> usize
     ensures { λ r. ⌜ Puts (now (out .entry)) at (hexOf (now (s .entry))) r (now (out .exit)) ⌝ }
 {
@@ -188,7 +176,7 @@ pub fn offered_row(b: &[u8], p: message::EventParts) -> u8
     }
 }
 
-// The same rows, then 13; where none holds, the event's text from the start of `out`.
+// Rows 2 and 4 to 10 of an event that is offered as parts, then 13; where none holds, its text from the start of `out`.
 pub fn offered_text(b: &[u8], p: message::EventParts, out: &mut [u8]) -> Written
     ensures { λ r. ⌜ r ≡ offered (now (b .entry)) p (now (out .entry)) ⌝ }
     ensures { λ r. ⌜ numberOf r ≡ offeredTextRow (now (b .entry)) p (now (out .entry)) ⌝ }

@@ -11,6 +11,8 @@ ghost use Rattle.event.specs.Lent.{tagsAt, textOf};
 ghost use Rattle.event.specs.Walk.{tagDepth, stringDepth, puts, Does, firstOf, firstTag, frontText, backText, stringText, stringsText, oneTagText, allTagsText};
 ghost use Rattle.event.specs.Answer.{hexDigit};
 use crate::Reached;
+use json::Out;
+use message::Body;
 
 // The most brackets and braces open at once in the tags' array, in a tag and in what a tag holds.
 pub(crate) const TAGS_DEPTH: usize = json::DEPTH;
@@ -24,8 +26,8 @@ pub(crate) fn past(b: &[u8], v: usize, d: usize) -> usize
     ensures { λ r. ⌜ r ≡ case (endOf (treeAt (now (b .entry)) d v)) (λ n. n) v ⌝ }
 {
     match json::value(b, v, d) {
-        json::Out::End(n) => n,
-        json::Out::Bad => v,
+        Out::End(n) => n,
+        Out::Bad => v,
     }
 }
 
@@ -34,14 +36,14 @@ pub(crate) fn put_string(out: &mut [u8], at: usize, b: &[u8], v: usize) -> Reach
     ensures { λ r. ⌜ Does puts (treeAt (now (b .entry)) stringDepth v) (stringText (now (b .entry))) (now (out .entry), at) (now (out .exit), r .at) (r .next) ⌝ }
 {
     match json::string(b, v) {
-        json::Out::End(n) => {
+        Out::End(n) => {
             let o = crate::put_quoted(out, at, wire::piece(b, v + 1, n - v - 2));
             Reached {
                 at: o,
                 next: json::space(b, n),
             }
         }
-        json::Out::Bad => {
+        Out::Bad => {
             let o = wire::put(out, at, b"\"\"");
             Reached {
                 at: o,
@@ -136,54 +138,48 @@ pub(crate) fn put_all(out: &mut [u8], at: usize, b: &[u8], first: usize) -> Reac
 }
 
 // The first item of an array that holds some, by what begins there.
-pub(crate) fn begun(b: &[u8], tags: usize) -> json::Out
+pub(crate) fn begun(b: &[u8], tags: usize) -> Out
     ensures { λ r. ⌜ r ≡ firstOf (startAt (now (b .entry)) tags) ⌝ }
 {
     match json::begin(b, tags) {
         json::Start::Many(first, named) => {
             if named {
-                return json::Out::Bad;
+                return Out::Bad;
             }
-            json::Out::End(first)
+            Out::End(first)
         }
-        json::Start::Empty(_, _) => json::Out::Bad,
-        json::Start::Leaf => json::Out::Bad,
+        json::Start::Empty(_, _) => Out::Bad,
+        json::Start::Leaf => Out::Bad,
     }
 }
 
 // The same, or that no such array stands there to its end.
-pub(crate) fn first_tag(b: &[u8], tags: usize) -> json::Out
+pub(crate) fn first_tag(b: &[u8], tags: usize) -> Out
     ensures { λ r. ⌜ r ≡ firstTag (now (b .entry)) tags ⌝ }
 {
     match json::value(b, tags, TAGS_DEPTH) {
-        json::Out::End(_) => begun(b, tags),
-        json::Out::Bad => json::Out::Bad,
+        Out::End(_) => begun(b, tags),
+        Out::Bad => Out::Bad,
     }
 }
 
 // The tags of the array at `tags`, the first of which is known; [] where there is none.
-pub(crate) fn put_tags_from(
-    out: &mut [u8],
-    at: usize,
-    b: &[u8],
-    tags: usize,
-    known: json::Out,
-) -> usize
+pub(crate) fn put_tags_from(out: &mut [u8], at: usize, b: &[u8], tags: usize, known: Out) -> usize
     requires { ⌜ known ≡ firstTag (now b) tags ⌝ }
     ensures { λ r. ⌜ Puts (now (out .entry)) at (tagsText (tagsAt (now (b .entry)) tags)) r (now (out .exit)) ⌝ }
 {
     match known {
-        json::Out::End(first) => {
+        Out::End(first) => {
             let o = wire::put(out, at, b"[");
             let w = put_all(out, o, b, first);
             w.at
         }
-        json::Out::Bad => wire::put(out, at, b"[]"),
+        Out::Bad => wire::put(out, at, b"[]"),
     }
 }
 
 // [0,"PUBKEY",TIME,KIND, of the event that the parts spell.
-pub(crate) fn put_front(out: &mut [u8], at: usize, b: &[u8], p: message::Body) -> usize
+pub(crate) fn put_front(out: &mut [u8], at: usize, b: &[u8], p: Body) -> usize
     ensures { λ r. ⌜ Puts (now (out .entry)) at (frontText (now (b .entry)) p) r (now (out .exit)) ⌝ }
 {
     let pubkey = p.pubkey;
@@ -197,13 +193,7 @@ pub(crate) fn put_front(out: &mut [u8], at: usize, b: &[u8], p: message::Body) -
 }
 
 // TAGS,"CONTENT"]
-pub(crate) fn put_back(
-    out: &mut [u8],
-    at: usize,
-    b: &[u8],
-    p: message::Body,
-    known: json::Out,
-) -> usize
+pub(crate) fn put_back(out: &mut [u8], at: usize, b: &[u8], p: Body, known: Out) -> usize
     requires { ⌜ known ≡ firstTag (now b) (p .tags) ⌝ }
     ensures { λ r. ⌜ Puts (now (out .entry)) at (backText (now (b .entry)) p) r (now (out .exit)) ⌝ }
 {
@@ -214,13 +204,7 @@ pub(crate) fn put_back(
     wire::put(out, d, b"]")
 }
 
-pub(crate) fn put_whole(
-    out: &mut [u8],
-    at: usize,
-    b: &[u8],
-    p: message::Body,
-    known: json::Out,
-) -> usize
+pub(crate) fn put_whole(out: &mut [u8], at: usize, b: &[u8], p: Body, known: Out) -> usize
     requires { ⌜ known ≡ firstTag (now b) (p .tags) ⌝ }
     ensures { λ r. ⌜ Puts (now (out .entry)) at (textOf (now (b .entry)) p) r (now (out .exit)) ⌝ }
 {
@@ -228,7 +212,7 @@ pub(crate) fn put_whole(
     put_back(out, a, b, p, known)
 }
 
-// One hex digit, and the digits of bytes, in lower case.
+// One hex digit, in lower case.
 pub(crate) fn hex_digit(d: u8) -> u8
     requires { ⌜ d < 16 ⌝ }
     ensures { λ r. ⌜ r ≡ hexDigit d ⌝ }

@@ -112,6 +112,28 @@ pub(crate) fn this(s: &[u8], at: usize, b: u8) -> Out
     }
 }
 
+// A hexadecimal digit: `one` again, small enough to be compiled in place.
+pub(crate) fn nibble(s: &[u8], at: usize) -> Out
+    ensures { λ r. ⌜ r ≡ oneAt (now (s .entry)) Class.Hex at ⌝ }
+{
+    if hex_digit(wire::byte(s, at)) {
+        Out::End(at + 1)
+    } else {
+        Out::Bad
+    }
+}
+
+// What a backslash may stand before, but for u: `one` again, small enough to be compiled in place.
+pub(crate) fn letter(s: &[u8], at: usize) -> Out
+    ensures { λ r. ⌜ r ≡ oneAt (now (s .entry)) Class.Short at ⌝ }
+{
+    if short(wire::byte(s, at)) {
+        Out::End(at + 1)
+    } else {
+        Out::Bad
+    }
+}
+
 // The place after what may be missing at a place.
 pub(crate) fn or(o: Out, at: usize) -> usize
     ensures { λ r. ⌜ r ≡ case o (λ n. n) at ⌝ }

@@ -1,6 +1,6 @@
 // RFC 8259, sections 3, 6 and 7: literals, numbers, and the characters of a string.
 ghost use mathlib.Core.Path.{_≡_};
-ghost use Rattle.json.specs.Grammar.{oneAt, literalAt, digitsAt, intAt, fracAt, expAt, numberAt, hexAt, escapedAt, charsAt};
+ghost use Rattle.json.specs.Grammar.{literalAt, digitsAt, intAt, fracAt, expAt, numberAt, hexAt, escapedAt, charsAt};
 use crate::Class;
 use crate::Out;
 use crate::classes;
@@ -72,41 +72,19 @@ pub(crate) fn number(s: &[u8], at: usize) -> Out
     }
 }
 
-// A hexadecimal digit: `one` again, small enough to be compiled in place.
-pub(crate) fn nibble(s: &[u8], at: usize) -> Out
-    ensures { λ r. ⌜ r ≡ oneAt (now (s .entry)) Class.Hex at ⌝ }
-{
-    if classes::hex_digit(wire::byte(s, at)) {
-        Out::End(at + 1)
-    } else {
-        Out::Bad
-    }
-}
-
 // Four hexadecimal digits.
 pub(crate) fn hex4(s: &[u8], at: usize) -> Out
     ensures { λ r. ⌜ r ≡ hexAt (now (s .entry)) at ⌝ }
 {
-    match nibble(s, at) {
-        Out::End(a) => match nibble(s, a) {
-            Out::End(b) => match nibble(s, b) {
-                Out::End(c) => nibble(s, c),
+    match classes::nibble(s, at) {
+        Out::End(a) => match classes::nibble(s, a) {
+            Out::End(b) => match classes::nibble(s, b) {
+                Out::End(c) => classes::nibble(s, c),
                 Out::Bad => Out::Bad,
             },
             Out::Bad => Out::Bad,
         },
         Out::Bad => Out::Bad,
-    }
-}
-
-// What a backslash may stand before, but for u: `one` again, small enough to be compiled in place.
-pub(crate) fn letter(s: &[u8], at: usize) -> Out
-    ensures { λ r. ⌜ r ≡ oneAt (now (s .entry)) Class.Short at ⌝ }
-{
-    if classes::short(wire::byte(s, at)) {
-        Out::End(at + 1)
-    } else {
-        Out::Bad
     }
 }
 
@@ -117,7 +95,7 @@ pub(crate) fn escaped(s: &[u8], at: usize) -> Out
     match classes::this(s, at, b'\\') {
         Out::End(n) => match classes::this(s, n, b'u') {
             Out::End(m) => hex4(s, m),
-            Out::Bad => letter(s, n),
+            Out::Bad => classes::letter(s, n),
         },
         Out::Bad => Out::Bad,
     }

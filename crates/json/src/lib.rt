@@ -3,7 +3,7 @@
 ghost use mathlib.Core.Path.{_≡_};
 ghost use Prim.Native.Nat.{_<_};
 ghost use Rattle.json.specs.Grammar.{within, wsAt, stringAt, isSpelling, scalarAt, closeOf, openedAt, startAt, headAt, nextAt};
-ghost use Rattle.json.specs.Tree.{endOf, onLeaf, treeAt, isText};
+ghost use Rattle.json.specs.Tree.{endOf, onLeaf, treeAt};
 
 mod classes;
 mod leaves;
@@ -204,14 +204,4 @@ pub fn value(s: &[u8], at: usize, d: usize) -> Out
             Out::Bad
         }
     }
-}
-
-// Whether s is a JSON text.
-pub fn text(s: &[u8]) -> bool
-    ensures { λ r. ⌜ r ≡ isText (now (s .entry)) ⌝ }
-{
-    let Out::End(n) = value(s, space(s, 0), DEPTH) else {
-        return false;
-    };
-    n == s.len()
 }

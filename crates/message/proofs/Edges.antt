@@ -3,22 +3,22 @@
 use mathlib.Core.Path.{_≡_, refl, sym, ap, _∙_}
 use mathlib.Core.List.{List, [], _∷_, _++_}
 use mathlib.Core.Bool.{Bool, true, false, cond, _||_, false≢true}
-use mathlib.Core.Logic.{_⊎_, inl, inr, ⊎-elim}
-use Prim.Native.Nat.{ℕ, zero, suc, _+_, _-_, _<_, _≤_}
+use mathlib.Core.Logic.{_⊎_, ⊎-elim}
+use Prim.Native.Nat.{ℕ, suc, _+_, _-_, _<_, _≤_}
 use native.Mathlib.Nat.{zero-add}
 use native.Mathlib.Numerals.{add-one}
 use native.Mathlib.Decide.{decLe, decLt}
 use native.Mathlib.Omega.{arith}
-use borrow.Author.Tests.{le-leb, lt-ltb, leb-true, eqb-true}
-use lib.Dec.{eqb, leb, ltb}
+use borrow.Author.Tests.{eqb-true}
+use lib.Dec.{eqb}
 use lib.ListN.{length, getD, take, drop, take-append-drop, List·getD-eq-default}
 use lib.Seq.{take-suc, take-nil, drop-cons, take-add}
 use Rattle.utf8.specs.declared.Want.{Want}
-use Rattle.utf8.specs.declared.Want.the-variants.{Lead, Tail, Bad}
+use Rattle.utf8.specs.declared.Want.the-variants.{Lead, Bad}
 use Rattle.utf8.specs.Utf8.{next, ends, utf8From, isUtf8}
 use Rattle.utf8.proofs.States.{Reached, lead-reached, next-reached, low-next, low-turn}
-use Rattle.json.specs.Grammar.{case, classOf, run, past, wsAt, tokenAt, closeOf, openedAt, startAt, nextAt, charsAt, stringAt}
-use Rattle.json.specs.Tree.{Json, Items, Got, treeAt}
+use Rattle.json.specs.Grammar.{case, classOf, run, past, wsAt, tokenAt, closeOf, openedAt, startAt, charsAt, stringAt}
+use Rattle.json.specs.Tree.{Json, Items, Got}
 use Rattle.json.specs.declared.Out.{Out}
 use Rattle.json.specs.declared.Out.the-variants as out
 use Rattle.json.specs.declared.Start.the-variants.{Leaf, Empty, Many}
@@ -26,7 +26,6 @@ use Rattle.json.specs.declared.Next.the-variants.{More, Done, Wrong}
 use Rattle.json.proofs.Ends.{then-end, one-is, byte-is}
 use Rattle.json.proofs.Spelled.{string-parts}
 use Rattle.rows.specs.Strings.{part}
-use Rattle.message.specs.Lists.{within}
 use Rattle.message.proofs.Walks.{Walk, last, more}
 use Rattle.message.proofs.Elements.{Group, hollow, filled}
 

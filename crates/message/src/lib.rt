@@ -123,25 +123,7 @@ enum Opening {
 pub fn filter_at(s: &[u8], at: usize) -> FilterParts
     ensures { λ r. ⌜ r ≡ filterAt (now (s .entry)) at ⌝ }
 {
-    let m = object::find(s, at, false);
-    let ids = m.m1;
-    let authors = m.m2;
-    let kinds = m.m3;
-    let m4 = m.m4;
-    let m5 = m.m5;
-    let m6 = m.m6;
-    let since = values::bound_in(s, m4);
-    let until = values::bound_in(s, m5);
-    let limit = values::bound_in(s, m6);
-    FilterParts {
-        ids,
-        authors,
-        kinds,
-        since,
-        until,
-        limit,
-        conditions: Listed::At(at),
-    }
+    values::filter_of(s, object::find(s, at, false), Listed::At(at))
 }
 
 // The first element of the array at a place. Ended: it has none. Broken: no array begins there.

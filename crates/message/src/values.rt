@@ -2,10 +2,11 @@
 ghost use mathlib.Core.Path.{_≡_};
 ghost use Prim.Native.Nat.{_-_};
 ghost use Rattle.message.specs.Parts.{valueOf, eventAt};
-ghost use Rattle.message.specs.Steps.{leafAt, spanAt, numberAt, spanFound, numberFound, boundFound, placeFound, bodyFound};
+ghost use Rattle.message.specs.Steps.{leafAt, spanAt, numberAt, spanFound, numberFound, boundFound, filterFound, placeFound, bodyFound};
 use crate::Body;
 use crate::Bound;
 use crate::EventParts;
+use crate::FilterParts;
 use crate::Listed;
 use crate::Members;
 use crate::Span;
@@ -138,4 +139,28 @@ pub(crate) fn event_at(s: &[u8], at: usize) -> EventParts
     let body = body_in(s, m);
     let sig = span_in(s, m7);
     EventParts { id, body, sig }
+}
+
+// A filter by its members, and the place of its # conditions.
+pub(crate) fn filter_of(s: &[u8], m: Members, conditions: Listed) -> FilterParts
+    ensures { λ r. ⌜ r ≡ filterFound (now (s .entry)) m conditions ⌝ }
+{
+    let ids = m.m1;
+    let authors = m.m2;
+    let kinds = m.m3;
+    let m4 = m.m4;
+    let since = bound_in(s, m4);
+    let m5 = m.m5;
+    let until = bound_in(s, m5);
+    let m6 = m.m6;
+    let limit = bound_in(s, m6);
+    FilterParts {
+        ids,
+        authors,
+        kinds,
+        since,
+        until,
+        limit,
+        conditions,
+    }
 }

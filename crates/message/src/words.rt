@@ -8,7 +8,6 @@ ghost use Rattle.message.specs.Parts.{noFilter};
 ghost use Rattle.message.specs.Lists.{elementsFrom};
 ghost use Rattle.message.specs.Read.{idNamed, isEarly};
 ghost use Rattle.message.specs.Steps.{openingAt, elementPlace, wordPlace, secondFrom, isEventAt, partsAt, followingOf, filterIn, labelNamed, namedAt};
-use crate::Bound;
 use crate::Element;
 use crate::FilterParts;
 use crate::Listed;
@@ -18,6 +17,7 @@ use crate::Opening;
 use crate::ReqParts;
 use crate::Span;
 use crate::lent;
+use crate::object;
 use crate::values;
 
 pub(crate) fn opening_at(s: &[u8], at: usize) -> Opening
@@ -115,18 +115,11 @@ pub(crate) fn following(s: &[u8], x: Element) -> Element
     }
 }
 
-pub(crate) fn no_filter() -> FilterParts
+// A filter that has nothing.
+pub(crate) fn no_filter(s: &[u8]) -> FilterParts
     ensures { λ r. ⌜ r ≡ noFilter ⌝ }
 {
-    FilterParts {
-        ids: Listed::Absent,
-        authors: Listed::Absent,
-        kinds: Listed::Absent,
-        since: Bound::Absent,
-        until: Bound::Absent,
-        limit: Bound::Absent,
-        conditions: Listed::Absent,
-    }
+    values::filter_of(s, object::no_members(), Listed::Absent)
 }
 
 // The filter that is element k of n.
@@ -136,11 +129,11 @@ pub(crate) fn filter_in(s: &[u8], k: usize, n: usize, x: Element) -> FilterParts
     if k < n {
         return match x {
             Element::At(v) => crate::filter_at(s, v),
-            Element::Ended => no_filter(),
-            Element::Broken => no_filter(),
+            Element::Ended => no_filter(s),
+            Element::Broken => no_filter(s),
         };
     }
-    no_filter()
+    no_filter(s)
 }
 
 // Whether an element is the string EVENT.

@@ -89,6 +89,9 @@ pub(crate) const LIMIT: u8 = 5;
 
 pub(crate) const UNKNOWN: u8 = 7;
 
+// None of six names.
+pub(crate) const NONE: u8 = 6;
+
 pub(crate) const LOWER: u8 = 12;
 
 pub(crate) const UPPER: u8 = 38;
@@ -137,7 +140,9 @@ pub(crate) fn event_form(slot: u8) -> u8
 pub(crate) fn filter_form(slot: u8) -> u8
     ensures { λ r. ⌜ r ≡ filterForm slot ⌝ }
 {
-    if slot == IDS {
+    if LOWER <= slot {
+        TEXTS
+    } else if slot == IDS {
         HEXES
     } else if slot == AUTHORS {
         HEXES
@@ -149,8 +154,6 @@ pub(crate) fn filter_form(slot: u8) -> u8
         TIME
     } else if slot == LIMIT {
         SMALL
-    } else if LOWER <= slot {
-        TEXTS
     } else {
         NEVER
     }

@@ -1,7 +1,7 @@
 // The slot of an item: of an element by its place, of a member by its name.
 ghost use mathlib.Core.Path.{_≡_};
 ghost use Rattle.spell.specs.Spell.{decode};
-ghost use Rattle.shape.specs.Walk.{placeSlot, eventSlot, letterSlot, conditionSlot, filterSlot, nameSlot, nameRow, memberOf, itemOf};
+ghost use Rattle.shape.specs.Walk.{placeSlot, among, eventSlot, letterSlot, conditionSlot, filterSlot, nameSlot, nameRow, memberOf, itemOf};
 use crate::Item;
 use crate::forms;
 
@@ -17,22 +17,51 @@ pub(crate) fn place_slot(k: usize) -> u8
     }
 }
 
+// Which of six words a name spells, from 0 on, or NONE.
+pub(crate) fn among(
+    p: &[u8],
+    w0: &[u8],
+    w1: &[u8],
+    w2: &[u8],
+    w3: &[u8],
+    w4: &[u8],
+    w5: &[u8],
+) -> u8
+    ensures { λ r. ⌜ r ≡ among (decode (now (p .entry))) (now (w0 .entry)) (now (w1 .entry)) (now (w2 .entry)) (now (w3 .entry)) (now (w4 .entry)) (now (w5 .entry)) 6 ⌝ }
+{
+    if spell::spells(p, w0) {
+        0
+    } else if spell::spells(p, w1) {
+        1
+    } else if spell::spells(p, w2) {
+        2
+    } else if spell::spells(p, w3) {
+        3
+    } else if spell::spells(p, w4) {
+        4
+    } else if spell::spells(p, w5) {
+        5
+    } else {
+        forms::NONE
+    }
+}
+
 pub(crate) fn event_slot(p: &[u8]) -> u8
     ensures { λ r. ⌜ r ≡ eventSlot (decode (now (p .entry))) ⌝ }
 {
-    if spell::spells(p, b"id") {
-        forms::ID
-    } else if spell::spells(p, b"pubkey") {
-        forms::PUBKEY
-    } else if spell::spells(p, b"created_at") {
-        forms::CREATED
-    } else if spell::spells(p, b"kind") {
-        forms::KIND
-    } else if spell::spells(p, b"tags") {
-        forms::TAGS
-    } else if spell::spells(p, b"content") {
-        forms::CONTENT
-    } else if spell::spells(p, b"sig") {
+    let slot = among(
+        p,
+        b"id",
+        b"pubkey",
+        b"created_at",
+        b"kind",
+        b"tags",
+        b"content",
+    );
+    if slot != forms::NONE {
+        return slot;
+    }
+    if spell::spells(p, b"sig") {
         forms::SIG
     } else {
         forms::UNKNOWN
@@ -87,21 +116,19 @@ pub(crate) fn condition_slot(p: &[u8]) -> u8
 pub(crate) fn filter_slot(p: &[u8]) -> u8
     ensures { λ r. ⌜ r ≡ filterSlot (decode (now (p .entry))) ⌝ }
 {
-    if spell::spells(p, b"ids") {
-        forms::IDS
-    } else if spell::spells(p, b"authors") {
-        forms::AUTHORS
-    } else if spell::spells(p, b"kinds") {
-        forms::KINDS
-    } else if spell::spells(p, b"since") {
-        forms::SINCE
-    } else if spell::spells(p, b"until") {
-        forms::UNTIL
-    } else if spell::spells(p, b"limit") {
-        forms::LIMIT
-    } else {
-        condition_slot(p)
+    let slot = among(
+        p,
+        b"ids",
+        b"authors",
+        b"kinds",
+        b"since",
+        b"until",
+        b"limit",
+    );
+    if slot != forms::NONE {
+        return slot;
     }
+    condition_slot(p)
 }
 
 pub(crate) fn name_slot(form: u8, p: &[u8]) -> u8

@@ -3,7 +3,7 @@ ghost use mathlib.Core.Path.{_≡_};
 ghost use lib.ListN.{length};
 ghost use Rattle.wire.specs.Put.{Puts};
 ghost use Rattle.wire.specs.Bytes.{sameBytes};
-ghost use Rattle.spell.specs.Spell.{unhex, isSurrogate, isControl, isRefused, refuses, decode, isTail, characterCount, isHexOf};
+ghost use Rattle.spell.specs.Spell.{unhex, isSurrogate, isRefused, refuses, decode, isTail, characterCount, isHexOf};
 ghost use Rattle.wire.specs.Escape.{escape};
 
 mod escapes;
@@ -23,22 +23,6 @@ fn is_surrogate(n: u32) -> bool
     0xd800 <= n && n <= 0xdfff
 }
 
-fn is_control(n: u32) -> bool
-    ensures { λ r. ⌜ r ≡ isControl n ⌝ }
-{
-    if 0x20 <= n {
-        return false;
-    }
-    match n {
-        0x8 => false,
-        0x9 => false,
-        0xa => false,
-        0xc => false,
-        0xd => false,
-        _ => true,
-    }
-}
-
 // A byte of the decoded string, and where what is left after it begins: how many bytes of the character at which place are taken.
 struct Step {
     pub byte: u8,
@@ -53,7 +37,7 @@ fn is_refused(c: Char) -> bool
     if is_surrogate(code) {
         return true;
     }
-    is_control(code)
+    wire::is_control(code)
 }
 
 // Row 4: whether a spelling has a character that no string may have.
@@ -64,7 +48,7 @@ pub fn refused(p: &[u8]) -> bool
     while i < p.len() {
         let b = p[i];
         if b != b'\\' {
-            if is_control(b as u32) {
+            if wire::is_control(b as u32) {
                 return true;
             }
             i += 1;
@@ -72,7 +56,7 @@ pub fn refused(p: &[u8]) -> bool
         }
         let y = wire::byte(p, i + 1);
         if y != b'u' {
-            if is_control(y as u32) {
+            if wire::is_control(y as u32) {
                 return true;
             }
             i += 2;

@@ -1,24 +1,24 @@
 -- The converse of event/proofs/Decoded: a spelling whose decoded bytes are a string within the limits is not refused by row 4. A character at a
 -- time, with the state that UTF-8 is in before it: a refused control would stand among the decoded bytes and is not plain, and a refused
 -- surrogate's octets would stand where a character begins, and are no UTF-8.
-use mathlib.Core.Bool.{Bool, true, false, cond, not, _&&_, _||_}
+use mathlib.Core.Bool.{Bool, true, false}
 use mathlib.Core.Path.{_≡_, refl}
 use mathlib.Core.List.{List, [], _∷_, _++_}
 use Prim.Native.Nat.{ℕ, zero, suc, _+_, _/_, _%_, _≤_, _<_}
 use native.Mathlib.Decide.{decLt}
 use native.Mathlib.Omega.{arith}
-use borrow.Author.Tests.{lt-ltb, le-ltb, le-leb, lt-leb}
-use lib.Dec.{eqb, lit≤}
+use borrow.Author.Tests.{lt-ltb, le-ltb, le-leb, lt-leb, not-true}
 use lib.ListN.{length, getD}
-use Rattle.utf8.specs.Utf8.{leadOf, next, utf8From, isUtf8}
+use Rattle.wire.specs.Bytes.{isControl}
+use Rattle.utf8.specs.Utf8.{next, utf8From, isUtf8}
 use Rattle.utf8.specs.declared.Want.{Want}
-use Rattle.utf8.specs.declared.Want.the-variants.{Lead, Tail, Bad}
+use Rattle.utf8.specs.declared.Want.the-variants.{Lead}
 use Rattle.utf8.specs.Abnf.{Octets, utf8-1, utf8-2, utf8-3-e0, utf8-3-e1, utf8-3-ed, utf8-3-ee, utf8-4-f0, utf8-4-f1, utf8-4-f4}
 use Rattle.utf8.proofs.Abnf.{as-in-abnf}
 use Rattle.utf8.proofs.States.{Reached, lead-reached, next-reached, low-lead, byte-few}
 use Rattle.json.specs.Grammar.{isSpelling}
 use Rattle.spell.specs.declared.Char as spell
-use Rattle.spell.specs.Spell.{four, fourAt, shortOf, isPair, pairOf, chars, charsFrom, utf8Of, bytesOf, decode, isSurrogate, isControl, isRefused, any, refuses}
+use Rattle.spell.specs.Spell.{four, fourAt, shortOf, isPair, pairOf, chars, charsFrom, utf8Of, bytesOf, decode, isSurrogate, isRefused, any, refuses}
 use Rattle.text.specs.Event.{all, isPlainByte, isString}
 use Rattle.text.proofs.Pieces.{both}
 use Rattle.event.proofs.Decoded.{Short, Spelling, end, plain, short, code, is-spelling, chars-plain, chars-short, chars-one, chars-pair, decode-more, paired, six-lead}
@@ -31,18 +31,7 @@ all-right p (x ∷ s) t e = all-right p s t (both (p x) _ e .1)
 
 plain-control : (n : ℕ) → isPlainByte n ≡ true → isControl n ≡ false
 unfolding isPlainByte
-plain-control n e = elim (decLt n 0x20) [
-  | yes h ↦ rw (lt-ltb n 0x20 h) (one (eqb n 0x8) (eqb n 0x9) (eqb n 0xa) (eqb n 0xc) (eqb n 0xd) (rw (lt-leb 0x20 n h) at e))
-  | no h ↦ rw (le-ltb n 0x20 (omega arith))
-]
-  where
-    one : (a b c d f : Bool) → (a || (b || (c || (d || f)))) ≡ true → (not a && (not b && (not c && (not d && not f)))) ≡ false
-    one true b c d f e = refl
-    one false true c d f e = refl
-    one false false true d f e = refl
-    one false false false true f e = refl
-    one false false false false true e = refl
-    one false false false false false e = absurd (let z : _≡_ {A = ℕ} 0 1 = cc in omega arith)
+plain-control n e = not-true (isControl n) e
 
 few-surrogate : (n : ℕ) → n < 0xd800 → isSurrogate n ≡ false
 few-surrogate n h = rw (lt-leb 0xd800 n h)

@@ -123,7 +123,7 @@ pub(crate) fn body_end(s: &[u8], at: usize) -> Out
         if x == b'"' {
             return Out::End(i + 1);
         }
-        if x < 0x20 {
+        if !is_raw(x) {
             return Out::Bad;
         }
         i += 1;

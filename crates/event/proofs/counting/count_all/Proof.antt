@@ -17,32 +17,11 @@ Inv-loop n b first o₀ i₀ k₀ o i k = Left Counts (treeAt b 7) b first (allT
 abbrev μ-loop : tie.MeasureT-loop
 μ-loop n b first o₀ i₀ k₀ o i k = length b - k
 
-returns : tie.Need-returns Inv-loop μ-loop
-returns c =
-    let c2 = c .before .before in
-    let c4 = c2 .before .before in
-    let c5 = c4 .before in
-    let c7 = c5 .before .before in
-    left-done (c7 .loop .inv) counts-chain (tags-printer _) (c5 .count-tag .ensures) (sym (c4 .after .ensures) ∙ c2 .e .given .1) (record { is = c .more2 .ensures })
-
-returns-2 : tie.Need-returns-2 Inv-loop μ-loop
-returns-2 c =
-    let c2 = c .before .before in
-    let c3 = c2 .before in
-    let c5 = c3 .before .before in
-    left-wrong (c5 .loop .inv) counts-chain (tags-printer _) (c3 .count-tag .ensures) (sym (c2 .after .ensures) ∙ c .enum-told .given .1) _ _
-
-loop-again : tie.Need-loop-again Inv-loop μ-loop
-loop-again c =
-    let c2 = c .before .before in
-    let c4 = c2 .before .before in
-    let c5 = c4 .before in
-    let c7 = c5 .before .before in
-    left-more (c7 .loop .inv) counts-chain (tags-printer _) (c5 .count-tag .ensures) (sym (c4 .after .ensures) ∙ c2 .j .given .1) (record { is = c .more .ensures })
-
 pub count-all-spec : {M : Type 1} → statement M
 count-all-spec =
     tie.close
-    (tie.spec Inv-loop μ-loop (λ c. left-start _ _ _ _ _ _) (search needs) (search needs) (search needs)
-    (search needs) (search needs) (search needs) returns (search needs) returns-2 (search needs) (λ c. omega arith)
-    loop-again (λ c. left-gone (c .before .loop .inv) (c .loop-test .left) _ _))
+    (tie.spec Inv-loop μ-loop (λ c. left-start _ _ _ _ _ _) (search needs) (search needs) (search needs) (search needs) (search needs) (search needs)
+    (λ c. let d = c .before .before .before .before in left-done (d .before .before .before .loop .inv) counts-chain (tags-printer _) (d .before .count-tag .ensures) (sym (d .after .ensures) ∙ c .before .before .e .given .1) (record { is = c .more2 .ensures })) (search needs)
+    (λ c. let d = c .before .before in left-wrong (d .before .before .before .loop .inv) counts-chain (tags-printer _) (d .before .count-tag .ensures) (sym (d .after .ensures) ∙ c .enum-told .given .1) _ _) (search needs) (λ c. omega arith)
+    (λ c. let d = c .before .before .before .before in left-more (d .before .before .before .loop .inv) counts-chain (tags-printer _) (d .before .count-tag .ensures) (sym (d .after .ensures) ∙ c .before .before .j .given .1) (record { is = c .more .ensures }))
+    (λ c. left-gone (c .before .loop .inv) (c .loop-test .left) _ _))

@@ -27,23 +27,17 @@ returns c =
 
 returns-2 : tie.Need-returns-2
 returns-2 c =
-    let c1 = c .before in
-    let c3 = c1 .before .before in
-    let c4 = c3 .before in
-    let c8 = c4 .before .before .before .before in
-    let e = c8 .before .before .before .before .before .before .before in
-    let p = c8 .put-whole .ensures in
-    own-id _ _ (e .pre .1) (room-kept (e .pre .0) p) p (c4 .hashed .ensures) (c3 .if1 .left) (sym (c .if2 .taken) ∙ c1 .spells-id .ensures)
+    let d = c .before .before .before .before in
+    let w = d .before .before .before .before in
+    let e = w .before .before .before .before .before .before .before in
+    own-id _ _ (e .pre .1) (room-kept (e .pre .0) (w .put-whole .ensures)) (w .put-whole .ensures) (d .hashed .ensures) (c .before .before .before .if1 .left) (sym (c .if2 .taken) ∙ c .before .spells-id .ensures)
 
 returns-3 : tie.Need-returns-3
 returns-3 c =
-    let c1 = c .before in
-    let c3 = c1 .before .before in
-    let c4 = c3 .before in
-    let c8 = c4 .before .before .before .before in
-    let e = c8 .before .before .before .before .before .before .before in
-    let p = c8 .put-whole .ensures in
-    other-id _ _ (e .pre .1) (room-kept (e .pre .0) p) p (c4 .hashed .ensures) (c3 .if1 .left) (sym (c .if2 .left) ∙ c1 .spells-id .ensures)
+    let d = c .before .before .before .before in
+    let w = d .before .before .before .before in
+    let e = w .before .before .before .before .before .before .before in
+    other-id _ _ (e .pre .1) (room-kept (e .pre .0) (w .put-whole .ensures)) (w .put-whole .ensures) (d .hashed .ensures) (c .before .before .before .if1 .left) (sym (c .if2 .left) ∙ c .before .spells-id .ensures)
 
 pub rest-spec : {M : Type 1} → statement M
 rest-spec =

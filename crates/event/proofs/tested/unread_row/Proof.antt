@@ -1,7 +1,6 @@
 -- By the row, then by the first word.
 use mathlib.Core.Path.{sym, ap, ap₂, _∙_}
 use mathlib.Core.Bool.{cond, _||_}
-use lib.Dec.{leb}
 use borrow.Author.Needs.{needs}
 use borrow.Author.Tests.{le-leb, lt-leb}
 use Rattle.message.specs.Read.{isEvent}

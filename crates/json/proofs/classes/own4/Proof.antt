@@ -1,8 +1,5 @@
 -- Where four bytes stand for themselves, four characters are passed.
-use mathlib.Core.Path.{_≡_, refl, sym, _∙_}
-use mathlib.Core.Bool.{Bool, true, false, _&&_}
-use Prim.Native.Nat.{ℕ}
-use native.Mathlib.Omega.{arith}
+use mathlib.Core.Path.{sym, _∙_}
 use borrow.Author.Needs.{needs}
 use Rattle.json.proofs.Ends.{all-both, chars-four}
 use Rattle.json.proofs.classes.own4.Statement.{statement}

@@ -1,9 +1,7 @@
 -- Twice four.
-use mathlib.Core.Path.{_≡_, refl, ap, _∙_}
-use Prim.Native.Nat.{_+_}
+use mathlib.Core.Path.{refl}
 use native.Mathlib.Omega.{arith}
 use borrow.Author.Needs.{needs}
-use Rattle.json.specs.Grammar.{Skips, charsAt}
 use Rattle.json.proofs.Ends.{all-both, chars-eight}
 use Rattle.json.proofs.classes.past8.Statement.{statement}
 use Rattle.json.proofs.classes.past8.Tie as tie

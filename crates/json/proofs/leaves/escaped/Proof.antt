@@ -1,5 +1,5 @@
 -- A backslash, then u and four digits, else one of eight: each way is the calls' answers.
-use mathlib.Core.Path.{refl, _∙_}
+use mathlib.Core.Path.{_∙_}
 use borrow.Author.Needs.{needs}
 use Rattle.json.specs.Grammar.{classOf, escapedAt}
 use Rattle.json.proofs.leaves.escaped.Statement.{statement}

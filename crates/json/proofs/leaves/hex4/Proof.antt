@@ -1,5 +1,5 @@
 -- Four digits one after the other: each way is the calls' answers.
-use mathlib.Core.Path.{refl, _∙_}
+use mathlib.Core.Path.{_∙_}
 use borrow.Author.Needs.{needs}
 use Rattle.json.specs.Grammar.{classOf, hexAt}
 use Rattle.json.proofs.leaves.hex4.Statement.{statement}

@@ -7,8 +7,5 @@ pub event-step-spec : {M : Type 1} → statement M
 unfolding eventStep
 event-step-spec =
     tie.close
-    (tie.spec (λ c κs. search needs) (λ c. search needs) (λ c κs. search needs) (λ c. search needs) (λ c κs. search needs) (λ c. search needs)
-    (λ c κs. search needs) (λ c. search needs) (λ c κs. search needs) (λ c. search needs) (λ c κs. search needs)
-    (λ c. search needs) (λ c κs. search needs) (λ c. search needs) (λ c κs. search needs)
-    (λ c. let d = c .before .before .before .before .before .before in
-    simp (d .before .before .before .before .before .before .before .before .spelled .ensures, d .before .before .before .before .before .before .keep .ensures, d .before .before .before .before .keep2 .ensures, d .before .before .keep3 .ensures, d .keep4 .ensures, c .before .before .before .before .keep5 .ensures, c .before .before .keep6 .ensures, c .keep7 .ensures)))
+    (tie.spec (λ c κs. search needs) (λ c. search needs) (λ c κs. search needs) (λ c. search needs) (λ c. search needs) (λ c. search needs) (λ c. search needs) (λ c. search needs) (λ c. search needs) (λ c κs. search needs)
+    (λ c. simp (c .before .before .before .before .before .before .before .before .before .spelled .ensures, c .before .before .before .before .before .before .before .keep .ensures, c .keep-six .ensures)))

@@ -1,4 +1,3 @@
-use borrow.Author.Needs.{needs}
 use borrow.Author.Tests.{le-leb, lt-leb}
 use Rattle.message.proofs.words.early.Statement.{statement}
 use Rattle.message.proofs.words.early.Tie as tie

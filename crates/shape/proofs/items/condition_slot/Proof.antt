@@ -1,5 +1,5 @@
 use borrow.Author.Needs.{needs}
-use mathlib.Core.Path.{sym, refl, _∙_}
+use mathlib.Core.Path.{refl, _∙_}
 use Rattle.shape.proofs.Names.{condition-plain}
 use Rattle.shape.proofs.items.condition_slot.Statement.{statement}
 use Rattle.shape.proofs.items.condition_slot.Tie as tie

@@ -1,7 +1,6 @@
 -- The invariant: the bytes passed are escaped to themselves.
 use borrow.Author.Needs.{needs}
 use native.Mathlib.Omega.{arith}
-use denote.Ref.{now}
 use Prim.Native.Nat.{_-_}
 use lib.ListN.{length}
 use Rattle.spell.specs.Steps.{Same}

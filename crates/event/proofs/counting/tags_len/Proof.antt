@@ -5,8 +5,8 @@ use Rattle.event.specs.Walk.{Counts}
 use Rattle.event.proofs.Walks.{counts-chain}
 use Rattle.event.proofs.Tags.{some-tags, no-tags}
 use Rattle.event.proofs.Lengths.{none-count}
-use Rattle.event.proofs.tags_len.Statement.{statement}
-use Rattle.event.proofs.tags_len.Tie as tie
+use Rattle.event.proofs.counting.tags_len.Statement.{statement}
+use Rattle.event.proofs.counting.tags_len.Tie as tie
 
 returns : tie.Need-returns
 returns c =

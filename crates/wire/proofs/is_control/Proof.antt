@@ -1,7 +1,7 @@
 -- Each arm is the definition at that number, and the rest.
 use Rattle.wire.proofs.Laws.{tests}
-use Rattle.spell.proofs.is_control.Statement.{statement}
-use Rattle.spell.proofs.is_control.Tie as tie
+use Rattle.wire.proofs.is_control.Statement.{statement}
+use Rattle.wire.proofs.is_control.Tie as tie
 
 pub is-control-spec : {M : Type 1} → statement M
 is-control-spec =
