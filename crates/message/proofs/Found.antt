@@ -19,7 +19,7 @@ use Rattle.message.specs.declared.Listed.the-variants.{Absent, At}
 use Rattle.message.specs.declared.Members.{Members}
 use Rattle.message.specs.Lists.{within}
 use Rattle.message.specs.Parts.{Member, missing, member, memberOf, nowhere, spanOf, numberOf, spanIn, numberIn, placeIn, boundIn, listedIn, bodyOf, eventOf, filterOf, membersGot, membersAt, eventAt, filterAt}
-use Rattle.message.specs.Steps.{kept, eventStep, filterStep, stepOf, noMembers, foundIn, onStart, leafAt, gotOr, spanAt, numberAt, spanFound, numberFound, boundFound, filterFound, placeFound, bodyFound}
+use Rattle.message.specs.Steps.{kept, stepOf, noMembers, foundIn, onStart, leafAt, gotOr, spanAt, numberAt, spanFound, numberFound, boundFound, filterFound, placeFound, bodyFound}
 use Rattle.message.proofs.Walks.{Walk, last, more, walk-of}
 
 -- ---- a fold over the members of the object at a place, where a value begins
@@ -186,7 +186,7 @@ module _ (s : List ℕ) (at : ℕ) (m : Members) where
     found w part step z = ap part e ∙ fold-first s w (by s event) part step noMembers (membersAt s at) ∙ ap (λ x. orElse x (memberOf s w (membersAt s at))) z
 
   pub event-is : m ≡ foundIn s true (membersAt s at) → record { id = spanFound s (m .m1); body = bodyFound s m; sig = spanFound s (m .m7) } ≡ eventAt s at
-  unfolding eventAt eventOf bodyOf bodyFound eventStep
+  unfolding eventAt eventOf bodyOf bodyFound stepOf
   event-is e =
       simp (
         found true e idName (λ a. a .m1) (λ a p v t. refl) refl,
@@ -206,7 +206,7 @@ module _ (s : List ℕ) (at : ℕ) (m : Members) where
       )
 
   pub filter-is : m ≡ foundIn s false (membersAt s at) → filterFound s m (At at) ≡ filterAt s at
-  unfolding filterAt filterOf filterStep
+  unfolding filterAt filterOf stepOf
   filter-is e =
       let ids = found false e idsName (λ a. a .m1) (λ a p v t. refl) refl in
       let authors = found false e authorsName (λ a. a .m2) (λ a p v t. refl) refl in

@@ -45,27 +45,17 @@ unfoldable pub kept : List ℕ → List ℕ → Listed → ℕ → Listed
 kept l w (At u) v = At u
 kept l w Absent v = cond (sameBytes (decode l) w) (At v) Absent
 
--- the same for six names; the seventh member is m
-abbrev pub sixKept : (l : List ℕ) (a : Members) (w₁ w₂ w₃ w₄ w₅ w₆ : List ℕ) (v : ℕ) (m : Listed) → Members
-sixKept l a w₁ w₂ w₃ w₄ w₅ w₆ v m = record {
-  m1 = kept l w₁ (a .m1) v;
-  m2 = kept l w₂ (a .m2) v;
-  m3 = kept l w₃ (a .m3) v;
-  m4 = kept l w₄ (a .m4) v;
-  m5 = kept l w₅ (a .m5) v;
-  m6 = kept l w₆ (a .m6) v;
-  m7 = m;
+-- a member of an event (b) or of a filter: the first of each name, or what was found before it stays
+unfoldable pub stepOf : List ℕ → Bool → Members → ℕ → ℕ → Members
+stepOf s b a p v = record {
+  m1 = kept (spelledAt s p) (cond b idName idsName) (a .m1) v;
+  m2 = kept (spelledAt s p) (cond b pubkeyName authorsName) (a .m2) v;
+  m3 = kept (spelledAt s p) (cond b createdAtName kindsName) (a .m3) v;
+  m4 = kept (spelledAt s p) (cond b kindName sinceName) (a .m4) v;
+  m5 = kept (spelledAt s p) (cond b tagsName untilName) (a .m5) v;
+  m6 = kept (spelledAt s p) (cond b contentName limitName) (a .m6) v;
+  m7 = cond b (kept (spelledAt s p) sigName (a .m7) v) (a .m7);
 }
-
-unfoldable pub eventStep : List ℕ → Members → ℕ → ℕ → Members
-eventStep s a p v = sixKept (spelledAt s p) a idName pubkeyName createdAtName kindName tagsName contentName v (kept (spelledAt s p) sigName (a .m7) v)
-
-unfoldable pub filterStep : List ℕ → Members → ℕ → ℕ → Members
-filterStep s a p v = sixKept (spelledAt s p) a idsName authorsName kindsName sinceName untilName limitName v (a .m7)
-
-abbrev pub stepOf : List ℕ → Bool → Members → ℕ → ℕ → Members
-stepOf s true a p v = eventStep s a p v
-stepOf s false a p v = filterStep s a p v
 
 abbrev pub noMembers : Members
 noMembers = record { m1 = Absent; m2 = Absent; m3 = Absent; m4 = Absent; m5 = Absent; m6 = Absent; m7 = Absent }

@@ -1,7 +1,9 @@
 // The members of an object, the first of each name.
 ghost use mathlib.Core.Path.{_≡_};
+ghost use mathlib.Core.Bool.{cond};
+ghost use Rattle.shape.specs.Shape.{sigName};
 ghost use Rattle.message.specs.Parts.{membersAt};
-ghost use Rattle.message.specs.Steps.{kept, sixKept, eventStep, filterStep, stepOf, noMembers, foundIn};
+ghost use Rattle.message.specs.Steps.{kept, stepOf, noMembers, foundIn};
 use crate::Listed;
 use crate::Members;
 use json::Next;
@@ -24,84 +26,40 @@ pub(crate) fn keep(name: &[u8], word: &[u8], a: Listed, v: usize) -> Listed
     }
 }
 
-// The same for six words; the seventh member is m7.
-pub(crate) fn keep_six(
-    name: &[u8],
-    a: Members,
-    w1: &[u8],
-    w2: &[u8],
-    w3: &[u8],
-    w4: &[u8],
-    w5: &[u8],
-    w6: &[u8],
-    v: usize,
-    m7: Listed,
-) -> Members
-    ensures { λ r. ⌜ r ≡ sixKept (now (name .entry)) a (now (w1 .entry)) (now (w2 .entry)) (now (w3 .entry)) (now (w4 .entry)) (now (w5 .entry)) (now (w6 .entry)) v m7 ⌝ }
+// The first of two words, or the second.
+pub(crate) fn either<'a>(first: bool, x: &'a [u8], y: &'a [u8]) -> &'a [u8]
+    ensures { λ r. ⌜ now r ≡ cond first (now (x .entry)) (now (y .entry)) ⌝ }
 {
+    if first { x } else { y }
+}
+
+// The seventh member of an event; a filter has six.
+pub(crate) fn keep_last(name: &[u8], event: bool, a: Listed, v: usize) -> Listed
+    ensures { λ r. ⌜ r ≡ cond event (kept (now (name .entry)) sigName a v) a ⌝ }
+{
+    if event { keep(name, b"sig", a, v) } else { a }
+}
+
+// A member whose name begins at p and whose value stands at v, after what was found before it.
+pub(crate) fn step(s: &[u8], event: bool, a: Members, p: usize, v: usize) -> Members
+    ensures { λ r. ⌜ r ≡ stepOf (now (s .entry)) event a p v ⌝ }
+{
+    let name = rows::spelled(s, p);
     let a1 = a.m1;
     let a2 = a.m2;
     let a3 = a.m3;
     let a4 = a.m4;
     let a5 = a.m5;
     let a6 = a.m6;
-    Members {
-        m1: keep(name, w1, a1, v),
-        m2: keep(name, w2, a2, v),
-        m3: keep(name, w3, a3, v),
-        m4: keep(name, w4, a4, v),
-        m5: keep(name, w5, a5, v),
-        m6: keep(name, w6, a6, v),
-        m7,
-    }
-}
-
-pub(crate) fn event_step(s: &[u8], a: Members, p: usize, v: usize) -> Members
-    ensures { λ r. ⌜ r ≡ eventStep (now (s .entry)) a p v ⌝ }
-{
-    let name = rows::spelled(s, p);
     let a7 = a.m7;
-    let m7 = keep(name, b"sig", a7, v);
-    keep_six(
-        name,
-        a,
-        b"id",
-        b"pubkey",
-        b"created_at",
-        b"kind",
-        b"tags",
-        b"content",
-        v,
-        m7,
-    )
-}
-
-pub(crate) fn filter_step(s: &[u8], a: Members, p: usize, v: usize) -> Members
-    ensures { λ r. ⌜ r ≡ filterStep (now (s .entry)) a p v ⌝ }
-{
-    let name = rows::spelled(s, p);
-    let m7 = a.m7;
-    keep_six(
-        name,
-        a,
-        b"ids",
-        b"authors",
-        b"kinds",
-        b"since",
-        b"until",
-        b"limit",
-        v,
-        m7,
-    )
-}
-
-pub(crate) fn step(s: &[u8], event: bool, a: Members, p: usize, v: usize) -> Members
-    ensures { λ r. ⌜ r ≡ stepOf (now (s .entry)) event a p v ⌝ }
-{
-    if event {
-        event_step(s, a, p, v)
-    } else {
-        filter_step(s, a, p, v)
+    Members {
+        m1: keep(name, either(event, b"id", b"ids"), a1, v),
+        m2: keep(name, either(event, b"pubkey", b"authors"), a2, v),
+        m3: keep(name, either(event, b"created_at", b"kinds"), a3, v),
+        m4: keep(name, either(event, b"kind", b"since"), a4, v),
+        m5: keep(name, either(event, b"tags", b"until"), a5, v),
+        m6: keep(name, either(event, b"content", b"limit"), a6, v),
+        m7: keep_last(name, event, a7, v),
     }
 }
 

@@ -40,9 +40,9 @@ filter-cases F f₁ f₂ f₃ f₄ f₅ f₆ condition none w =
     last false q f = f q
 
 -- none of the first six names of an event: the slot is told by the seventh
-pub seventh : (w : List ℕ) {k : ℕ} {t : Bool} → k ≡ among w idName pubkeyName createdAtName kindName tagsName contentName 6 → k ≡ 6 → t ≡ sameBytes w sigName → cond t SIG UNKNOWN ≡ eventSlot w
+pub seventh : (w : List ℕ) {k : ℕ} {t : Bool} → k ≡ among w true 6 → k ≡ 6 → t ≡ sameBytes w sigName → cond t SIG UNKNOWN ≡ eventSlot w
 unfolding eventSlot
-seventh w e z q = ap (λ (t : Bool). cond t SIG UNKNOWN) q ∙ among-none w _ _ _ _ _ _ _ e z
+seventh w e z q = ap (λ (t : Bool). cond t SIG UNKNOWN) q ∙ among-none w true _ e z
 
 -- ---- the name that has a slot
 pub eventBack : ℕ → List ℕ

@@ -11,7 +11,7 @@ use Rattle.json.specs.Grammar.{within}
 use Rattle.wire.proofs.Bytes.{same-self}
 use Rattle.wire.specs.Bytes.{sameBytes}
 use Rattle.spell.specs.Spell.{charOf, charsFrom, bytesOf, joined, decode}
-use Rattle.shape.specs.Shape.{isLetter, isCondition}
+use Rattle.shape.specs.Shape.{idName, pubkeyName, createdAtName, kindName, tagsName, contentName, idsName, authorsName, kindsName, sinceName, untilName, limitName, isLetter, isCondition}
 use Rattle.shape.specs.Walk.{UNKNOWN, LOWER, UPPER, among, letterSlot, conditionSlot}
 
 pub no : {A : Type 0} → _≡_ {A = ℕ} 0 1 → A
@@ -125,13 +125,16 @@ six-or false false false false false true x = refl
 six-or false false false false false false x = refl
 
 -- k is the name that w is
-module _ (w n₀ n₁ n₂ n₃ n₄ n₅ : List ℕ) (x : ℕ) {k : ℕ} (e : k ≡ among w n₀ n₁ n₂ n₃ n₄ n₅ 6) where
-  are : among w n₀ n₁ n₂ n₃ n₄ n₅ x ≡ cond (eqb k 6) x k
+module _ (w : List ℕ) (event : Bool) (x : ℕ) {k : ℕ} (e : k ≡ among w event 6) where
+  are : among w event x ≡ cond (eqb k 6) x k
   unfolding six
-  are = rw e (six-or (sameBytes w n₀) (sameBytes w n₁) (sameBytes w n₂) (sameBytes w n₃) (sameBytes w n₄) (sameBytes w n₅) x)
+  are =
+      rw e
+      (six-or (sameBytes w (cond event idName idsName)) (sameBytes w (cond event pubkeyName authorsName)) (sameBytes w (cond event createdAtName kindsName))
+      (sameBytes w (cond event kindName sinceName)) (sameBytes w (cond event tagsName untilName)) (sameBytes w (cond event contentName limitName)) x)
 
-  pub among-one : (k ≡ 6 → ⊥) → k ≡ among w n₀ n₁ n₂ n₃ n₄ n₅ x
+  pub among-one : (k ≡ 6 → ⊥) → k ≡ among w event x
   among-one n = sym (are ∙ rw (ne-eqb k 6 n))
 
-  pub among-none : k ≡ 6 → x ≡ among w n₀ n₁ n₂ n₃ n₄ n₅ x
+  pub among-none : k ≡ 6 → x ≡ among w event x
   among-none z = sym (are ∙ rw (eq-eqb k 6 z))

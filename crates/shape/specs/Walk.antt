@@ -186,19 +186,19 @@ groupForm f named = cond named (cond (eqb f EVENT) EVENT (cond (eqb f FILTER) FI
 unfoldable pub placeSlot : ℕ → ℕ
 placeSlot k = cond (eqb k 0) FIRST (cond (eqb k 1) SECOND LATER)
 
--- which of six names w is, from 0 on, or else k
-abbrev pub among : (w n₀ n₁ n₂ n₃ n₄ n₅ : List ℕ) (k : ℕ) → ℕ
-among w n₀ n₁ n₂ n₃ n₄ n₅ k =
-    cond (sameBytes w n₀) 0
-    (cond (sameBytes w n₁) 1
-    (cond (sameBytes w n₂) 2
-    (cond (sameBytes w n₃) 3
-    (cond (sameBytes w n₄) 4
-    (cond (sameBytes w n₅) 5 k)))))
+-- which of six names w is, of an event (b) or of a filter, from 0 on, or else k
+abbrev pub among : (w : List ℕ) (b : Bool) (k : ℕ) → ℕ
+among w b k =
+    cond (sameBytes w (cond b idName idsName)) 0
+    (cond (sameBytes w (cond b pubkeyName authorsName)) 1
+    (cond (sameBytes w (cond b createdAtName kindsName)) 2
+    (cond (sameBytes w (cond b kindName sinceName)) 3
+    (cond (sameBytes w (cond b tagsName untilName)) 4
+    (cond (sameBytes w (cond b contentName limitName)) 5 k)))))
 
 -- ID to CONTENT, SIG
 unfoldable pub eventSlot : List ℕ → ℕ
-eventSlot w = among w idName pubkeyName createdAtName kindName tagsName contentName (cond (sameBytes w sigName) SIG UNKNOWN)
+eventSlot w = among w true (cond (sameBytes w sigName) SIG UNKNOWN)
 
 unfoldable pub letterSlot : ℕ → ℕ
 letterSlot b = cond (within 97 122 b) (b - 97 + LOWER) (cond (within 65 90 b) (b - 65 + UPPER) UNKNOWN)
@@ -208,7 +208,7 @@ conditionSlot w = cond (isCondition w) (letterSlot (getD w 1 0)) UNKNOWN
 
 -- IDS to LIMIT, # and a letter
 unfoldable pub filterSlot : List ℕ → ℕ
-filterSlot w = among w idsName authorsName kindsName sinceName untilName limitName (conditionSlot w)
+filterSlot w = among w false (conditionSlot w)
 
 unfoldable pub nameSlot : ℕ → List ℕ → ℕ
 nameSlot f w = cond (eqb f EVENT) (eventSlot w) (cond (eqb f FILTER) (filterSlot w) UNKNOWN)

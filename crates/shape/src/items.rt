@@ -1,5 +1,6 @@
 // The slot of an item: of an element by its place, of a member by its name.
 ghost use mathlib.Core.Path.{_≡_};
+ghost use mathlib.Core.Bool.{cond};
 ghost use Rattle.spell.specs.Spell.{decode};
 ghost use Rattle.shape.specs.Walk.{placeSlot, among, eventSlot, letterSlot, conditionSlot, filterSlot, nameSlot, nameRow, memberOf, itemOf};
 use crate::Item;
@@ -17,29 +18,28 @@ pub(crate) fn place_slot(k: usize) -> u8
     }
 }
 
-// Which of six words a name spells, from 0 on, or NONE.
-pub(crate) fn among(
-    p: &[u8],
-    w0: &[u8],
-    w1: &[u8],
-    w2: &[u8],
-    w3: &[u8],
-    w4: &[u8],
-    w5: &[u8],
-) -> u8
-    ensures { λ r. ⌜ r ≡ among (decode (now (p .entry))) (now (w0 .entry)) (now (w1 .entry)) (now (w2 .entry)) (now (w3 .entry)) (now (w4 .entry)) (now (w5 .entry)) 6 ⌝ }
+// The first of two words, or the second.
+pub(crate) fn either<'a>(first: bool, x: &'a [u8], y: &'a [u8]) -> &'a [u8]
+    ensures { λ r. ⌜ now r ≡ cond first (now (x .entry)) (now (y .entry)) ⌝ }
 {
-    if spell::spells(p, w0) {
+    if first { x } else { y }
+}
+
+// Which of six names of an event, or of a filter, is spelled, from 0 on, or NONE.
+pub(crate) fn among(p: &[u8], event: bool) -> u8
+    ensures { λ r. ⌜ r ≡ among (decode (now (p .entry))) event 6 ⌝ }
+{
+    if spell::spells(p, either(event, b"id", b"ids")) {
         0
-    } else if spell::spells(p, w1) {
+    } else if spell::spells(p, either(event, b"pubkey", b"authors")) {
         1
-    } else if spell::spells(p, w2) {
+    } else if spell::spells(p, either(event, b"created_at", b"kinds")) {
         2
-    } else if spell::spells(p, w3) {
+    } else if spell::spells(p, either(event, b"kind", b"since")) {
         3
-    } else if spell::spells(p, w4) {
+    } else if spell::spells(p, either(event, b"tags", b"until")) {
         4
-    } else if spell::spells(p, w5) {
+    } else if spell::spells(p, either(event, b"content", b"limit")) {
         5
     } else {
         forms::NONE
@@ -49,15 +49,7 @@ pub(crate) fn among(
 pub(crate) fn event_slot(p: &[u8]) -> u8
     ensures { λ r. ⌜ r ≡ eventSlot (decode (now (p .entry))) ⌝ }
 {
-    let slot = among(
-        p,
-        b"id",
-        b"pubkey",
-        b"created_at",
-        b"kind",
-        b"tags",
-        b"content",
-    );
+    let slot = among(p, true);
     if slot != forms::NONE {
         return slot;
     }
@@ -116,15 +108,7 @@ pub(crate) fn condition_slot(p: &[u8]) -> u8
 pub(crate) fn filter_slot(p: &[u8]) -> u8
     ensures { λ r. ⌜ r ≡ filterSlot (decode (now (p .entry))) ⌝ }
 {
-    let slot = among(
-        p,
-        b"ids",
-        b"authors",
-        b"kinds",
-        b"since",
-        b"until",
-        b"limit",
-    );
+    let slot = among(p, false);
     if slot != forms::NONE {
         return slot;
     }

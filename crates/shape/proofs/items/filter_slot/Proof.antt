@@ -1,5 +1,6 @@
 -- One of six names, or a condition.
 use borrow.Author.Needs.{needs}
+use mathlib.Core.Bool.{false}
 use mathlib.Core.Path.{_∙_}
 use Rattle.shape.specs.Walk.{filterSlot}
 use Rattle.shape.proofs.Names.{among-one, among-none}
@@ -10,6 +11,5 @@ pub filter-slot-spec : {M : Type 1} → statement M
 unfolding filterSlot
 filter-slot-spec =
     tie.close
-    (tie.spec (λ c. search needs) (λ c. search needs) (λ c. search needs) (λ c. search needs) (λ c. search needs) (λ c. search needs) (λ c κs. search needs)
-    (λ c. among-one _ _ _ _ _ _ _ _ (c .before .among .ensures) (c .if1 .taken)) (λ c κs. search needs)
-    (λ c. c .condition-slot .ensures ∙ among-none _ _ _ _ _ _ _ _ (c .before .before .among .ensures) (c .before .if1 .left)))
+    (tie.spec (λ c κs. search needs) (λ c. among-one _ false _ (c .before .among .ensures) (c .if1 .taken)) (λ c κs. search needs)
+    (λ c. c .condition-slot .ensures ∙ among-none _ false _ (c .before .before .among .ensures) (c .before .if1 .left)))
