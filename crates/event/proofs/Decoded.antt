@@ -7,23 +7,25 @@ use Prim.Native.Nat.{ℕ, zero, suc, _+_, _-_, _/_, _%_, _≤_, _<_}
 use native.Mathlib.Decide.{decLt}
 use native.Mathlib.Numerals.{add-one}
 use native.Mathlib.Omega.{arith}
-use borrow.Author.Tests.{lt-ltb, le-ltb, le-leb, lt-leb, ne-eqb, eqb-true, leb-true}
-use lib.Dec.{ltb, leb, eqb, lit≤}
+use borrow.Author.Tests.{lt-ltb, le-ltb, le-leb, ne-eqb, eqb-true, leb-true}
+use lib.Dec.{ltb, leb, eqb}
 use lib.ListN.{length, getD, drop}
 use lib.Seq.{drop-cons, drop-length}
-use Rattle.utf8.specs.Utf8.{leadOf, next, utf8From, isUtf8}
+use Rattle.wire.specs.Bytes.{isControl}
+use Rattle.wire.proofs.Escapes.{control-high}
+use Rattle.utf8.specs.Utf8.{next, utf8From, isUtf8}
 use Rattle.utf8.specs.declared.Want.{Want}
-use Rattle.utf8.specs.declared.Want.the-variants.{Lead, Tail, Bad}
+use Rattle.utf8.specs.declared.Want.the-variants.{Lead}
 use Rattle.utf8.specs.Abnf.{Octets, utf8-1, utf8-2, utf8-3-e0, utf8-3-e1, utf8-3-ed, utf8-3-ee, utf8-4-f0, utf8-4-f1, utf8-4-f4}
 use Rattle.utf8.proofs.Abnf.{as-in-abnf}
+use Rattle.utf8.proofs.States.{Reached, lead-reached, next-reached, lead-low, low-lead}
 use Rattle.json.specs.Grammar.{within, classOf, charsAt, isSpelling}
 use Rattle.json.proofs.Ends.{one-is, one-ends, byte-is}
 use Rattle.json.proofs.Spelled.{Char, Chars, chars-sound}
 use Rattle.json.proofs.Spelled as json
 use Rattle.spell.specs.declared.Char as spell
-use Rattle.spell.specs.Spell.{hexVal, four, fourAt, shortOf, isPair, pairOf, unicodeOf, charOf, chars, charsFrom, utf8Of, bytesOf, joined, decode, isSurrogate, isControl, isRefused, any, refuses}
+use Rattle.spell.specs.Spell.{hexVal, four, fourAt, shortOf, isPair, pairOf, unicodeOf, charOf, chars, charsFrom, utf8Of, bytesOf, joined, decode, isSurrogate, isRefused, any, refuses}
 use Rattle.text.specs.Event.{all, isPlainByte, isString}
-use Rattle.text.proofs.Strings.{High, lead-high, tail-high, bad-high}
 
 -- ---- Bools
 pub and-both : (a b : Bool) → (a && b) ≡ true → (a ≡ true) × (b ≡ true)
@@ -246,19 +248,11 @@ module _ (n : ℕ) where
 -- ---- plain bytes
 pub plain-high : (x : ℕ) → 0x20 ≤ x → isPlainByte x ≡ true
 unfolding isPlainByte
-plain-high x h = rw (le-leb 0x20 x h)
+plain-high x h = ap not (control-high x h)
 
 plain-low : (n : ℕ) → isControl n ≡ false → isPlainByte n ≡ true
 unfolding isPlainByte
-plain-low n e = elim (decLt n 0x20) [ yes h ↦ rw (lt-leb 0x20 n h) (one (eqb n 0x8) (eqb n 0x9) (eqb n 0xa) (eqb n 0xc) (eqb n 0xd) (rw (lt-ltb n 0x20 h) at e)) | no h ↦ rw (le-leb 0x20 n (omega arith)) ]
-  where
-    one : (a b c d f : Bool) → (not a && (not b && (not c && (not d && not f)))) ≡ false → (a || (b || (c || (d || f)))) ≡ true
-    one true b c d f e = refl
-    one false true c d f e = refl
-    one false false true d f e = refl
-    one false false false true f e = refl
-    one false false false false true e = refl
-    one false false false false false e = absurd (let z : _≡_ {A = ℕ} 0 1 = cc in omega arith)
+plain-low n e = ap not e
 
 plain-of : (n : ℕ) (t : List ℕ) → isControl n ≡ false → all isPlainByte t ≡ true → all isPlainByte (utf8Of n ++ t) ≡ true
 unfolding utf8Of all
@@ -274,32 +268,6 @@ plain-of n t e f = elim (decLt n 0x80) [
 ]
 
 -- ---- UTF-8 from a state on
-cond-high : (t : Bool) {a b : Want} → High a → High b → High (cond t a b)
-cond-high true p q = p
-cond-high false p q = q
-
-pub next-high : (w : Want) (x : ℕ) → High w → High (next w x)
-unfolding leadOf
-next-high Lead x h = search (cond-high, lead-high, tail-high, bad-high, lit≤, tt) depth 14
-next-high (Tail lo hi m) x h = search (cond-high, lead-high, tail-high, bad-high, lit≤, tt) depth 14
-next-high Bad x h = bad-high
-
-pub never-bad : {A : Type 0} (t : List ℕ) → utf8From Bad t ≡ true → A
-unfolding utf8From
-never-bad [] e = absurd (let z : _≡_ {A = ℕ} 0 1 = cc in omega arith)
-never-bad (x ∷ t) e = never-bad t e
-
--- a low byte stands only where a character may begin
-pub low-lead : (w : Want) (x : ℕ) (t : List ℕ) → High w → x < 128 → utf8From w (x ∷ t) ≡ true → (w ≡ Lead) × (utf8From Lead t ≡ true)
-unfolding utf8From leadOf
-low-lead Lead x t h l e = (refl, rw (le-leb x 127 (omega arith)) at e)
-low-lead (Tail lo hi m) x t (tail-high k) l e = never-bad t (rw (lt-ltb x lo (omega arith)) at e)
-low-lead Bad x t h l e = never-bad t e
-
-pub lead-low : (x : ℕ) (t : List ℕ) → x < 128 → utf8From Lead t ≡ true → utf8From Lead (x ∷ t) ≡ true
-unfolding utf8From leadOf
-lead-low x t l e = rw (le-leb x 127 (omega arith)) e
-
 lead-of : (n : ℕ) (t : List ℕ) → n ≤ 0x10ffff → isSurrogate n ≡ false → utf8From Lead t ≡ true → utf8From Lead (utf8Of n ++ t) ≡ true
 unfolding isUtf8
 lead-of n t h e u = as-in-abnf (utf8Of n ++ t) .1 (octets-of n t (as-in-abnf t .0 u) h e)
@@ -316,26 +284,26 @@ step-plain x l h n w r u ih =
     let g = ih (refuses-more (x ∷ l) l e r .2) u in
     rw (decode-more (x ∷ l) l e) (g .0, rw (plain-high x h) (g .1))
 
-step-short : (y : ℕ) (l : List ℕ) → Short y → (w : Want) → High w → refuses (0x5c ∷ y ∷ l) ≡ false → utf8From w (0x5c ∷ y ∷ l) ≡ true
+step-short : (y : ℕ) (l : List ℕ) → Short y → (w : Want) → Reached w → refuses (0x5c ∷ y ∷ l) ≡ false → utf8From w (0x5c ∷ y ∷ l) ≡ true
     → (refuses l ≡ false → utf8From Lead l ≡ true → Good Lead (decode l)) → Good w (decode (0x5c ∷ y ∷ l))
 unfolding all bytesOf
 step-short y l s w v r u ih =
     let (z, u₁) = low-lead w 0x5c (y ∷ l) v (omega arith) u in
-    let u₂ = low-lead Lead y l lead-high (s .low) u₁ .1 in
+    let u₂ = low-lead Lead y l lead-reached (s .low) u₁ .1 in
     let e = chars-short y l (s .other) in
     let g = ih (refuses-more (0x5c ∷ y ∷ l) l e r .2) u₂ in
     rw (decode-more (0x5c ∷ y ∷ l) l e, z) (lead-low (shortOf y) (decode l) (s .means) (g .0), rw (s .fine) (g .1))
 
 module _ {a b c d : ℕ} (ha : a < 128) (hb : b < 128) (hc : c < 128) (hd : d < 128) where
   -- an escape stands only where a character may begin
-  pub six-lead : (w : Want) (l : List ℕ) → High w → utf8From w (0x5c ∷ 0x75 ∷ a ∷ b ∷ c ∷ d ∷ l) ≡ true → (w ≡ Lead) × (utf8From Lead l ≡ true)
+  pub six-lead : (w : Want) (l : List ℕ) → Reached w → utf8From w (0x5c ∷ 0x75 ∷ a ∷ b ∷ c ∷ d ∷ l) ≡ true → (w ≡ Lead) × (utf8From Lead l ≡ true)
   six-lead w l v u =
       let (z, u₁) = low-lead w 0x5c (0x75 ∷ a ∷ b ∷ c ∷ d ∷ l) v (omega arith) u in
-      let u₂ = low-lead Lead 0x75 (a ∷ b ∷ c ∷ d ∷ l) lead-high (omega arith) u₁ .1 in
-      let u₃ = low-lead Lead a (b ∷ c ∷ d ∷ l) lead-high ha u₂ .1 in
-      let u₄ = low-lead Lead b (c ∷ d ∷ l) lead-high hb u₃ .1 in
-      let u₅ = low-lead Lead c (d ∷ l) lead-high hc u₄ .1 in
-      (z, low-lead Lead d l lead-high hd u₅ .1)
+      let u₂ = low-lead Lead 0x75 (a ∷ b ∷ c ∷ d ∷ l) lead-reached (omega arith) u₁ .1 in
+      let u₃ = low-lead Lead a (b ∷ c ∷ d ∷ l) lead-reached ha u₂ .1 in
+      let u₄ = low-lead Lead b (c ∷ d ∷ l) lead-reached hb u₃ .1 in
+      let u₅ = low-lead Lead c (d ∷ l) lead-reached hc u₄ .1 in
+      (z, low-lead Lead d l lead-reached hd u₅ .1)
 
 -- a character of an escape, of a code point n, before m
 step-code : (l m : List ℕ) (n k : ℕ) (w : Want) → w ≡ Lead → n ≤ 0x10ffff → chars l ≡ record { code = n; raw = false; width = k } ∷ chars m → refuses l ≡ false
@@ -346,7 +314,7 @@ step-code l m n k w z h e r ih =
     let g = ih (q .2) in
     rw (decode-more l m e, z) (lead-of n (decode m) h (q .0) (g .0), plain-of n (decode m) (q .1) (g .1))
 
-module _ (a b c d : ℕ) (ha : a < 128) (hb : b < 128) (hc : c < 128) (hd : d < 128) (w : Want) (v : High w) where
+module _ (a b c d : ℕ) (ha : a < 128) (hb : b < 128) (hc : c < 128) (hd : d < 128) (w : Want) (v : Reached w) where
   abbrev Rest : List ℕ → Type 0
   Rest l = (m : List ℕ) → length m ≤ length l → Spelling m → refuses m ≡ false → utf8From Lead m ≡ true → Good Lead (decode m)
 
@@ -359,7 +327,7 @@ module _ (a b c d : ℕ) (ha : a < 128) (hb : b < 128) (hc : c < 128) (hd : d < 
   step-pair (code {a = i} {b = j} {c = x} {d = y} {l = m} hi hj hx hy s) e ih r u =
       let p = paired (four a b c d) 0x5c 0x75 (four i j x y) e in
       let (z, u₁) = six-lead ha hb hc hd w (0x5c ∷ 0x75 ∷ i ∷ j ∷ x ∷ y ∷ m) v u in
-      let u₂ = six-lead hi hj hx hy Lead m lead-high u₁ .1 in
+      let u₂ = six-lead hi hj hx hy Lead m lead-reached u₁ .1 in
       step-code _ m (pairOf (four a b c d) (four i j x y)) 12 w z (omega (arith, p .high, p .low)) (chars-pair a b c d i j x y m e) r (λ q. ih m (omega arith) s q u₂)
 
   step-escape : {l : List ℕ} → Spelling l → Rest l → refuses (0x5c ∷ 0x75 ∷ a ∷ b ∷ c ∷ d ∷ l) ≡ false → utf8From w (0x5c ∷ 0x75 ∷ a ∷ b ∷ c ∷ d ∷ l) ≡ true
@@ -373,7 +341,7 @@ module _ (a b c d : ℕ) (ha : a < 128) (hb : b < 128) (hc : c < 128) (hd : d < 
           step-code _ l (four a b c d) 6 w z (omega (arith, four-few a b c d)) (chars-one a b c d l e) r (λ q. ih l (omega arith) s q u₁)
 
 abbrev Upto : ℕ → Type 0
-Upto k = (l : List ℕ) → length l ≤ k → Spelling l → (w : Want) → High w → refuses l ≡ false → utf8From w l ≡ true → Good w (decode l)
+Upto k = (l : List ℕ) → length l ≤ k → Spelling l → (w : Want) → Reached w → refuses l ≡ false → utf8From w l ≡ true → Good w (decode l)
 
 none-decoded : (w : Want) → utf8From w [] ≡ true → Good w (decode [])
 unfolding decode joined charsFrom all
@@ -381,10 +349,10 @@ none-decoded w u = (u, refl)
 
 longer : (k : ℕ) → Upto k → Upto (suc k)
 longer k ih l h end w v r u = none-decoded w u
-longer k ih l h (plain {x = x} {l = m} y n s) w v r u = step-plain x m y n w r u (λ e f. ih m (omega arith) s (next w x) (next-high w x v) e f)
-longer k ih l h (short {y = y} {l = m} t s) w v r u = step-short y m t w v r u (λ e f. ih m (omega arith) s Lead lead-high e f)
+longer k ih l h (plain {x = x} {l = m} y n s) w v r u = step-plain x m y n w r u (λ e f. ih m (omega arith) s (next w x) (next-reached w x v) e f)
+longer k ih l h (short {y = y} {l = m} t s) w v r u = step-short y m t w v r u (λ e f. ih m (omega arith) s Lead lead-reached e f)
 longer k ih l h (code {a = a} {b = b} {c = c} {d = d} {l = m} ha hb hc hd s) w v r u =
-    step-escape a b c d ha hb hc hd w v s (λ i g t e f. ih i (omega arith) t Lead lead-high e f) r u
+    step-escape a b c d ha hb hc hd w v s (λ i g t e f. ih i (omega arith) t Lead lead-reached e f) r u
 
 shortest : Upto 0
 shortest [] h s w v r u = none-decoded w u
@@ -397,4 +365,4 @@ decoded (suc k) = longer k (decoded k)
 -- the theorem
 pub decoded-string : (l : List ℕ) → isUtf8 l ≡ true → isSpelling l ≡ true → refuses l ≡ false → isString (decode l) ≡ true
 unfolding isUtf8 isString
-decoded-string l u s r = let g = decoded (length l) l (omega arith) (is-spelling l s) Lead lead-high r u in rw (g .1) (g .0)
+decoded-string l u s r = let g = decoded (length l) l (omega arith) (is-spelling l s) Lead lead-reached r u in rw (g .1) (g .0)

@@ -10,9 +10,9 @@ use lib.Dec.{ltb, lit<}
 use lib.IntN.{ℤ, pos, negsuc, negℤ}
 use lib.ListN.{length, getD, take, drop}
 use lib.Seq.{take-add, drop-drop, drop-cons}
-use Rattle.utf8.specs.Utf8.{next, utf8From, isUtf8}
-use Rattle.utf8.specs.declared.Want.{Want}
+use Rattle.utf8.specs.Utf8.{utf8From, isUtf8}
 use Rattle.utf8.specs.declared.Want.the-variants.{Lead}
+use Rattle.utf8.proofs.States.{lead-reached, utf8-cut}
 use Rattle.json.specs.Grammar.{case, past, charsAt, tokenAt, openedAt, stringAt, scalarAt, startAt, nextAt, wsAt, isSpelling}
 use Rattle.json.specs.Tree.{Json, str, arr, Items, nil, item, Got, none, got, onLeaf, itemsAt, groupAt, treeAt, depth}
 use Rattle.json.specs.declared.Out.{Out}
@@ -38,7 +38,6 @@ use Rattle.shape.specs.Shape as shape
 use Rattle.shape.specs.Rows.{outside, wrongTag, wrongTags}
 use Rattle.text.specs.Event.{all, isPubkey, isTime, isKind, isString, isTag, isTags, isFit}
 use Rattle.text.specs.Read.{read, readText}
-use Rattle.text.proofs.Strings.{High, lead-high}
 use Rattle.text.proofs.RoundTrip.{read-back, serialise-once}
 use Rattle.message.specs.declared.Span.{Span}
 use Rattle.message.specs.declared.Body.{Body}
@@ -49,7 +48,7 @@ use Rattle.event.specs.Lent.{said, stringOf, stringsOf, tagOf, tagsOf, t
 use Rattle.event.specs.Answer.{isLarge, textRow, identified}
 use Rattle.event.proofs.Strings.{string-tree, string-out}
 use Rattle.event.proofs.Walks.{Walk, last, more, walk-of}
-use Rattle.event.proofs.Decoded.{and-both, or-neither, next-high, low-lead, decoded-string}
+use Rattle.event.proofs.Decoded.{and-both, or-neither, decoded-string}
 
 -- ---- Bools
 not-false : (a : Bool) → not a ≡ false → a ≡ true
@@ -60,11 +59,6 @@ pub and-fails : (a b : Bool) → a ≡ true → (a && b) ≡ false → b ≡ fal
 and-fails a b p e = rw p at e
 
 -- ---- UTF-8 between two quotes
-cut : (x : List ℕ) (q : ℕ) (y : List ℕ) (w : Want) → High w → q < 128 → utf8From w (x ++ (q ∷ y)) ≡ true → (utf8From w x ≡ true) × (utf8From Lead y ≡ true)
-unfolding utf8From
-cut [] q y w h l e = let (z, u) = low-lead w q y h l e in (rw z, u)
-cut (a ∷ x) q y w h l e = cut x q y (next w a) (next-high w a h) l e
-
 module _ (s : List ℕ) where
   here : (at : ℕ) → at < length s → drop at s ≡ getD s at 0 ∷ drop (at + 1) s
   here at h = drop-cons s at 0 h ∙ ap (λ (k : ℕ). getD s at 0 ∷ drop k s) (sym (add-one at))
@@ -90,10 +84,10 @@ module _ (s : List ℕ) where
       let k₂ : v + 1 + (e - v - 2) < length s = omega arith in
       let z₁ = apart lo (v - lo) (e - v - 2 + suc (hi - e)) k₁ in
       let u₁ : utf8From Lead (take (v - lo) (drop lo s) ++ (34 ∷ take (e - v - 2 + suc (hi - e)) (drop (v + 1) s))) ≡ true = rw (n₁, z₁, n₂, p) at u in
-      let u₂ = cut (take (v - lo) (drop lo s)) 34 _ Lead lead-high (lit< tt) u₁ .1 in
+      let u₂ = utf8-cut (take (v - lo) (drop lo s)) 34 _ Lead lead-reached (lit< tt) u₁ .1 in
       let z₂ = apart (v + 1) (e - v - 2) (hi - e) k₂ in
       let u₃ : utf8From Lead (take (e - v - 2) (drop (v + 1) s) ++ (34 ∷ take (hi - e) (drop (e - 1 + 1) s))) ≡ true = rw (z₂, n₃, r) at u₂ in
-      cut (take (e - v - 2) (drop (v + 1) s)) 34 _ Lead lead-high (lit< tt) u₃ .0
+      utf8-cut (take (e - v - 2) (drop (v + 1) s)) 34 _ Lead lead-reached (lit< tt) u₃ .0
 
   -- ---- what is read ends no earlier than it begins
   pub ws-after : (at : ℕ) → at ≤ wsAt s at

@@ -13,7 +13,7 @@ use lib.Seq.{drop-cons}
 use borrow.Author.Tests.{lt-ltb, le-ltb, le-leb, lt-leb, eq-eqb, ne-eqb, ltb-true}
 use Rattle.json.specs.Grammar.{case, noZero, classOf, run, past, oneAt, wordAt, digitsAt}
 use Rattle.json.specs.declared.Class.{Class}
-use Rattle.json.specs.declared.Class.the-variants.{Digit, Byte}
+use Rattle.json.specs.declared.Class.the-variants.{Digit, Hex, Short, Byte}
 use Rattle.json.specs.declared.Out.the-variants.{End, Bad}
 
 pub ruleset tests = (lt-ltb, le-ltb, le-leb, lt-leb, eq-eqb, ne-eqb)
@@ -50,6 +50,14 @@ byte-not-zero b h = ne-eqb 0 b (λ e. omega arith)
 digit-not-zero : classOf Digit 0 ≡ false
 unfolding classOf
 digit-not-zero = refl
+
+pub hex-not-zero : classOf Hex 0 ≡ false
+unfolding classOf
+hex-not-zero = refl
+
+pub short-not-zero : classOf Short 0 ≡ false
+unfolding classOf
+short-not-zero = refl
 
 pub digits-are : (s : List ℕ) (at : ℕ) → classOf Digit (getD s at 0) ≡ true → digitsAt s at ≡ End (past Digit s at)
 unfolding digitsAt oneAt

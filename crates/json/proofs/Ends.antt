@@ -30,10 +30,6 @@ then-end Bad f e = ends-bad e
 abbrev pub Ends : ℕ → ℕ → Out → Type 0
 Ends at size o = (n : ℕ) → o ≡ End n → (at < n) × (n ≤ size)
 
--- where o ends, it ends at `at` or behind it
-abbrev pub Stays : ℕ → ℕ → Out → Type 0
-Stays at size o = (n : ℕ) → o ≡ End n → (at ≤ n) × (n ≤ size)
-
 module _ (at size : ℕ) where
   -- one thing, or another
   pub ends-or : (o z : Out) → Ends at size o → Ends at size z → Ends at size (case o End z)
@@ -49,11 +45,6 @@ module _ (at size : ℕ) where
   pub ends-if : (o : Out) (f : ℕ → Out) (z : Out) → Ends at size o → ((m : ℕ) → Ends m size (f m)) → Ends at size z → Ends at size (case o f z)
   ends-if (End m) f z a b c n e = let p = a m refl in let q = b m n e in omega arith
   ends-if Bad f z a b c n e = c n e
-
-  -- one thing, and then what may be nothing
-  pub ends-stays : (o : Out) (f : ℕ → Out) → Ends at size o → ((m : ℕ) → m ≤ size → Stays m size (f m)) → Ends at size (case o f Bad)
-  ends-stays (End m) f a b n e = let p = a m refl in let q = b m (p .1) n e in omega arith
-  ends-stays Bad f a b n e = ends-bad e
 
 module _ (s : List ℕ) where
   pub one-ends : (class : Class) (at : ℕ) → classOf class 0 ≡ false → Ends at (length s) (oneAt s class at)

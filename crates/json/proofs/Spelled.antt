@@ -1,18 +1,18 @@
 -- A character is known by its bytes, so what stands between quotation marks is a spelling wherever it stands.
 use mathlib.Core.Path.{_≡_, refl, sym, ap, _∙_}
-use mathlib.Core.List.{List, [], _∷_, _++_}
+use mathlib.Core.List.{List}
 use mathlib.Core.Bool.{true, false}
 use Prim.Native.Nat.{ℕ, zero, suc, _+_, _-_, _<_, _≤_}
 use native.Mathlib.Omega.{arith}
-use lib.ListN.{length, getD, take, drop, length-take, length-drop, List·getD-append}
-use lib.Seq.{getD-take, getD-drop, getD-append-seam}
-use borrow.Author.Tests.{eq-eqb, eqb-true}
+use lib.ListN.{length, getD, take, drop, length-take, length-drop}
+use lib.Seq.{getD-take, getD-drop}
+use borrow.Author.Tests.{eq-eqb}
 use Rattle.json.specs.Grammar.{case, classOf, oneAt, hexAt, escapedAt, charAt, charsUpTo, charsAt, isSpelling, stringAt}
 use Rattle.json.specs.declared.Class.{Class}
 use Rattle.json.specs.declared.Class.the-variants.{Plain, Hex, Short, Byte}
 use Rattle.json.specs.declared.Out.{Out}
 use Rattle.json.specs.declared.Out.the-variants.{End, Bad}
-use Rattle.json.proofs.Ends.{then-end, one-is, one-of, byte-not, not-byte, one-ends, char-ends, chars-more, chars-none, chars-past}
+use Rattle.json.proofs.Ends.{then-end, one-is, one-of, byte-not, not-byte, one-ends, char-ends, chars-more, chars-past}
 
 -- ---- char and *char as RFC 8259 has them
 pub data Char (s : List ℕ) : ℕ → ℕ → Type 0 where
@@ -149,26 +149,3 @@ string-spelled s at n e = eq-eqb _ _ (ap (charsAt p) zeroth ∙ sym (chars-taken
 
     size : length p ≡ g m
     size = simp (length-take, length-drop) (omega (arith, ends))
-
--- a spelling between quotation marks is a string
-pub spelled-string : (p : List ℕ) → isSpelling p ≡ true → stringAt (0x22 ∷ (p ++ (0x22 ∷ []))) 0 ≡ End (length p + 2)
-unfolding classOf oneAt charAt escapedAt stringAt
-spelled-string p e = rw chars (rw quote (ap End size))
-  where
-    t : List ℕ
-    t = 0x22 ∷ (p ++ (0x22 ∷ []))
-
-    run : Chars p 0 (length p)
-    run = rw (eqb-true (charsAt p 0) (length p) e) at (chars-sound p 0)
-
-    moved : Chars t 1 (suc (length p))
-    moved = chars-moved p t suc 0 (length p) (λ x l h. List·getD-append p (0x22 ∷ []) 0 x h) (λ x l. omega arith) 0 (length p) (omega arith) (omega arith) run
-
-    quote : getD t (suc (length p)) 0 ≡ 0x22
-    quote = getD-append-seam p 0x22 [] 0
-
-    chars : charsAt t 1 ≡ suc (length p)
-    chars = sym (chars-taken t 1 (suc (length p)) moved) ∙ chars-none t (suc (length p)) (rw quote)
-
-    size : suc (length p) + 1 ≡ length p + 2
-    size = omega arith

@@ -1,23 +1,23 @@
 -- What the rows of lent parts say of an event's tags and of a filter's lists, where none holds: for whoever reads them.
 use mathlib.Core.Path.{_≡_, refl, sym, ap, _∙_}
-use mathlib.Core.Bool.{Bool, true, false, not, _||_, false≢true}
+use mathlib.Core.Bool.{Bool, true, false, _||_, false≢true}
 use mathlib.Core.List.{List}
 use Prim.Native.Nat.{ℕ, _≤_}
 use native.Mathlib.Omega.{arith}
-use borrow.Author.Tests.{ltb-false, not-false}
+use borrow.Author.Tests.{ltb-false}
 use lib.Dec.{ltb}
 use Rattle.wire.specs.Bytes.{sameBytes}
 use Rattle.wire.proofs.Bytes.{same-equal}
 use Rattle.wire.specs.Limits.{hexLength}
-use Rattle.json.specs.Tree.{Json, word, num, str, arr, obj, Items, nil, item, Got, none, got, depth, treeAt, onArray, onObject}
-use Rattle.shape.specs.Shape.{anyItem, allItems, countItems, count, nameAt, isString, isNumber, isArrayOf, isCondition, filterMember, isFilter, idsName, authorsName, kindsName, sinceName, untilName, limitName}
-use Rattle.shape.specs.Rows.{outside, wrongSmall, wrongHex, wrongList, filterNumber, filterHex, filterCount, filterCounts}
+use Rattle.json.specs.Tree.{Json, word, num, str, arr, obj, Items, nil, item, onArray, onObject}
+use Rattle.shape.specs.Shape.{anyItem, allItems, count, nameAt, isString, isNumber, isArrayOf, isCondition, filterMember, isFilter, idsName, authorsName, kindsName, sinceName, untilName, limitName}
+use Rattle.shape.specs.Rows.{wrongSmall, wrongHex, wrongList, filterNumber, filterHex, filterCount, filterCounts}
 use Rattle.message.specs.declared.EventParts.{EventParts}
 use Rattle.message.specs.declared.FilterParts.{FilterParts}
 use Rattle.message.specs.declared.Listed.{Listed}
 use Rattle.message.specs.declared.Listed.the-variants.{At}
-use Rattle.message.specs.Lent.{lowest, onValue, valueAt, isTags, string2, string4, string5, value2, value4, value5, time6, small6, someHex, someSmall, body2, body4, body5, body6, body8, event2, event4, event5, event7, eventRow, inList, inBound, filter2, filter4, filter5, filter6, filter7, filter8, filterRow}
-use Rattle.message.proofs.Facts.{and-true, or-not, In, all-in, any-in}
+use Rattle.message.specs.Lent.{lowest, onValue, valueAt, isTags, string5, value2, value4, value5, time6, small6, someHex, someSmall, body5, body6, body8, event2, event4, event5, event7, eventRow, inList, inBound, filter2, filter4, filter5, filter6, filter7, filter8, filterRow}
+use Rattle.message.proofs.Facts.{or-not, In, all-in, any-in}
 
 pub none-holds : (r2 r4 r5 r6 r7 r8 : Bool) → lowest r2 r4 r5 r6 r7 r8 ≡ 0 → (r2 ≡ false) × (r4 ≡ false) × (r5 ≡ false) × (r6 ≡ false) × (r7 ≡ false) × (r8 ≡ false)
 none-holds true r4 r5 r6 r7 r8 e = absurd (omega arith)
@@ -63,15 +63,6 @@ list-of f g (obj ts) h c l = absurd (false≢true h)
 list-of f g (arr ts) h c l =
     let (x, y) = or-not (ltb (count ts) 1) (ltb 16 (count ts)) l in
     record { items = ts; is = refl; each = h; clean = c; some = ltb-false (count ts) 1 x; few = ltb-false 16 (count ts) y }
-
-pub list-tree : (f g : Json → Bool) (b : List ℕ) (v : ℕ) → ListIs f g b v → (t : Json) × (n : ℕ) × (treeAt b depth v ≡ got t n) × ListOf f g t
-unfolding value5
-list-tree f g b v l = go (treeAt b depth v) refl (l .l5) (l .members) (l .l8)
-  where
-    go : (r : Got Json) → treeAt b depth v ≡ r → not (onValue (isArrayOf f) r) ≡ false → onValue (onArray (anyItem (λ q u. g u))) r ≡ false → onValue wrongList r ≡ false
-        → (t : Json) × (n : ℕ) × (treeAt b depth v ≡ got t n) × ListOf f g t
-    go none e h c w = absurd (false≢true (sym h))
-    go (got t n) e h c w = (t, n, e, list-of f g t (not-false _ h) c w)
 
 -- ---- a filter's lists
 at : (f : ℕ → Bool) (x : Listed) {v : ℕ} → x ≡ At v → inList f x ≡ false → f v ≡ false
@@ -158,9 +149,6 @@ module _ (b : List ℕ) (p : FilterParts) (e : filterRow b p ≡ 0) where
     members = at (λ w. onValue (someSmall b) (valueAt b w)) (p .kinds) q (six .0);
     l8 = at (λ w. onValue wrongList (valueAt b w)) (p .kinds) q (eight .2);
   }
-
-  pub bounds-are : (inBound time6 (p .since) ≡ false) × (inBound time6 (p .until) ≡ false) × (inBound small6 (p .limit) ≡ false)
-  bounds-are = (six .1, six .2, six .3)
 
 -- ---- a filter's object, of which the members with # are the conditions
 pub record FilterIs (b : List ℕ) (v : ℕ) : Type 0 where

@@ -1,30 +1,29 @@
 -- A string, a number, an array or an object of a text that is UTF-8, read there, breaks as a lent part only the rows that it breaks in the text.
 use mathlib.Core.Path.{_≡_, refl, sym, ap, _∙_}
 use mathlib.Core.List.{List}
-use mathlib.Core.Bool.{Bool, true, false, cond, not, _&&_, false≢true}
-use Prim.Native.Nat.{ℕ, _+_, _-_, _≤_}
+use mathlib.Core.Bool.{Bool, true, false, not, _&&_, false≢true}
+use Prim.Native.Nat.{ℕ, _+_, _-_}
 use native.Mathlib.Omega.{arith}
-use borrow.Author.Tests.{le-leb, not-false}
+use borrow.Author.Tests.{le-leb}
 use lib.IntN.{ℤ, pos, negℤ}
 use lib.ListN.{length}
 use Rattle.utf8.specs.Utf8.{isUtf8}
 use Rattle.json.specs.Grammar.{isSpelling}
-use Rattle.json.specs.Tree.{Json, word, num, str, arr, obj, Items, Got, got, depth, treeAt}
+use Rattle.json.specs.Tree.{Json, word, num, str, arr, obj, Items, got, depth, treeAt}
 use Rattle.json.proofs.Spelled.{string-parts, string-spelled}
-use Rattle.spell.specs.Spell.{refuses, isHexOf}
 use Rattle.wire.specs.Limits.{widest}
 use Rattle.numeral.specs.Whole.{wholeOf, answerOf, isWithin}
 use Rattle.numeral.specs.declared.Whole.{Whole}
 use Rattle.numeral.specs.declared.Whole.the-variants.{Value, Large, Malformed}
 use Rattle.rows.specs.Strings.{part, refusedIn}
-use Rattle.shape.specs.Shape.{isString, isNumber, isArrayOf, isFilter}
+use Rattle.shape.specs.Shape.{isString, isNumber, isArrayOf}
 use Rattle.shape.specs.Rows.{wrongTime, wrongSmall, wrongHex}
 use Rattle.message.specs.declared.Span.{Span}
 use Rattle.message.specs.Lists.{within}
 use Rattle.message.specs.Parts.{spanOf, valueOf, numberOf}
-use Rattle.message.specs.Lent.{isInside, isSpelled, string2, string4, string5, string7, wrongNumber, time6, small6, onValue, valueAt, ownText, value2, value4, value5}
+use Rattle.message.specs.Lent.{isInside, isSpelled, string2, string4, string5, string7, wrongNumber, time6, small6, onValue, valueAt, value2, value4, value5}
 use Rattle.message.proofs.Walks.{deeper}
-use Rattle.message.proofs.Elements.{Group, group-of}
+use Rattle.message.proofs.Elements.{group-of}
 use Rattle.message.proofs.Edges.{group-utf8, string-utf8}
 use Rattle.message.proofs.Reading.{string-tree}
 
@@ -94,14 +93,6 @@ array-grouped f (num a m) e = absurd (false≢true e)
 array-grouped f (str a m) e = absurd (false≢true e)
 array-grouped f (arr ts) e = array
 array-grouped f (obj ts) e = absurd (false≢true e)
-
-pub filter-grouped : (s : List ℕ) (t : Json) → isFilter s t ≡ true → Grouped t
-unfolding isFilter
-filter-grouped s (word a m) e = absurd (false≢true e)
-filter-grouped s (num a m) e = absurd (false≢true e)
-filter-grouped s (str a m) e = absurd (false≢true e)
-filter-grouped s (arr ts) e = absurd (false≢true e)
-filter-grouped s (obj ts) e = object
 
 -- f of the value at v is false
 pub value-false : (s : List ℕ) (v : ℕ) {t : Json} {n : ℕ} (f : Json → Bool) → treeAt s within v ≡ got t n → f t ≡ false → onValue f (valueAt s v) ≡ false

@@ -3,21 +3,22 @@
 use mathlib.Core.Path.{_≡_, refl, sym, ap, _∙_}
 use mathlib.Core.List.{List, [], _∷_, _++_}
 use mathlib.Core.Bool.{Bool, true, false, cond, _||_, false≢true}
-use mathlib.Core.Logic.{_⊎_, inl, inr, ⊎-elim}
-use Prim.Native.Nat.{ℕ, zero, suc, _+_, _-_, _<_, _≤_}
+use mathlib.Core.Logic.{_⊎_, ⊎-elim}
+use Prim.Native.Nat.{ℕ, suc, _+_, _-_, _<_, _≤_}
 use native.Mathlib.Nat.{zero-add}
 use native.Mathlib.Numerals.{add-one}
 use native.Mathlib.Decide.{decLe, decLt}
 use native.Mathlib.Omega.{arith}
-use borrow.Author.Tests.{le-leb, lt-ltb, leb-true, eqb-true}
-use lib.Dec.{eqb, leb, ltb}
+use borrow.Author.Tests.{eqb-true}
+use lib.Dec.{eqb}
 use lib.ListN.{length, getD, take, drop, take-append-drop, List·getD-eq-default}
 use lib.Seq.{take-suc, take-nil, drop-cons, take-add}
 use Rattle.utf8.specs.declared.Want.{Want}
-use Rattle.utf8.specs.declared.Want.the-variants.{Lead, Tail, Bad}
-use Rattle.utf8.specs.Utf8.{leadOf, next, ends, utf8From, isUtf8}
-use Rattle.json.specs.Grammar.{case, classOf, run, past, wsAt, tokenAt, closeOf, openedAt, startAt, nextAt, charsAt, stringAt}
-use Rattle.json.specs.Tree.{Json, Items, Got, treeAt}
+use Rattle.utf8.specs.declared.Want.the-variants.{Lead, Bad}
+use Rattle.utf8.specs.Utf8.{next, ends, utf8From, isUtf8}
+use Rattle.utf8.proofs.States.{Reached, lead-reached, next-reached, low-next, low-turn}
+use Rattle.json.specs.Grammar.{case, classOf, run, past, wsAt, tokenAt, closeOf, openedAt, startAt, charsAt, stringAt}
+use Rattle.json.specs.Tree.{Json, Items, Got}
 use Rattle.json.specs.declared.Out.{Out}
 use Rattle.json.specs.declared.Out.the-variants as out
 use Rattle.json.specs.declared.Start.the-variants.{Leaf, Empty, Many}
@@ -25,7 +26,6 @@ use Rattle.json.specs.declared.Next.the-variants.{More, Done, Wrong}
 use Rattle.json.proofs.Ends.{then-end, one-is, byte-is}
 use Rattle.json.proofs.Spelled.{string-parts}
 use Rattle.rows.specs.Strings.{part}
-use Rattle.message.specs.Lists.{within}
 use Rattle.message.proofs.Walks.{Walk, last, more}
 use Rattle.message.proofs.Elements.{Group, hollow, filled}
 
@@ -47,34 +47,9 @@ state-bad : (s : List ℕ) → state Bad s ≡ Bad
 state-bad [] = refl
 state-bad (x ∷ s) = state-bad s
 
--- within a character no byte below 80 is wanted
-data Good : Want → Type 0 where
-  lead : Good Lead
-  tail : {lo hi n : ℕ} → 0x80 ≤ lo → Good (Tail lo hi n)
-  bad : Good Bad
-
-good-if : (b : Bool) {v w : Want} → Good v → Good w → Good (cond b v w)
-good-if true p q = p
-good-if false p q = q
-
-good-next : {w : Want} (x : ℕ) → Good w → Good (next w x)
-unfolding leadOf
-good-next x lead =
-    good-if (leb x 0x7f) lead (good-if (leb x 0xc1) bad (good-if (leb x 0xdf) (tail (omega arith)) (good-if (leb x 0xe0) (tail (omega arith)) (good-if (leb x 0xec) (tail (omega arith))
-    (good-if (leb x 0xed) (tail (omega arith)) (good-if (leb x 0xef) (tail (omega arith)) (good-if (leb x 0xf0) (tail (omega arith)) (good-if (leb x 0xf3) (tail (omega arith))
-    (good-if (leb x 0xf4) (tail (omega arith)) bad)))))))))
-good-next x (tail {lo = lo} {hi = hi} {n = n} l) = good-if (ltb x lo) bad (good-if (ltb hi x) bad (good-if (eqb n 0) lead (tail (omega arith))))
-good-next x bad = bad
-
-good-state : {w : Want} (s : List ℕ) → Good w → Good (state w s)
-good-state [] g = g
-good-state (x ∷ s) g = good-state s (good-next x g)
-
-low-next : {w : Want} (x : ℕ) → x < 0x80 → Good w → ((w ≡ Lead) × (next w x ≡ Lead)) ⊎ (next w x ≡ Bad)
-unfolding leadOf
-low-next x h lead = let l : x ≤ 0x7f = omega arith in inl (refl, rw (le-leb x 0x7f l))
-low-next x h (tail {lo = lo} l) = let k : x < lo = omega arith in inr (rw (lt-ltb x lo k))
-low-next x h bad = inr refl
+state-reached : (w : Want) (s : List ℕ) → Reached w → Reached (state w s)
+state-reached w [] r = r
+state-reached w (x ∷ s) r = state-reached (next w x) s (next-reached w x r)
 
 -- ---- edges
 abbrev pub Edge : List ℕ → ℕ → Type 0
@@ -83,7 +58,7 @@ Edge s x = state Lead (take x s) ≡ Lead
 module _ (s : List ℕ) (u : isUtf8 s ≡ true) where
   pub low-edges : (x : ℕ) → x < length s → getD s x 0 < 0x80 → Edge s x × Edge s (x + 1)
   unfolding isUtf8
-  low-edges x h l = ⊎-elim here (λ q. absurd (false≢true (sym (stuck q) ∙ u))) (low-next (getD s x 0) l (good-state (take x s) lead))
+  low-edges x h l = ⊎-elim here (λ q. absurd (false≢true (sym (stuck q) ∙ u))) (low-turn (getD s x 0) l (state-reached Lead (take x s) lead-reached))
     where
       after : state Lead (take (x + 1) s) ≡ next (state Lead (take x s)) (getD s x 0)
       after = rw (add-one, take-suc s x 0 h) (state-append Lead (take x s) (getD s x 0 ∷ []))
@@ -134,12 +109,11 @@ unfolding past run classOf
 ws-cons b l = one-more (isSpace b) _
 
 spaces : (l : List ℕ) → state Lead (take (wsAt l 0) l) ≡ Lead
-unfolding leadOf
 spaces [] = ap (state Lead) (take-nil (wsAt [] 0))
 spaces (b ∷ l) = rw (ws-cons b l) (go (isSpace b) refl (spaces l))
   where
     go : (c : Bool) → isSpace b ≡ c → state Lead (take (wsAt l 0) l) ≡ Lead → state Lead (take (cond c (suc (wsAt l 0)) 0) (b ∷ l)) ≡ Lead
-    go true e h = let k = space-low b e in let m : b ≤ 0x7f = omega arith in let q : leadOf b ≡ Lead = rw (le-leb b 0x7f m) in ap (λ w. state w (take (wsAt l 0) l)) q ∙ h
+    go true e h = ap (λ w. state w (take (wsAt l 0) l)) (low-next b (space-low b e)) ∙ h
     go false e h = refl
 
 ws-split : (s : List ℕ) (x : ℕ) → wsAt s x ≡ x + wsAt (drop x s) 0

@@ -1,5 +1,5 @@
 -- A walk over an object's members finds the first of each name; what stands at its place is the member's tree.
-use mathlib.Core.Path.{_≡_, refl, sym, ap, _∙_}
+use mathlib.Core.Path.{_≡_, refl, ap, _∙_}
 use mathlib.Core.List.{List}
 use mathlib.Core.Bool.{Bool, true, false, cond}
 use Prim.Native.Nat.{ℕ, suc}
@@ -17,12 +17,10 @@ use Rattle.shape.specs.Shape.{nameAt, named, idName, pubkeyName, createdAtName,
 use Rattle.message.specs.declared.Listed.{Listed}
 use Rattle.message.specs.declared.Listed.the-variants.{Absent, At}
 use Rattle.message.specs.declared.Members.{Members}
-use Rattle.message.specs.declared.EventParts.{EventParts}
-use Rattle.message.specs.declared.FilterParts.{FilterParts}
 use Rattle.message.specs.Lists.{within}
 use Rattle.message.specs.Parts.{Member, missing, member, memberOf, nowhere, spanOf, numberOf, spanIn, numberIn, placeIn, boundIn, listedIn, bodyOf, eventOf, filterOf, membersGot, membersAt, eventAt, filterAt}
-use Rattle.message.specs.Steps.{kept, eventStep, filterStep, stepOf, noMembers, foundIn, onStart, leafAt, gotOr, spanAt, numberAt, spanFound, numberFound, boundFound, placeFound, bodyFound}
-use Rattle.message.proofs.Walks.{bind-got, never, Walk, last, more, walk-of}
+use Rattle.message.specs.Steps.{kept, stepOf, noMembers, foundIn, onStart, leafAt, gotOr, spanAt, numberAt, spanFound, numberFound, boundFound, filterFound, placeFound, bodyFound}
+use Rattle.message.proofs.Walks.{Walk, last, more, walk-of}
 
 -- ---- a fold over the members of the object at a place, where a value begins
 module _ {A : Type 0} (f : A → ℕ → ℕ → Json → A) (z : A) (s : List ℕ) where
@@ -188,7 +186,7 @@ module _ (s : List ℕ) (at : ℕ) (m : Members) where
     found w part step z = ap part e ∙ fold-first s w (by s event) part step noMembers (membersAt s at) ∙ ap (λ x. orElse x (memberOf s w (membersAt s at))) z
 
   pub event-is : m ≡ foundIn s true (membersAt s at) → record { id = spanFound s (m .m1); body = bodyFound s m; sig = spanFound s (m .m7) } ≡ eventAt s at
-  unfolding eventAt eventOf bodyOf bodyFound eventStep
+  unfolding eventAt eventOf bodyOf bodyFound stepOf
   event-is e =
       simp (
         found true e idName (λ a. a .m1) (λ a p v t. refl) refl,
@@ -207,18 +205,13 @@ module _ (s : List ℕ) (at : ℕ) (m : Members) where
         span-in s (seen sigName),
       )
 
-  pub filter-is : m ≡ foundIn s false (membersAt s at)
-      → record { ids = m .m1; authors = m .m2; kinds = m .m3; since = boundFound s (m .m4); until = boundFound s (m .m5); limit = boundFound s (m .m6); conditions = At at } ≡ filterAt s at
-  unfolding filterAt filterOf filterStep
+  pub filter-is : m ≡ foundIn s false (membersAt s at) → filterFound s m (At at) ≡ filterAt s at
+  unfolding filterAt filterOf stepOf
   filter-is e =
-      simp (
-        found false e idsName (λ a. a .m1) (λ a p v t. refl) refl,
-        found false e authorsName (λ a. a .m2) (λ a p v t. refl) refl,
-        found false e kindsName (λ a. a .m3) (λ a p v t. refl) refl,
-        found false e sinceName (λ a. a .m4) (λ a p v t. refl) refl,
-        found false e untilName (λ a. a .m5) (λ a p v t. refl) refl,
-        found false e limitName (λ a. a .m6) (λ a p v t. refl) refl,
-        bound-in s (seen sinceName),
-        bound-in s (seen untilName),
-        bound-in s (seen limitName),
-      )
+      let ids = found false e idsName (λ a. a .m1) (λ a p v t. refl) refl in
+      let authors = found false e authorsName (λ a. a .m2) (λ a p v t. refl) refl in
+      let kinds = found false e kindsName (λ a. a .m3) (λ a p v t. refl) refl in
+      let since = found false e sinceName (λ a. a .m4) (λ a p v t. refl) refl in
+      let until = found false e untilName (λ a. a .m5) (λ a p v t. refl) refl in
+      let limit = found false e limitName (λ a. a .m6) (λ a p v t. refl) refl in
+      simp (ids, authors, kinds, since, until, limit, bound-in s (seen sinceName), bound-in s (seen untilName), bound-in s (seen limitName))

@@ -1,7 +1,7 @@
 -- What was read from an accepted message passes the test of lent parts: a message that no row refuses breaks none in any of its parts.
 use mathlib.Core.Path.{_≡_, refl, sym, ap, _∙_}
 use mathlib.Core.List.{List, List·Memᴰ, List·Memᴰ·not-nil, List·Memᴰ·cases-cons}
-use mathlib.Core.Bool.{Bool, true, false, cond, not, _&&_, _||_, false≢true}
+use mathlib.Core.Bool.{Bool, true, false, cond, _||_, false≢true}
 use mathlib.Core.Logic.{⊎-elim}
 use Prim.Native.Nat.{ℕ, suc, _≤_, _<_}
 use native.Mathlib.Omega.{arith}
@@ -15,24 +15,23 @@ use Rattle.spell.specs.Spell.{decode, refuses}
 use Rattle.json.specs.Grammar.{wsAt}
 use Rattle.rows.specs.Strings.{part, refusedIn, refusedItems}
 use Rattle.rows.specs.Rows.{row1, row2, row3}
-use Rattle.shape.specs.Shape.{anyItem, allItems, countItems, count, nameAt, idName, pubkeyName, createdAtName, kindName, tagsName, contentName, sigName, idsName, authorsName, kindsName, sinceName, untilName, limitName, isString, isNumber, isArrayOf, eventMember, once, isEvent, filterMember, noneTwice, isFilter, Word, event, req, close, other, wordOf, opened, hasShape}
+use Rattle.shape.specs.Shape.{anyItem, allItems, countItems, count, nameAt, idName, pubkeyName, createdAtName, kindName, tagsName, contentName, sigName, idsName, authorsName, kindsName, sinceName, untilName, limitName, isString, isNumber, isArrayOf, eventMember, once, isEvent, filterMember, isFilter, Word, event, req, close, other, wordOf, opened, hasShape}
 use Rattle.shape.specs.Rows.{row4, row5, row6, row7, row8, treeRow, rootRow, messageRow, inMessage, wrongTime, wrongSmall, wrongHex, eventNumber, eventHex, eventCount, wrongList, filterNumber, filterHex, filterCount, filterCounts, wrongRequest, wrongSubscription, outside, wrongTags}
 use Rattle.message.specs.declared.EventParts.{EventParts}
 use Rattle.message.specs.declared.ReqParts.{ReqParts}
-use Rattle.message.specs.declared.Listed.the-variants.{At}
 use Rattle.message.specs.declared.Message.{Message}
 use Rattle.message.specs.declared.Message.the-variants as message
 use Rattle.message.specs.Parts.{Member, missing, member, memberOf, spanIn, numberIn, boundIn, placeIn, listedIn, bodyOf, eventOf, filterOf, membersOf, membersGot, membersAt, filterAt}
 use Rattle.message.specs.Lists.{within, elementsFrom, placesOf}
-use Rattle.message.specs.Read.{firstOf, secondPlace, partsOf, inRoot, readOf}
+use Rattle.message.specs.Read.{partsOf, inRoot, readOf}
 use Rattle.message.specs.Lent.{string7, time6, small6, onValue, valueAt, value2, value4, value5, isTags, body2, body4, body5, body6, body7, body8, event2, event4, event5, event7, eventRow, inList, inBound, someHex, someSmall, filter2, filter4, filter5, filter6, filter7, filter8, filterRow}
 use Rattle.message.specs.Passes.{EventPasses, filtersOf, FiltersPass, FiltersCounted}
-use Rattle.message.proofs.Walks.{Walk, last, more, deeper}
-use Rattle.message.proofs.Elements.{Group, hollow, filled, group-of, walk-places, walk-first, firstPlace}
+use Rattle.message.proofs.Walks.{Walk, more, deeper}
+use Rattle.message.proofs.Elements.{Group, filled, group-of, walk-places, walk-first}
 use Rattle.message.proofs.Found.{Reads, walk-reads, members-read}
 use Rattle.message.proofs.Reading.{Begun, begun, begun-of}
 use Rattle.message.proofs.Facts.{and-true, or-not, In, here, later, all-in, any-in, refused-in, reads-in, Holds, absent, present, member-holds, once-there}
-use Rattle.message.proofs.Clean.{StringClean, string-clean, hex-clean, time-clean, small-clean, Grouped, object, array-grouped, value-false, ValueClean, value-clean}
+use Rattle.message.proofs.Clean.{StringClean, string-clean, hex-clean, time-clean, small-clean, object, array-grouped, value-false, ValueClean, value-clean}
 
 -- ---- an event's members
 module _ (s : List ℕ) (u : isUtf8 s ≡ true) (ts : Items) (reads : Reads (treeAt s within) ts) (a4 : refusedItems s true ts ≡ false)
@@ -189,32 +188,12 @@ module _ (s : List ℕ) (u : isUtf8 s ≡ true) (ts : Items) (reads : Reads (tre
       let a = list-field isString (λ t. false) (someHex s) wrongList authorsName (λ p t q e. rw q at e) (λ p t q e. refl) (λ p t q e. rw q at e) (λ p t q e. rw q at e) in
       let k = list-field isNumber (someSmall s) (λ t. false) wrongList kindsName (λ p t q e. rw q at e) (λ p t q e. rw q at e) (λ p t q e. refl) (λ p t q e. rw q at e) in
       let o = value-clean (isFilter s) s u x e object h a4 in
-      simp (
-        i .l2,
-        i .l4,
-        i .l5,
-        i .l7,
-        i .l8,
-        a .l2,
-        a .l4,
-        a .l5,
-        a .l7,
-        a .l8,
-        k .l2,
-        k .l4,
-        k .l5,
-        k .l6,
-        k .l8,
-        o .v2,
-        o .v4,
-        o .v5,
-        time-bound sinceName (λ p t q e. rw q at e) (λ p t q e. rw q at e),
-        time-bound untilName (λ p t q e. rw q at e) (λ p t q e. rw q at e),
-        limit-bound,
-        value-false s x (onObject (anyItem (filterNumber s))) e a6,
-        value-false s x (onObject (anyItem (filterHex s))) e a7,
-        value-false s x (onObject (filterCounts s)) e c,
-      )
+      let b₆ = value-false s x (onObject (anyItem (filterNumber s))) e a6 in
+      let b₇ = value-false s x (onObject (anyItem (filterHex s))) e a7 in
+      let b₈ = value-false s x (onObject (filterCounts s)) e c in
+      let since = time-bound sinceName (λ p t q e. rw q at e) (λ p t q e. rw q at e) in
+      let until = time-bound untilName (λ p t q e. rw q at e) (λ p t q e. rw q at e) in
+      simp (i .l2, i .l4, i .l5, i .l7, i .l8, a .l2, a .l4, a .l5, a .l7, a .l8, k .l2, k .l4, k .l5, k .l6, k .l8, o .v2, o .v4, o .v5, since, until, limit-bound, b₆, b₇, b₈)
 
 -- ---- a message that no row refuses
 zero : (b : Bool) (k x : ℕ) → 0 < k → cond b k x ≡ 0 → (b ≡ false) × (x ≡ 0)

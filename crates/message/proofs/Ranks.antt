@@ -2,13 +2,13 @@
 -- tests in the order of the code.
 use mathlib.Core.Path.{_≡_, refl, sym, ap, _∙_}
 use mathlib.Core.List.{List}
-use mathlib.Core.Bool.{Bool, true, false, cond, not, _&&_, _||_, or-false}
+use mathlib.Core.Bool.{Bool, true, false, cond, not, _||_, or-false}
 use Prim.Native.Nat.{ℕ, _+_, _-_, _<_, _≤_, min}
 use native.Mathlib.Decide.{decLe}
 use native.Mathlib.Omega.{arith}
-use borrow.Author.Tests.{le-leb, lt-leb, eq-eqb, ne-eqb, eqb-true, eqb-false}
+use borrow.Author.Tests.{le-leb, lt-leb, ne-eqb, eqb-true, eqb-false}
 use lib.Dec.{eqb, leb}
-use lib.IntN.{ℤ, pos, negℤ}
+use lib.IntN.{ℤ}
 use lib.ListN.{length}
 use Rattle.utf8.specs.Utf8.{isUtf8}
 use Rattle.json.specs.Grammar.{isSpelling}
@@ -70,29 +70,26 @@ both q v w = rw q (join v w)
 pub said : {x : ℕ} {a b c d e f a′ b′ c′ d′ e′ f′ : Bool} → a ≡ a′ → b ≡ b′ → c ≡ c′ → d ≡ d′ → e ≡ e′ → f ≡ f′ → Lowest x a b c d e f → Lowest x a′ b′ c′ d′ e′ f′
 said p q r s t u w = rw (p, q, r, s, t, u) at w
 
-told-rank : (a b c d e f : Bool) → toldOf (rank a b c d e f) ≡ lowest a b c d e f
+-- a rank and the lowest row go in step: seven pairs
+in-step : (P : ℕ → ℕ → Type 0) → P 2 2 → P 4 4 → P 5 5 → P 6 6 → P 7 7 → P 8 8 → P 9 0 → (a b c d e f : Bool) → P (rank a b c d e f) (lowest a b c d e f)
 unfolding rank
-told-rank true b c d e f = refl
-told-rank false true c d e f = refl
-told-rank false false true d e f = refl
-told-rank false false false true e f = refl
-told-rank false false false false true f = refl
-told-rank false false false false false true = refl
-told-rank false false false false false false = refl
+in-step P p₂ p₄ p₅ p₆ p₇ p₈ p₉ true b c d e f = p₂
+in-step P p₂ p₄ p₅ p₆ p₇ p₈ p₉ false true c d e f = p₄
+in-step P p₂ p₄ p₅ p₆ p₇ p₈ p₉ false false true d e f = p₅
+in-step P p₂ p₄ p₅ p₆ p₇ p₈ p₉ false false false true e f = p₆
+in-step P p₂ p₄ p₅ p₆ p₇ p₈ p₉ false false false false true f = p₇
+in-step P p₂ p₄ p₅ p₆ p₇ p₈ p₉ false false false false false true = p₈
+in-step P p₂ p₄ p₅ p₆ p₇ p₈ p₉ false false false false false false = p₉
+
+told-rank : (a b c d e f : Bool) → toldOf (rank a b c d e f) ≡ lowest a b c d e f
+told-rank = in-step (λ x y. toldOf x ≡ y) refl refl refl refl refl refl refl
 
 pub told-is : {x : ℕ} {a b c d e f : Bool} → Lowest x a b c d e f → toldOf x ≡ lowest a b c d e f
 told-is {x} {a} {b} {c} {d} {e} {f} w = ap toldOf (w .is) ∙ told-rank a b c d e f
 
 -- ---- the lowest of rows that hold on either side is the lower of the two lowest
 rank-between : (a b c d e f : Bool) → (0 < rank a b c d e f) × (rank a b c d e f ≤ 9)
-unfolding rank
-rank-between true b c d e f = (omega arith, omega arith)
-rank-between false true c d e f = (omega arith, omega arith)
-rank-between false false true d e f = (omega arith, omega arith)
-rank-between false false false true e f = (omega arith, omega arith)
-rank-between false false false false true f = (omega arith, omega arith)
-rank-between false false false false false true = (omega arith, omega arith)
-rank-between false false false false false false = (omega arith, omega arith)
+rank-between = in-step (λ x y. (0 < x) × (x ≤ 9)) (omega arith, omega arith) (omega arith, omega arith) (omega arith, omega arith) (omega arith, omega arith) (omega arith, omega arith) (omega arith, omega arith) (omega arith, omega arith)
 
 lower-told : (m n : ℕ) → (0 < m) × (m ≤ 9) → (0 < n) × (n ≤ 9) → toldOf (min m n) ≡ lowerRow (toldOf m) (toldOf n)
 lower-told m n (m₁, m₉) (n₁, n₉) = go (eqb m 9) (eqb n 9) refl refl
@@ -202,14 +199,7 @@ module _ (b : List ℕ) (p : Span) where
 
 -- ---- the value at a place
 rank-row : (a b c d e f : Bool) → rankOf (lowest a b c d e f) ≡ rank a b c d e f
-unfolding rank
-rank-row true b c d e f = refl
-rank-row false true c d e f = refl
-rank-row false false true d e f = refl
-rank-row false false false true e f = refl
-rank-row false false false false true f = refl
-rank-row false false false false false true = refl
-rank-row false false false false false false = refl
+rank-row = in-step (λ x y. rankOf y ≡ x) refl refl refl refl refl refl refl
 
 pub value-rank : (b : List ℕ) (at : ℕ) (k : Sort) {x y : ℕ} → x ≡ valueRow b at k → y ≡ rankOf x → ValueRank b at k y
 unfolding rank valueRow value2 value4 value5 sortRow

@@ -2,7 +2,7 @@
 use Prim.Native.Nat.{ℕ}
 use mathlib.Core.Path.{_≡_}
 use mathlib.Core.List.{List}
-use mathlib.Core.Bool.{Bool, true, false, cond, not}
+use mathlib.Core.Bool.{Bool, true, false, cond}
 use lib.Dec.{eqb}
 use lib.IntN.{ℤ, pos}
 use Rattle.json.specs.Grammar.{wsAt, scalarAt, startAt}
@@ -45,31 +45,17 @@ unfoldable pub kept : List ℕ → List ℕ → Listed → ℕ → Listed
 kept l w (At u) v = At u
 kept l w Absent v = cond (sameBytes (decode l) w) (At v) Absent
 
-unfoldable pub eventStep : List ℕ → Members → ℕ → ℕ → Members
-eventStep s a p v = record {
-  m1 = kept (spelledAt s p) idName (a .m1) v;
-  m2 = kept (spelledAt s p) pubkeyName (a .m2) v;
-  m3 = kept (spelledAt s p) createdAtName (a .m3) v;
-  m4 = kept (spelledAt s p) kindName (a .m4) v;
-  m5 = kept (spelledAt s p) tagsName (a .m5) v;
-  m6 = kept (spelledAt s p) contentName (a .m6) v;
-  m7 = kept (spelledAt s p) sigName (a .m7) v;
+-- a member of an event (b) or of a filter: the first of each name, or what was found before it stays
+unfoldable pub stepOf : List ℕ → Bool → Members → ℕ → ℕ → Members
+stepOf s b a p v = record {
+  m1 = kept (spelledAt s p) (cond b idName idsName) (a .m1) v;
+  m2 = kept (spelledAt s p) (cond b pubkeyName authorsName) (a .m2) v;
+  m3 = kept (spelledAt s p) (cond b createdAtName kindsName) (a .m3) v;
+  m4 = kept (spelledAt s p) (cond b kindName sinceName) (a .m4) v;
+  m5 = kept (spelledAt s p) (cond b tagsName untilName) (a .m5) v;
+  m6 = kept (spelledAt s p) (cond b contentName limitName) (a .m6) v;
+  m7 = cond b (kept (spelledAt s p) sigName (a .m7) v) (a .m7);
 }
-
-unfoldable pub filterStep : List ℕ → Members → ℕ → ℕ → Members
-filterStep s a p v = record {
-  m1 = kept (spelledAt s p) idsName (a .m1) v;
-  m2 = kept (spelledAt s p) authorsName (a .m2) v;
-  m3 = kept (spelledAt s p) kindsName (a .m3) v;
-  m4 = kept (spelledAt s p) sinceName (a .m4) v;
-  m5 = kept (spelledAt s p) untilName (a .m5) v;
-  m6 = kept (spelledAt s p) limitName (a .m6) v;
-  m7 = a .m7;
-}
-
-abbrev pub stepOf : List ℕ → Bool → Members → ℕ → ℕ → Members
-stepOf s true a p v = eventStep s a p v
-stepOf s false a p v = filterStep s a p v
 
 abbrev pub noMembers : Members
 noMembers = record { m1 = Absent; m2 = Absent; m3 = Absent; m4 = Absent; m5 = Absent; m6 = Absent; m7 = Absent }
@@ -108,6 +94,18 @@ numberFound s (At v) = numberAt s v
 abbrev pub boundFound : List ℕ → Listed → Bound
 boundFound s Absent = bound.Absent
 boundFound s (At v) = bound.Number (numberAt s v)
+
+-- a filter by its members, and the place of its # conditions
+abbrev pub filterFound : List ℕ → Members → Listed → FilterParts
+filterFound s m c = record {
+  ids = m .m1;
+  authors = m .m2;
+  kinds = m .m3;
+  since = boundFound s (m .m4);
+  until = boundFound s (m .m5);
+  limit = boundFound s (m .m6);
+  conditions = c;
+}
 
 abbrev pub placeFound : Listed → ℕ
 placeFound Absent = 0

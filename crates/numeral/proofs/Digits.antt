@@ -1,5 +1,5 @@
 -- Laws of shortest decimal: one digit more, what its digits spell, its length, and that no two numbers share it.
-use mathlib.Core.Path.{_≡_, refl, sym, ap, _∙_}
+use mathlib.Core.Path.{_≡_, refl, ap, _∙_}
 use mathlib.Core.Bool.{Bool, true, false, _&&_}
 use mathlib.Core.List.{List, [], _∷_, _++_}
 use Prim.Native.Nat.{ℕ, zero, suc, _+_, _-_, _*_, _/_, _%_, _^_, _<_, _≤_}
@@ -65,9 +65,6 @@ value-digits = by-digits (λ n. valueOf (digits n) ≡ n) one more
 
     more : (n : ℕ) → 10 ≤ n → valueOf (digits (n / 10)) ≡ n / 10 → valueOf (digits n) ≡ n
     more n h e = rw (digits-split n h, value-append 0 (digits (n / 10)) ((48 + n % 10) ∷ []), e) (omega arith)
-
-pub digits-once : (m n : ℕ) → digits m ≡ digits n → m ≡ n
-digits-once m n e = sym (value-digits m) ∙ ap valueOf e ∙ value-digits n
 
 -- ---- each is a digit, and the first is not 0
 pub digit-is : (x : ℕ) → 48 ≤ x → x ≤ 57 → isDigit x ≡ true

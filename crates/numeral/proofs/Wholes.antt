@@ -1,19 +1,19 @@
 -- The form that 01 asks for is shortest decimal and nothing else: what is written is read, and what is read is what would be written.
 use mathlib.Core.Path.{_≡_, refl, sym, ap, _∙_}
-use mathlib.Core.Bool.{Bool, true, false, cond, not, _&&_}
+use mathlib.Core.Bool.{Bool, true, false, cond, _&&_}
 use mathlib.Core.List.{List, [], _∷_, _++_, append-assoc, append-nil}
 use Prim.Native.Nat.{ℕ, zero, suc, _+_, _-_, _*_, _^_, _<_, _≤_}
 use native.Mathlib.Omega.{arith}
-use borrow.Author.Tests.{ne-eqb, eqb-true, eqb-false, leb-true, ltb-false, not-true}
-use lib.Dec.{eqb, leb, ltb, lit<}
+use borrow.Author.Tests.{ne-eqb, eqb-true, eqb-false, leb-true}
+use lib.Dec.{eqb, leb, lit<}
 use lib.IntN.{ℤ, pos, negsuc, negℤ}
 use lib.Signed.{mag}
 use lib.ListN.{length, getD}
 use Rattle.numeral.specs.Decimal.{digits, decimal}
 use Rattle.wire.specs.Limits.{widest}
-use Rattle.numeral.specs.Whole.{isDigit, allDigits, valueFrom, valueOf, isEmpty, isNatural, Read, malformed, whole, naturalOf, negativeOf, wholeOf, isWithin, answerOf}
-use Rattle.numeral.specs.declared.Whole.the-variants.{Value, Large}
-use Rattle.numeral.proofs.Digits.{digits-one, digits-more, digits-all, digits-first, value-digits, some-digit, digits-few, digits-20}
+use Rattle.numeral.specs.Whole.{isDigit, allDigits, valueFrom, valueOf, isEmpty, isNatural, malformed, whole, naturalOf, negativeOf, wholeOf, isWithin, answerOf}
+use Rattle.numeral.specs.declared.Whole.the-variants.{Value}
+use Rattle.numeral.proofs.Digits.{digits-one, digits-more, digits-all, digits-first, value-digits, digits-few, digits-20}
 
 and-true : (a b : Bool) → a && b ≡ true → (a ≡ true) × (b ≡ true)
 and-true true true e = (refl, refl)
@@ -102,10 +102,6 @@ decimal-whole (x ∷ l) z e = go (eqb x 45) refl e
     go true q e = ap (λ (b : ℕ). b ∷ l) (eqb-true x 45 q) ∙ negative (isNatural l) (valueOf l) refl refl e
     go false q e = positive (isNatural (x ∷ l)) refl e
 
--- two spellings of one number are the same bytes
-pub whole-once : (l m : List ℕ) (z : ℤ) → wholeOf l ≡ whole z → wholeOf m ≡ whole z → l ≡ m
-whole-once l m z p q = decimal-whole l z p ∙ sym (decimal-whole m z q)
-
 pub decimal-once : (y z : ℤ) → decimal y ≡ decimal z → y ≡ z
 decimal-once y z e = let a : whole y ≡ whole z = sym (whole-decimal y) ∙ ap wholeOf e ∙ whole-decimal z in cc
 
@@ -113,34 +109,12 @@ decimal-once y z e = let a : whole y ≡ whole z = sym (whole-decimal y) ∙ ap 
 abbrev pub inRange : ℤ → Bool
 inRange z = isWithin (Value z) (negℤ (pos widest)) (pos widest)
 
-pub answer-value : (r : Read) (z : ℤ) → answerOf r ≡ Value z → (r ≡ whole z) × (inRange z ≡ true)
-unfolding answerOf
-answer-value malformed z e = absurd (let z : _≡_ {A = ℕ} 0 1 = cc in omega arith)
-answer-value (whole y) z e = go (inRange y) refl e
-  where
-    go : (t : Bool) → inRange y ≡ t → cond t (Value y) Large ≡ Value z → (whole y ≡ whole z) × (inRange z ≡ true)
-    go true q e = let k : y ≡ z = cc in (ap whole k, sym (ap inRange k) ∙ q)
-    go false q e = absurd (let z : _≡_ {A = ℕ} 0 1 = cc in omega arith)
-
-pub value-decimal : (l : List ℕ) (z : ℤ) → answerOf (wholeOf l) ≡ Value z → (l ≡ decimal z) × (inRange z ≡ true)
-value-decimal l z e = let a = answer-value (wholeOf l) z e in (decimal-whole l z (a .0), a .1)
-
 pub decimal-value : (z : ℤ) → inRange z ≡ true → answerOf (wholeOf (decimal z)) ≡ Value z
 unfolding answerOf
 decimal-value z e = rw (whole-decimal z, e)
 
 -- ---- how long
-pub decimal-some : (z : ℤ) → 1 ≤ length (decimal z)
-unfolding decimal
-decimal-some (pos n) = some-digit n
-decimal-some (negsuc n) = omega (arith, some-digit (suc n))
-
 pub decimal-20 : (z : ℤ) → mag z < 2 ^ 63 → length (decimal z) ≤ 20
 unfolding decimal
 decimal-20 (pos n) h = digits-20 n (omega arith)
 decimal-20 (negsuc n) h = omega (arith, digits-few 19 (suc n) (lit< tt) (omega arith))
-
-pub decimal-17 : (z : ℤ) → inRange z ≡ true → length (decimal z) ≤ 17
-unfolding decimal isWithin
-decimal-17 (pos n) h = let k = ltb-false widest n (not-true (ltb widest n) h) in omega (arith, digits-few 16 n (lit< tt) (omega arith))
-decimal-17 (negsuc n) h = let k = ltb-false 9007199254740990 n (not-true (ltb 9007199254740990 n) (and-true (not (ltb 9007199254740990 n)) true h .0)) in omega (arith, digits-few 16 (suc n) (lit< tt) (omega arith))

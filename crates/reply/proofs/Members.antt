@@ -29,7 +29,7 @@ use Rattle.rows.specs.Strings.{part, spelledAt}
 use Rattle.text.specs.Event.{quoted, all, isPlainByte, isString}
 use Rattle.text.proofs.Pieces.{Spelt, first-of, left, right, tail, byte-is, both, spelt-inside}
 use Rattle.text.proofs.Strings.{utf8-escape}
-use Rattle.event.proofs.Decoded.{lead-low}
+use Rattle.utf8.proofs.States.{lead-low}
 use Rattle.message.specs.Lent.{isInside}
 use Rattle.table.specs.Relay.{Spells}
 use Rattle.table.proofs.Strings.{ws-none, string-here, string-says, escape-spelling}

@@ -19,38 +19,23 @@ use Rattle.shape.proofs.Never.{never, never-after}
 use Rattle.shape.proofs.Leaves.{text, hex64, hex128, time, small}
 use Rattle.shape.proofs.Lists.{tags}
 use Rattle.shape.proofs.Objects.{twice, taken, noTwo, slotAt, object-after, count-same, any-count, twice-none, taken-is, most-one, one-each, eqb-turned}
-use Rattle.shape.proofs.Known.{EventName, event-name, eventBack, event-back, same-slot}
+use Rattle.shape.proofs.Known.{event-cases, eventBack, event-back, same-slot}
 
 module _ (s : List ℕ) where
   -- ---- one member
   member : (p : ℕ) (t : Json) → Lowest (rowOf s (slotForm EVENT (slotAt s EVENT p)) t) (refusedIn s t) (not (eventMember s p t)) (eventNumber s p t) (eventHex s p t) (eventCount s p t)
   unfolding slotForm nameSlot eventForm eventSlot eventMember eventNumber eventHex eventCount sameBytes
-  member p t = go (nameAt s p) refl (event-name (nameAt s p))
-    where
-      go : (w : List ℕ) → nameAt s p ≡ w → EventName w
-          → Lowest (rowOf s (slotForm EVENT (slotAt s EVENT p)) t) (refusedIn s t) (not (eventMember s p t)) (eventNumber s p t) (eventHex s p t) (eventCount s p t)
-      go w e EventName.id = rw e (hex64 s t)
-      go w e EventName.pubkey = rw e (hex64 s t)
-      go w e EventName.created = rw e (time s t)
-      go w e EventName.kind = rw e (small s t)
-      go w e EventName.tags = rw e (tags s t)
-      go w e EventName.content = rw e (text s t)
-      go w e EventName.sig = rw e (hex128 s t)
-      go w e (EventName.unknown a b c d f g h) = rw (e, a, b, c, d, f, g, h) (never s t)
+  member p t =
+      event-cases
+      (λ w. nameAt s p ≡ w → Lowest (rowOf s (slotForm EVENT (slotAt s EVENT p)) t) (refusedIn s t) (not (eventMember s p t)) (eventNumber s p t) (eventHex s p t) (eventCount s p t))
+      (λ e. rw e (hex64 s t)) (λ e. rw e (hex64 s t)) (λ e. rw e (time s t)) (λ e. rw e (small s t)) (λ e. rw e (tags s t)) (λ e. rw e (text s t)) (λ e. rw e (hex128 s t))
+      (λ w a b c d f g h e. rw (e, a, b, c, d, f, g, h) (never s t)) (nameAt s p) refl
 
   known : (p : ℕ) (t : Json) → eventMember s p t ≡ true → ltb (slotAt s EVENT p) 7 ≡ true
   unfolding nameSlot eventSlot eventMember sameBytes
-  known p t = go (nameAt s p) refl (event-name (nameAt s p))
-    where
-      go : (w : List ℕ) → nameAt s p ≡ w → EventName w → eventMember s p t ≡ true → ltb (slotAt s EVENT p) 7 ≡ true
-      go w e EventName.id m = rw e
-      go w e EventName.pubkey m = rw e
-      go w e EventName.created m = rw e
-      go w e EventName.kind m = rw e
-      go w e EventName.tags m = rw e
-      go w e EventName.content m = rw e
-      go w e EventName.sig m = rw e
-      go w e (EventName.unknown a b c d f g h) m = no (let z : false ≡ true = rw (e, a, b, c, d, f, g, h) at m in cc)
+  known p t =
+      event-cases (λ w. nameAt s p ≡ w → eventMember s p t ≡ true → ltb (slotAt s EVENT p) 7 ≡ true) (λ e m. rw e) (λ e m. rw e) (λ e m. rw e) (λ e m. rw e) (λ e m. rw e)
+      (λ e m. rw e) (λ e m. rw e) (λ w a b c d f g h e m. no (let z : false ≡ true = rw (e, a, b, c, d, f, g, h) at m in cc)) (nameAt s p) refl
 
   all-known : (ts : Items) → allItems (eventMember s) ts ≡ true → allItems (λ p t. ltb (slotAt s EVENT p) 7) ts ≡ true
   unfolding allItems

@@ -2,25 +2,25 @@
 use mathlib.Core.Path.{_≡_, refl, sym, ap, _∙_}
 use mathlib.Core.List.{List, [], _∷_}
 use mathlib.Core.Bool.{Bool, true, false, cond, not, _&&_, _||_, or-false}
-use Prim.Native.Nat.{ℕ, suc, _+_, _-_, _≤_, _<_, min}
+use Prim.Native.Nat.{ℕ, suc, _+_, _-_, _≤_, min}
 use native.Mathlib.Omega.{arith}
-use borrow.Author.Tests.{lt-ltb, le-ltb, ltb-true, ltb-false, le-leb, ne-eqb}
-use lib.Dec.{eqb, ltb, leb}
+use borrow.Author.Tests.{lt-ltb, le-ltb, ltb-true, ltb-false, le-leb}
+use lib.Dec.{ltb}
 use Rattle.json.specs.Tree.{Json, word, num, str, arr, obj, Items, nil, item, onObject}
 use Rattle.json.specs.Grammar.{within}
 use Rattle.wire.specs.Limits.{mostConditions}
 use Rattle.wire.specs.Bytes.{sameBytes}
 use Rattle.rows.specs.Strings.{refusedIn}
-use Rattle.shape.specs.Shape.{allItems, anyItem, countItems, nameAt, named, isLetter, isCondition, filterMember, noneTwice, isFilter}
+use Rattle.shape.specs.Shape.{allItems, anyItem, countItems, nameAt, isLetter, isCondition, filterMember, noneTwice, isFilter}
 use Rattle.shape.specs.Rows.{outside, filterNumber, filterHex, filterCount, filterCounts}
-use Rattle.shape.specs.Walk.{UNKNOWN, LOWER, UPPER, FILTER, bounds, stringForm, stringRow, numberRow, groupForm, nameSlot, letterSlot, conditionSlot, filterSlot, filterForm, slotForm, marksAfter, fresh, endRow, rowOf}
-use Rattle.shape.proofs.Names.{no, and-left, and-right, within-ends}
+use Rattle.shape.specs.Walk.{UNKNOWN, LOWER, UPPER, FILTER, stringForm, stringRow, numberRow, groupForm, nameSlot, letterSlot, conditionSlot, filterSlot, filterForm, slotForm, marksAfter, fresh, endRow, rowOf}
+use Rattle.shape.proofs.Names.{no, and-left, and-right}
 use Rattle.shape.proofs.Low.{low, Lowest, said, begins}
 use Rattle.shape.proofs.Never.{never, never-after}
 use Rattle.shape.proofs.Leaves.{bounds-is, time, small}
 use Rattle.shape.proofs.Lists.{texts, hexes, smalls}
-use Rattle.shape.proofs.Objects.{twice, taken, marked, noTwo, slotAt, object-after, any-same, twice-none}
-use Rattle.shape.proofs.Known.{FilterName, filter-name, filterBack, filter-back, condition-slot, same-slot}
+use Rattle.shape.proofs.Objects.{twice, marked, noTwo, slotAt, object-after, any-same, twice-none}
+use Rattle.shape.proofs.Known.{filter-cases, filterBack, filter-back, condition-slot, same-slot}
 
 -- ---- the slot of a condition
 letter-high : (b : ℕ) → isLetter b ≡ true → LOWER ≤ letterSlot b
@@ -34,8 +34,7 @@ letter-high b e = go (within 97 122 b) refl (within 65 90 b) refl e
 
 condition-form : (n : ℕ) → LOWER ≤ n → filterForm n ≡ 11
 unfolding filterForm
-condition-form n h =
-    rw (ne-eqb n 0 (λ e. omega arith), ne-eqb n 1 (λ e. omega arith), ne-eqb n 2 (λ e. omega arith), ne-eqb n 3 (λ e. omega arith), ne-eqb n 4 (λ e. omega arith), ne-eqb n 5 (λ e. omega arith), le-leb LOWER n h)
+condition-form n h = rw (le-leb LOWER n h)
 
 module _ (s : List ℕ) where
   -- ---- one member
@@ -46,32 +45,20 @@ module _ (s : List ℕ) where
 
   member : (p : ℕ) (t : Json) → Lowest (rowOf s (slotForm FILTER (slotAt s FILTER p)) t) (refusedIn s t) (not (filterMember s p t)) (filterNumber s p t) (filterHex s p t) (filterCount s p t)
   unfolding slotForm nameSlot filterForm filterSlot conditionSlot filterMember filterNumber filterHex filterCount sameBytes isCondition
-  member p t = go (nameAt s p) refl (filter-name (nameAt s p))
-    where
-      go : (w : List ℕ) → nameAt s p ≡ w → FilterName w
-          → Lowest (rowOf s (slotForm FILTER (slotAt s FILTER p)) t) (refusedIn s t) (not (filterMember s p t)) (filterNumber s p t) (filterHex s p t) (filterCount s p t)
-      go w e FilterName.ids = rw e (hexes s t)
-      go w e FilterName.authors = rw e (hexes s t)
-      go w e FilterName.kinds = rw e (smalls s t)
-      go w e FilterName.since = rw e (time s t)
-      go w e FilterName.until = rw e (time s t)
-      go w e FilterName.limit = rw e (small s t)
-      go w e (FilterName.condition b l) = condition p t b e l
-      go w e (FilterName.unknown a b c d f g h) = rw (e, a, b, c, d, f, g, h) (never s t)
+  member p t =
+      filter-cases
+      (λ w. nameAt s p ≡ w → Lowest (rowOf s (slotForm FILTER (slotAt s FILTER p)) t) (refusedIn s t) (not (filterMember s p t)) (filterNumber s p t) (filterHex s p t) (filterCount s p t))
+      (λ e. rw e (hexes s t)) (λ e. rw e (hexes s t)) (λ e. rw e (smalls s t)) (λ e. rw e (time s t)) (λ e. rw e (time s t)) (λ e. rw e (small s t))
+      (λ b l e. condition p t b e l) (λ w a b c d f g h e. rw (e, a, b, c, d, f, g, h) (never s t)) (nameAt s p) refl
 
   known : (p : ℕ) (t : Json) → filterMember s p t ≡ true → slotAt s FILTER p ≡ UNKNOWN → ⊥
   unfolding nameSlot filterSlot conditionSlot filterMember sameBytes isCondition
-  known p t = go (nameAt s p) refl (filter-name (nameAt s p))
-    where
-      go : (w : List ℕ) → nameAt s p ≡ w → FilterName w → filterMember s p t ≡ true → slotAt s FILTER p ≡ UNKNOWN → ⊥
-      go w e FilterName.ids m z = let y = rw e at z in omega arith
-      go w e FilterName.authors m z = let y = rw e at z in omega arith
-      go w e FilterName.kinds m z = let y = rw e at z in omega arith
-      go w e FilterName.since m z = let y = rw e at z in omega arith
-      go w e FilterName.until m z = let y = rw e at z in omega arith
-      go w e FilterName.limit m z = let y = rw e at z in omega arith
-      go w e (FilterName.condition b l) m z = let y : letterSlot b ≡ UNKNOWN = rw (e, l) at z in let h = letter-high b l in omega arith
-      go w e (FilterName.unknown a b c d f g h) m z = no (let y : false ≡ true = rw (e, a, b, c, d, f, g, h) at m in cc)
+  known p t =
+      filter-cases (λ w. nameAt s p ≡ w → filterMember s p t ≡ true → slotAt s FILTER p ≡ UNKNOWN → ⊥)
+      (λ e m z. let y = rw e at z in omega arith) (λ e m z. let y = rw e at z in omega arith) (λ e m z. let y = rw e at z in omega arith)
+      (λ e m z. let y = rw e at z in omega arith) (λ e m z. let y = rw e at z in omega arith) (λ e m z. let y = rw e at z in omega arith)
+      (λ b l e m z. let y : letterSlot b ≡ UNKNOWN = rw (e, l) at z in let h = letter-high b l in omega arith)
+      (λ w a b c d f g h e m z. no (let y : false ≡ true = rw (e, a, b, c, d, f, g, h) at m in cc)) (nameAt s p) refl
 
   -- ---- each at most once
   two-same : (ts : Items) → allItems (filterMember s) ts ≡ true → noTwo (slotAt s FILTER) ts ≡ noneTwice s ts
@@ -93,17 +80,9 @@ module _ (s : List ℕ) where
   -- ---- the # conditions
   marks-one : (p n : ℕ) → marksAfter (slotAt s FILTER p) n ≡ cond (isCondition (nameAt s p)) (min (n + 1) 5) n
   unfolding marksAfter nameSlot filterSlot conditionSlot sameBytes isCondition
-  marks-one p n = go (nameAt s p) refl (filter-name (nameAt s p))
-    where
-      go : (w : List ℕ) → nameAt s p ≡ w → FilterName w → marksAfter (slotAt s FILTER p) n ≡ cond (isCondition (nameAt s p)) (min (n + 1) 5) n
-      go w e FilterName.ids = rw e
-      go w e FilterName.authors = rw e
-      go w e FilterName.kinds = rw e
-      go w e FilterName.since = rw e
-      go w e FilterName.until = rw e
-      go w e FilterName.limit = rw e
-      go w e (FilterName.condition b l) = rw (e, l, le-ltb (letterSlot b) LOWER (letter-high b l))
-      go w e (FilterName.unknown a b c d f g h) = rw (e, a, b, c, d, f, g, h)
+  marks-one p n =
+      filter-cases (λ w. nameAt s p ≡ w → marksAfter (slotAt s FILTER p) n ≡ cond (isCondition (nameAt s p)) (min (n + 1) 5) n) (λ e. rw e) (λ e. rw e) (λ e. rw e)
+      (λ e. rw e) (λ e. rw e) (λ e. rw e) (λ b l e. rw (e, l, le-ltb (letterSlot b) LOWER (letter-high b l))) (λ w a b c d f g h e. rw (e, a, b, c, d, f, g, h)) (nameAt s p) refl
 
   marks-are : (n : ℕ) (ts : Items) → n ≤ 5 → marked (slotAt s FILTER) n ts ≡ min (n + countItems (λ p t. isCondition (nameAt s p)) ts) 5
   unfolding marked countItems

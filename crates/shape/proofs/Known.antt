@@ -2,62 +2,47 @@
 use mathlib.Core.Path.{_≡_, refl, sym, ap, subst, _∙_}
 use mathlib.Core.List.{List, [], _∷_}
 use mathlib.Core.Bool.{Bool, true, false, cond, _||_}
-use Prim.Native.Nat.{ℕ, _+_, _-_, _≤_, _<_}
+use Prim.Native.Nat.{ℕ, _+_, _-_, _≤_}
 use native.Mathlib.Omega.{arith}
 use borrow.Author.Tests.{lt-ltb, le-ltb, eq-eqb, eqb-true}
 use lib.Dec.{eqb, ltb}
-use lib.ListN.{length, getD}
+use lib.ListN.{getD}
 use Rattle.json.specs.Grammar.{within}
 use Rattle.wire.specs.Bytes.{sameBytes}
 use Rattle.shape.specs.Shape.{idName, pubkeyName, createdAtName, kindName, tagsName, contentName, sigName, idsName, authorsName, kindsName, sinceName, untilName, limitName, isLetter, isCondition}
-use Rattle.shape.specs.Walk.{UNKNOWN, LOWER, UPPER, eventSlot, letterSlot, conditionSlot, filterSlot}
+use Rattle.shape.specs.Walk.{SIG, UNKNOWN, LOWER, UPPER, among, eventSlot, letterSlot, conditionSlot, filterSlot}
 use Rattle.wire.proofs.Bytes.{same-equal, same-self}
-use Rattle.shape.proofs.Names.{no, both-ways, within-ends, condition-is, condition-letter}
+use Rattle.shape.proofs.Names.{no, both-ways, within-ends, condition-is, condition-letter, among-none}
 
--- ---- a name is one of these, or none of them
-pub data EventName : List ℕ → Type 0 where
-  id : EventName idName
-  pubkey : EventName pubkeyName
-  created : EventName createdAtName
-  kind : EventName kindName
-  tags : EventName tagsName
-  content : EventName contentName
-  sig : EventName sigName
-  unknown : {w : List ℕ} → sameBytes w idName ≡ false → sameBytes w pubkeyName ≡ false → sameBytes w createdAtName ≡ false → sameBytes w kindName ≡ false
-      → sameBytes w tagsName ≡ false → sameBytes w contentName ≡ false → sameBytes w sigName ≡ false → EventName w
-
-pub data FilterName : List ℕ → Type 0 where
-  ids : FilterName idsName
-  authors : FilterName authorsName
-  kinds : FilterName kindsName
-  since : FilterName sinceName
-  until : FilterName untilName
-  limit : FilterName limitName
-  condition : (b : ℕ) → isLetter b ≡ true → FilterName (35 ∷ b ∷ [])
-  unknown : {w : List ℕ} → sameBytes w idsName ≡ false → sameBytes w authorsName ≡ false → sameBytes w kindsName ≡ false → sameBytes w sinceName ≡ false
-      → sameBytes w untilName ≡ false → sameBytes w limitName ≡ false → isCondition w ≡ false → FilterName w
-
+-- ---- what holds of each of these names, and of a name that is none of them, holds of every name
 -- one name more
 named : (F : List ℕ → Type 0) (w n : List ℕ) (b : Bool) → sameBytes w n ≡ b → F n → (sameBytes w n ≡ false → F w) → F w
 named F w n true e y k = subst F (sym (same-equal w n e)) y
 named F w n false e y k = k e
 
-pub event-name : (w : List ℕ) → EventName w
-event-name w =
-    named EventName w idName _ refl id λ a. named EventName w pubkeyName _ refl pubkey λ b. named EventName w createdAtName _ refl created λ c.
-    named EventName w kindName _ refl kind λ d. named EventName w tagsName _ refl tags λ e. named EventName w contentName _ refl content λ f.
-    named EventName w sigName _ refl sig λ g. unknown a b c d e f g
+pub event-cases : (F : List ℕ → Type 0) → F idName → F pubkeyName → F createdAtName → F kindName → F tagsName → F contentName → F sigName
+    → ((w : List ℕ) → sameBytes w idName ≡ false → sameBytes w pubkeyName ≡ false → sameBytes w createdAtName ≡ false → sameBytes w kindName ≡ false
+    → sameBytes w tagsName ≡ false → sameBytes w contentName ≡ false → sameBytes w sigName ≡ false → F w) → (w : List ℕ) → F w
+event-cases F f₁ f₂ f₃ f₄ f₅ f₆ f₇ none w =
+    named F w idName _ refl f₁ λ a. named F w pubkeyName _ refl f₂ λ b. named F w createdAtName _ refl f₃ λ c. named F w kindName _ refl f₄ λ d.
+    named F w tagsName _ refl f₅ λ e. named F w contentName _ refl f₆ λ f. named F w sigName _ refl f₇ λ g. none w a b c d e f g
 
-pub filter-name : (w : List ℕ) → FilterName w
-filter-name w =
-    named FilterName w idsName _ refl ids λ a. named FilterName w authorsName _ refl authors λ b. named FilterName w kindsName _ refl kinds λ c.
-    named FilterName w sinceName _ refl since λ d. named FilterName w untilName _ refl until λ e. named FilterName w limitName _ refl limit λ f.
-    last (isCondition w) refl a b c d e f
+pub filter-cases : (F : List ℕ → Type 0) → F idsName → F authorsName → F kindsName → F sinceName → F untilName → F limitName
+    → ((b : ℕ) → isLetter b ≡ true → F (35 ∷ b ∷ []))
+    → ((w : List ℕ) → sameBytes w idsName ≡ false → sameBytes w authorsName ≡ false → sameBytes w kindsName ≡ false → sameBytes w sinceName ≡ false
+    → sameBytes w untilName ≡ false → sameBytes w limitName ≡ false → isCondition w ≡ false → F w) → (w : List ℕ) → F w
+filter-cases F f₁ f₂ f₃ f₄ f₅ f₆ condition none w =
+    named F w idsName _ refl f₁ λ a. named F w authorsName _ refl f₂ λ b. named F w kindsName _ refl f₃ λ c. named F w sinceName _ refl f₄ λ d.
+    named F w untilName _ refl f₅ λ e. named F w limitName _ refl f₆ λ f. last (isCondition w) refl (none w a b c d e f)
   where
-    last : (x : Bool) → isCondition w ≡ x → sameBytes w idsName ≡ false → sameBytes w authorsName ≡ false → sameBytes w kindsName ≡ false
-        → sameBytes w sinceName ≡ false → sameBytes w untilName ≡ false → sameBytes w limitName ≡ false → FilterName w
-    last true q a b c d e f = let i = condition-is w q in subst FilterName (sym (i .0)) (condition (getD w 1 0) (i .1))
-    last false q a b c d e f = unknown a b c d e f q
+    last : (x : Bool) → isCondition w ≡ x → (isCondition w ≡ false → F w) → F w
+    last true q f = let i = condition-is w q in subst F (sym (i .0)) (condition (getD w 1 0) (i .1))
+    last false q f = f q
+
+-- none of the first six names of an event: the slot is told by the seventh
+pub seventh : (w : List ℕ) {k : ℕ} {t : Bool} → k ≡ among w true 6 → k ≡ 6 → t ≡ sameBytes w sigName → cond t SIG UNKNOWN ≡ eventSlot w
+unfolding eventSlot
+seventh w e z q = ap (λ (t : Bool). cond t SIG UNKNOWN) q ∙ among-none w true _ e z
 
 -- ---- the name that has a slot
 pub eventBack : ℕ → List ℕ
@@ -72,17 +57,9 @@ filterBack j =
 
 pub event-back : (w : List ℕ) → (eventSlot w ≡ UNKNOWN → ⊥) → w ≡ eventBack (eventSlot w)
 unfolding eventBack eventSlot sameBytes
-event-back w = go w (event-name w)
-  where
-    go : (w : List ℕ) → EventName w → (eventSlot w ≡ UNKNOWN → ⊥) → w ≡ eventBack (eventSlot w)
-    go w id n = refl
-    go w pubkey n = refl
-    go w created n = refl
-    go w kind n = refl
-    go w tags n = refl
-    go w content n = refl
-    go w sig n = refl
-    go w (unknown a b c d e f g) n = absurd (n (rw (a, b, c, d, e, f, g)))
+event-back =
+    event-cases (λ w. (eventSlot w ≡ UNKNOWN → ⊥) → w ≡ eventBack (eventSlot w)) (λ n. refl) (λ n. refl) (λ n. refl) (λ n. refl) (λ n. refl) (λ n. refl) (λ n. refl)
+    (λ w a b c d e f g n. absurd (n (rw (a, b, c, d, e, f, g))))
 
 -- the letter of a condition comes back
 letter-back : (b : ℕ) → isLetter b ≡ true → 35 ∷ b ∷ [] ≡ filterBack (letterSlot b)
@@ -110,17 +87,9 @@ condition-slot b = sym (condition-letter b)
 
 pub filter-back : (w : List ℕ) → (filterSlot w ≡ UNKNOWN → ⊥) → w ≡ filterBack (filterSlot w)
 unfolding filterBack filterSlot conditionSlot sameBytes
-filter-back w = go w (filter-name w)
-  where
-    go : (w : List ℕ) → FilterName w → (filterSlot w ≡ UNKNOWN → ⊥) → w ≡ filterBack (filterSlot w)
-    go w ids n = refl
-    go w authors n = refl
-    go w kinds n = refl
-    go w since n = refl
-    go w until n = refl
-    go w limit n = refl
-    go w (condition b l) n = letter-back b l ∙ ap filterBack (sym (condition-slot b))
-    go w (unknown a b c d e f g) n = absurd (n (rw (a, b, c, d, e, f, g)))
+filter-back =
+    filter-cases (λ w. (filterSlot w ≡ UNKNOWN → ⊥) → w ≡ filterBack (filterSlot w)) (λ n. refl) (λ n. refl) (λ n. refl) (λ n. refl) (λ n. refl) (λ n. refl)
+    (λ b l n. letter-back b l ∙ ap filterBack (sym (condition-slot b))) (λ w a b c d e f g n. absurd (n (rw (a, b, c, d, e, f, g))))
 
 -- ---- one slot, one name
 module _ (slot : List ℕ → ℕ) (back : ℕ → List ℕ) (is : (w : List ℕ) → (slot w ≡ UNKNOWN → ⊥) → w ≡ back (slot w)) where

@@ -11,8 +11,8 @@ use Rattle.json.specs.Grammar.{within}
 use Rattle.wire.proofs.Bytes.{same-self}
 use Rattle.wire.specs.Bytes.{sameBytes}
 use Rattle.spell.specs.Spell.{charOf, charsFrom, bytesOf, joined, decode}
-use Rattle.shape.specs.Shape.{isLetter, isCondition}
-use Rattle.shape.specs.Walk.{UNKNOWN, LOWER, UPPER, letterSlot, conditionSlot}
+use Rattle.shape.specs.Shape.{idName, pubkeyName, createdAtName, kindName, tagsName, contentName, idsName, authorsName, kindsName, sinceName, untilName, limitName, isLetter, isCondition}
+use Rattle.shape.specs.Walk.{UNKNOWN, LOWER, UPPER, among, letterSlot, conditionSlot}
 
 pub no : {A : Type 0} → _≡_ {A = ℕ} 0 1 → A
 no e = absurd (omega arith)
@@ -109,3 +109,32 @@ condition-plain (a ∷ b ∷ []) {x} l h e n = rw (e, h, go (isLetter b) refl) (
     go : (y : Bool) → isLetter b ≡ y → decode (35 ∷ b ∷ []) ≡ 35 ∷ b ∷ []
     go true q = plain-decodes b (letter-range b q .2)
     go false q = absurd (n (rw e (letter-not b q)))
+
+-- ---- one of six names
+six : (a b c d e f : Bool) (x : ℕ) → ℕ
+six a b c d e f x = cond a 0 (cond b 1 (cond c 2 (cond d 3 (cond e 4 (cond f 5 x)))))
+
+six-or : (a b c d e f : Bool) (x : ℕ) → six a b c d e f x ≡ cond (eqb (six a b c d e f 6) 6) x (six a b c d e f 6)
+unfolding six
+six-or true b c d e f x = refl
+six-or false true c d e f x = refl
+six-or false false true d e f x = refl
+six-or false false false true e f x = refl
+six-or false false false false true f x = refl
+six-or false false false false false true x = refl
+six-or false false false false false false x = refl
+
+-- k is the name that w is
+module _ (w : List ℕ) (event : Bool) (x : ℕ) {k : ℕ} (e : k ≡ among w event 6) where
+  are : among w event x ≡ cond (eqb k 6) x k
+  unfolding six
+  are =
+      rw e
+      (six-or (sameBytes w (cond event idName idsName)) (sameBytes w (cond event pubkeyName authorsName)) (sameBytes w (cond event createdAtName kindsName))
+      (sameBytes w (cond event kindName sinceName)) (sameBytes w (cond event tagsName untilName)) (sameBytes w (cond event contentName limitName)) x)
+
+  pub among-one : (k ≡ 6 → ⊥) → k ≡ among w event x
+  among-one n = sym (are ∙ rw (ne-eqb k 6 n))
+
+  pub among-none : k ≡ 6 → x ≡ among w event x
+  among-none z = sym (are ∙ rw (eq-eqb k 6 z))

@@ -186,15 +186,19 @@ groupForm f named = cond named (cond (eqb f EVENT) EVENT (cond (eqb f FILTER) FI
 unfoldable pub placeSlot : ℕ → ℕ
 placeSlot k = cond (eqb k 0) FIRST (cond (eqb k 1) SECOND LATER)
 
+-- which of six names w is, of an event (b) or of a filter, from 0 on, or else k
+abbrev pub among : (w : List ℕ) (b : Bool) (k : ℕ) → ℕ
+among w b k =
+    cond (sameBytes w (cond b idName idsName)) 0
+    (cond (sameBytes w (cond b pubkeyName authorsName)) 1
+    (cond (sameBytes w (cond b createdAtName kindsName)) 2
+    (cond (sameBytes w (cond b kindName sinceName)) 3
+    (cond (sameBytes w (cond b tagsName untilName)) 4
+    (cond (sameBytes w (cond b contentName limitName)) 5 k)))))
+
+-- ID to CONTENT, SIG
 unfoldable pub eventSlot : List ℕ → ℕ
-eventSlot w =
-    cond (sameBytes w idName) ID
-    (cond (sameBytes w pubkeyName) PUBKEY
-    (cond (sameBytes w createdAtName) CREATED
-    (cond (sameBytes w kindName) KIND
-    (cond (sameBytes w tagsName) TAGS
-    (cond (sameBytes w contentName) CONTENT
-    (cond (sameBytes w sigName) SIG UNKNOWN))))))
+eventSlot w = among w true (cond (sameBytes w sigName) SIG UNKNOWN)
 
 unfoldable pub letterSlot : ℕ → ℕ
 letterSlot b = cond (within 97 122 b) (b - 97 + LOWER) (cond (within 65 90 b) (b - 65 + UPPER) UNKNOWN)
@@ -202,14 +206,9 @@ letterSlot b = cond (within 97 122 b) (b - 97 + LOWER) (cond (within 65 90 b) (b
 unfoldable pub conditionSlot : List ℕ → ℕ
 conditionSlot w = cond (isCondition w) (letterSlot (getD w 1 0)) UNKNOWN
 
+-- IDS to LIMIT, # and a letter
 unfoldable pub filterSlot : List ℕ → ℕ
-filterSlot w =
-    cond (sameBytes w idsName) IDS
-    (cond (sameBytes w authorsName) AUTHORS
-    (cond (sameBytes w kindsName) KINDS
-    (cond (sameBytes w sinceName) SINCE
-    (cond (sameBytes w untilName) UNTIL
-    (cond (sameBytes w limitName) LIMIT (conditionSlot w))))))
+filterSlot w = among w false (conditionSlot w)
 
 unfoldable pub nameSlot : ℕ → List ℕ → ℕ
 nameSlot f w = cond (eqb f EVENT) (eventSlot w) (cond (eqb f FILTER) (filterSlot w) UNKNOWN)
@@ -230,23 +229,16 @@ itemOf s f named k p =
 -- ---- the form in a slot
 unfoldable pub eventForm : ℕ → ℕ
 eventForm slot =
-    cond (eqb slot ID) HEX64
-    (cond (eqb slot PUBKEY) HEX64
-    (cond (eqb slot CREATED) TIME
-    (cond (eqb slot KIND) SMALL
-    (cond (eqb slot TAGS) TAGLIST
-    (cond (eqb slot CONTENT) TEXT
+    cond (eqb slot ID) HEX64 (cond (eqb slot PUBKEY) HEX64
+    (cond (eqb slot CREATED) TIME (cond (eqb slot KIND) SMALL
+    (cond (eqb slot TAGS) TAGLIST (cond (eqb slot CONTENT) TEXT
     (cond (eqb slot SIG) HEX128 NEVER))))))
 
 unfoldable pub filterForm : ℕ → ℕ
 filterForm slot =
-    cond (eqb slot IDS) HEXES
-    (cond (eqb slot AUTHORS) HEXES
-    (cond (eqb slot KINDS) SMALLS
-    (cond (eqb slot SINCE) TIME
-    (cond (eqb slot UNTIL) TIME
-    (cond (eqb slot LIMIT) SMALL
-    (cond (leb LOWER slot) TEXTS NEVER))))))
+    cond (leb LOWER slot) TEXTS
+    (cond (eqb slot IDS) HEXES (cond (eqb slot AUTHORS) HEXES (cond (eqb slot KINDS) SMALLS
+    (cond (eqb slot SINCE) TIME (cond (eqb slot UNTIL) TIME (cond (eqb slot LIMIT) SMALL NEVER))))))
 
 -- an element of a message, by the form after the first two
 unfoldable pub elementForm : ℕ → ℕ → ℕ → ℕ

@@ -11,8 +11,9 @@ use lib.Dec.{ltb, leb, eqb}
 use lib.ListN.{length, getD, drop, length-drop, length-append, drop-of-length-le, List·getD-eq-default}
 use lib.Seq.{drop-cons, drop-drop, drop-nil, drop-append-le, getD-drop}
 use Rattle.wire.proofs.Laws.{tests}
+use Rattle.wire.specs.Bytes.{isControl}
 use Rattle.spell.specs.declared.Char.{Char}
-use Rattle.spell.specs.Spell.{hexVal, four, isPair, unicodeOf, pairOf, fourAt, shortOf, charOf, charsFrom, chars, utf8Of, bytesOf, joined, decode, isControl, isRefused, any}
+use Rattle.spell.specs.Spell.{hexVal, four, isPair, unicodeOf, pairOf, fourAt, shortOf, charOf, charsFrom, chars, utf8Of, bytesOf, joined, decode, isRefused, any}
 use Rattle.spell.specs.Steps.{Sized, leftOf, Within, Stepped}
 
 pub and-left : (a b : Bool) → (a && b) ≡ true → a ≡ true

@@ -1,14 +1,14 @@
 -- What other crates may cite of decoding: spellings without a backslash, the seven escapes read back, and hex.
 use mathlib.Core.Bool.{Bool, true, false, cond, not, _&&_, _||_}
-use mathlib.Core.Path.{_≡_, refl, sym, _∙_, ap}
+use mathlib.Core.Path.{_≡_, refl, _∙_, ap}
 use mathlib.Core.List.{List, [], _∷_, _++_}
 use Prim.Native.Nat.{ℕ, zero, suc, _≤_, _<_}
 use native.Mathlib.Omega.{arith}
-use borrow.Author.Tests.{eq-eqb, ne-eqb, eqb-true, eqb-false, ltb-true, leb-true, lt-leb, lt-ltb, le-ltb, not-true}
-use lib.Dec.{ltb, leb, eqb}
+use borrow.Author.Tests.{ne-eqb, eqb-true, eqb-false, leb-true, lt-leb, not-true}
+use lib.Dec.{leb, eqb}
 use lib.ListN.{length, getD}
 use Rattle.wire.specs.Bytes.{isHex}
-use Rattle.spell.specs.Spell.{shortOf, charOf, chars, charsFrom, bytesOf, joined, decode, isControl, isRefused, any, refuses, points, characterCount, all, isHexOf, notSlash, isText}
+use Rattle.spell.specs.Spell.{shortOf, charOf, chars, charsFrom, bytesOf, joined, decode, points, characterCount, all, isHexOf, notSlash}
 use Rattle.wire.specs.Escape.{letterOf, escOne, escape}
 use Rattle.spell.proofs.Chars.{and-left, and-right, char-raw, char-short, first, choose, decode-few}
 
@@ -62,35 +62,6 @@ unfolding escape decode joined charsFrom
 decode-escape [] = refl
 decode-escape (b ∷ v) = decode-one b (escape v) ∙ ap (λ (t : List ℕ). b ∷ t) (decode-escape v)
 
--- and no character of it is refused where no byte is
-pub refuses-raw : (x : ℕ) (l : List ℕ) → (x ≡ 0x5c → ⊥) → isText x ≡ true → refuses (x ∷ l) ≡ refuses l
-unfolding refuses any isRefused isText
-refuses-raw x l n t =
-    let few = ltb-true x 0x100 (and-left (ltb x 0x100) (not (isControl x)) t) in
-    let allowed : isControl x ≡ false = not-true (isControl x) (and-right (ltb x 0x100) (not (isControl x)) t) in
-    rw (chars-raw x l n, any, lt-leb 0xd800 x (omega arith), allowed)
-
-pub refuses-short : (y : ℕ) (l : List ℕ) → (y ≡ 0x75 → ⊥) → isRefused (record { code = shortOf y; raw = true; width = 2 }) ≡ false → refuses (0x5c ∷ y ∷ l) ≡ refuses l
-unfolding refuses any
-refuses-short y l n e = rw (chars-short y l n, any, e)
-
-refuses-one : (b : ℕ) (l : List ℕ) → isText b ≡ true → refuses (escOne b ++ l) ≡ refuses l
-unfolding escOne letterOf shortOf isRefused
-refuses-one b l t =
-    let P : ℕ → Type 0 = λ k. refuses (cond (eqb k 0) (b ∷ []) (0x5c ∷ k ∷ []) ++ l) ≡ refuses l in
-    choose P (eqb b 0x0a) (λ e. refuses-short 0x6e l (λ q. omega arith) refl) (λ _.
-    choose P (eqb b 0x22) (λ e. refuses-short 0x22 l (λ q. omega arith) refl) (λ _.
-    choose P (eqb b 0x5c) (λ e. refuses-short 0x5c l (λ q. omega arith) refl) (λ n.
-    choose P (eqb b 0x0d) (λ e. refuses-short 0x72 l (λ q. omega arith) refl) (λ _.
-    choose P (eqb b 0x09) (λ e. refuses-short 0x74 l (λ q. omega arith) refl) (λ _.
-    choose P (eqb b 0x08) (λ e. refuses-short 0x62 l (λ q. omega arith) refl) (λ _.
-    choose P (eqb b 0x0c) (λ e. refuses-short 0x66 l (λ q. omega arith) refl) (λ _. refuses-raw b l (eqb-false b 0x5c n) t)))))))
-
-pub refuses-escape : (v : List ℕ) → all isText v ≡ true → refuses (escape v) ≡ false
-unfolding escape all refuses any charsFrom
-refuses-escape [] e = refl
-refuses-escape (b ∷ v) e = refuses-one b (escape v) (and-left (isText b) (all isText v) e) ∙ refuses-escape v (and-right (isText b) (all isText v) e)
-
 -- what holds of all holds of each, and so does what follows from it
 pub all-at : (f : ℕ → Bool) (s : List ℕ) (i : ℕ) → all f s ≡ true → i < length s → f (getD s i 0) ≡ true
 unfolding all
@@ -111,9 +82,6 @@ hex-length n l e = eqb-true (length (decode l)) n (and-left (eqb (length (decode
 pub hex-all : (n : ℕ) (l : List ℕ) → isHexOf n l ≡ true → all isHex (decode l) ≡ true
 unfolding isHexOf
 hex-all n l e = and-right (eqb (length (decode l)) n) (all isHex (decode l)) e
-
-pub hex-at : (n : ℕ) (l : List ℕ) (i : ℕ) → isHexOf n l ≡ true → i < n → isHex (getD (decode l) i 0) ≡ true
-hex-at n l i e h = let m = hex-length n l e in all-at isHex (decode l) i (hex-all n l e) (omega arith)
 
 -- a hex digit is 0-9 or a-f
 pub data HexDigit (x : ℕ) : Type 0 where
@@ -165,10 +133,3 @@ hex-escape (x ∷ s) e =
     let l = hex-low h in
     let none : letterOf x ≡ 0 = rw (ne-eqb x 0x0a (λ q. omega arith), ne-eqb x 0x22 (λ q. omega arith), ne-eqb x 0x5c (hex-no-slash h), ne-eqb x 0x0d (λ q. omega arith), ne-eqb x 0x09 (λ q. omega arith), ne-eqb x 0x08 (λ q. omega arith), ne-eqb x 0x0c (λ q. omega arith)) in
     rw none (ap (λ (t : List ℕ). x ∷ t) (hex-escape s (and-right (isHex x) (all isHex s) e)))
-
-pub hex-text : (s : List ℕ) → all isHex s ≡ true → all isText s ≡ true
-unfolding isText
-hex-text s e = all-from {f = isHex} {g = isText} (λ x h. let d = hex-digit x h in rw (lt-ltb x 0x100 (omega (arith, hex-high d)), le-ltb x 0x20 (hex-more d))) s e
-  where
-    hex-more : {x : ℕ} → HexDigit x → 0x20 ≤ x
-    hex-more d = omega (arith, hex-low d)

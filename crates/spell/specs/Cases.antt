@@ -6,7 +6,7 @@ use mathlib.Core.List.{[], _∷_}
 use lib.Dec.{ltb, eqb}
 use Rattle.wire.specs.Ascii.{ascii}
 use Rattle.wire.specs.Bytes.{sameBytes, isHex, those}
-use Rattle.spell.specs.Spell.{hexVal, unhex, four, fourAt, shortOf, isPair, pairOf, unicodeOf, charOf, charsFrom, utf8Of, bytesOf, joined, decode, isSurrogate, isControl, isRefused, any, refuses, points, characterCount, all, isHexOf}
+use Rattle.spell.specs.Spell.{hexVal, unhex, four, fourAt, shortOf, isPair, pairOf, unicodeOf, charOf, charsFrom, utf8Of, bytesOf, joined, decode, isSurrogate, isRefused, any, refuses, points, characterCount, all, isHexOf}
 use Rattle.wire.specs.Escape.{letterOf, escOne, escape}
 
 -- \" \\ \/ \b \f \n \r \t
@@ -85,17 +85,14 @@ written :
 unfolding escape escOne letterOf
 written = (refl, refl, refl)
 
--- of 256 bytes: the controls that row 4 refuses, the bytes that stand for another after a backslash, the digits that are not 0
+-- of 256 bytes: those that stand for another after a backslash, the digits that are not 0
 bytes :
-    (those isControl 256
-    ≡ 0x00 ∷ 0x01 ∷ 0x02 ∷ 0x03 ∷ 0x04 ∷ 0x05 ∷ 0x06 ∷ 0x07 ∷ 0x0b ∷ 0x0e ∷ 0x0f ∷ 0x10 ∷ 0x11 ∷ 0x12 ∷ 0x13 ∷ 0x14 ∷
-    0x15 ∷ 0x16 ∷ 0x17 ∷ 0x18 ∷ 0x19 ∷ 0x1a ∷ 0x1b ∷ 0x1c ∷ 0x1d ∷ 0x1e ∷ 0x1f ∷ [])
-    × (those (λ y. not (eqb (shortOf y) y)) 256 ≡ 0x62 ∷ 0x66 ∷ 0x6e ∷ 0x72 ∷ 0x74 ∷ [])
+    (those (λ y. not (eqb (shortOf y) y)) 256 ≡ 0x62 ∷ 0x66 ∷ 0x6e ∷ 0x72 ∷ 0x74 ∷ [])
     × (those (λ x. ltb 0 (hexVal x)) 256
     ≡ 0x31 ∷ 0x32 ∷ 0x33 ∷ 0x34 ∷ 0x35 ∷ 0x36 ∷ 0x37 ∷ 0x38 ∷ 0x39 ∷ 0x41 ∷ 0x42 ∷ 0x43 ∷ 0x44 ∷ 0x45 ∷ 0x46 ∷ 0x61 ∷
     0x62 ∷ 0x63 ∷ 0x64 ∷ 0x65 ∷ 0x66 ∷ [])
 unfolding shortOf hexVal
-bytes = (refl, refl, refl)
+bytes = (refl, refl)
 
 -- both cases of the digits by their number, 0123456789abcdefABCDEF in pairs; a digit too many; bytes that are no digits
 pairs :

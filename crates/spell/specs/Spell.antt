@@ -5,7 +5,7 @@ use mathlib.Core.List.{List, [], _∷_, _++_}
 use Prim.Native.Nat.{ℕ, zero, suc, pred, _+_, _-_, _*_, _/_, _%_}
 use lib.Dec.{ltb, leb, eqb}
 use lib.ListN.{getD, length}
-use Rattle.wire.specs.Bytes.{isHex}
+use Rattle.wire.specs.Bytes.{isHex, isControl}
 use Rattle.spell.specs.declared.Char.{Char}
 
 -- the number of a hex digit: 0-9, A-F, a-f; 0 of any other byte
@@ -88,9 +88,6 @@ decode l = joined (chars l)
 abbrev pub isSurrogate : ℕ → Bool
 isSurrogate n = leb 0xd800 n && leb n 0xdfff
 
-abbrev pub isControl : ℕ → Bool
-isControl n = ltb n 0x20 && (not (eqb n 0x8) && (not (eqb n 0x9) && (not (eqb n 0xa) && (not (eqb n 0xc) && not (eqb n 0xd)))))
-
 unfoldable pub isRefused : Char → Bool
 isRefused c = isSurrogate (c .code) || isControl (c .code)
 
@@ -121,9 +118,6 @@ all f (x ∷ s) = f x && all f s
 unfoldable pub isHexOf : ℕ → List ℕ → Bool
 isHexOf n l = eqb (length (decode l)) n && all isHex (decode l)
 
--- for laws: a byte that is no backslash, and one that may stand in a string by row 4
+-- for laws: a byte that is no backslash
 unfoldable pub notSlash : ℕ → Bool
 notSlash x = not (eqb x 0x5c)
-
-unfoldable pub isText : ℕ → Bool
-isText x = ltb x 0x100 && not (isControl x)

@@ -27,7 +27,8 @@ use Rattle.message.specs.Lent.{bytesOf, isInside, isSpelled, string2, string4, 
 use Rattle.message.specs.Lent as lent
 use Rattle.event.specs.Lent.{stringOf, stringsOf, tagOf, tagsOf, tagsIn, tagsAt}
 use Rattle.event.proofs.Walks.{Walk, last, more}
-use Rattle.event.proofs.Decoded.{lead-low, plain-high}
+use Rattle.utf8.proofs.States.{lead-low}
+use Rattle.event.proofs.Decoded.{plain-high}
 use Rattle.event.proofs.Fit.{inner, ws-after, more-after, done-after, quoted, Array, bare, full, array, string-after, walk-after, tag-after, strings-count, tags-count}
 use Rattle.table.specs.Relay.{Spells}
 use Rattle.table.proofs.Refused.{not-refused}

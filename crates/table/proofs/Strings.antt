@@ -6,11 +6,13 @@ use mathlib.Core.List.{List, [], _∷_}
 use Prim.Native.Nat.{ℕ, suc, _+_, _-_, _≤_}
 use native.Mathlib.Decide.{decLt}
 use native.Mathlib.Omega.{arith}
-use borrow.Author.Tests.{le-leb, lt-leb, leb-true, eq-eqb, eqb-true}
-use lib.Dec.{leb, eqb}
+use borrow.Author.Tests.{le-leb, lt-leb, eq-eqb, eqb-false, not-true}
+use lib.Dec.{eqb}
 use lib.ListN.{length, getD, length-append}
 use lib.Seq.{take-append-seam}
+use Rattle.wire.specs.Bytes.{isControl}
 use Rattle.wire.specs.Escape.{letterOf, escOne, escape}
+use Rattle.wire.proofs.Escapes.{allowed-escaped}
 use Rattle.json.specs.Grammar.{classOf, oneAt, charAt, escapedAt, charsAt, isSpelling, stringAt, wsAt}
 use Rattle.json.specs.Tree.{str, got, treeAt}
 use Rattle.json.specs.declared.Class.the-variants.{Plain, Short, Byte, Space}
@@ -24,20 +26,15 @@ use Rattle.spell.proofs.Laws.{decode-escape}
 use Rattle.text.specs.Event.{quoted, all, isPlainByte}
 use Rattle.text.proofs.Pieces.{Spelt, left, right, tail, byte-is, all-of, both}
 use Rattle.text.proofs.Strings.{Seven, bs, tab, lf, ff, cr, quote, slash, other, seven}
-use Rattle.event.proofs.Decoded.{or-either}
 use Rattle.event.proofs.Strings.{string-tree}
 
 -- ---- a byte that stands as it is
 raw-high : (b : ℕ) → isPlainByte b ≡ true → 0 ≡ letterOf b → 0x20 ≤ b
-unfolding isPlainByte letterOf
-raw-high b e z =
-    or-either (leb 0x20 b) _ (λ p. leb-true 0x20 b p)
-    (λ e. or-either (eqb b 0x08) _ (is 0x08 97 refl)
-    (λ e. or-either (eqb b 0x09) _ (is 0x09 115 refl)
-    (λ e. or-either (eqb b 0x0a) _ (is 0x0a 109 refl) (λ e. or-either (eqb b 0x0c) _ (is 0x0c 101 refl) (is 0x0d 113 refl) e) e) e) e) e
-  where
-    is : (k c : ℕ) → letterOf k ≡ suc c → eqb b k ≡ true → 0x20 ≤ b
-    is k c f e = absurd (let y : 0 ≡ suc c = z ∙ ap letterOf (eqb-true b k e) ∙ f in omega arith)
+unfolding isPlainByte
+raw-high b e z = elim (decLt b 0x20) [
+  | yes h ↦ absurd (eqb-false (letterOf b) 0 (allowed-escaped b h (not-true (isControl b) e)) (sym z))
+  | no h ↦ omega arith
+]
 
 plain-class : (b : ℕ) → 0x20 ≤ b → (b ≡ 34 → ⊥) → (b ≡ 92 → ⊥) → classOf Plain b ≡ true
 unfolding classOf

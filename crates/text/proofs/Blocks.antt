@@ -7,17 +7,41 @@ use native.Mathlib.Decide.{decLe, decLt}
 use native.Mathlib.Omega.{arith}
 use lib.Dec.{eqb, ltb, leb}
 use lib.ListN.{length, getD, drop}
-use borrow.Author.Tests.{le-leb, lt-leb, ne-eqb, eqb-true, eqb-false, ltb-false}
+use borrow.Author.Tests.{le-leb, lt-leb, le-ltb, ne-eqb, eqb-true, eqb-false, ltb-false}
 use Rattle.utf8.specs.Utf8.{utf8From}
 use Rattle.utf8.specs.declared.Want.the-variants.{Lead}
 use Rattle.utf8.proofs.Laws.{ascii}
+use Rattle.wire.specs.Bytes.{isControl}
 use Rattle.wire.specs.Escape.{letterOf}
+use Rattle.wire.proofs.Escapes.{allowed-escaped}
 use Rattle.text.specs.Event.{isPlainByte}
 use Rattle.text.specs.Read.{isRaw, bodyFrom}
 use Rattle.text.specs.Parts.{endOf, Passes, Raws}
-use Rattle.text.proofs.Ways.{raw-low, raw-high, body-go}
+use Rattle.text.proofs.Ways.{body-go}
 
 -- ---- a byte that stands as it is: what the code tests, and that the string goes on after it
+raw-low : (x : ℕ) → x < 0x20 → isRaw x ≡ false
+unfolding isRaw isPlainByte
+raw-low x h = go (isControl x) refl
+  where
+    go : (t : Bool) → isControl x ≡ t → (not t && eqb (letterOf x) 0) ≡ false
+    go true e = refl
+    go false e = allowed-escaped x h e
+
+raw-high : (x : ℕ) → 0x20 ≤ x → (x ≡ 34 → ⊥) → (x ≡ 92 → ⊥) → isRaw x ≡ true
+unfolding isRaw isPlainByte letterOf
+raw-high x h p q =
+    rw (
+      le-ltb x 0x20 h,
+      ne-eqb x 10 (λ e. omega arith),
+      ne-eqb x 34 p,
+      ne-eqb x 92 q,
+      ne-eqb x 13 (λ e. omega arith),
+      ne-eqb x 9 (λ e. omega arith),
+      ne-eqb x 8 (λ e. omega arith),
+      ne-eqb x 12 (λ e. omega arith),
+    )
+
 pub raw-is : (x : ℕ) → ((leb 0x20 x && not (eqb x 34)) && not (eqb x 92)) ≡ isRaw x
 unfolding isRaw isPlainByte letterOf
 raw-is x = go (decLe 0x20 x) (eqb x 34) (eqb x 92) refl refl

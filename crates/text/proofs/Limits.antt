@@ -2,7 +2,7 @@
 use mathlib.Core.Path.{_≡_}
 use mathlib.Core.Bool.{true, _&&_}
 use Prim.Native.Nat.{_≤_}
-use borrow.Author.Tests.{le-leb, leb-true}
+use borrow.Author.Tests.{leb-true}
 use Rattle.wire.specs.Limits.{mostSmall}
 use Rattle.text.specs.Event.{Event, isPubkey, isTime, isKind, isTags, isString, isFit}
 use Rattle.text.proofs.Pieces.{both}
@@ -22,7 +22,3 @@ limits-of e h =
     let c = both (isKind (e .kind)) (isTags (e .tags) && isString (e .content)) (b .1) in
     let d = both (isTags (e .tags)) (isString (e .content)) (c .1) in
     record { pubkey = a .0; time = b .0; kind = leb-true (e .kind) mostSmall (c .0); tags = d .0; content = d .1 }
-
-pub fit-of : (e : Event) → Limits e → isFit e ≡ true
-unfolding isFit
-fit-of e l = rw (l .pubkey, l .time, le-leb (e .kind) mostSmall (l .kind), l .tags, l .content)

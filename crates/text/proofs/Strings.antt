@@ -1,15 +1,15 @@
 -- A string: what is read is what was written, and the other way round. The seven escapes by a view, an eighth case for all other bytes.
 use mathlib.Core.Path.{_≡_, refl, sym, ap, _∙_}
-use mathlib.Core.Bool.{Bool, true, false, cond, _&&_, false≢true}
+use mathlib.Core.Bool.{Bool, true, false, cond, _&&_}
 use mathlib.Core.List.{List, [], _∷_, _++_, append-assoc}
-use Prim.Native.Nat.{ℕ, suc, _+_, _<_, _≤_}
+use Prim.Native.Nat.{ℕ, suc, _+_, _<_}
 use native.Mathlib.Omega.{arith}
-use lib.Dec.{eqb, lit≤}
+use lib.Dec.{eqb}
 use lib.ListN.{length, getD, take, drop, length-append, take-append-drop}
-use borrow.Author.Tests.{lt-ltb, le-leb, eq-eqb, ne-eqb, eqb-true, eqb-false}
-use Rattle.utf8.specs.Utf8.{isUtf8, utf8From, leadOf, next}
+use borrow.Author.Tests.{eq-eqb, ne-eqb, eqb-true, eqb-false}
+use Rattle.utf8.specs.Utf8.{isUtf8, utf8From, next}
 use Rattle.utf8.specs.declared.Want.{Want}
-use Rattle.utf8.proofs.Laws.{bad}
+use Rattle.utf8.proofs.States.{Reached, lead-reached, next-reached, low-next, low-stuck, utf8-cut}
 use Rattle.wire.specs.Escape.{letterOf, escOne, escape}
 use Rattle.text.specs.Event.{quoted, isPlainByte, all, isString}
 use Rattle.text.specs.declared.Move.the-variants.{Go, Stop, Refuse}
@@ -183,29 +183,13 @@ body-spelt s i v n q =
     spelt s (escape v ++ (34 ∷ [])) (a .rest) i n (a .is ∙ sym (append-assoc (escape v) (34 ∷ []) (a .rest))) (rw length-append (omega (arith, a .end)))
 
 -- ---- UTF-8: a string is well formed as it is spelt where it is as it is meant
-pub data High : Want → Type 0 where
-  lead-high : High Want.Lead
-  tail-high : {lo hi m : ℕ} → 128 ≤ lo → High (Want.Tail lo hi m)
-  bad-high : High Want.Bad
-
-cond-high : (t : Bool) {a b : Want} → High a → High b → High (cond t a b)
-cond-high true p q = p
-cond-high false p q = q
-
-next-high : (w : Want) (x : ℕ) → High w → High (next w x)
-unfolding leadOf
-next-high Want.Lead x h = search (cond-high, lead-high, tail-high, bad-high, lit≤, tt) depth 14
-next-high (Want.Tail lo hi m) x h = search (cond-high, lead-high, tail-high, bad-high, lit≤, tt) depth 14
-next-high Want.Bad x h = bad-high
-
 module _ (l : List ℕ) where
-  esc-utf8 : (b k : ℕ) → b < 128 → k < 128 → (w : Want) → High w → utf8From (next (next w 92) k) l ≡ utf8From (next w b) l
-  unfolding leadOf
-  esc-utf8 b k p q Want.Lead h = rw (le-leb b 127 (omega arith), le-leb k 127 (omega arith))
-  esc-utf8 b k p q (Want.Tail lo hi m) (tail-high h) = rw (lt-ltb 92 lo (omega arith), lt-ltb b lo (omega arith))
+  esc-utf8 : (b k : ℕ) → b < 128 → k < 128 → (w : Want) → Reached w → utf8From (next (next w 92) k) l ≡ utf8From (next w b) l
+  esc-utf8 b k p q Want.Lead h = rw (low-next 92 (omega arith), low-next k q, low-next b p)
+  esc-utf8 b k p q (Want.Tail lo hi m) h = rw (low-stuck {lo = lo} {hi = hi} {n = m} 92 (omega arith) h, low-stuck {lo = lo} {hi = hi} {n = m} b p h)
   esc-utf8 b k p q Want.Bad h = refl
 
-  one-utf8 : (b k : ℕ) → Seven b k → (w : Want) → High w → utf8From w (cond (eqb k 0) (b ∷ []) (92 ∷ k ∷ []) ++ l) ≡ utf8From (next w b) l
+  one-utf8 : (b k : ℕ) → Seven b k → (w : Want) → Reached w → utf8From w (cond (eqb k 0) (b ∷ []) (92 ∷ k ∷ []) ++ l) ≡ utf8From (next w b) l
   unfolding utf8From
   one-utf8 b k bs w h = esc-utf8 8 98 (omega arith) (omega arith) w h
   one-utf8 b k tab w h = esc-utf8 9 116 (omega arith) (omega arith) w h
@@ -216,35 +200,23 @@ module _ (l : List ℕ) where
   one-utf8 b k slash w h = esc-utf8 92 92 (omega arith) (omega arith) w h
   one-utf8 b k (other p q) w h = refl
 
-from-escape : (v : List ℕ) (w : Want) → High w → utf8From w (escape v) ≡ utf8From w v
+from-escape : (v : List ℕ) (w : Want) → Reached w → utf8From w (escape v) ≡ utf8From w v
 unfolding escape escOne utf8From
 from-escape [] w h = refl
-from-escape (b ∷ v) w h = one-utf8 (escape v) b (letterOf b) (seven b) w h ∙ from-escape v (next w b) (next-high w b h)
+from-escape (b ∷ v) w h = one-utf8 (escape v) b (letterOf b) (seven b) w h ∙ from-escape v (next w b) (next-reached w b h)
 
 pub utf8-escape : (v : List ℕ) → isUtf8 (escape v) ≡ isUtf8 v
 unfolding isUtf8
-utf8-escape v = from-escape v Want.Lead lead-high
+utf8-escape v = from-escape v Want.Lead lead-reached
 
 -- ---- in a text that is UTF-8 each string is
--- a low byte stands only where a character may begin
-low-lead : (w : Want) (x : ℕ) (l : List ℕ) → High w → x < 128 → utf8From w (x ∷ l) ≡ true → (w ≡ Want.Lead) × (utf8From Want.Lead l ≡ true)
-unfolding utf8From leadOf
-low-lead Want.Lead x l h k e = (refl, rw (le-leb x 127 (omega arith)) at e)
-low-lead (Want.Tail lo hi m) x l (tail-high h) k e = absurd (false≢true (sym (bad l) ∙ (rw (lt-ltb x lo (omega arith)) at e)))
-low-lead Want.Bad x l h k e = absurd (false≢true (sym (bad l) ∙ e))
-
-cut : (p : List ℕ) (x : ℕ) (l : List ℕ) (w : Want) → High w → x < 128 → utf8From w (p ++ (x ∷ l)) ≡ true → (utf8From w p ≡ true) × (utf8From Want.Lead l ≡ true)
-unfolding utf8From
-cut [] x l w h k e = let (z, u) = low-lead w x l h k e in (rw z, u)
-cut (y ∷ p) x l w h k e = cut p x l (next w y) (next-high w y h) k e
-
 pub body-utf8 : (s : List ℕ) (at : ℕ) (v : List ℕ) (n : ℕ) → isUtf8 s ≡ true → getD s at 0 ≡ 34 → bodyFrom false (at + 1) (drop (at + 1) s) ≡ got v n → isUtf8 v ≡ true
 unfolding isUtf8
 body-utf8 s at v n u q e =
     let z : take at s ++ (34 ∷ drop (at + 1) s) ≡ s = ap (_++_ (take at s)) (sym (byte-at s at 34 (omega arith) q .is)) ∙ take-append-drop at s in
-    let a = cut (take at s) 34 (drop (at + 1) s) Want.Lead lead-high (omega arith) (rw z u) .1 in
+    let a = utf8-cut (take at s) 34 (drop (at + 1) s) Want.Lead lead-reached (omega arith) (rw z u) .1 in
     let b : drop (at + 1) s ≡ escape v ++ (34 ∷ drop n s) = body-spelt s (at + 1) v n e .is ∙ append-assoc (escape v) (34 ∷ []) (drop n s) in
-    sym (from-escape v Want.Lead lead-high) ∙ cut (escape v) 34 (drop n s) Want.Lead lead-high (omega arith) (rw b at a) .0
+    sym (from-escape v Want.Lead lead-reached) ∙ utf8-cut (escape v) 34 (drop n s) Want.Lead lead-reached (omega arith) (rw b at a) .0
 
 -- ---- the whole string, with its quotes
 abbrev String : List ℕ → ℕ → List ℕ → ℕ → Type 0

@@ -1,20 +1,20 @@
 -- A turn or a way out of the code at a time: bytes, strings, lists, numbers, kinds.
 use mathlib.Core.Path.{_≡_, refl, sym, ap, _∙_}
 use mathlib.Core.Bool.{Bool, true, false, cond, not, _&&_, _||_, false≢true}
-use mathlib.Core.List.{List, [], _∷_, _++_, append-assoc}
+use mathlib.Core.List.{List, [], _∷_, _++_}
 use Prim.Native.Nat.{ℕ, zero, suc, _+_, _-_, _<_, _≤_}
 use native.Mathlib.Numerals.{add-one, sub-one}
 use native.Mathlib.Decide.{decLe}
 use native.Mathlib.Omega.{arith}
 use lib.Dec.{eqb, ltb, leb}
-use lib.ListN.{length, getD, take, drop, length-append, drop-of-length-le, List·getD-eq-default}
-use lib.Seq.{drop-cons, take-at}
-use borrow.Author.Tests.{lt-ltb, le-ltb, le-leb, lt-leb, eq-eqb, ne-eqb, eqb-true, ltb-true, not-true, not-false}
+use lib.ListN.{length, getD, drop, length-append, drop-of-length-le, List·getD-eq-default}
+use lib.Seq.{drop-cons}
+use borrow.Author.Tests.{lt-ltb, le-ltb, le-leb, lt-leb, eq-eqb, ne-eqb, ltb-true, not-true, not-false}
 use Rattle.utf8.specs.Utf8.{isUtf8}
-use Rattle.wire.specs.Escape.{letterOf, escape}
+use Rattle.wire.specs.Escape.{escape}
 use Rattle.wire.specs.Limits.{mostStrings}
 use Rattle.wire.specs.Bytes.{isHex}
-use Rattle.text.specs.Event.{isPlainByte, all}
+use Rattle.text.specs.Event.{all}
 use Rattle.text.specs.Read.{Got, none, got, standsAt, isRaw, byteOf, moveOf, saidOf, push, bodyFrom, checked, stringAt, cons, follow, membersAt, tagAt, runOf}
 use Rattle.text.specs.Kinds.{isEphemeral, isAddressable, classOf}
 use Rattle.text.specs.Parts.{endOf, isLetter, noZero}
@@ -65,38 +65,6 @@ pub no-zero : (w : List ℕ) (k : ℕ) → noZero w ≡ true → k < length w �
 no-zero [] k e h = omega arith
 no-zero (b ∷ w) zero e h = ltb-true 0 b (both (ltb 0 b) (noZero w) e .0)
 no-zero (b ∷ w) (suc k) e h = no-zero w k (both (ltb 0 b) (noZero w) e .1) (omega arith)
-
--- ---- a byte of a string that stands as it is
-escaped : (x k : ℕ) (b : Bool) → eqb (letterOf k) 0 ≡ false → (b ≡ true → eqb (letterOf x) 0 ≡ false) → (eqb x k || b) ≡ true → eqb (letterOf x) 0 ≡ false
-escaped x k b e f q = go (eqb x k) refl q
-  where
-    go : (t : Bool) → eqb x k ≡ t → (t || b) ≡ true → eqb (letterOf x) 0 ≡ false
-    go true z q = rw (eqb-true x k z) e
-    go false z q = f q
-
-pub raw-low : (x : ℕ) → x < 0x20 → isRaw x ≡ false
-unfolding isRaw isPlainByte letterOf
-raw-low x h = go (isPlainByte x) refl
-  where
-    go : (t : Bool) → isPlainByte x ≡ t → (t && eqb (letterOf x) 0) ≡ false
-    go false e = refl
-    go true e =
-        let f = rw (lt-leb 0x20 x h) at e in
-        escaped x 8 _ refl (escaped x 9 _ refl (escaped x 10 _ refl (escaped x 12 _ refl (λ q. rw (eqb-true x 13 q))))) f
-
-pub raw-high : (x : ℕ) → 0x20 ≤ x → (x ≡ 34 → ⊥) → (x ≡ 92 → ⊥) → isRaw x ≡ true
-unfolding isRaw isPlainByte letterOf
-raw-high x h p q =
-    rw (
-      le-leb 0x20 x h,
-      ne-eqb x 10 (λ e. omega arith),
-      ne-eqb x 34 p,
-      ne-eqb x 92 q,
-      ne-eqb x 13 (λ e. omega arith),
-      ne-eqb x 9 (λ e. omega arith),
-      ne-eqb x 8 (λ e. omega arith),
-      ne-eqb x 12 (λ e. omega arith),
-    )
 
 -- ---- a letter after a backslash
 pub letter-is : (c : ℕ) → (eqb c 110 || (eqb c 34 || (eqb c 92 || (eqb c 114 || (eqb c 116 || (eqb c 98 || eqb c 102)))))) ≡ isLetter c
@@ -171,11 +139,11 @@ module _ (s : List ℕ) (i : ℕ) (h : i < length s) where
     body-quote q = body-stop false s i h (rw (eq-eqb _ 34 q))
 
     module _ (q : getD s i 0 ≡ 34 → ⊥) where
-      pub body-low : getD s i 0 < 0x20 → endOf (bodyFrom false i (drop i s)) ≡ Bad
-      body-low m = body-refuse false s i h (rw (ne-eqb _ 34 q, ne-eqb _ 92 e, raw-low _ m))
+      pub body-stuck : isRaw (getD s i 0) ≡ false → endOf (bodyFrom false i (drop i s)) ≡ Bad
+      body-stuck m = body-refuse false s i h (rw (ne-eqb _ 34 q, ne-eqb _ 92 e, m))
 
-      pub body-high : 0x20 ≤ getD s i 0 → endOf (bodyFrom false i (drop i s)) ≡ endOf (bodyFrom false (i + 1) (drop (i + 1) s))
-      body-high m = body-go false s i h false (rw (ne-eqb _ 34 q, ne-eqb _ 92 e, raw-high _ m q e))
+      pub body-raw : isRaw (getD s i 0) ≡ true → endOf (bodyFrom false i (drop i s)) ≡ endOf (bodyFrom false (i + 1) (drop (i + 1) s))
+      body-raw m = body-go false s i h false (rw (ne-eqb _ 34 q, ne-eqb _ 92 e, m))
 
 -- ---- a string
 module _ (s : List ℕ) (at n : ℕ) where

@@ -7,11 +7,12 @@ use native.Mathlib.Decide.{decLe}
 use native.Mathlib.Omega.{arith}
 use lib.Dec.{eqb, ltb, leb}
 use lib.ListN.{length, getD, drop}
-use borrow.Author.Tests.{le-leb, lt-leb, lt-ltb, le-ltb, ne-eqb, leb-true, leb-false, ltb-true, ltb-false}
+use borrow.Author.Tests.{le-leb, lt-leb, lt-ltb, ne-eqb, leb-true, leb-false, ltb-true, ltb-false}
 use Rattle.utf8.specs.Utf8.{leadOf, next, ends, utf8From, isUtf8}
 use Rattle.utf8.specs.declared.Want.{Want}
 use Rattle.utf8.specs.declared.Want.the-variants.{Lead, Tail, Bad}
 use Rattle.utf8.proofs.Laws.{turn, over, bad}
+use Rattle.utf8.proofs.States.{lead-none}
 use Rattle.text.specs.Windows.{wantsTail, isNarrow, isWrong}
 use Rattle.text.proofs.Blocks.{or-false}
 
@@ -140,22 +141,6 @@ led b a x h l u =
     one : 0xe0 ≤ x → x < 0xf0 → Left 1 b a x
     one e f = one-more {b = a} f (rw (le-leb 0xe0 x e))
 
-never : (x : ℕ) → 0xf4 < x → leadOf x ≡ Bad
-unfolding leadOf
-never x h =
-    rw (
-      lt-leb x 0x7f (omega arith),
-      lt-leb x 0xc1 (omega arith),
-      lt-leb x 0xdf (omega arith),
-      lt-leb x 0xe0 (omega arith),
-      lt-leb x 0xec (omega arith),
-      lt-leb x 0xed (omega arith),
-      lt-leb x 0xef (omega arith),
-      lt-leb x 0xf0 (omega arith),
-      lt-leb x 0xf3 (omega arith),
-      lt-leb x 0xf4 h,
-    )
-
 not-narrow : (a x : ℕ) → a < 0xc2 → isNarrow a x ≡ false
 unfolding isNarrow
 not-narrow a x h = rw (ne-eqb a 0xe0 (λ q. omega arith), ne-eqb a 0xed (λ q. omega arith), ne-eqb a 0xf0 (λ q. omega arith), ne-eqb a 0xf4 (λ q. omega arith))
@@ -173,7 +158,7 @@ module _ (c b a x : ℕ) where
           rw z (is-right (led b a x p (omega arith) g))
       go (no e) (no f) (no g) =
           let z : (((leb 0x80 x && leb x 0xc1) || leb 0xf5 x) || false) ≡ true = rw (le-leb 0x80 x (omega arith), lt-leb x 0xc1 (omega arith), le-leb 0xf5 x (omega arith)) in
-          rw z (is-wrong (never x (omega arith)))
+          rw z (is-wrong (lead-none x (omega arith)))
 
   -- a tail came
   tailed : {n : ℕ} → Left n c b a → 0x80 ≤ x → x ≤ 0xbf → Fits (cond (eqb n 0) Lead (Tail 0x80 0xbf (n - 1))) b a x

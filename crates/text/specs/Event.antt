@@ -1,5 +1,5 @@
 -- 01, "The text that is hashed", and the limits of "Numbers", "Hex", "Counts" and of rows 2, 4 and 9.
-use mathlib.Core.Bool.{Bool, true, _&&_, _||_}
+use mathlib.Core.Bool.{Bool, true, not, _&&_}
 use mathlib.Core.List.{List, [], _∷_, _++_}
 use Prim.Native.Nat.{ℕ}
 use lib.Dec.{eqb, leb}
@@ -9,7 +9,7 @@ use Rattle.wire.specs.Ascii.{ascii}
 use Rattle.wire.specs.Escape.{escape}
 use Rattle.numeral.specs.Decimal.{digits, decimal}
 use Rattle.wire.specs.Limits.{widest, mostSmall, hexLength, mostTags, mostStrings}
-use Rattle.wire.specs.Bytes.{isHex}
+use Rattle.wire.specs.Bytes.{isHex, isControl}
 use Rattle.numeral.specs.Whole.{isWithin}
 use Rattle.numeral.specs.declared.Whole.the-variants.{Value}
 use Rattle.utf8.specs.Utf8.{isUtf8}
@@ -75,9 +75,9 @@ isTime z = isWithin (Value z) (negℤ (pos widest)) (pos widest)
 abbrev pub isKind : ℕ → Bool
 isKind k = leb k mostSmall
 
--- row 4: no character below U+0020 other than 08, 09, 0A, 0C, 0D
+-- row 4
 unfoldable pub isPlainByte : ℕ → Bool
-isPlainByte b = leb 0x20 b || (eqb b 0x08 || (eqb b 0x09 || (eqb b 0x0a || (eqb b 0x0c || eqb b 0x0d))))
+isPlainByte b = not (isControl b)
 
 unfoldable pub isString : List ℕ → Bool
 isString v = all isPlainByte v && isUtf8 v

@@ -12,12 +12,7 @@ use Rattle.text.specs.Read.{none, got, byteOf, isRaw, bodyFrom, stringAt
 use Rattle.text.specs.Kinds.{classOf, dOf}
 use Rattle.text.specs.declared.Class.the-variants.{Regular, Replaceable, Ephemeral, Addressable}
 
--- ---- of 256 bytes: those that no string may hold, and those that never stand as they are
-refused-bytes : those (λ b. not (isPlainByte b)) 256
-    ≡ 0 ∷ 1 ∷ 2 ∷ 3 ∷ 4 ∷ 5 ∷ 6 ∷ 7 ∷ 11 ∷ 14 ∷ 15 ∷ 16 ∷ 17 ∷ 18 ∷ 19 ∷ 20 ∷ 21 ∷ 22 ∷ 23 ∷ 24 ∷ 25 ∷ 26 ∷ 27 ∷ 28 ∷ 29 ∷ 30 ∷ 31 ∷ []
-unfolding isPlainByte
-refused-bytes = refl
-
+-- ---- of 256 bytes: those that never stand as they are
 never-raw : those (λ b. not (isRaw b)) 256
     ≡ 0 ∷ 1 ∷ 2 ∷ 3 ∷ 4 ∷ 5 ∷ 6 ∷ 7 ∷ 8 ∷ 9 ∷ 10 ∷ 11 ∷ 12 ∷ 13 ∷ 14 ∷ 15 ∷ 16 ∷ 17 ∷ 18 ∷ 19
     ∷ 20 ∷ 21 ∷ 22 ∷ 23 ∷ 24 ∷ 25 ∷ 26 ∷ 27 ∷ 28 ∷ 29 ∷ 30 ∷ 31 ∷ 34 ∷ 92 ∷ []

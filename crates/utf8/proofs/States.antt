@@ -2,6 +2,7 @@
 -- character may begin, and whatever is taken is a byte.
 use mathlib.Core.Bool.{Bool, true, false, cond}
 use mathlib.Core.Path.{_≡_, refl}
+use mathlib.Core.Logic.{_⊎_, inl, inr}
 use mathlib.Core.List.{List, [], _∷_, _++_}
 use Prim.Native.Nat.{ℕ, _≤_, _<_}
 use native.Mathlib.Decide.{decLt}
@@ -49,24 +50,33 @@ low-lead Lead x t r h e = (refl, rw (low-next x h) at e)
 low-lead (Tail lo hi n) x t r h e = never-bad t (rw (low-stuck {lo = lo} {hi = hi} {n = n} x h r) at e)
 low-lead Bad x t r h e = never-bad t e
 
+-- one that is wanted takes the scan back to the beginning of a character, any other to where nothing will do
+pub low-turn : {w : Want} (x : ℕ) → x < 0x80 → Reached w → ((w ≡ Lead) × (next w x ≡ Lead)) ⊎ (next w x ≡ Bad)
+low-turn x h lead-reached = inl (refl, low-next x h)
+low-turn x h (tail-reached {n = n} l k) = inr (low-stuck {n = n} x h (tail-reached l k))
+low-turn x h bad-reached = inr refl
+
+-- no character begins above F4
+pub lead-none : (x : ℕ) → 0xf4 < x → leadOf x ≡ Bad
+unfolding leadOf
+lead-none x h =
+    rw (
+      lt-leb x 0x7f (omega arith),
+      lt-leb x 0xc1 (omega arith),
+      lt-leb x 0xdf (omega arith),
+      lt-leb x 0xe0 (omega arith),
+      lt-leb x 0xec (omega arith),
+      lt-leb x 0xed (omega arith),
+      lt-leb x 0xef (omega arith),
+      lt-leb x 0xf0 (omega arith),
+      lt-leb x 0xf3 (omega arith),
+      lt-leb x 0xf4 h,
+    )
+
 -- what is taken is a byte
 pub byte-few : (w : Want) (x : ℕ) (t : List ℕ) → Reached w → utf8From w (x ∷ t) ≡ true → x < 0x100
-unfolding utf8From leadOf
-byte-few Lead x t r e = elim (decLt x 0x100) [
-  | yes h ↦ h
-  | no h ↦ never-bad t (rw (
-    lt-leb x 0x7f (omega arith),
-    lt-leb x 0xc1 (omega arith),
-    lt-leb x 0xdf (omega arith),
-    lt-leb x 0xe0 (omega arith),
-    lt-leb x 0xec (omega arith),
-    lt-leb x 0xed (omega arith),
-    lt-leb x 0xef (omega arith),
-    lt-leb x 0xf0 (omega arith),
-    lt-leb x 0xf3 (omega arith),
-    lt-leb x 0xf4 (omega arith),
-  ) at e)
-]
+unfolding utf8From
+byte-few Lead x t r e = elim (decLt x 0x100) [ yes h ↦ h | no h ↦ never-bad t (rw (lead-none x (omega arith)) at e) ]
 byte-few (Tail lo hi n) x t (tail-reached l k) e = elim (decLt x 0x100) [
   | yes h ↦ h
   | no h ↦ elim (decLt x lo) [
@@ -86,3 +96,9 @@ pub utf8-append : (p q : List ℕ) (w : Want) → utf8From w p ≡ true → utf8
 unfolding utf8From
 utf8-append [] q w e f = rw (ends-lead w e) f
 utf8-append (x ∷ p) q w e f = utf8-append p q (next w x) e f
+
+-- a text around a byte below 80: what stands before it and what stands behind it
+pub utf8-cut : (p : List ℕ) (x : ℕ) (q : List ℕ) (w : Want) → Reached w → x < 0x80 → utf8From w (p ++ (x ∷ q)) ≡ true → (utf8From w p ≡ true) × (utf8From Lead q ≡ true)
+unfolding utf8From
+utf8-cut [] x q w r h e = let (z, u) = low-lead w x q r h e in (rw z, u)
+utf8-cut (y ∷ p) x q w r h e = utf8-cut p x q (next w y) (next-reached w y r) h e

@@ -9,12 +9,6 @@ use Rattle.event.proofs.id_of.Tie as tie
 returns : tie.Need-returns
 returns c = id-refused _ _ (c .before .body-row .ensures) (c .if1 .taken)
 
-put-whole-requires : tie.Need-put-whole-requires
-put-whole-requires c κs =
-    let c1 = c .before in
-    let c2 = c1 .before in
-    c1 .begun .ensures ∙ body-complete _ _ (c2 .before .body-row .ensures) (c2 .if1 .left)
-
 slice-aggregate-hashed : tie.Need-slice-aggregate-hashed
 slice-aggregate-hashed c =
     let c1 = c .before in
@@ -30,5 +24,5 @@ returns-2 c =
 pub id-of-spec : {M : Type 1} → statement M
 id-of-spec =
     tie.close
-    (tie.spec (λ c κs. search needs) returns (λ c κs. search needs) (λ c. search needs) put-whole-requires
+    (tie.spec (λ c κs. search needs) returns (λ c κs. search needs) (λ c. search needs) (λ c κs. c .before .begun .ensures ∙ body-complete _ _ (c .before .before .before .body-row .ensures) (c .before .before .if1 .left))
     (λ c. search needs) slice-aggregate-hashed (λ c κs. search needs) returns-2)

@@ -4,14 +4,8 @@ use Rattle.event.proofs.Strings.{quoted-put}
 use Rattle.event.proofs.put_quoted.Statement.{statement}
 use Rattle.event.proofs.put_quoted.Tie as tie
 
-returns : tie.Need-returns
-returns c =
-    let c2 = c .before .before in
-    let c7 = c2 .before .before .before .before .before in
-    let c11 = c7 .before .before .before .before in
-    quoted-put _ (c11 .put .ensures) (c7 .put-escaped .ensures) (c2 .put2 .ensures)
-
 pub put-quoted-spec : {M : Type 1} → statement M
 put-quoted-spec =
     tie.close
-    (tie.spec (search needs) (search needs) (search needs) (search needs) (search needs) (search needs) returns)
+    (tie.spec (search needs) (search needs) (search needs) (search needs) (search needs) (search needs)
+    (λ c. quoted-put _ (c .before .before .before .before .before .before .before .before .before .before .before .put .ensures) (c .before .before .before .before .before .before .before .put-escaped .ensures) (c .before .before .put2 .ensures)))

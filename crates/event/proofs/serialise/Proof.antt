@@ -9,12 +9,6 @@ use Rattle.event.proofs.serialise.Tie as tie
 returns : tie.Need-returns
 returns c = body-refused _ _ _ (c .before .body-row .ensures) (c .if1 .taken)
 
-put-whole-requires : tie.Need-put-whole-requires
-put-whole-requires c κs =
-    let c1 = c .before in
-    let c2 = c1 .before in
-    c1 .begun .ensures ∙ body-complete _ _ (c2 .before .body-row .ensures) (c2 .if1 .left)
-
 returns-2 : tie.Need-returns-2
 returns-2 c =
     let c1 = c .before in
@@ -40,5 +34,5 @@ returns-3 c =
 pub serialise-spec : {M : Type 1} → statement M
 serialise-spec =
     tie.close
-    (tie.spec (λ c κs. search needs) returns (λ c κs. search needs) (λ c. search needs) put-whole-requires returns-2
+    (tie.spec (λ c κs. search needs) returns (λ c κs. search needs) (λ c. search needs) (λ c κs. c .before .begun .ensures ∙ body-complete _ _ (c .before .before .before .body-row .ensures) (c .before .before .if1 .left)) returns-2
     (λ c. search needs) slice-aggregate-give (λ c κs. search needs) (λ c. search needs) returns-3)

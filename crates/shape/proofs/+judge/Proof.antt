@@ -20,13 +20,13 @@ use Rattle.shape.proofs.+judge.Lts-judge as lts
 use Rattle.json.proofs.after.Reads as after
 use Rattle.json.proofs.begin.Reads as begin
 use Rattle.json.proofs.head.Reads as head
-use Rattle.shape.proofs.close.Reads as close-reads
-use Rattle.shape.proofs.group_form.Reads as group-form
-use Rattle.shape.proofs.item_of.Reads as item-of
-use Rattle.shape.proofs.leaf.Reads as leaf
-use Rattle.shape.proofs.slot_form.Reads as slot-form
-use Rattle.shape.proofs.start.Reads as start
-use Rattle.shape.proofs.step.Reads as step
+use Rattle.shape.proofs.counts.close.Reads as close-reads
+use Rattle.shape.proofs.forms.group_form.Reads as group-form
+use Rattle.shape.proofs.items.item_of.Reads as item-of
+use Rattle.shape.proofs.scalar.leaf.Reads as leaf
+use Rattle.shape.proofs.forms.slot_form.Reads as slot-form
+use Rattle.shape.proofs.counts.start.Reads as start
+use Rattle.shape.proofs.counts.step.Reads as step
 use Rattle.shape.proofs.+judge.{statement}
 use Rattle.shape.proofs.+judge.Tie.{close}
 

@@ -10,10 +10,7 @@ use Rattle.utf8.proofs.past_tails.Tie as tie
 returns-3 : tie.Need-returns-3
 returns-3 c =
     let a = c .before .before .before in
-    let p = a .before .before in
-    let s = p .args .s .now in
-    let i = p .args .i in
-    let n = p .args .more in
+    let p = a .before .before in let s = p .args .s .now in let i = p .args .i in let n = p .args .more in
     let l = some s (i + 1) _ (a .byte .ensures) (omega arith) in
     goes (p .pre .0) (omega arith) (omega arith) (last s (p .args .lo) (p .args .hi) n (i + 1) _ (a .byte .ensures) (p .pre .1 .0) (c .before .before .if1 .left) (c .before .if2 .left) (i + 2) (omega arith) (c .if3 .taken))
 
@@ -21,10 +18,7 @@ returns-4 : tie.Need-returns-4
 returns-4 c =
     let b = c .before in
     let a = b .before .before .before .before in
-    let p = a .before .before in
-    let s = p .args .s .now in
-    let i = p .args .i in
-    let n = p .args .more in
+    let p = a .before .before in let s = p .args .s .now in let i = p .args .i in let n = p .args .more in
     stops (p .pre .0) (more s (p .args .lo) (p .args .hi) n (i + 1) _ (a .byte .ensures) (p .pre .1 .0) (b .before .before .before .if1 .left) (b .before .before .if2 .left) (i + 2) (omega arith) (omega arith)
     ∙ low s 0x80 0xbf (n - 1) (i + 2) _ (b .byte2 .ensures) (c .if4 .taken))
 
@@ -32,10 +26,7 @@ returns-5 : tie.Need-returns-5
 returns-5 c =
     let b = c .before .before in
     let a = b .before .before .before .before in
-    let p = a .before .before in
-    let s = p .args .s .now in
-    let i = p .args .i in
-    let n = p .args .more in
+    let p = a .before .before in let s = p .args .s .now in let i = p .args .i in let n = p .args .more in
     stops (p .pre .0) (more s (p .args .lo) (p .args .hi) n (i + 1) _ (a .byte .ensures) (p .pre .1 .0) (b .before .before .before .if1 .left) (b .before .before .if2 .left) (i + 2) (omega arith) (omega arith)
     ∙ high s 0x80 0xbf (n - 1) (i + 2) _ (b .byte2 .ensures) (c .before .if4 .left) (c .if5 .taken))
 
@@ -43,10 +34,7 @@ returns-6 : tie.Need-returns-6
 returns-6 c =
     let b = c .before .before .before in
     let a = b .before .before .before .before in
-    let p = a .before .before in
-    let s = p .args .s .now in
-    let i = p .args .i in
-    let n = p .args .more in
+    let p = a .before .before in let s = p .args .s .now in let i = p .args .i in let n = p .args .more in
     let l = some s (i + 2) _ (b .byte2 .ensures) (omega arith) in
     goes (p .pre .0) (omega arith) (omega arith) (more s (p .args .lo) (p .args .hi) n (i + 1) _ (a .byte .ensures) (p .pre .1 .0) (b .before .before .before .if1 .left) (b .before .before .if2 .left) (i + 2) (omega arith) (omega arith)
     ∙ last s 0x80 0xbf (n - 1) (i + 2) _ (b .byte2 .ensures) (omega arith) (c .before .before .if4 .left) (c .before .if5 .left) (i + 3) (omega arith) (omega arith))
@@ -56,10 +44,7 @@ returns-7 c =
     let d = c .before in
     let b = d .before .before .before .before in
     let a = b .before .before .before .before in
-    let p = a .before .before in
-    let s = p .args .s .now in
-    let i = p .args .i in
-    let n = p .args .more in
+    let p = a .before .before in let s = p .args .s .now in let i = p .args .i in let n = p .args .more in
     stops (p .pre .0) (more s (p .args .lo) (p .args .hi) n (i + 1) _ (a .byte .ensures) (p .pre .1 .0) (b .before .before .before .if1 .left) (b .before .before .if2 .left) (i + 2) (omega arith) (omega arith)
     ∙ more s 0x80 0xbf (n - 1) (i + 2) _ (b .byte2 .ensures) (omega arith) (d .before .before .before .if4 .left) (d .before .before .if5 .left) (i + 3) (omega arith) (omega arith)
     ∙ low s 0x80 0xbf (n - 1 - 1) (i + 3) _ (d .byte3 .ensures) (c .if7 .taken))
@@ -69,10 +54,7 @@ returns-8 c =
     let d = c .before .before in
     let b = d .before .before .before .before in
     let a = b .before .before .before .before in
-    let p = a .before .before in
-    let s = p .args .s .now in
-    let i = p .args .i in
-    let n = p .args .more in
+    let p = a .before .before in let s = p .args .s .now in let i = p .args .i in let n = p .args .more in
     stops (p .pre .0) (more s (p .args .lo) (p .args .hi) n (i + 1) _ (a .byte .ensures) (p .pre .1 .0) (b .before .before .before .if1 .left) (b .before .before .if2 .left) (i + 2) (omega arith) (omega arith)
     ∙ more s 0x80 0xbf (n - 1) (i + 2) _ (b .byte2 .ensures) (omega arith) (d .before .before .before .if4 .left) (d .before .before .if5 .left) (i + 3) (omega arith) (omega arith)
     ∙ high s 0x80 0xbf (n - 1 - 1) (i + 3) _ (d .byte3 .ensures) (c .before .if7 .left) (c .if8 .taken))
@@ -82,10 +64,7 @@ returns-9 c =
     let d = c .before .before in
     let b = d .before .before .before .before in
     let a = b .before .before .before .before in
-    let p = a .before .before in
-    let s = p .args .s .now in
-    let i = p .args .i in
-    let n = p .args .more in
+    let p = a .before .before in let s = p .args .s .now in let i = p .args .i in let n = p .args .more in
     let l = some s (i + 3) _ (d .byte3 .ensures) (omega arith) in
     goes (p .pre .0) (omega arith) (omega arith) (more s (p .args .lo) (p .args .hi) n (i + 1) _ (a .byte .ensures) (p .pre .1 .0) (b .before .before .before .if1 .left) (b .before .before .if2 .left) (i + 2) (omega arith) (omega arith)
     ∙ more s 0x80 0xbf (n - 1) (i + 2) _ (b .byte2 .ensures) (omega arith) (d .before .before .before .if4 .left) (d .before .before .if5 .left) (i + 3) (omega arith) (omega arith)

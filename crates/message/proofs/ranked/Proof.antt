@@ -1,6 +1,0 @@
-use borrow.Author.Tests.{eq-eqb, ne-eqb}
-use Rattle.message.proofs.ranked.Statement.{statement}
-use Rattle.message.proofs.ranked.Tie as tie
-
-pub ranked-spec : {M : Type 1} → statement M
-ranked-spec = tie.close (tie.spec (λ c. simp (eq-eqb _ _ (c .if1 .taken))) (λ c. simp (ne-eqb _ _ (c .if1 .left))))

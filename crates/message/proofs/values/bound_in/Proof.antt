@@ -1,0 +1,13 @@
+use borrow.Author.Needs.{needs}
+use mathlib.Core.Path.{ap, _∙_}
+use mir.Syntax.{w64}
+use mir.ValLaws.{toZ-ofZ}
+use Rattle.message.specs.declared.Bound.the-variants.{Number}
+use Rattle.message.proofs.values.bound_in.Statement.{statement}
+use Rattle.message.proofs.values.bound_in.Tie as tie
+
+pub bound-in-spec : {M : Type 1} → statement M
+bound-in-spec =
+    tie.close
+    (tie.spec (λ c. search needs) (λ c. search needs) (λ c κs. search needs) (λ c. search needs)
+    (λ c. ap Number (toZ-ofZ w64 (c .number-at .result) (record { sfits = c .number-at .ok }) ∙ c .number-at .ensures) ∙ simp (c .before .before .x .given .1)))

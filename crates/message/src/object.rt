@@ -1,0 +1,119 @@
+// The members of an object, the first of each name.
+ghost use mathlib.Core.Path.{_≡_};
+ghost use mathlib.Core.Bool.{cond};
+ghost use Rattle.shape.specs.Shape.{sigName};
+ghost use Rattle.message.specs.Parts.{membersAt};
+ghost use Rattle.message.specs.Steps.{kept, stepOf, noMembers, foundIn};
+use crate::Listed;
+use crate::Members;
+use json::Next;
+use json::Out;
+use json::Start;
+
+// A member whose value stands at v, after what was found before it: its name is spelled `name`, and `word` is looked for.
+pub(crate) fn keep(name: &[u8], word: &[u8], a: Listed, v: usize) -> Listed
+    ensures { λ r. ⌜ r ≡ kept (now (name .entry)) (now (word .entry)) a v ⌝ }
+{
+    match a {
+        Listed::At(u) => Listed::At(u),
+        Listed::Absent => {
+            if spell::spells(name, word) {
+                Listed::At(v)
+            } else {
+                Listed::Absent
+            }
+        }
+    }
+}
+
+// The first of two words, or the second.
+pub(crate) fn either<'a>(first: bool, x: &'a [u8], y: &'a [u8]) -> &'a [u8]
+    ensures { λ r. ⌜ now r ≡ cond first (now (x .entry)) (now (y .entry)) ⌝ }
+{
+    if first { x } else { y }
+}
+
+// The seventh member of an event; a filter has six.
+pub(crate) fn keep_last(name: &[u8], event: bool, a: Listed, v: usize) -> Listed
+    ensures { λ r. ⌜ r ≡ cond event (kept (now (name .entry)) sigName a v) a ⌝ }
+{
+    if event { keep(name, b"sig", a, v) } else { a }
+}
+
+// A member whose name begins at p and whose value stands at v, after what was found before it.
+pub(crate) fn step(s: &[u8], event: bool, a: Members, p: usize, v: usize) -> Members
+    ensures { λ r. ⌜ r ≡ stepOf (now (s .entry)) event a p v ⌝ }
+{
+    let name = rows::spelled(s, p);
+    let a1 = a.m1;
+    let a2 = a.m2;
+    let a3 = a.m3;
+    let a4 = a.m4;
+    let a5 = a.m5;
+    let a6 = a.m6;
+    let a7 = a.m7;
+    Members {
+        m1: keep(name, either(event, b"id", b"ids"), a1, v),
+        m2: keep(name, either(event, b"pubkey", b"authors"), a2, v),
+        m3: keep(name, either(event, b"created_at", b"kinds"), a3, v),
+        m4: keep(name, either(event, b"kind", b"since"), a4, v),
+        m5: keep(name, either(event, b"tags", b"until"), a5, v),
+        m6: keep(name, either(event, b"content", b"limit"), a6, v),
+        m7: keep_last(name, event, a7, v),
+    }
+}
+
+pub(crate) fn no_members() -> Members
+    ensures { λ r. ⌜ r ≡ noMembers ⌝ }
+{
+    Members {
+        m1: Listed::Absent,
+        m2: Listed::Absent,
+        m3: Listed::Absent,
+        m4: Listed::Absent,
+        m5: Listed::Absent,
+        m6: Listed::Absent,
+        m7: Listed::Absent,
+    }
+}
+
+// The members of the object at a place, of an event or of a filter.
+pub(crate) fn find(s: &[u8], at: usize, event: bool) -> Members
+    ensures { λ r. ⌜ r ≡ foundIn (now (s .entry)) event (membersAt (now (s .entry)) at) ⌝ }
+{
+    let none = no_members();
+    match json::begin(s, at) {
+        Start::Leaf => none,
+        Start::Empty(_, _) => none,
+        Start::Many(first, named) => {
+            if named {
+                let mut a = none;
+                let mut i = first;
+                let mut k: usize = 0;
+                while k < s.len() {
+                    let Out::End(v) = json::head(s, i, true) else {
+                        return none;
+                    };
+                    let Out::End(n) = json::value(s, v, crate::WITHIN) else {
+                        return none;
+                    };
+                    a = step(s, event, a, i, v);
+                    match json::after(s, n, true) {
+                        Next::More(j) => {
+                            i = j;
+                        }
+                        Next::Done(_) => {
+                            return a;
+                        }
+                        Next::Wrong => {
+                            return none;
+                        }
+                    }
+                    k += 1;
+                }
+                return none;
+            }
+            none
+        }
+    }
+}

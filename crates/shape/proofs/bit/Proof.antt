@@ -1,9 +1,0 @@
--- 1 moved up by less than 64 places does not fall out.
-use borrow.Author.Needs.{needs}
-use native.Mathlib.Nat.{one-mul, mod-eq-of-lt}
-use Rattle.shape.proofs.Bits.{bit-fits}
-use Rattle.shape.proofs.bit.Statement.{statement}
-use Rattle.shape.proofs.bit.Tie as tie
-
-pub bit-spec : {M : Type 1} → statement M
-bit-spec = tie.close (tie.spec (λ c. search needs) (λ c. rw (one-mul, mod-eq-of-lt (bit-fits (c .args .slot) (search needs)))))

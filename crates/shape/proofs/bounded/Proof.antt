@@ -1,8 +1,0 @@
-use Rattle.shape.proofs.Tests.{tests}
-use Rattle.shape.specs.Walk.{bounds}
-use Rattle.shape.proofs.bounded.Statement.{statement}
-use Rattle.shape.proofs.bounded.Tie as tie
-
-pub bounded-spec : {M : Type 1} → statement M
-unfolding bounds
-bounded-spec = tie.close (tie.spec (λ c. search tests) (λ c. search tests) (λ c. search tests))

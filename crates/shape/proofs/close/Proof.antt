@@ -1,8 +1,0 @@
-use Rattle.shape.specs.Walk.{closed}
-use borrow.Author.Needs.{needs}
-use Rattle.shape.proofs.close.Statement.{statement}
-use Rattle.shape.proofs.close.Tie as tie
-
-pub close-spec : {M : Type 1} → statement M
-unfolding closed
-close-spec = tie.close (tie.spec (λ c κs. search needs) (λ c κs. search needs) (λ c. simp (c .before .end-row .ensures, c .least .ensures)))

@@ -1,0 +1,9 @@
+use borrow.Author.Needs.{needs}
+use mathlib.Core.Path.{refl}
+use Rattle.shape.specs.Walk.{isIn}
+use Rattle.shape.proofs.counts.is_in.Statement.{statement}
+use Rattle.shape.proofs.counts.is_in.Tie as tie
+
+pub is-in-spec : {M : Type 1} → statement M
+unfolding isIn
+is-in-spec = tie.close (tie.spec (λ c. search needs) (λ c. refl))

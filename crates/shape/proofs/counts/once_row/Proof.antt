@@ -1,0 +1,11 @@
+use Rattle.shape.specs.Walk.{onceRow}
+use borrow.Author.Needs.{needs}
+use Rattle.shape.proofs.counts.once_row.Statement.{statement}
+use Rattle.shape.proofs.counts.once_row.Tie as tie
+
+pub once-row-spec : {M : Type 1} → statement M
+unfolding onceRow
+once-row-spec =
+    tie.close
+    (tie.spec (λ c κs. search needs) (λ c. simp (c .before .before .if1 .taken, ← c .before .is-in .ensures, c .if2 .taken))
+    (λ c. simp (c .before .before .if1 .taken, ← c .before .is-in .ensures, c .if2 .left)) (λ c. simp (c .if1 .left)))

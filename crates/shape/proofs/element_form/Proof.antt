@@ -1,8 +1,0 @@
-use Rattle.shape.proofs.Tests.{tests}
-use Rattle.shape.specs.Walk.{elementForm}
-use Rattle.shape.proofs.element_form.Statement.{statement}
-use Rattle.shape.proofs.element_form.Tie as tie
-
-pub element-form-spec : {M : Type 1} → statement M
-unfolding elementForm
-element-form-spec = tie.close (tie.spec (λ c. search tests) (λ c. search tests) (λ c. search tests))

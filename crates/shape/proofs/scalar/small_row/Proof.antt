@@ -1,0 +1,12 @@
+use borrow.Author.Needs.{needs}
+use Rattle.shape.specs.Walk.{rangeRow}
+use Rattle.shape.proofs.scalar.small_row.Statement.{statement}
+use Rattle.shape.proofs.scalar.small_row.Tie as tie
+
+pub small-row-spec : {M : Type 1} → statement M
+unfolding rangeRow
+small-row-spec =
+    tie.close
+    (tie.spec (λ c κs. search needs) (λ c κs. search needs)
+    (λ c. simp (← c .before .before .read-whole .ensures, ← c .before .within .ensures, c .if1 .taken))
+    (λ c. simp (← c .before .before .read-whole .ensures, ← c .before .within .ensures, c .if1 .left)))

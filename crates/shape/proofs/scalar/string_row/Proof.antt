@@ -1,0 +1,11 @@
+use Rattle.shape.specs.Walk.{stringRow}
+use borrow.Author.Needs.{needs}
+use Rattle.shape.proofs.scalar.string_row.Statement.{statement}
+use Rattle.shape.proofs.scalar.string_row.Tie as tie
+
+pub string-row-spec : {M : Type 1} → statement M
+unfolding stringRow
+string-row-spec =
+    tie.close
+    (tie.spec (λ c κs. search needs) (λ c κs. search needs) (λ c. simp (← c .before .refused .ensures, c .if1 .taken))
+    (λ c. simp (← c .before .before .refused .ensures, c .before .if1 .left, c .string-form .ensures)))
