@@ -23,7 +23,7 @@ use Rattle.law.specs.Event.{earlier, lower, events}
 use Rattle.law.proofs.Lists.{any-has}
 use Rattle.wire.proofs.Bytes.{same-bytes}
 use Rattle.law.proofs.Order.{strict-times, strict-bytes, newer-means, laws}
-use Rattle.law.proofs.Cells.{length-cells, cell-at}
+use Rattle.table.proofs.Cells.{length-cells, cell-at}
 use Rattle.table.specs.Layout.{slotSize, headerSize, countOf, slotAt, heldSlots, idIn, textIn, lengthIn}
 use Rattle.table.specs.Events.{signedEvents, timeOfText, inSlot, view}
 use Rattle.table.specs.Sound.{sound, hasHeader, capacityFits, slotsFit, countFits, othersAsAbove, slotsSound, slotSound, noIdTwice, noKeyTwice, laterZero, noneTwice, isRead, textReads}

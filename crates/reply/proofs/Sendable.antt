@@ -16,6 +16,7 @@ use Rattle.wire.specs.Escape.{letterOf, escOne, escape}
 use Rattle.wire.specs.Limits.{mostText, mostMessage, widest}
 use Rattle.utf8.specs.Utf8.{isUtf8, utf8From, leadOf}
 use Rattle.utf8.specs.declared.Want.the-variants.{Lead}
+use Rattle.utf8.proofs.States.{utf8-append}
 use Rattle.json.specs.Grammar.{classOf}
 use Rattle.json.specs.Tree.{Json, num, str, obj, Items, nil, item, got, root, itemsAt, treeAt}
 use Rattle.json.proofs.Deeper.{deeper}
@@ -53,7 +54,7 @@ use Rattle.table.proofs.Hex.{hex-is, digest-length, digest-bytes}
 use Rattle.table.proofs.Refused.{not-refused}
 use Rattle.table.proofs.Again.{hex-string, tags-pass}
 use Rattle.table.proofs.Strings.{ws-none, string-read}
-use Rattle.table.proofs.Arrays.{Tight, Stands, next-more, next-done, array-many, tags-read, tags-spelled, utf8-append, quoted-utf8, tags-utf8}
+use Rattle.table.proofs.Arrays.{Tight, Stands, next-more, next-done, array-many, tags-read, tags-spelled, quoted-utf8, tags-utf8}
 use Rattle.table.proofs.Passes.{pubkey-hex, judged-again}
 use Rattle.table.proofs.Rows.{rows-in-order}
 use Rattle.wire.specs.Ascii.{ascii}

@@ -9,11 +9,11 @@ use borrow.Author.Tests.{eq-eqb}
 use lib.Dec.{leb, eqb, lit<}
 use lib.ListN.{length, getD, drop, length-append}
 use lib.Seq.{take-append-seam}
-use Rattle.utf8.specs.Utf8.{next, ends, utf8From, isUtf8}
-use Rattle.utf8.specs.declared.Want.{Want}
-use Rattle.utf8.specs.declared.Want.the-variants.{Lead, Tail, Bad}
+use Rattle.utf8.specs.Utf8.{utf8From, isUtf8}
+use Rattle.utf8.specs.declared.Want.the-variants.{Lead}
+use Rattle.utf8.proofs.States.{lead-low, utf8-append}
 use Rattle.json.specs.Grammar.{classOf, oneAt, tokenAt, startAt, nextAt}
-use Rattle.json.specs.Tree.{Json, arr, Items, nil, item, Got, got, itemsAt, treeAt, depth}
+use Rattle.json.specs.Tree.{Json, arr, Items, nil, item, Got, got, itemsAt, treeAt}
 use Rattle.json.specs.declared.Class.the-variants.{Space}
 use Rattle.json.specs.declared.Out.the-variants.{End, Bad}
 use Rattle.json.specs.declared.Start.the-variants.{Empty, Many}
@@ -29,7 +29,6 @@ use Rattle.wire.specs.Escape.{escape}
 use Rattle.message.specs.Lent.{value2, value5}
 use Rattle.message.specs.Lent as lent
 use Rattle.event.specs.Lent.{stringOf, stringsOf, tagOf, tagsOf, tagsIn, tagsAt}
-use Rattle.event.proofs.Decoded.{lead-low}
 use Rattle.table.specs.Relay.{SpellsTags}
 use Rattle.table.proofs.Strings.{ws-none, string-read, string-says}
 
@@ -164,16 +163,6 @@ module _ (s : List ℕ) (d : ℕ) where
       record { tree = arr (i .items); there = array-many s (suc (suc d)) at n (i .items) (byte-is a) (rw e (b .dark)) (rw e (b .opens)) (i .there); means = i .means; fine = i .fine }
 
 -- ---- their bytes are UTF-8
-ends-lead : (w : Want) → ends w ≡ true → w ≡ Lead
-ends-lead Lead e = refl
-ends-lead (Tail lo hi n) e = absurd (let z : _≡_ {A = ℕ} 0 1 = cc in omega arith)
-ends-lead Bad e = absurd (let z : _≡_ {A = ℕ} 0 1 = cc in omega arith)
-
-pub utf8-append : (p q : List ℕ) (w : Want) → utf8From w p ≡ true → utf8From Lead q ≡ true → utf8From w (p ++ q) ≡ true
-unfolding utf8From
-utf8-append [] q w e f = rw (ends-lead w e) f
-utf8-append (x ∷ p) q w e f = utf8-append p q (next w x) e f
-
 pub quoted-utf8 : (v : List ℕ) → isString v ≡ true → utf8From Lead (quoted v) ≡ true
 unfolding quoted isString isUtf8 utf8From
 quoted-utf8 v h = lead-low 34 (escape v ++ (34 ∷ [])) (lit< tt) (utf8-append (escape v) (34 ∷ []) Lead (utf8-escape v ∙ both (all isPlainByte v) _ h .1) (lead-low 34 [] (lit< tt) refl))

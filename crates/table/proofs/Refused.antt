@@ -1,27 +1,28 @@
 -- The converse of event/proofs/Decoded: a spelling whose decoded bytes are a string within the limits is not refused by row 4. A character at a
 -- time, with the state that UTF-8 is in before it: a refused control would stand among the decoded bytes and is not plain, and a refused
 -- surrogate's octets would stand where a character begins, and are no UTF-8.
-use mathlib.Core.Bool.{Bool, true, false, cond, not, _&&_, _||_}
+use mathlib.Core.Bool.{Bool, true, false, not, _&&_, _||_}
 use mathlib.Core.Path.{_≡_, refl}
 use mathlib.Core.List.{List, [], _∷_, _++_}
 use Prim.Native.Nat.{ℕ, zero, suc, _+_, _/_, _%_, _≤_, _<_}
 use native.Mathlib.Decide.{decLt}
 use native.Mathlib.Omega.{arith}
 use borrow.Author.Tests.{lt-ltb, le-ltb, le-leb, lt-leb}
-use lib.Dec.{eqb, lit≤}
+use lib.Dec.{eqb}
 use lib.ListN.{length, getD}
-use Rattle.utf8.specs.Utf8.{leadOf, next, utf8From, isUtf8}
+use Rattle.utf8.specs.Utf8.{next, utf8From, isUtf8}
 use Rattle.utf8.specs.declared.Want.{Want}
-use Rattle.utf8.specs.declared.Want.the-variants.{Lead, Tail, Bad}
+use Rattle.utf8.specs.declared.Want.the-variants.{Lead}
 use Rattle.utf8.specs.Abnf.{Octets, utf8-1, utf8-2, utf8-3-e0, utf8-3-e1, utf8-3-ed, utf8-3-ee, utf8-4-f0, utf8-4-f1, utf8-4-f4}
 use Rattle.utf8.proofs.Abnf.{as-in-abnf}
+use Rattle.utf8.proofs.States.{Reached, lead-reached, tail-reached, bad-reached, next-reached, low-lead, byte-few}
 use Rattle.json.specs.Grammar.{isSpelling}
 use Rattle.spell.specs.declared.Char as spell
 use Rattle.spell.specs.Spell.{four, fourAt, shortOf, isPair, pairOf, chars, charsFrom, utf8Of, bytesOf, decode, isSurrogate, isControl, isRefused, any, refuses}
 use Rattle.text.specs.Event.{all, isPlainByte, isString}
 use Rattle.text.proofs.Strings.{High, lead-high, tail-high, bad-high}
 use Rattle.text.proofs.Pieces.{both}
-use Rattle.event.proofs.Decoded.{Short, Spelling, end, plain, short, code, is-spelling, chars-plain, chars-short, chars-one, chars-pair, decode-more, paired, never-bad, low-lead, six-lead}
+use Rattle.event.proofs.Decoded.{Short, Spelling, end, plain, short, code, is-spelling, chars-plain, chars-short, chars-one, chars-pair, decode-more, paired, six-lead}
 
 -- ---- tests
 all-right : (p : ℕ → Bool) (s t : List ℕ) → all p (s ++ t) ≡ true → all p t ≡ true
@@ -47,53 +48,11 @@ plain-control n e = elim (decLt n 0x20) [
 few-surrogate : (n : ℕ) → n < 0xd800 → isSurrogate n ≡ false
 few-surrogate n h = rw (lt-leb 0xd800 n h)
 
--- ---- a state that UTF-8 gets into: what it wants is at least 128, and is a byte
-data Sane : Want → Type 0 where
-  lead-sane : Sane Lead
-  tail-sane : {lo hi m : ℕ} → 128 ≤ lo → hi ≤ 191 → Sane (Tail lo hi m)
-  bad-sane : Sane Bad
-
-sane-high : {w : Want} → Sane w → High w
-sane-high lead-sane = lead-high
-sane-high (tail-sane l h) = tail-high l
-sane-high bad-sane = bad-high
-
-cond-sane : (t : Bool) {a b : Want} → Sane a → Sane b → Sane (cond t a b)
-cond-sane true p q = p
-cond-sane false p q = q
-
-next-sane : (w : Want) (x : ℕ) → Sane w → Sane (next w x)
-unfolding leadOf
-next-sane Lead x h = search (cond-sane, lead-sane, tail-sane, bad-sane, lit≤, tt) depth 14
-next-sane (Tail lo hi m) x h = search (cond-sane, lead-sane, tail-sane, bad-sane, lit≤, tt) depth 14
-next-sane Bad x h = bad-sane
-
--- what UTF-8 takes is a byte
-byte-few : (w : Want) (x : ℕ) (t : List ℕ) → Sane w → utf8From w (x ∷ t) ≡ true → x < 256
-unfolding utf8From leadOf
-byte-few Lead x t s e = elim (decLt x 256) [
-  | yes h ↦ h
-  | no h ↦ never-bad t (rw (
-    lt-leb x 0x7f (omega arith),
-    lt-leb x 0xc1 (omega arith),
-    lt-leb x 0xdf (omega arith),
-    lt-leb x 0xe0 (omega arith),
-    lt-leb x 0xec (omega arith),
-    lt-leb x 0xed (omega arith),
-    lt-leb x 0xef (omega arith),
-    lt-leb x 0xf0 (omega arith),
-    lt-leb x 0xf3 (omega arith),
-    lt-leb x 0xf4 (omega arith),
-  ) at e)
-]
-byte-few (Tail lo hi m) x t (tail-sane l k) e = elim (decLt x 256) [
-  | yes h ↦ h
-  | no h ↦ elim (decLt x lo) [
-    | yes j ↦ never-bad t (rw (lt-ltb x lo j) at e)
-    | no j ↦ never-bad t (rw (le-ltb x lo (omega arith), lt-ltb hi x (omega arith)) at e)
-  ]
-]
-byte-few Bad x t s e = never-bad t e
+-- ---- a state that UTF-8 gets into wants what is at least 128
+reached-high : {w : Want} → Reached w → High w
+reached-high lead-reached = lead-high
+reached-high (tail-reached l h) = tail-high l
+reached-high bad-reached = bad-high
 
 -- ---- the octets of a code point where a character may begin
 two-rest : {a b : ℕ} {s : List ℕ} → Octets (a ∷ b ∷ s) → 0xc0 ≤ a → a ≤ 0xdf → Octets s
@@ -144,7 +103,7 @@ module _ (n : ℕ) (t : List ℕ) where
   ]
     where
       one : n < 0x80 → Octets (n ∷ t) → Octets t
-      one h o = as-in-abnf t .0 (low-lead Lead n t lead-high h (as-in-abnf (n ∷ t) .1 o) .1)
+      one h o = as-in-abnf t .0 (low-lead Lead n t lead-reached h (as-in-abnf (n ∷ t) .1 o) .1)
 
       far : 0x10000 ≤ n → isSurrogate n ≡ false
       far h = rw (le-leb 0xd800 n (omega arith), lt-leb n 0xdfff (omega arith))
@@ -183,7 +142,7 @@ record Fine (w : Want) (t : List ℕ) : Type 0 where
   utf8 : utf8From w t ≡ true
   plain : all isPlainByte t ≡ true
 
-step-plain : (x : ℕ) (l : List ℕ) → (x ≡ 0x5c → ⊥) → (w : Want) → Sane w → utf8From w (x ∷ l) ≡ true → Fine w (decode (x ∷ l))
+step-plain : (x : ℕ) (l : List ℕ) → (x ≡ 0x5c → ⊥) → (w : Want) → Reached w → utf8From w (x ∷ l) ≡ true → Fine w (decode (x ∷ l))
     → (utf8From (next w x) l ≡ true → Fine (next w x) (decode l) → refuses l ≡ false) → refuses (x ∷ l) ≡ false
 unfolding utf8From all bytesOf
 step-plain x l n w s u f ih =
@@ -193,16 +152,16 @@ step-plain x l n w s u f ih =
     let v : utf8From (next w x) (decode l) ≡ true = rw d at (f .utf8) in
     refuses-not (x ∷ l) l e (few-surrogate x (omega (arith, byte-few w x l s u))) (plain-control x p) (ih u (record { utf8 = v; plain = q }))
 
-step-short : (y : ℕ) (l : List ℕ) → Short y → (w : Want) → Sane w → utf8From w (0x5c ∷ y ∷ l) ≡ true → Fine w (decode (0x5c ∷ y ∷ l))
+step-short : (y : ℕ) (l : List ℕ) → Short y → (w : Want) → Reached w → utf8From w (0x5c ∷ y ∷ l) ≡ true → Fine w (decode (0x5c ∷ y ∷ l))
     → (utf8From Lead l ≡ true → Fine Lead (decode l) → refuses l ≡ false) → refuses (0x5c ∷ y ∷ l) ≡ false
 unfolding all bytesOf
 step-short y l h w s u f ih =
-    let (z, u₁) = low-lead w 0x5c (y ∷ l) (sane-high s) (omega arith) u in
-    let u₂ = low-lead Lead y l lead-high (h .low) u₁ .1 in
+    let (z, u₁) = low-lead w 0x5c (y ∷ l) s (omega arith) u in
+    let u₂ = low-lead Lead y l lead-reached (h .low) u₁ .1 in
     let e = chars-short y l (h .other) in
     let d = decode-more (0x5c ∷ y ∷ l) l e in
     let (p, q) = both (isPlainByte (shortOf y)) _ (rw d at (f .plain)) in
-    let v = low-lead w (shortOf y) (decode l) (sane-high s) (h .means) (rw d at (f .utf8)) .1 in
+    let v = low-lead w (shortOf y) (decode l) s (h .means) (rw d at (f .utf8)) .1 in
     refuses-not (0x5c ∷ y ∷ l) l e (few-surrogate (shortOf y) (omega (arith, h .means))) (plain-control (shortOf y) p) (ih u₂ (record { utf8 = v; plain = q }))
 
 -- a character of an escape, of a code point n, before m
@@ -215,7 +174,7 @@ step-code l m n k w z e f ih =
     let (p, q) = code-plain n (decode m) (rw d at (f .plain)) in
     refuses-not l m e a p (ih (record { utf8 = b; plain = q }))
 
-module _ (a b c d : ℕ) (ha : a < 128) (hb : b < 128) (hc : c < 128) (hd : d < 128) (w : Want) (v : Sane w) where
+module _ (a b c d : ℕ) (ha : a < 128) (hb : b < 128) (hc : c < 128) (hd : d < 128) (w : Want) (v : Reached w) where
   abbrev Rest : List ℕ → Type 0
   Rest l = (m : List ℕ) → length m ≤ length l → Spelling m → utf8From Lead m ≡ true → Fine Lead (decode m) → refuses m ≡ false
 
@@ -226,7 +185,7 @@ module _ (a b c d : ℕ) (ha : a < 128) (hb : b < 128) (hc : c < 128) (hd : d < 
   step-pair (plain h n s) e ih u f = let p = paired _ _ _ _ e in absurd (n (p .slash))
   step-pair (short y s) e ih u f = let p = paired _ _ _ _ e in absurd (y .other (p .letter))
   step-pair (code {a = i} {b = j} {c = x} {d = y} {l = m} hi hj hx hy s) e ih u f =
-      let (z, u₁) = six-lead ha hb hc hd w (0x5c ∷ 0x75 ∷ i ∷ j ∷ x ∷ y ∷ m) (sane-high v) u in
+      let (z, u₁) = six-lead ha hb hc hd w (0x5c ∷ 0x75 ∷ i ∷ j ∷ x ∷ y ∷ m) (reached-high v) u in
       let u₂ = six-lead hi hj hx hy Lead m lead-high u₁ .1 in
       step-code _ m (pairOf (four a b c d) (four i j x y)) 12 w z (chars-pair a b c d i j x y m e) f (λ g. ih m (omega arith) s u₂ g)
 
@@ -237,11 +196,11 @@ module _ (a b c d : ℕ) (ha : a < 128) (hb : b < 128) (hc : c < 128) (hd : d < 
       go : (t : Bool) → isPair (four a b c d) (getD l 0 0) (getD l 1 0) (fourAt l 2) ≡ t → refuses (0x5c ∷ 0x75 ∷ a ∷ b ∷ c ∷ d ∷ l) ≡ false
       go true e = step-pair s e ih u f
       go false e =
-          let (z, u₁) = six-lead ha hb hc hd w l (sane-high v) u in
+          let (z, u₁) = six-lead ha hb hc hd w l (reached-high v) u in
           step-code _ l (four a b c d) 6 w z (chars-one a b c d l e) f (λ g. ih l (omega arith) s u₁ g)
 
 abbrev Upto : ℕ → Type 0
-Upto k = (l : List ℕ) → length l ≤ k → Spelling l → (w : Want) → Sane w → utf8From w l ≡ true → Fine w (decode l) → refuses l ≡ false
+Upto k = (l : List ℕ) → length l ≤ k → Spelling l → (w : Want) → Reached w → utf8From w l ≡ true → Fine w (decode l) → refuses l ≡ false
 
 none-refused : refuses [] ≡ false
 unfolding refuses any charsFrom
@@ -249,10 +208,10 @@ none-refused = refl
 
 longer : (k : ℕ) → Upto k → Upto (suc k)
 longer k ih l h end w v u f = none-refused
-longer k ih l h (plain {x = x} {l = m} y n s) w v u f = step-plain x m n w v u f (λ e g. ih m (omega arith) s (next w x) (next-sane w x v) e g)
-longer k ih l h (short {y = y} {l = m} t s) w v u f = step-short y m t w v u f (λ e g. ih m (omega arith) s Lead lead-sane e g)
+longer k ih l h (plain {x = x} {l = m} y n s) w v u f = step-plain x m n w v u f (λ e g. ih m (omega arith) s (next w x) (next-reached w x v) e g)
+longer k ih l h (short {y = y} {l = m} t s) w v u f = step-short y m t w v u f (λ e g. ih m (omega arith) s Lead lead-reached e g)
 longer k ih l h (code {a = a} {b = b} {c = c} {d = d} {l = m} ha hb hc hd s) w v u f =
-    step-escape a b c d ha hb hc hd w v s (λ i g t e j. ih i (omega arith) t Lead lead-sane e j) u f
+    step-escape a b c d ha hb hc hd w v s (λ i g t e j. ih i (omega arith) t Lead lead-reached e j) u f
 
 shortest : Upto 0
 shortest [] h s w v u f = none-refused
@@ -267,4 +226,4 @@ pub not-refused : (l : List ℕ) → isUtf8 l ≡ true → isSpelling l ≡ true
 unfolding isUtf8 isString
 not-refused l u s e =
     let (p, q) = both (all isPlainByte (decode l)) _ e in
-    upto (length l) l (omega arith) (is-spelling l s) Lead lead-sane u (record { utf8 = q; plain = p })
+    upto (length l) l (omega arith) (is-spelling l s) Lead lead-reached u (record { utf8 = q; plain = p })

@@ -9,7 +9,7 @@ use lib.ListN.{length, getD, take, drop, length-drop, List·getD-map}
 use lib.Seq.{drop-drop, take-append-le, drop-append-le}
 use borrow.Author.Tests.{ltb-true, lt-ltb, le-ltb, eqb-true, ne-eqb}
 use Rattle.law.specs.Lists.{_∈_}
-use Rattle.law.proofs.Cells.{length-cells, cell-at}
+use Rattle.table.proofs.Cells.{length-cells, cell-at}
 use Rattle.wire.specs.Limits.{mostText}
 use Rattle.rows.specs.Strings.{part}
 use Rattle.table.specs.Layout.{headerSize, slotSize, tableSize, slotPlace, capacityOf, countOf, slotAt, heldSlots, textPlace, lengthIn, textIn}

@@ -6,11 +6,10 @@ use Rattle.replies.proofs.put_eose.Tie as tie
 
 returns : tie.Need-returns
 returns c =
-    let c2 = c .before .before in
-    let c7 = c2 .before .before .before .before .before in
+    let c7 = c .before .before .before .before .before .before .before in
     let c11 = c7 .before .before .before .before in
     let a = c11 .before .before .before .before .before .args in
-    eose-put (a .b .now) (a .sub) (c11 .put .ensures) (c7 .put-part .ensures) (c2 .put2 .ensures)
+    eose-put (a .b .now) (a .sub) (c11 .put .ensures) (c7 .put-part .ensures) (c .before .before .put2 .ensures)
 
 pub put-eose-spec : {M : Type 1} → statement M
 put-eose-spec =
