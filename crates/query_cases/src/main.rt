@@ -182,7 +182,7 @@ fn row_of(x: Offered) -> u64 {
 fn put_offer(out: &mut [u8], line: &[u8], lent: &[u8], table: &mut [u8]) -> usize {
     let m = wire::piece(lent, fields::count(line, 1), fields::count(line, 2));
     let a = fields::put_number(out, 0, row_of(offers::offer_message(table, m)));
-    fields::put_number(out, a, wire::le_at(table, 4, 4))
+    fields::put_number(out, a, wire::le_at(table, slots::COUNT_PLACE, 4))
 }
 
 fn put_answer(out: &mut [u8], line: &[u8], lent: &[u8], table: &mut [u8]) -> usize {

@@ -7,7 +7,7 @@ use native.Mathlib.Omega.{arith}
 use borrow.Author.Tests.{eqb-true, leb-true, le-leb, lt-leb}
 use lib.Dec.{eqb, leb}
 use lib.ListN.{length, getD, length-append}
-use Rattle.wire.specs.Limits.{mostText, hexLength}
+use Rattle.wire.specs.Limits.{hexLength}
 use Rattle.wire.specs.Escape.{letterOf, escOne, escape}
 use Rattle.wire.proofs.Escapes.{esc-two}
 use Rattle.utf8.specs.Utf8.{isUtf8}
@@ -25,12 +25,11 @@ use Rattle.text.proofs.RoundTrip.{read-same}
 use Rattle.event.specs.Answer.{hexOf}
 use Rattle.event.proofs.Answers.{hex-length, escape-hex}
 use Rattle.event.proofs.Decoded.{decoded-string}
-use Rattle.table.specs.Layout.{slotSize, slotPlace, countOf, slotAt, idIn, sigIn, lengthIn, textIn}
-use Rattle.table.specs.Sound.{textReads, slotSound, sound}
+use Rattle.table.specs.Layout.{countOf, slotAt, idIn, sigIn, lengthIn, textIn}
+use Rattle.table.specs.Sound.{sound}
 use Rattle.table.proofs.Slots.{part-length}
-use Rattle.table.proofs.Bytes.{clauses}
+use Rattle.table.proofs.Shown.{slot-size, text-small}
 use Rattle.table.proofs.Passes.{pubkey-hex}
-use Rattle.query.proofs.Tables.{slot-sound}
 use Rattle.reply.specs.Replies.{event, objectText, replyText, reasons, reasonOf}
 use Rattle.reply.specs.Respond.{slotText, slotLine}
 use Rattle.reply.proofs.Streamed.{slot-text-is}
@@ -56,16 +55,9 @@ unfolding replyText
 event-length sub i s e a b c d = simp length-append (omega (arith, object-length i s e a b c d))
 
 module _ (b : List ℕ) (k : ℕ) (s : sound b ≡ true) (h : k < countOf b) where
-  slot-size : length (slotAt b k) ≡ 4208
-  slot-size = let c = clauses b s in part-length b (slotPlace k) slotSize (omega (arith, c .count, c .fit))
-
-  pub text-small : lengthIn (slotAt b k) ≤ 4096
-  unfolding slotSound textReads
-  text-small = leb-true (lengthIn (slotAt b k)) mostText (both (leb (lengthIn (slotAt b k)) mostText) _ (both (textReads (slotAt b k)) _ (slot-sound b s k h) .0) .0)
-
   text-length : length (textIn (slotAt b k)) ≡ lengthIn (slotAt b k)
   unfolding textIn
-  text-length = part-length (slotAt b k) 112 (lengthIn (slotAt b k)) (omega (arith, slot-size, text-small))
+  text-length = part-length (slotAt b k) 112 (lengthIn (slotAt b k)) (omega (arith, slot-size b s k h, text-small b s k h))
 
   pub slot-length : (sub : List ℕ) → length (slotText b sub k) ≡ lengthIn (slotAt b k) + length (escape sub) + 266
   unfolding idIn sigIn
@@ -73,7 +65,7 @@ module _ (b : List ℕ) (k : ℕ) (s : sound b ≡ true) (h : k < countOf b) whe
       let (e, r, t, l) = slot-text-is b sub k s h in
       let a = read-same (textIn (slotAt b k)) e r in
       let key = limits-of e (a .fit) .pubkey in
-      let z = slot-size in
+      let z = slot-size b s k h in
       let i = hex-quoted (idIn (slotAt b k)) 32 (part-length (slotAt b k) 0 32 (omega arith)) in
       let g = hex-quoted (sigIn (slotAt b k)) 64 (part-length (slotAt b k) 32 64 (omega arith)) in
       let n = pubkey-length (e .pubkey) key in

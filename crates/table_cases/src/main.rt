@@ -111,7 +111,7 @@ fn step(line: &[u8], lent: &mut [u8], room: &mut [u8], n: usize) -> usize {
     let len = fields::table_len(line, n);
     let mut out = io::buffer();
     let a = put_call(&mut out, line, lent, room, len);
-    let b = fields::put_number(&mut out, a, wire::le_at(room, 4, 4));
+    let b = fields::put_number(&mut out, a, wire::le_at(room, slots::COUNT_PLACE, 4));
     let c = put_print(&mut out, b, looked_at(room, len));
     lines::write_line(&mut out, c);
     len
