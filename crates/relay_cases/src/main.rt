@@ -197,10 +197,15 @@ fn respond(
 
 fn read_all(table: &mut [u8], line: &mut [u8], given: &mut [u8], chunk: &mut [u8], out: &mut [u8]) {
     let mut now = Run { n: 0, cut: 0 };
-    let mut l = lines::next(given, chunk, lines::none());
-    while 0 < l.left {
-        now = respond(table, line, now, given, l.n, out);
+    let mut l = lines::none();
+    let mut k: u64 = 0;
+    while k < 0xffff_ffff_ffff {
         l = lines::next(given, chunk, l);
+        if l.left == 0 {
+            return;
+        }
+        now = respond(table, line, now, given, l.n, out);
+        k += 1;
     }
 }
 
