@@ -248,26 +248,13 @@ fn respond(line: &[u8]) {
     }
 }
 
-// A line that was read: the first n bytes of `line`, which is longer. One that fills it is too long.
-fn answer(line: &[u8], n: usize) {
-    if n < line.len() {
-        respond(&line[..n]);
-    } else {
-        refuse();
-    }
-}
-
+// A line of 65,536 bytes or more is a bad one.
 fn main() {
     let mut line = io::large_buffer();
     let mut chunk = io::large_buffer();
-    let mut l = lines::none();
-    let mut k: u64 = 0;
-    while k < 0xffff_ffff_ffff {
-        l = lines::next(&mut line, &mut chunk, l);
-        if !l.some {
-            return;
-        }
-        answer(&line, l.n);
-        k += 1;
+    let mut l = lines::next_within(&mut line, &mut chunk, lines::none(), b"bad line\n");
+    while 0 < l.left {
+        respond(wire::piece(&line, 0, l.n));
+        l = lines::next_within(&mut line, &mut chunk, l, b"bad line\n");
     }
 }

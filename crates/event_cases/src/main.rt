@@ -137,29 +137,15 @@ fn put_answer(out: &mut [u8], line: &[u8]) -> usize {
     put_offer(out, line)
 }
 
-fn respond(line: &[u8]) {
-    let mut buffer = io::large_buffer();
-    let out: &mut [u8] = &mut buffer;
-    let n = put_answer(out, line);
-    lines::write_line(out, n);
-}
-
-// The line is the first n bytes of the buffer. Of a longer line the first 65,536 bytes are kept, which the same rows refuse.
-fn answer(line: &[u8], n: usize) {
-    respond(wire::piece(line, 0, n));
-}
-
+// Of a line over 65,536 bytes the first of them are kept, which the same rows refuse.
 fn main() {
     let mut line = io::large_buffer();
     let mut chunk = io::large_buffer();
-    let mut l = lines::none();
-    let mut k: u64 = 0;
-    while k < 0xffff_ffff_ffff {
+    let mut out = io::large_buffer();
+    let mut l = lines::next(&mut line, &mut chunk, lines::none());
+    while 0 < l.left {
+        let k = put_answer(&mut out, wire::piece(&line, 0, l.n));
+        lines::write_line(&mut out, k);
         l = lines::next(&mut line, &mut chunk, l);
-        if !l.some {
-            return;
-        }
-        answer(&line, l.n);
-        k += 1;
     }
 }

@@ -13,6 +13,10 @@ use Rattle.fields.specs.Number.{countOf}
 unfoldable pub letterOf : List ℕ → ℕ
 letterOf l = getD l 0 0
 
+-- before the first line: zeros, as many as a table of 64 slots has bytes, and 256 more
+abbrev pub emptyRoom : List ℕ
+emptyRoom = replicate 269584 0
+
 -- L len fill: the table has `len` bytes from here on
 unfoldable pub lengthAfter : List ℕ → ℕ → ℕ
 lengthAfter l n = cond (eqb (letterOf l) 76) (countOf l 1) n

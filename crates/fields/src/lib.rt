@@ -8,7 +8,7 @@ ghost use Rattle.wire.specs.Put.{Puts};
 ghost use Rattle.numeral.specs.Decimal.{digits, decimal};
 ghost use Rattle.fields.specs.Line.{spaceIn, restOf, fieldsFrom, fieldOf, gapOf};
 ghost use Rattle.fields.specs.Number.{grownBy, naturalOf, complementOf, integerOf, isAbsent, countOf};
-ghost use Rattle.fields.specs.Room.{filled, letterOf, turned, lengthAfter, lentAfter, roomAfter};
+ghost use Rattle.fields.specs.Room.{filled, letterOf, emptyRoom, turned, lengthAfter, lentAfter, roomAfter};
 ghost use Rattle.fields.specs.Parts.{spanOf, bodyOf, eventOf, listedOf, boundOf, filterOf};
 use message::Body;
 use message::Bound;
@@ -276,6 +276,14 @@ pub fn letter(line: &[u8]) -> u8
         return 0;
     }
     line[0]
+}
+
+// The room before the first line: zeros.
+pub fn empty_room() -> [u8; 269584]
+    ensures { λ r. ⌜ r ≡ emptyRoom ⌝ }
+    ensures { λ r. ⌜ 269584 ≡ length r ⌝ }
+{
+    [0; 269584]
 }
 
 // Bits of a byte turned over, where there is one.

@@ -3,8 +3,9 @@ use mathlib.Core.Path.{_≡_}
 use mathlib.Core.Bool.{Bool, true, false, cond}
 use mathlib.Core.Option.{Option}
 use mathlib.Core.List.{List, map}
-use Prim.Native.Nat.{ℕ, _+_, _-_, _≤_}
+use Prim.Native.Nat.{ℕ, _+_, _-_, _*_, _≤_}
 use lib.ListN.{length, getD, take, drop}
+use Rattle.wire.specs.Limits.{mostMembers, mostConditions}
 use Rattle.wire.specs.Bytes.{part}
 use Rattle.json.specs.Grammar.{case, scalarAt, headAt, nextAt}
 use Rattle.json.specs.Tree.{endOf, treeAt}
@@ -28,6 +29,26 @@ use Rattle.matching.specs.declared.Members.the-variants as members
 use Rattle.matching.specs.declared.Needed.{Needed}
 use Rattle.matching.specs.Found.{given, conditionBy}
 
+-- ---- the row that a filter's members are written to: two numbers for each string, one for each kind
+abbrev pub stringsRoom : ℕ
+stringsRoom = mostMembers * 2
+
+abbrev pub kindsRoom : ℕ
+kindsRoom = mostMembers
+
+-- ids stand from 0 on, and behind them authors, kinds, and the members of the # conditions
+abbrev pub authorsPlace : ℕ
+authorsPlace = stringsRoom
+
+abbrev pub kindsPlace : ℕ
+kindsPlace = authorsPlace + stringsRoom
+
+abbrev pub conditionsPlace : ℕ
+conditionsPlace = kindsPlace + kindsRoom
+
+abbrev pub rowRoom : ℕ
+rowRoom = conditionsPlace + mostConditions * stringsRoom
+
 -- what a list says stands in the row from a place on, in n numbers of at most so many; what stands before it stays
 pub record Finds {X : Type 0} (means : List ℕ → List X) (whole : List X) (most : ℕ) (before : List ℕ) (at n : ℕ) (row : List ℕ) : Type 0 where
   pub few : n ≤ most
@@ -46,10 +67,10 @@ pub record FindsMembers {X : Type 0} (means : List ℕ → List X) (whole : Opti
   pub same : take at row ≡ take at before
   pub long : length row ≡ length before
 
--- the conditions that a filter's object has, the first n of a list; their members stand in the row from 80 on
+-- the conditions that a filter's object has, the first n of a list; their members stand in the row behind the other lists
 pub record FindsConditions (m : List ℕ) (l : Listed) (before : List ℕ) (list : List Needed) (n : ℕ) (row : List ℕ) : Type 0 where
   pub is : map (conditionBy m row) (take n list) ≡ conditionsIn m l
-  pub same : take 80 row ≡ take 80 before
+  pub same : take conditionsPlace row ≡ take conditionsPlace before
   pub long : length row ≡ length before
 
 -- ---- the number at a place, if it is not negative; otherwise 0

@@ -11,15 +11,12 @@ ghost use Rattle.query.specs.Filter.{filterOf};
 ghost use Rattle.query.specs.Answer.{filtersRow, answerTo};
 ghost use Rattle.matching.specs.Hits.{Filled};
 ghost use Rattle.matching.specs.Order.{told, toldRow};
+use crate::ROW_ROOM;
 use crate::found;
 use crate::held;
 use crate::order;
 
-// What finding the members of a filter's lists wants: two numbers for each of 16 ids and 16 authors, one for each of 16 kinds, two for each of
-// 16 members of four conditions.
-const PLACES: usize = 208;
-
-// A byte for each of 64 slots and 4 filters.
+// A byte for each slot and filter.
 const HITS: usize = wire::MOST_SLOTS * wire::MOST_FILTERS;
 
 // Filter number j, its members found, is asked of the c held slots.
@@ -28,7 +25,7 @@ fn ask(table: &[u8], c: usize, m: &[u8], p: message::FilterParts, j: usize, hits
     requires { ⌜ (c ≡ countOf (now table)) × (c ≤ mostSlots) × (j < mostFilters) × (c * 4 ≤ length (now hits)) ⌝ }
     ensures { λ _. ⌜ Filled (now (table .entry)) (filterOf (now (m .entry)) p) j c (now (hits .entry)) (now (hits .exit)) ⌝ }
 {
-    let mut places = [0usize; PLACES];
+    let mut places = [0usize; ROW_ROOM];
     let f = found::find(m, p, &mut places);
     held::fill(table, c, m, &places, f, j, hits);
 }
@@ -45,7 +42,7 @@ pub(crate) fn answered(
     ensures { λ r. ⌜ r ≡ told (answerTo (now (table .entry)) (now (m .entry)) fs n) (now (row .entry)) ⌝ }
     ensures { λ _. ⌜ now (row .exit) ≡ toldRow (answerTo (now (table .entry)) (now (m .entry)) fs n) (now (row .entry)) ⌝ }
 {
-    let c = wire::le_at(table, 4, 4) as usize;
+    let c = wire::le_at(table, slots::COUNT_PLACE, 4) as usize;
     let mut hits = [0u8; HITS];
     let mut j: usize = 0;
     while j < n {

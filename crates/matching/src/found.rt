@@ -1,5 +1,4 @@
-// The members of a filter's lists found: their places in the text, in a row of 208 numbers. ids stand in it from 0 on, authors from 32 on, kinds
-// from 64 on, and the four # conditions from 80 on, 32 numbers each.
+// The members of a filter's lists found: their places in the text, in a row of numbers.
 ghost use mathlib.Core.Path.{_≡_};
 ghost use mathlib.Core.Bool.{true, false};
 ghost use Prim.Native.Nat.{_+_, _≤_};
@@ -15,11 +14,16 @@ ghost use Rattle.message.specs.declared.Listed.the-variants.{At};
 ghost use Rattle.message.specs.Lent.{value5, onValue, valueAt, someSmall, inList, filterRow};
 ghost use Rattle.query.specs.Filter.{stringsIn, numbersIn, ifListed, filterOf};
 ghost use Rattle.matching.specs.Found.{spelledBy, numbersBy, filterBy};
-ghost use Rattle.matching.specs.Finds.{smallFrom, smallAt, letterOf, firstNamed, nextNamed, valuePlace, Finds, FindsMembers, FindsConditions};
+ghost use Rattle.matching.specs.Finds.{stringsRoom, kindsRoom, rowRoom, smallFrom, smallAt, letterOf, firstNamed, nextNamed, valuePlace, Finds, FindsMembers, FindsConditions};
+use crate::AUTHORS_PLACE;
+use crate::CONDITIONS_PLACE;
 use crate::Conditions;
+use crate::KINDS_PLACE;
+use crate::KINDS_ROOM;
 use crate::Known;
 use crate::Members;
 use crate::Needed;
+use crate::STRINGS_ROOM;
 use crate::matcher;
 use json::Kind;
 use json::Next;
@@ -46,12 +50,12 @@ fn span(m: &[u8], at: usize) -> Span
 fn strings_at(m: &[u8], v: usize, row: &mut [usize], at: usize) -> usize
     requires { ⌜ value5 (isArrayOf isString) (now m) v ≡ false ⌝ }
     requires { ⌜ onValue wrongList (valueAt (now m) v) ≡ false ⌝ }
-    requires { ⌜ at + 32 ≤ length (now row) ⌝ }
-    ensures { λ r. ⌜ Finds (spelledBy (now (m .entry))) (stringsIn (now (m .entry)) (treeAt (now (m .entry)) depth v)) 32 (now (row .entry)) at r (now (row .exit)) ⌝ }
+    requires { ⌜ at + stringsRoom ≤ length (now row) ⌝ }
+    ensures { λ r. ⌜ Finds (spelledBy (now (m .entry))) (stringsIn (now (m .entry)) (treeAt (now (m .entry)) depth v)) stringsRoom (now (row .entry)) at r (now (row .exit)) ⌝ }
 {
     let mut x = matcher::first(m, v);
     let mut n: usize = 0;
-    while n < 32 {
+    while n < STRINGS_ROOM {
         let Listed::At(i) = x else {
             return n;
         };
@@ -96,12 +100,12 @@ fn numbers_at(m: &[u8], v: usize, row: &mut [usize], at: usize) -> usize
     requires { ⌜ value5 (isArrayOf isNumber) (now m) v ≡ false ⌝ }
     requires { ⌜ onValue (someSmall (now m)) (valueAt (now m) v) ≡ false ⌝ }
     requires { ⌜ onValue wrongList (valueAt (now m) v) ≡ false ⌝ }
-    requires { ⌜ at + 16 ≤ length (now row) ⌝ }
-    ensures { λ r. ⌜ Finds numbersBy (numbersIn (now (m .entry)) (treeAt (now (m .entry)) depth v)) 16 (now (row .entry)) at r (now (row .exit)) ⌝ }
+    requires { ⌜ at + kindsRoom ≤ length (now row) ⌝ }
+    ensures { λ r. ⌜ Finds numbersBy (numbersIn (now (m .entry)) (treeAt (now (m .entry)) depth v)) kindsRoom (now (row .entry)) at r (now (row .exit)) ⌝ }
 {
     let mut x = matcher::first(m, v);
     let mut n: usize = 0;
-    while n < 16 {
+    while n < KINDS_ROOM {
         let Listed::At(i) = x else {
             return n;
         };
@@ -178,11 +182,11 @@ fn value_place(m: &[u8], at: usize) -> usize
     }
 }
 
-// The # conditions of the filter's object at v, their members from place 80 of the row on, 32 numbers each.
+// The # conditions of the filter's object at v, their members behind the other lists of the row.
 fn conditions_at(m: &[u8], v: usize, row: &mut [usize]) -> Conditions
     requires { ⌜ value5 (isFilter (now m)) (now m) v ≡ false ⌝ }
     requires { ⌜ onValue (onObject (filterCounts (now m))) (valueAt (now m) v) ≡ false ⌝ }
-    requires { ⌜ 208 ≤ length (now row) ⌝ }
+    requires { ⌜ rowRoom ≤ length (now row) ⌝ }
     ensures { λ r. ⌜ FindsConditions (now (m .entry)) (At v) (now (row .entry)) (r .list) (r .n) (now (row .exit)) ⌝ }
 {
     let none = Needed {
@@ -205,7 +209,7 @@ fn conditions_at(m: &[u8], v: usize, row: &mut [usize]) -> Conditions
         if c == 0 {
             continue;
         }
-        let from = 80 + n * 32;
+        let from = CONDITIONS_PLACE + n * STRINGS_ROOM;
         let len = strings_at(m, w, row, from);
         list[n] = Needed {
             letter: c,
@@ -221,8 +225,8 @@ fn conditions_at(m: &[u8], v: usize, row: &mut [usize]) -> Conditions
 fn string_members(m: &[u8], l: Listed, row: &mut [usize], at: usize) -> Members
     requires { ⌜ inList (value5 (isArrayOf isString) (now m)) l ≡ false ⌝ }
     requires { ⌜ inList (λ v. onValue wrongList (valueAt (now m) v)) l ≡ false ⌝ }
-    requires { ⌜ at + 32 ≤ length (now row) ⌝ }
-    ensures { λ r. ⌜ FindsMembers (spelledBy (now (m .entry))) (ifListed (λ v. stringsIn (now (m .entry)) (treeAt (now (m .entry)) depth v)) l) 32 (now (row .entry)) at r (now (row .exit)) ⌝ }
+    requires { ⌜ at + stringsRoom ≤ length (now row) ⌝ }
+    ensures { λ r. ⌜ FindsMembers (spelledBy (now (m .entry))) (ifListed (λ v. stringsIn (now (m .entry)) (treeAt (now (m .entry)) depth v)) l) stringsRoom (now (row .entry)) at r (now (row .exit)) ⌝ }
 {
     match l {
         Listed::Absent => Members::Absent,
@@ -235,8 +239,8 @@ fn number_members(m: &[u8], l: Listed, row: &mut [usize], at: usize) -> Members
     requires { ⌜ inList (value5 (isArrayOf isNumber) (now m)) l ≡ false ⌝ }
     requires { ⌜ inList (λ v. onValue (someSmall (now m)) (valueAt (now m) v)) l ≡ false ⌝ }
     requires { ⌜ inList (λ v. onValue wrongList (valueAt (now m) v)) l ≡ false ⌝ }
-    requires { ⌜ at + 16 ≤ length (now row) ⌝ }
-    ensures { λ r. ⌜ FindsMembers numbersBy (ifListed (λ v. numbersIn (now (m .entry)) (treeAt (now (m .entry)) depth v)) l) 16 (now (row .entry)) at r (now (row .exit)) ⌝ }
+    requires { ⌜ at + kindsRoom ≤ length (now row) ⌝ }
+    ensures { λ r. ⌜ FindsMembers numbersBy (ifListed (λ v. numbersIn (now (m .entry)) (treeAt (now (m .entry)) depth v)) l) kindsRoom (now (row .entry)) at r (now (row .exit)) ⌝ }
 {
     match l {
         Listed::Absent => Members::Absent,
@@ -248,7 +252,7 @@ fn number_members(m: &[u8], l: Listed, row: &mut [usize], at: usize) -> Members
 fn condition_members(m: &[u8], l: Listed, row: &mut [usize]) -> Conditions
     requires { ⌜ inList (value5 (isFilter (now m)) (now m)) l ≡ false ⌝ }
     requires { ⌜ inList (λ v. onValue (onObject (filterCounts (now m))) (valueAt (now m) v)) l ≡ false ⌝ }
-    requires { ⌜ 208 ≤ length (now row) ⌝ }
+    requires { ⌜ rowRoom ≤ length (now row) ⌝ }
     ensures { λ r. ⌜ FindsConditions (now (m .entry)) l (now (row .entry)) (r .list) (r .n) (now (row .exit)) ⌝ }
 {
     match l {
@@ -270,15 +274,15 @@ fn condition_members(m: &[u8], l: Listed, row: &mut [usize]) -> Conditions
 // The filter of checked parts p over m, with its members found.
 pub(crate) fn find(m: &[u8], p: message::FilterParts, row: &mut [usize]) -> Known
     requires { ⌜ filterRow (now m) p ≡ 0 ⌝ }
-    requires { ⌜ 208 ≤ length (now row) ⌝ }
+    requires { ⌜ rowRoom ≤ length (now row) ⌝ }
     ensures { λ r. ⌜ filterBy (now (m .entry)) (now (row .exit)) r ≡ filterOf (now (m .entry)) p ⌝ }
 {
     let ids_at = p.ids;
     let ids = string_members(m, ids_at, row, 0);
     let authors_at = p.authors;
-    let authors = string_members(m, authors_at, row, 32);
+    let authors = string_members(m, authors_at, row, AUTHORS_PLACE);
     let kinds_at = p.kinds;
-    let kinds = number_members(m, kinds_at, row, 64);
+    let kinds = number_members(m, kinds_at, row, KINDS_PLACE);
     let conditions_at = p.conditions;
     let found = condition_members(m, conditions_at, row);
     let since = p.since;

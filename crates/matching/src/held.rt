@@ -11,7 +11,7 @@ ghost use Rattle.text.specs.Event.{all};
 ghost use Rattle.message.specs.Lent.{isTags, value5};
 ghost use Rattle.event.specs.Lent.{tagsAt};
 ghost use Rattle.event.specs.Answer.{hexOf};
-ghost use Rattle.table.specs.Layout.{countOf, idIn};
+ghost use Rattle.table.specs.Layout.{idSize, countOf, idIn};
 ghost use Rattle.table.specs.Sound.{sound};
 ghost use Rattle.query.specs.Match.{isListed, conditionHolds};
 ghost use Rattle.query.specs.Answer.{matchesSlot};
@@ -23,7 +23,7 @@ use crate::matcher;
 
 // Whether the id of the slot s, in hex, is in the list.
 fn id_listed(s: &[u8], ids: Members, m: &[u8], row: &[usize]) -> bool
-    requires { ⌜ 32 ≤ length (now s) ⌝ }
+    requires { ⌜ idSize ≤ length (now s) ⌝ }
     ensures { λ r. ⌜ r ≡ isListed (given (spelledBy (now (m .entry))) (now (row .entry)) ids) (hexOf (idIn (now (s .entry)))) ⌝ }
 {
     match ids {
@@ -67,7 +67,14 @@ fn slot_matched(table: &[u8], k: usize, m: &[u8], row: &[usize], f: Known) -> bo
         slots::TEXT_PLACE,
         wire::le_at(s, slots::LENGTH_PLACE, 2) as usize,
     );
-    if !matcher::fields_hold(wire::piece(t, 4, wire::HEX_LENGTH), time, kind, m, row, f) {
+    if !matcher::fields_hold(
+        wire::piece(t, slots::PUBKEY_PLACE, wire::HEX_LENGTH),
+        time,
+        kind,
+        m,
+        row,
+        f,
+    ) {
         return false;
     }
     tags_hold(t, time, kind, m, row, f)

@@ -13,6 +13,20 @@ mod several;
 
 use message::Bound;
 
+// The row that a filter's members are written to: two numbers for each string, one for each kind. ids stand in it from 0 on, and behind them
+// authors, kinds, and the members of the # conditions.
+pub(crate) const STRINGS_ROOM: usize = wire::MOST_MEMBERS * 2;
+
+pub(crate) const KINDS_ROOM: usize = wire::MOST_MEMBERS;
+
+pub(crate) const AUTHORS_PLACE: usize = STRINGS_ROOM;
+
+pub(crate) const KINDS_PLACE: usize = AUTHORS_PLACE + STRINGS_ROOM;
+
+pub(crate) const CONDITIONS_PLACE: usize = KINDS_PLACE + KINDS_ROOM;
+
+pub(crate) const ROW_ROOM: usize = CONDITIONS_PLACE + wire::MOST_CONDITIONS * STRINGS_ROOM;
+
 // The members of a list that may be absent: where they stand in a row of numbers, and how many numbers they are there.
 pub(crate) enum Members {
     Absent,

@@ -6,6 +6,7 @@ ghost use Rattle.event.specs.Lent.{said, eventOf};
 ghost use Rattle.query.specs.Filter.{filterOf};
 ghost use Rattle.query.specs.Match.{matches, matchesSome};
 ghost use Rattle.query.specs.Answer.{meant, filtersRow};
+use crate::ROW_ROOM;
 use crate::found;
 use crate::matcher;
 
@@ -15,7 +16,7 @@ fn one_match(b: &[u8], p: message::EventParts, m: &[u8], f: message::FilterParts
     requires { ⌜ filterRow (now m) f ≡ 0 ⌝ }
     ensures { λ r. ⌜ r ≡ matches (filterOf (now (m .entry)) f) (said (now (b .entry)) (p .id)) (eventOf (now (b .entry)) (p .body)) ⌝ }
 {
-    let mut places = [0usize; 208];
+    let mut places = [0usize; ROW_ROOM];
     let k = found::find(m, f, &mut places);
     matcher::event_matched(b, p, m, &places, k)
 }

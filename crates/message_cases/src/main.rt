@@ -348,22 +348,12 @@ fn respond(line: &[u8]) {
     lines::write_line(out, n);
 }
 
-// The line is the first n bytes of the buffer. Of a longer line the first 65,536 bytes are kept, which the same rows refuse.
-fn answer(line: &[u8], n: usize) {
-    respond(wire::piece(line, 0, n));
-}
-
 fn main() {
     let mut line = io::large_buffer();
     let mut chunk = io::large_buffer();
-    let mut l = lines::none();
-    let mut k: u64 = 0;
-    while k < 0xffff_ffff_ffff {
+    let mut l = lines::next(&mut line, &mut chunk, lines::none());
+    while 0 < l.left {
+        respond(wire::piece(&line, 0, l.n));
         l = lines::next(&mut line, &mut chunk, l);
-        if !l.some {
-            return;
-        }
-        answer(&line, l.n);
-        k += 1;
     }
 }

@@ -15,7 +15,7 @@ use Rattle.text.specs.Kinds.{classOf}
 use Rattle.text.proofs.Pieces.{both, and-true}
 use Rattle.law.specs.Lists.{any, find}
 use Rattle.law.specs.Table.{hasId, hasKey, hasKeyNewer}
-use Rattle.law.proofs.Cells.{length-cells}
+use Rattle.table.proofs.Cells.{length-cells}
 use Rattle.event.specs.Order.{isNewer, newer-is}
 use Rattle.table.specs.Layout.{headerSize, slotSize, countOf, timeIn, kindIn, idIn, lengthIn, dIn, textIn, heldSlots}
 use Rattle.table.specs.Events.{signedEvents, inSlot, timeOfText, view}

@@ -13,7 +13,6 @@
 //   D BUF times                                                              the digest of the bytes, so many times over
 use digest::Sha256;
 use event::Written;
-use libc::STDOUT_FILENO;
 use message::Body;
 use message::Bound;
 use message::EventParts;
@@ -325,26 +324,13 @@ fn respond(line: &[u8]) {
     lines::write_line(&mut out, k);
 }
 
-// A line of 65,536 bytes or more is cut off.
-fn answer(line: &[u8], n: usize) {
-    if n < line.len() {
-        respond(wire::piece(line, 0, n));
-    } else {
-        io::write_all(STDOUT_FILENO, b"too long\n");
-    }
-}
-
+// Of a line of 65,536 bytes or more it is only said that it is too long.
 fn main() {
     let mut line = io::large_buffer();
     let mut chunk = io::large_buffer();
-    let mut l = lines::none();
-    let mut k: u64 = 0;
-    while k < 0xffff_ffff_ffff {
-        l = lines::next(&mut line, &mut chunk, l);
-        if !l.some {
-            return;
-        }
-        answer(&line, l.n);
-        k += 1;
+    let mut l = lines::next_within(&mut line, &mut chunk, lines::none(), b"too long\n");
+    while 0 < l.left {
+        respond(wire::piece(&line, 0, l.n));
+        l = lines::next_within(&mut line, &mut chunk, l, b"too long\n");
     }
 }

@@ -13,6 +13,7 @@ use Rattle.message.specs.declared.Bound.the-variants.{Absent, Number}
 use Rattle.event.specs.Lent.{natural}
 use Rattle.law.specs.Lists.{_∈_, Pairwise}
 use Rattle.law.proofs.Lists.{any-yes, any-has, count-law}
+use Rattle.table.proofs.Lists.{is-true}
 use Rattle.query.specs.Filter.{Filter}
 use Rattle.query.specs.Answer.{keep, among, from, newestFirst, cut, picked, pickedBySome, union}
 use Rattle.query.specs.Laws.{Orders, Distinct, NoneNewer, Descending, Match, Picked, PickedMeans, UnionMeans, UnionOnce, UnionNewest, UnionDescends, allPicked, UnionSize, UnionShort, MoreFilters, FilterOrder, KeepMeans, FromMeans}
@@ -21,10 +22,6 @@ use Rattle.query.proofs.Sorting.{bool, clash, among-here, among-later, 
 -- ---- tests and entries
 pub true-T : {b : Bool} → b ≡ true → T b
 true-T e = rw e tt
-
-pub T-true : (b : Bool) → T b → b ≡ true
-T-true true t = refl
-T-true false t = absurd t
 
 same-test : (a b : Bool) → (T a → T b) → (T b → T a) → a ≡ b
 same-test true true f g = refl
@@ -51,7 +48,7 @@ distinct-once (x ∷ l) o = (⊎-elim (λ q. absurd (o .0 x (among-in l x q) ref
 
 sorted-newest : (newer : ℕ → ℕ → Bool) (l : List ℕ) → Sorted newer l → NoneNewer newer l
 sorted-newest newer [] o = tt
-sorted-newest newer (x ∷ l) o = (λ y m t. clash (T-true (newer y x) t) (o .0 y (in-among m)), sorted-newest newer l (o .1))
+sorted-newest newer (x ∷ l) o = (λ y m t. clash (is-true (newer y x) t) (o .0 y (in-among m)), sorted-newest newer l (o .1))
 
 pub keep-means : KeepMeans
 unfolding keep
@@ -75,7 +72,7 @@ keep-means p l s = (to l, from l)
         go : (b : Bool) → p x ≡ b → (s ∈ l → s ∈ keep p l) → (s ≡ x) ⊎ (s ∈ l) → s ∈ cond b (x ∷ keep p l) (keep p l)
         go true e ih (inl q) = List·Memᴰ·head q
         go true e ih (inr m) = List·Memᴰ·tail (ih m)
-        go false e ih (inl q) = absurd (clash (T-true (p s) (h .1)) (ap p q ∙ e))
+        go false e ih (inl q) = absurd (clash (is-true (p s) (h .1)) (ap p q ∙ e))
         go false e ih (inr m) = ih m
 
 from-in : (s i n : ℕ) → i ≤ s → s < i + n → s ∈ from i n
@@ -115,7 +112,7 @@ module _ {A : Type 0} where
 -- ---- a list in order has its entries in no other order
 module _ (newer : ℕ → ℕ → Bool) (w : Orders newer) where
   not-both : (x y : ℕ) → T (newer x y) → T (newer y x) → ⊥
-  not-both x y t u = clash (T-true (newer y x) u) (w .asym x y (T-true (newer x y) t))
+  not-both x y t u = clash (is-true (newer y x) u) (w .asym x y (is-true (newer x y) t))
 
   pub same-order : (l k : List ℕ) → ((s : ℕ) → (s ∈ l) ↔ (s ∈ k)) → Descending newer l → Descending newer k → l ≡ k
   same-order [] [] h o p = refl
@@ -203,7 +200,7 @@ module _ (newer : ℕ → ℕ → Bool) where
     -- ---- the union
     some-picks : (fs : List Filter) (s : ℕ) → T (pickedBySome newer fits held fs s) ↔ Picked newer fits held fs s
     some-picks fs s = (
-      λ t. let (f, m, q) = any-yes (λ f. among (picked newer fits held f) s) fs t in (f, m, among-in (picked newer fits held f) s (T-true _ q)),
+      λ t. let (f, m, q) = any-yes (λ f. among (picked newer fits held f) s) fs t in (f, m, among-in (picked newer fits held f) s (is-true _ q)),
       λ (f, m, k). any-has (λ f. among (picked newer fits held f) s) m (true-T (in-among k)),
     )
 

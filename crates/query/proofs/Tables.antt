@@ -1,18 +1,17 @@
 -- A REQ's answer over a table: the claims of specs/Laws, "the answer over the table b".
-use mathlib.Core.Path.{_≡_, refl, sym, ap, _∙_}
+use mathlib.Core.Path.{_≡_, refl, sym, _∙_}
 use mathlib.Core.Bool.{Bool, true, not, _&&_}
 use mathlib.Core.Logic.{_⊎_, inl, inr, ⊎-elim, _≢_}
 use mathlib.Core.List.{List, [], _∷_, map, List·Memᴰ·head, List·Memᴰ·tail, List·Memᴰ·not-nil, List·Memᴰ·eq-of-singleton, Memᴰ·map}
-use Prim.Native.Nat.{ℕ, zero, suc, _*_, _<_}
+use Prim.Native.Nat.{ℕ, zero, suc, _<_}
 use native.Mathlib.Omega.{arith}
 use native.Mathlib.Decide.{decLt}
 use borrow.Author.Tests.{not-true}
 use lib.Dec.{T, leb}
 use lib.IntN.{ℤ, pos}
-use lib.ListN.{length, getD, take, drop}
-use lib.Seq.{drop-drop}
+use lib.ListN.{length, getD, drop}
 use Rattle.wire.specs.Limits.{mostText}
-use Rattle.text.specs.Event.{Event, all}
+use Rattle.text.specs.Event.{Event}
 use Rattle.text.specs.Read.{Read, tooLarge, wrongShape, read, readText}
 use Rattle.text.proofs.Pieces.{both}
 use Rattle.message.specs.declared.Bound.the-variants.{Number}
@@ -23,16 +22,18 @@ use Rattle.law.specs.Event.{earlier, lower, events}
 use Rattle.law.proofs.Lists.{any-has}
 use Rattle.wire.proofs.Bytes.{same-bytes}
 use Rattle.law.proofs.Order.{strict-times, strict-bytes, newer-means, laws}
-use Rattle.law.proofs.Cells.{length-cells, cell-at}
+use Rattle.table.proofs.Cells.{length-cells}
 use Rattle.table.specs.Layout.{slotSize, headerSize, countOf, slotAt, heldSlots, idIn, textIn, lengthIn}
 use Rattle.table.specs.Events.{signedEvents, timeOfText, inSlot, view}
 use Rattle.table.specs.Sound.{sound, hasHeader, capacityFits, slotsFit, countFits, othersAsAbove, slotsSound, slotSound, noIdTwice, noKeyTwice, laterZero, noneTwice, isRead, textReads}
+use Rattle.table.proofs.Lists.{is-true}
+use Rattle.table.proofs.Shown.{slot-entry, slot-sound-at}
 use Rattle.query.specs.Filter.{Filter}
 use Rattle.query.specs.Match.{matches}
 use Rattle.query.specs.Answer.{from, union, newerSlot, matchesIn, matchesSlot, answerList}
 use Rattle.query.specs.Laws.{Distinct, Descending, NewerMeans, SlotsOrdered, SlotMatches, AnswerIs, AnswerMeans, limited, LimitZero}
 use Rattle.query.proofs.Sorting.{bool, clash, from-length, once-from}
-use Rattle.query.proofs.Answers.{same-order, true-T, T-true, once-distinct, from-means, picked-means, union-means, union-once, union-newest, union-descends, union-size, union-short}
+use Rattle.query.proofs.Answers.{same-order, true-T, once-distinct, from-means, picked-means, union-means, union-once, union-newest, union-descends, union-size, union-short}
 
 -- ---- the order of two slots
 pub newer-slot-means : NewerMeans
@@ -82,16 +83,13 @@ pub slots-ordered : SlotsOrdered
 slots-ordered b = record {
   asym = λ j k t. ⊎-elim (λ q. absurd (slot-irreflexive b j (slot-transitive b j k j (true-T t) (true-T q)))) (λ q. q) (bool (newerSlot b k j));
   past = λ i j k t f.
-      ⊎-elim (T-true (newerSlot b i k))
-      (⊎-elim (λ (p, q). absurd (clash (sym (slot-alike b i k j p q) ∙ t) f)) (λ q. absurd (clash (T-true _ (slot-transitive b k i j q (true-T t))) f)))
+      ⊎-elim (is-true (newerSlot b i k))
+      (⊎-elim (λ (p, q). absurd (clash (sym (slot-alike b i k j p q) ∙ t) f)) (λ q. absurd (clash (is-true _ (slot-transitive b k i j q (true-T t))) f)))
       (slot-three b i k);
 }
 
 -- ---- a sound table
 -- the held slots are those at their places
-held-at : (b : List ℕ) (k : ℕ) → k < countOf b → getD (heldSlots b) k [] ≡ slotAt b k
-held-at b k h = cell-at slotSize (countOf b) k (drop headerSize b) h ∙ ap (take slotSize) (drop-drop (k * slotSize) headerSize b)
-
 held-length : (b : List ℕ) → length (heldSlots b) ≡ countOf b
 held-length b = length-cells slotSize (countOf b) (drop headerSize b)
 
@@ -101,12 +99,6 @@ module _ {A : Type 0} where
   getD-in (x ∷ xs) zero z h = List·Memᴰ·head refl
   getD-in (x ∷ xs) (suc i) z h = List·Memᴰ·tail (getD-in xs i z (omega arith))
 
-  all-at : (p : A → Bool) (xs : List A) → all p xs ≡ true → (i : ℕ) (z : A) → i < length xs → p (getD xs i z) ≡ true
-  unfolding all
-  all-at p [] h i z k = absurd (omega arith)
-  all-at p (x ∷ xs) h zero z k = both (p x) _ h .0
-  all-at p (x ∷ xs) h (suc i) z k = all-at p xs (both (p x) _ h .1) i z (omega arith)
-
   -- no entry that the test joins to a later one
   none-twice : {B : Type 0} (same : B → B → Bool) (r : A → B) (xs : List A) (z : A) → noneTwice same (map r xs) ≡ true
       → (i j : ℕ) → i < j → j < length xs → T (same (r (getD xs i z)) (r (getD xs j z))) → ⊥
@@ -115,7 +107,7 @@ module _ {A : Type 0} where
   none-twice same r (x ∷ xs) z n i zero h k t = omega arith
   none-twice same r (x ∷ xs) z n zero (suc j) h k t =
       let p = any (same (r x)) (map r xs) in
-      clash (T-true p (any-has (same (r x)) (Memᴰ·map r (getD-in xs j z (omega arith))) t)) (not-true p (both (not p) _ n .0))
+      clash (is-true p (any-has (same (r x)) (Memᴰ·map r (getD-in xs j z (omega arith))) t)) (not-true p (both (not p) _ n .0))
   none-twice same r (x ∷ xs) z n (suc i) (suc j) h k t =
       none-twice same r xs z (both (not (any (same (r x)) (map r xs))) _ n .1) i j (omega arith) (omega arith) t
 
@@ -141,13 +133,10 @@ module _ (b : List ℕ) (ok : sound b ≡ true) where
       one i j l h q =
           let n = held-length b in
           none-twice (hasId signedEvents) inSlot (heldSlots b) [] none i j l (omega (arith, n))
-          (rw (held-at b i (omega arith), held-at b j h) (same-bytes (idAt b j) (idAt b i) .1 q))
+          (rw (slot-entry b i (omega arith), slot-entry b j h) (same-bytes (idAt b j) (idAt b i) .1 q))
 
   pub slot-sound : (k : ℕ) → k < countOf b → slotSound (slotAt b k) ≡ true
-  unfolding slotsSound
-  slot-sound k h =
-      let n = held-length b in
-      sym (ap slotSound (held-at b k h)) ∙ all-at slotSound (heldSlots b) (both (slotsSound b) _ after-header .0) k [] (omega (arith, n))
+  slot-sound = slot-sound-at b ok
 
   -- "held texts are serialisations of events"
   slot-reads : (k : ℕ) → k < countOf b → isRead (readText (textIn (slotAt b k))) ≡ true

@@ -17,10 +17,8 @@
 //
 // A listing prints its row of 01, then the count and the row of numbers, up to the last that is not `fill`: also numbers behind the lent
 // ones would show.
-ghost use mathlib.Core.Path.{_≡_};
 ghost use Prim.Native.Nat.{_≤_};
 ghost use lib.ListN.{length};
-use libc::STDOUT_FILENO;
 use message::EventParts;
 use message::FilterParts;
 use message::Message;
@@ -184,7 +182,7 @@ fn row_of(x: Offered) -> u64 {
 fn put_offer(out: &mut [u8], line: &[u8], lent: &[u8], table: &mut [u8]) -> usize {
     let m = wire::piece(lent, fields::count(line, 1), fields::count(line, 2));
     let a = fields::put_number(out, 0, row_of(offers::offer_message(table, m)));
-    fields::put_number(out, a, wire::le_at(table, 4, 4))
+    fields::put_number(out, a, wire::le_at(table, slots::COUNT_PLACE, 4))
 }
 
 fn put_answer(out: &mut [u8], line: &[u8], lent: &[u8], table: &mut [u8]) -> usize {
@@ -236,40 +234,16 @@ fn step(line: &[u8], lent: &mut [u8], room: &mut [u8], n: usize) -> usize {
     len
 }
 
-// A line of 65,536 bytes or more is cut off.
-fn respond(line: &[u8], k: usize, lent: &mut [u8], room: &mut [u8], n: usize) -> usize {
-    if line.len() <= k {
-        io::write_all(STDOUT_FILENO, b"too long\n");
-        return n;
-    }
-    step(wire::piece(line, 0, k), lent, room, n)
-}
-
-fn run(line: &mut [u8], chunk: &mut [u8], lent: &mut [u8], room: &mut [u8]) {
-    let mut n: usize = 0;
-    let mut l = lines::none();
-    let mut k: u64 = 0;
-    while k < 0xffff_ffff_ffff {
-        l = lines::next(line, chunk, l);
-        if !l.some {
-            return;
-        }
-        n = respond(line, l.n, lent, room, n);
-        k += 1;
-    }
-}
-
-// 16 + 64 * 4208 bytes and 256 more.
-fn zeros() -> [u8; 269584]
-    ensures { λ r. ⌜ 269584 ≡ length r ⌝ }
-{
-    [0; 269584]
-}
-
+// Of a line of 65,536 bytes or more it is only said that it is too long.
 fn main() {
     let mut line = io::large_buffer();
     let mut chunk = io::large_buffer();
     let mut lent = io::large_buffer();
-    let mut room = zeros();
-    run(&mut line, &mut chunk, &mut lent, &mut room);
+    let mut room = fields::empty_room();
+    let mut n: usize = 0;
+    let mut l = lines::next_within(&mut line, &mut chunk, lines::none(), b"too long\n");
+    while 0 < l.left {
+        n = step(wire::piece(&line, 0, l.n), &mut lent, &mut room, n);
+        l = lines::next_within(&mut line, &mut chunk, l, b"too long\n");
+    }
 }

@@ -201,7 +201,7 @@ fn read_all(table: &mut [u8], line: &mut [u8], given: &mut [u8], chunk: &mut [u8
     let mut k: u64 = 0;
     while k < 0xffff_ffff_ffff {
         l = lines::next(given, chunk, l);
-        if !l.some {
+        if l.left == 0 {
             return;
         }
         now = respond(table, line, now, given, l.n, out);

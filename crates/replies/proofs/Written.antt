@@ -1,10 +1,10 @@
 -- The pieces of a reply in a row, how long it is, its rows, and what is answered.
 use mathlib.Core.Path.{_≡_, refl, sym, ap, _∙_}
-use mathlib.Core.Bool.{Bool, true, false, cond, not, _||_, or-false, false≢true}
+use mathlib.Core.Bool.{Bool, true, false, cond, _||_, or-false}
 use mathlib.Core.List.{List, _++_, append-assoc}
 use Prim.Native.Nat.{ℕ, _+_, _^_, _≤_, _<_}
 use native.Mathlib.Omega.{arith}
-use borrow.Author.Tests.{lt-ltb, le-ltb, eq-eqb, ne-eqb, eqb-true, eqb-false, ltb-false}
+use borrow.Author.Tests.{not-false, lt-ltb, le-ltb, eq-eqb, ne-eqb, eqb-true, ltb-false}
 use lib.Dec.{eqb, ltb}
 use lib.ListN.{length, length-append}
 use lib.Signed.{mag}
@@ -18,15 +18,16 @@ use Rattle.numeral.specs.Decimal.{digits, decimal}
 use Rattle.numeral.proofs.Ways.{back}
 use Rattle.spell.specs.Spell.{decode, isHexOf}
 use Rattle.spell.proofs.Laws.{hex-escape}
-use Rattle.text.specs.Event.{Event, quoted, tagsText, serialise}
+use Rattle.text.specs.Event.{Event, quoted, tagsText}
 use Rattle.text.proofs.Pieces.{both}
 use Rattle.message.specs.declared.Span.{Span}
 use Rattle.message.specs.declared.Body.{Body}
 use Rattle.message.specs.declared.EventParts.{EventParts}
 use Rattle.message.specs.Lent.{lowest, lowerRow, bytesOf, isSpelled, string2, string4, string5, string7, subscription8, stringRow, hexRow, subscriptionRow, event2, event4, event5, event7, body5, body6, body7, body8, eventRow}
+use Rattle.message.proofs.Facts.{or-not}
 use Rattle.message.proofs.Ranks.{lowest-lower}
 use Rattle.event.specs.Lent.{said, natural, tagsAt, eventOf, textOf}
-use Rattle.event.specs.Answer.{orElse, isLarge, numberOf}
+use Rattle.event.specs.Answer.{isLarge, numberOf}
 use Rattle.event.specs.Walk.{lengthOf}
 use Rattle.event.specs.declared.Written.{Written}
 use Rattle.event.specs.declared.Written.the-variants.{Wrote, Refused}
@@ -35,7 +36,8 @@ use Rattle.wire.specs.Ascii.{ascii}
 use Rattle.reply.specs.Replies.{event, truth, objectText, replyText}
 use Rattle.reply.specs.Lent.{replyOf, okRow, eventReplyRow, eoseRow, closedRow, noticeRow, partsRow, shortRow, replyRow, replied, repliedOut}
 use Rattle.reply.specs.declared.ReplyParts.{ReplyParts}
-use Rattle.reply.proofs.Sizes.{quoted-length}
+use Rattle.table.proofs.Valid.{or-else}
+use Rattle.reply.proofs.Sizes.{quoted-length, event-length}
 use Rattle.replies.specs.Pieces.{frontText, middleText, backText, okParts, eventParts, eoseParts, closedParts, noticeParts, Room}
 
 -- ---- true or false
@@ -200,15 +202,6 @@ none-holds false false false true e f z = absurd (omega arith)
 none-holds false false false false true f z = absurd (omega arith)
 none-holds false false false false false f z = (refl, refl)
 
-either : (a b : Bool) → (a || b) ≡ false → (a ≡ false) × (b ≡ false)
-either false false e = (refl, refl)
-either false true e = absurd (false≢true (sym e))
-either true b e = absurd (false≢true (sym e))
-
-not-false : (a : Bool) → not a ≡ false → a ≡ true
-not-false true e = refl
-not-false false e = absurd (false≢true (sym e))
-
 hex-of : (k : ℕ) (b : List ℕ) (s : Span) → string5 b s ≡ false → string7 k b s ≡ false → isHexOf k (bytesOf b s) ≡ true
 unfolding string5 string7
 hex-of k b s e f = not-false (isHexOf k (bytesOf b s)) (rw (not-false (isSpelled b s) e) at f)
@@ -219,18 +212,6 @@ hex-length k l h =
     let (n, a) = both (eqb (length (decode l)) k) _ h in
     let m = eqb-true (length (decode l)) k n in
     (m, omega (arith, quoted-length (decode l), ap length (hex-escape (decode l) a)))
-
-event-length : (sub i s : List ℕ) (e : Event) → length (quoted i) ≡ 66 → length (e .pubkey) ≡ 64 → length (quoted (e .pubkey)) ≡ 66 → length (quoted s) ≡ 130
-    → length (replyText (event sub i e s)) ≡ length (serialise e) + length (quoted sub) + 264
-unfolding replyText objectText serialise
-event-length sub i s e a b c d = simp length-append (omega arith)
-
-row-passes : (r s : ℕ) → orElse r s ≡ 0 → (r ≡ 0) × (s ≡ 0)
-row-passes r s e = go (eqb r 0) refl e
-  where
-    go : (t : Bool) → eqb r 0 ≡ t → cond t s r ≡ 0 → (r ≡ 0) × (s ≡ 0)
-    go true q e = (eqb-true r 0 q, e)
-    go false q e = absurd (eqb-false r 0 q e)
 
 large-not : (b : List ℕ) (p : Body) → _≡_ {A = ℕ} (cond (isLarge b p) 9 0) 0 → length (textOf b p) ≤ 4096
 unfolding isLarge
@@ -244,21 +225,21 @@ module _ (b : List ℕ) (s : Span) (p : EventParts) (z : partsRow b (eventParts 
   tested-length : length (replyText (replyOf b (eventParts s p))) ≡ length (textOf b (p .body)) + length (escape (said b s)) + 266
   unfolding event5 event7 body5 body7 textOf eventOf
   tested-length =
-      let (y, l) = row-passes (eventReplyRow b s p) _ z in
+      let (y, l) = or-else (eventReplyRow b s p) _ z in
       let (f, g) = none-holds (string2 b s || event2 b p) (string4 b s || event4 b p) (string5 b s || event5 b p) (body6 (p .body)) (event7 b p) (subscription8 b s || body8 b (p .body)) y in
-      let (f₁, f₂) = either (string5 b (p .id)) _ (either (string5 b s) _ f .1) in
-      let (f₃, f₄) = either (body5 b (p .body)) _ f₂ in
-      let (g₁, g₂) = either (string7 hexLength b (p .id)) _ g in
-      let (g₃, g₄) = either (body7 b (p .body)) _ g₂ in
+      let (f₁, f₂) = or-not (string5 b (p .id)) _ (or-not (string5 b s) _ f .1) in
+      let (f₃, f₄) = or-not (body5 b (p .body)) _ f₂ in
+      let (g₁, g₂) = or-not (string7 hexLength b (p .id)) _ g in
+      let (g₃, g₄) = or-not (body7 b (p .body)) _ g₂ in
       let (i, i′) = hex-length 64 (bytesOf b (p .id)) (hex-of 64 b (p .id) f₁ g₁) in
-      let (k, k′) = hex-length 64 (bytesOf b (p .body .pubkey)) (hex-of 64 b (p .body .pubkey) (either (string5 b (p .body .pubkey)) _ f₃ .0) g₃) in
+      let (k, k′) = hex-length 64 (bytesOf b (p .body .pubkey)) (hex-of 64 b (p .body .pubkey) (or-not (string5 b (p .body .pubkey)) _ f₃ .0) g₃) in
       let (j, j′) = hex-length 128 (bytesOf b (p .sig)) (hex-of 128 b (p .sig) f₄ g₄) in
       event-length (said b s) (said b (p .id)) (said b (p .sig)) (eventOf b (p .body)) i′ k k′ j′ ∙ omega (arith, quoted-length (said b s))
 
   pub event-room : {n m room : ℕ} {r : Bool} → n ≡ lengthOf (textOf b (p .body)) → m ≡ length (escape (said b s)) → Room (266 + n + m) room r
       → Room (length (replyText (replyOf b (eventParts s p)))) room r
   event-room {n} {m} e f x =
-      let l = large-not b (p .body) (row-passes (eventReplyRow b s p) _ z .1) in
+      let l = large-not b (p .body) (or-else (eventReplyRow b s p) _ z .1) in
       room-as (let q = tested-length in omega (arith, e, f)) x
 
 -- ---- what is answered

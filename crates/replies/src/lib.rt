@@ -56,6 +56,15 @@ fn put_eose(out: &mut [u8], b: &[u8], sub: Span) -> usize
     wire::put(out, c, b"]")
 }
 
+// ["NOTICE",REASON]
+fn put_notice(out: &mut [u8], b: &[u8], reason: Span) -> usize
+    ensures { λ r. ⌜ Puts (now (out .entry)) 0 (replyText (replyOf (now (b .entry)) (noticeParts reason))) r (now (out .exit)) ⌝ }
+{
+    let a = wire::put(out, 0, b"[\"NOTICE\",");
+    let c = event::put_part(out, a, b, reason);
+    wire::put(out, c, b"]")
+}
+
 // ["CLOSED",SUB,REASON]
 fn put_closed(out: &mut [u8], b: &[u8], sub: Span, reason: Span) -> usize
     ensures { λ r. ⌜ Puts (now (out .entry)) 0 (replyText (replyOf (now (b .entry)) (closedParts sub reason))) r (now (out .exit)) ⌝ }
@@ -65,15 +74,6 @@ fn put_closed(out: &mut [u8], b: &[u8], sub: Span, reason: Span) -> usize
     let d = wire::put(out, c, b",");
     let e = event::put_part(out, d, b, reason);
     wire::put(out, e, b"]")
-}
-
-// ["NOTICE",REASON]
-fn put_notice(out: &mut [u8], b: &[u8], reason: Span) -> usize
-    ensures { λ r. ⌜ Puts (now (out .entry)) 0 (replyText (replyOf (now (b .entry)) (noticeParts reason))) r (now (out .exit)) ⌝ }
-{
-    let a = wire::put(out, 0, b"[\"NOTICE\",");
-    let c = event::put_part(out, a, b, reason);
-    wire::put(out, c, b"]")
 }
 
 // ["EVENT",SUB,{"id":ID,"pubkey":PUBKEY

@@ -41,6 +41,7 @@ use Rattle.table.specs.Offer.{asMessage, answer}
 use Rattle.table.specs.declared.Offered.{Offered}
 use Rattle.table.specs.declared.Offered.the-variants as offered
 use Rattle.table.proofs.Bytes.{clauses}
+use Rattle.table.proofs.Shown.{text-small}
 use Rattle.query.specs.Answer.{answerList, filtersAt}
 use Rattle.query.proofs.Sorting.{no-left, no-right}
 use Rattle.query.proofs.Tables.{answer-means}
@@ -51,7 +52,7 @@ use Rattle.reply.specs.Answering.{enoughFor, Enough}
 use Rattle.reply.proofs.Which.{names-id, names-subscription}
 use Rattle.reply.proofs.Shown.{answers-held}
 use Rattle.reply.proofs.Streamed.{one-by-one}
-use Rattle.reply.proofs.Sizes.{quoted-length, text-small, line-length, spelled-short, hex-short, reason-short}
+use Rattle.reply.proofs.Sizes.{quoted-length, line-length, spelled-short, hex-short, reason-short}
 
 -- ---- what a message that rows 1 to 5 let pass is: UTF-8, and no string of it is refused
 late-utf8 : (s : List ℕ) → isEarly (messageRow s) ≡ false → isUtf8 s ≡ true
@@ -196,7 +197,7 @@ slots-short b sub s l (k ∷ ks) h =
       arith,
       length-append (slotLine b sub k) (joined (slotLines b sub ks)),
       line-length b k s i sub,
-      text-small b k s i,
+      text-small b s k i,
       quoted-length sub,
       l,
       slots-short b sub s l ks (λ j m. h j (List·Memᴰ·tail m)),

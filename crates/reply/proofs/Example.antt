@@ -19,7 +19,7 @@ use Rattle.message.specs.declared.Message.the-variants as message
 use Rattle.event.specs.Lent.{said}
 use Rattle.text.specs.Event.{quoted}
 use lib.ListN.{replicate, length, length-map, length-replicate}
-use Rattle.law.proofs.Cells.{length-cells}
+use Rattle.table.proofs.Cells.{length-cells}
 use Rattle.table.specs.Layout.{headerSize, slotSize, tableSize, countOf, heldSlots}
 use Rattle.table.specs.Events.{inSlot, view}
 use Rattle.table.specs.Sound.{sound}

@@ -214,7 +214,7 @@ turn-row-is b line n piece out = (to (ltb (length line) mostLine) refl, from)
 
 -- ---- the buffers after a turn
 -- what of a line buffer is the line so far
-so-far : (n : ℕ) (line : List ℕ) → take n (kept line) ≡ take (min n mostLine) line
+pub so-far : (n : ℕ) (line : List ℕ) → take n (kept line) ≡ take (min n mostLine) line
 so-far n line = ⊎-elim few many (at-most n mostLine)
   where
     few : n ≤ mostLine → take n (kept line) ≡ take (min n mostLine) line

@@ -130,15 +130,12 @@ module _ (i : List ℕ) (e : Event) (g s : List ℕ) (is : s ≡ eventMessage i 
   bracket : Spelt s close (93 ∷ []) (length s)
   bracket = right (123 ∷ idText i e g) (93 ∷ []) behind
 
-  -- ---- the members
+  -- ---- the members: where each stands and ends
   abbrev id : Entry
   id = quotedAt idName i 10
 
   abbrev id-end : ℕ
   id-end = id .value + length (quoted i)
-
-  id-read : Member s idName (quoted i) (pubkeyText i e g) 44 (id .at) (id .value) id-end close
-  id-read = member s idName (quoted i) (pubkeyText i e g) 44 (id .at) close (verbatim-names .0 .spelled) (verbatim-names .0 .bytes) (tail object)
 
   abbrev pubkey : Entry
   pubkey = quotedAt pubkeyName (e .pubkey) (id-end + 1)
@@ -146,17 +143,11 @@ module _ (i : List ℕ) (e : Event) (g s : List ℕ) (is : s ≡ eventMessage i 
   abbrev pubkey-end : ℕ
   pubkey-end = pubkey .value + length (quoted (e .pubkey))
 
-  pubkey-read : Member s pubkeyName (quoted (e .pubkey)) (timeText i e g) 44 (pubkey .at) (pubkey .value) pubkey-end close
-  pubkey-read = member s pubkeyName (quoted (e .pubkey)) (timeText i e g) 44 (pubkey .at) close (verbatim-names .1 .spelled) (verbatim-names .1 .bytes) (id-read .rest)
-
   abbrev time : Entry
   time = plainAt createdAtName (decimal (e .time)) (pubkey-end + 1)
 
   abbrev time-end : ℕ
   time-end = time .value + length (decimal (e .time))
-
-  time-read : Member s createdAtName (decimal (e .time)) (kindText i e g) 44 (time .at) (time .value) time-end close
-  time-read = member s createdAtName (decimal (e .time)) (kindText i e g) 44 (time .at) close (verbatim-names .2 .spelled) (verbatim-names .2 .bytes) (pubkey-read .rest)
 
   abbrev kind : Entry
   kind = plainAt kindName (digits (e .kind)) (time-end + 1)
@@ -164,17 +155,11 @@ module _ (i : List ℕ) (e : Event) (g s : List ℕ) (is : s ≡ eventMessage i 
   abbrev kind-end : ℕ
   kind-end = kind .value + length (digits (e .kind))
 
-  kind-read : Member s kindName (digits (e .kind)) (tagsMember i e g) 44 (kind .at) (kind .value) kind-end close
-  kind-read = member s kindName (digits (e .kind)) (tagsMember i e g) 44 (kind .at) close (verbatim-names .3 .spelled) (verbatim-names .3 .bytes) (time-read .rest)
-
   abbrev tags : Entry
   tags = plainAt tagsName (tagsText (e .tags)) (kind-end + 1)
 
   abbrev tags-end : ℕ
   tags-end = tags .value + length (tagsText (e .tags))
-
-  tags-here : Member s tagsName (tagsText (e .tags)) (contentText i e g) 44 (tags .at) (tags .value) tags-end close
-  tags-here = member s tagsName (tagsText (e .tags)) (contentText i e g) 44 (tags .at) close (verbatim-names .4 .spelled) (verbatim-names .4 .bytes) (kind-read .rest)
 
   abbrev content : Entry
   content = quotedAt contentName (e .content) (tags-end + 1)
@@ -182,14 +167,30 @@ module _ (i : List ℕ) (e : Event) (g s : List ℕ) (is : s ≡ eventMessage i 
   abbrev content-end : ℕ
   content-end = content .value + length (quoted (e .content))
 
-  content-read : Member s contentName (quoted (e .content)) (sigText i e g) 44 (content .at) (content .value) content-end close
-  content-read = member s contentName (quoted (e .content)) (sigText i e g) 44 (content .at) close (verbatim-names .5 .spelled) (verbatim-names .5 .bytes) (tags-here .rest)
-
   abbrev sig : Entry
   sig = quotedAt sigName g (content-end + 1)
 
   abbrev sig-end : ℕ
   sig-end = sig .value + length (quoted g)
+
+  -- each is there, and what stands behind it
+  id-read : Member s idName (quoted i) (pubkeyText i e g) 44 (id .at) (id .value) id-end close
+  id-read = member s idName (quoted i) (pubkeyText i e g) 44 (id .at) close (verbatim-names .0 .spelled) (verbatim-names .0 .bytes) (tail object)
+
+  pubkey-read : Member s pubkeyName (quoted (e .pubkey)) (timeText i e g) 44 (pubkey .at) (pubkey .value) pubkey-end close
+  pubkey-read = member s pubkeyName (quoted (e .pubkey)) (timeText i e g) 44 (pubkey .at) close (verbatim-names .1 .spelled) (verbatim-names .1 .bytes) (id-read .rest)
+
+  time-read : Member s createdAtName (decimal (e .time)) (kindText i e g) 44 (time .at) (time .value) time-end close
+  time-read = member s createdAtName (decimal (e .time)) (kindText i e g) 44 (time .at) close (verbatim-names .2 .spelled) (verbatim-names .2 .bytes) (pubkey-read .rest)
+
+  kind-read : Member s kindName (digits (e .kind)) (tagsMember i e g) 44 (kind .at) (kind .value) kind-end close
+  kind-read = member s kindName (digits (e .kind)) (tagsMember i e g) 44 (kind .at) close (verbatim-names .3 .spelled) (verbatim-names .3 .bytes) (time-read .rest)
+
+  tags-here : Member s tagsName (tagsText (e .tags)) (contentText i e g) 44 (tags .at) (tags .value) tags-end close
+  tags-here = member s tagsName (tagsText (e .tags)) (contentText i e g) 44 (tags .at) close (verbatim-names .4 .spelled) (verbatim-names .4 .bytes) (kind-read .rest)
+
+  content-read : Member s contentName (quoted (e .content)) (sigText i e g) 44 (content .at) (content .value) content-end close
+  content-read = member s contentName (quoted (e .content)) (sigText i e g) 44 (content .at) close (verbatim-names .5 .spelled) (verbatim-names .5 .bytes) (tags-here .rest)
 
   sig-read : Member s sigName (quoted g) [] 125 (sig .at) (sig .value) sig-end close
   sig-read = member s sigName (quoted g) [] 125 (sig .at) close (verbatim-names .6 .spelled) (verbatim-names .6 .bytes) (content-read .rest)

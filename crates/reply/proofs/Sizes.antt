@@ -1,35 +1,35 @@
 -- How long replies are: an EVENT of a held slot, what a refusal names, a row's reason.
 use mathlib.Core.Path.{_≡_, refl, ap, _∙_}
-use mathlib.Core.Bool.{Bool, true, false, cond}
+use mathlib.Core.Bool.{true, false}
 use mathlib.Core.List.{List, [], _∷_, _++_}
-use Prim.Native.Nat.{ℕ, zero, suc, _+_, _*_, _/_, _%_, _≤_, _<_}
+use Prim.Native.Nat.{ℕ, zero, suc, _+_, _*_, _≤_, _<_}
 use native.Mathlib.Omega.{arith}
-use borrow.Author.Tests.{eqb-true, ne-eqb, leb-true, le-leb, lt-leb, ltb-true, ltb-false}
-use lib.Dec.{eqb, leb, ltb}
-use lib.ListN.{length, getD, drop, length-append, length-take, length-drop}
-use Rattle.wire.specs.Limits.{mostText, hexLength}
+use borrow.Author.Tests.{eqb-true, leb-true, le-leb, lt-leb}
+use lib.Dec.{eqb, leb}
+use lib.ListN.{length, getD, length-append}
+use Rattle.wire.specs.Limits.{hexLength}
 use Rattle.wire.specs.Escape.{letterOf, escOne, escape}
 use Rattle.wire.proofs.Escapes.{esc-two}
 use Rattle.utf8.specs.Utf8.{isUtf8}
 use Rattle.utf8.specs.Abnf.{Octets, none, utf8-1, utf8-2, utf8-3-e0, utf8-3-e1, utf8-3-ed, utf8-3-ee, utf8-4-f0, utf8-4-f1, utf8-4-f4}
 use Rattle.utf8.proofs.Abnf.{as-in-abnf}
 use Rattle.json.specs.Grammar.{isSpelling}
-use Rattle.rows.specs.Strings.{part}
 use Rattle.spell.specs.Spell.{decode, refuses, points, characterCount, isHexOf}
 use Rattle.spell.proofs.Laws.{hex-escape}
 use Rattle.text.specs.Event.{Event, quoted, serialise, isPlainByte, isString, all}
 use Rattle.text.proofs.Pieces.{both}
 use Rattle.text.proofs.Limits.{limits-of}
+use Rattle.text.proofs.Places.{escape-none}
 use Rattle.text.proofs.Rows.{pubkey-length}
 use Rattle.text.proofs.RoundTrip.{read-same}
-use Rattle.event.specs.Answer.{hexDigit, hexOf}
-use Rattle.event.proofs.Answers.{hex-length}
+use Rattle.event.specs.Answer.{hexOf}
+use Rattle.event.proofs.Answers.{hex-length, escape-hex}
 use Rattle.event.proofs.Decoded.{decoded-string}
-use Rattle.table.specs.Layout.{slotSize, slotPlace, countOf, slotAt, idIn, sigIn, lengthIn, textIn}
-use Rattle.table.specs.Sound.{textReads, slotSound, sound}
-use Rattle.table.proofs.Bytes.{clauses}
+use Rattle.table.specs.Layout.{countOf, slotAt, idIn, sigIn, lengthIn, textIn}
+use Rattle.table.specs.Sound.{sound}
+use Rattle.table.proofs.Slots.{part-length}
+use Rattle.table.proofs.Shown.{slot-size, text-small}
 use Rattle.table.proofs.Passes.{pubkey-hex}
-use Rattle.query.proofs.Tables.{slot-sound}
 use Rattle.reply.specs.Replies.{event, objectText, replyText, reasons, reasonOf}
 use Rattle.reply.specs.Respond.{slotText, slotLine}
 use Rattle.reply.proofs.Streamed.{slot-text-is}
@@ -38,37 +38,6 @@ use Rattle.reply.proofs.Streamed.{slot-text-is}
 pub quoted-length : (v : List ℕ) → length (quoted v) ≡ length (escape v) + 2
 unfolding quoted
 quoted-length v = simp length-append (omega arith)
-
-letter-none : (b : ℕ) → 48 ≤ b → (b ≡ 92 → ⊥) → letterOf b ≡ 0
-unfolding letterOf
-letter-none b h n =
-    rw (
-      ne-eqb b 0x0a (λ e. omega arith),
-      ne-eqb b 0x22 (λ e. omega arith),
-      ne-eqb b 0x5c n,
-      ne-eqb b 0x0d (λ e. omega arith),
-      ne-eqb b 0x09 (λ e. omega arith),
-      ne-eqb b 0x08 (λ e. omega arith),
-      ne-eqb b 0x0c (λ e. omega arith),
-    )
-    refl
-
-itself : (b : ℕ) → 48 ≤ b → (b ≡ 92 → ⊥) → escOne b ≡ b ∷ []
-unfolding escOne
-itself b h n = rw (letter-none b h n) refl
-
-digit-itself : (d : ℕ) → escOne (hexDigit d) ≡ hexDigit d ∷ []
-digit-itself d = go (ltb d 10) refl
-  where
-    go : (t : Bool) → ltb d 10 ≡ t → escOne (cond t (48 + d) (87 + d)) ≡ cond t (48 + d) (87 + d) ∷ []
-    go true e = let h = ltb-true d 10 e in itself (48 + d) (omega arith) (λ q. omega arith)
-    go false e = let h = ltb-false d 10 e in itself (87 + d) (omega arith) (λ q. omega arith)
-
--- hex of any numbers has no escapes
-pub escape-hex : (l : List ℕ) → escape (hexOf l) ≡ hexOf l
-unfolding escape hexOf
-escape-hex [] = refl
-escape-hex (x ∷ l) = rw (digit-itself (x / 16), digit-itself (x % 16), escape-hex l) refl
 
 hex-quoted : (l : List ℕ) (n : ℕ) → length l ≡ n → length (quoted (hexOf l)) ≡ n + n + 2
 hex-quoted l n q = omega (arith, quoted-length (hexOf l), ap length (escape-hex l), hex-length l)
@@ -80,25 +49,15 @@ unfolding objectText serialise
 object-length i s e a b c d = simp length-append (omega arith)
 
 -- an EVENT is 266 bytes longer than its text and the escaped subscription id
-event-length : (sub i s : List ℕ) (e : Event) → length (quoted i) ≡ 66 → length (e .pubkey) ≡ 64 → length (quoted (e .pubkey)) ≡ 66 → length (quoted s) ≡ 130
+pub event-length : (sub i s : List ℕ) (e : Event) → length (quoted i) ≡ 66 → length (e .pubkey) ≡ 64 → length (quoted (e .pubkey)) ≡ 66 → length (quoted s) ≡ 130
     → length (replyText (event sub i e s)) ≡ length (serialise e) + length (quoted sub) + 264
 unfolding replyText
 event-length sub i s e a b c d = simp length-append (omega (arith, object-length i s e a b c d))
 
-part-length : (s : List ℕ) (i k : ℕ) → i + k ≤ length s → length (part s i k) ≡ k
-part-length s i k h = omega (arith, length-take k (drop i s), length-drop i s)
-
 module _ (b : List ℕ) (k : ℕ) (s : sound b ≡ true) (h : k < countOf b) where
-  slot-size : length (slotAt b k) ≡ 4208
-  slot-size = let c = clauses b s in part-length b (slotPlace k) slotSize (omega (arith, c .count, c .fit))
-
-  pub text-small : lengthIn (slotAt b k) ≤ 4096
-  unfolding slotSound textReads
-  text-small = leb-true (lengthIn (slotAt b k)) mostText (both (leb (lengthIn (slotAt b k)) mostText) _ (both (textReads (slotAt b k)) _ (slot-sound b s k h) .0) .0)
-
   text-length : length (textIn (slotAt b k)) ≡ lengthIn (slotAt b k)
   unfolding textIn
-  text-length = part-length (slotAt b k) 112 (lengthIn (slotAt b k)) (omega (arith, slot-size, text-small))
+  text-length = part-length (slotAt b k) 112 (lengthIn (slotAt b k)) (omega (arith, slot-size b s k h, text-small b s k h))
 
   pub slot-length : (sub : List ℕ) → length (slotText b sub k) ≡ lengthIn (slotAt b k) + length (escape sub) + 266
   unfolding idIn sigIn
@@ -106,7 +65,7 @@ module _ (b : List ℕ) (k : ℕ) (s : sound b ≡ true) (h : k < countOf b) whe
       let (e, r, t, l) = slot-text-is b sub k s h in
       let a = read-same (textIn (slotAt b k)) e r in
       let key = limits-of e (a .fit) .pubkey in
-      let z = slot-size in
+      let z = slot-size b s k h in
       let i = hex-quoted (idIn (slotAt b k)) 32 (part-length (slotAt b k) 0 32 (omega arith)) in
       let g = hex-quoted (sigIn (slotAt b k)) 64 (part-length (slotAt b k) 32 64 (omega arith)) in
       let n = pubkey-length (e .pubkey) key in
@@ -124,7 +83,7 @@ module _ (b : List ℕ) (k : ℕ) (s : sound b ≡ true) (h : k < countOf b) whe
 module _ (x : ℕ) (t : List ℕ) where
   high-byte : 0x80 ≤ x → length (escape (x ∷ t)) ≡ suc (length (escape t))
   unfolding escape
-  high-byte h = ap (λ l. length (l ++ escape t)) (itself x (omega arith) (λ e. omega arith))
+  high-byte h = ap (λ l. length (l ++ escape t)) (escape-none x (omega arith) (λ e. omega arith))
 
   low-byte : length (escape (x ∷ t)) ≤ 2 + length (escape t)
   unfolding escape

@@ -5,8 +5,8 @@ use mathlib.Core.Logic.{_⊎_, inl, inr, ⊎-elim, _≢_}
 use mathlib.Core.List.{List, [], _∷_, _++_, map, append-assoc, append-nil, List·Memᴰ·head, List·Memᴰ·tail, List·Memᴰ·not-nil, List·Memᴰ·cases-cons}
 use Prim.Native.Nat.{ℕ, zero, suc, _+_, _-_, _≤_, _<_}
 use native.Mathlib.Omega.{arith}
-use borrow.Author.Tests.{eqb-true, eqb-false, eq-eqb, ne-eqb, ltb-true, ltb-false, lt-ltb, le-ltb}
-use lib.Dec.{eqb, ltb}
+use borrow.Author.Tests.{eq-eqb, ne-eqb, ltb-true, ltb-false, lt-ltb, le-ltb}
+use lib.Dec.{ltb}
 use lib.ListN.{length, take, drop, length-append}
 use Rattle.text.specs.Event.{all}
 use Rattle.text.specs.Read.{readText}
@@ -18,6 +18,7 @@ use Rattle.law.specs.Lists.{_∈_}
 use Rattle.table.specs.Layout.{countOf, slotAt, textIn}
 use Rattle.table.specs.Sound.{sound}
 use Rattle.table.specs.Format.{shownRow}
+use Rattle.table.proofs.Valid as valid
 use Rattle.query.specs.Answer.{answerList, filtersAt}
 use Rattle.query.specs.Laws.{Lowest}
 use Rattle.query.proofs.Sorting.{clash}
@@ -134,18 +135,11 @@ slot-event-row-is b k m s out =
     (later-row b k m s out (sound b) (ltb k (countOf b)) (ltb (length out) (length (slotText b (said m s) k))) refl refl refl))
 
 -- a row, or else another, is none where neither is
-or-none : (r s : ℕ) → orElse r s ≡ 0 → (r ≡ 0) × (s ≡ 0)
-or-none r s = go (eqb r 0) refl
-  where
-    go : (x : Bool) → eqb r 0 ≡ x → cond x s r ≡ 0 → (r ≡ 0) × (s ≡ 0)
-    go true q e = (eqb-true r 0 q, e)
-    go false q e = absurd (eqb-false r 0 q e)
-
 pub slot-event-means : SlotEventMeans
 unfolding slotEvent slotEventOut slotEventRow
 slot-event-means b k m s out =
     writes-or (slotEventRow b k m s out) (slotText b (said m s) k) out
-    (λ e. fits-if (slotText b (said m s) k) out (or-none (shownRow b k) _ (or-none (eoseRow m s) _ e .1) .1))
+    (λ e. fits-if (slotText b (said m s) k) out (valid.or-else (shownRow b k) _ (valid.or-else (eoseRow m s) _ e .1) .1))
 
 -- ---- as many as fit
 joined-parts : (n : ℕ) (ls : List (List ℕ)) → joined (take n ls) ++ joined (drop n ls) ≡ joined ls
@@ -291,7 +285,7 @@ take-map f (suc n) (x ∷ l) = ap (f x ∷_) (take-map f n l)
 row-fits : (b ks m : List ℕ) (s : Span) (out : List ℕ) → eventsRow b ks m s out ≡ 0 → ks ≢ [] → 1 ≤ fitting (length out) (slotLines b (said m s) ks)
 unfolding eventsRow
 row-fits b [] m s out e ne = absurd (ne refl)
-row-fits b (k ∷ ks) m s out e ne = some-fits (length out) (slotLine b (said m s) k) _ (fits (sound b) _ refl (or-none (eoseRow m s) _ e .1))
+row-fits b (k ∷ ks) m s out e ne = some-fits (length out) (slotLine b (said m s) k) _ (fits (sound b) _ refl (valid.or-else (eoseRow m s) _ e .1))
   where
     fits : (x y : Bool) → noneFits (length out) (slotLines b (said m s) (k ∷ ks)) ≡ y → _≡_ {A = ℕ} (cond x (cond y 13 (cond (allHeld b (k ∷ ks)) 0 14)) 11) 0
         → noneFits (length out) (slotLines b (said m s) (k ∷ ks)) ≡ false

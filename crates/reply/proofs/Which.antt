@@ -6,8 +6,7 @@ use mathlib.Core.Option.{some}
 use mathlib.Core.List.{List, [], _∷_, map}
 use Prim.Native.Nat.{ℕ, zero, suc, _≤_, _<_}
 use native.Mathlib.Omega.{arith}
-use borrow.Author.Tests.{eqb-true, eqb-false, ne-eqb, le-leb, lt-leb, lt-ltb, not-false}
-use lib.Dec.{eqb}
+use borrow.Author.Tests.{eqb-false, ne-eqb, le-leb, lt-leb, lt-ltb, not-false}
 use lib.ListN.{length}
 use Rattle.json.specs.Tree.{Json, Items, nil, item, Got, none, got, root}
 use Rattle.spell.specs.Spell.{isHexOf}
@@ -27,7 +26,7 @@ use Rattle.message.specs.Lent.{bytesOf, isSpelled, string5, string7, event5, ev
 use Rattle.message.proofs.Reading.{Shaped, shaped, late-shaped, row-read}
 use Rattle.message.proofs.Passes.{event-passes}
 use Rattle.event.specs.Lent.{said}
-use Rattle.event.specs.Answer.{orElse, isLarge, hasId, offeredRow}
+use Rattle.event.specs.Answer.{isLarge, hasId, offeredRow}
 use Rattle.law.specs.Lists.{any}
 use Rattle.law.specs.Table as law
 use Rattle.law.specs.Table.{verdict, firstOf as firstVerdict, isEphemeral, hasKeyNewer, lacksSlot}
@@ -40,6 +39,7 @@ use Rattle.table.specs.Offer as offers
 use Rattle.table.specs.Offer.{asMessage, isEvent, isEventWord, messageOfferRow, isValid, judge, answerOf, verdictOn, answer, isStored, next}
 use Rattle.table.specs.declared.Offered.{Offered}
 use Rattle.table.specs.declared.Offered.the-variants as offered
+use Rattle.table.proofs.Valid.{or-else}
 use Rattle.reply.specs.Replies.{Reply, ok, closed, notice, reasonOf, isAccepted, verdictReason}
 use Rattle.reply.specs.Program.{refusalNaming, refusal, offerReply, requestReplies, repliesTo, tableIn, tableAfter}
 use Rattle.reply.specs.Laws.{openedIn, wordIn, restIn, idField, subscriptionField, Covered, EarlyRow, LateWord, LateEvent, LateRequest, LateClose, NamesId, NamesSubscription, LastRows, ReadEvent, ReadClose, BadTable, OnlyStored, Overlong, AllOffered}
@@ -331,13 +331,6 @@ valid-read m e =
     let (p, q) = word (opened m t .first) (opened m t .rest) (rw (c .tree) at v) in
     (p, read-tree m t n z (c .tree) ∙ q)
   where
-    else-by : (r s : ℕ) (b : Bool) → eqb r 0 ≡ b → cond b s r ≡ 0 → (r ≡ 0) × (s ≡ 0)
-    else-by r s true z e = (eqb-true r 0 z, e)
-    else-by r s false z e = absurd (eqb-false r 0 z e)
-
-    or-else : (r s : ℕ) → orElse r s ≡ 0 → (r ≡ 0) × (s ≡ 0)
-    or-else r s e = else-by r s (eqb r 0) refl e
-
     is-event : (b : Bool) (r : ℕ) → cond b r 5 ≡ 0 → (b ≡ true) × (r ≡ 0)
     is-event true r e = (refl, e)
     is-event false r e = absurd (omega arith)

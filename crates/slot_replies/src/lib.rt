@@ -258,7 +258,7 @@ pub fn events_left(table: &[u8], sub: &[u8], ks: &[u16], room: usize) -> Left
 fn held_len(table: &[u8], ks: &[u16]) -> usize
     ensures { λ r. ⌜ r ≡ heldLen (now (table .entry)) (now (ks .entry)) ⌝ }
 {
-    let c = wire::le_at(table, 4, 4) as usize;
+    let c = wire::le_at(table, slots::COUNT_PLACE, 4) as usize;
     let mut i = 0;
     while i < ks.len() {
         let k = number(ks, i);

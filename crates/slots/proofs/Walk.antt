@@ -7,7 +7,7 @@ use native.Mathlib.Omega.{arith}
 use lib.ListN.{drop}
 use lib.Seq.{drop-drop}
 use Rattle.text.specs.Event.{all}
-use Rattle.law.specs.Cells.{cells}
+use Rattle.table.specs.Cells.{cells}
 use Rattle.law.specs.Lists.{any}
 use Rattle.table.specs.Layout.{slotSize, slotPlace, slotAt}
 use Rattle.table.specs.Sound.{noneTwice}

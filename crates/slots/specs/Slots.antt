@@ -5,14 +5,15 @@ use mathlib.Core.List.{List}
 use Prim.Native.Nat.{ℕ}
 use lib.Dec.{eqb}
 use lib.ListN.{drop}
+use Rattle.wire.specs.Limits.{hexLength}
 use Rattle.wire.specs.Bytes.{sameBytes, part}
 use Rattle.wire.specs.Field.{unsigned}
 use Rattle.text.specs.Kinds.{classOf}
 use Rattle.text.specs.declared.Class.{Class}
 use Rattle.text.specs.declared.Class.the-variants.{Regular, Replaceable, Ephemeral, Addressable}
 use Rattle.text.specs.declared.Text.{Text}
-use Rattle.law.specs.Cells.{cells}
-use Rattle.table.specs.Layout.{slotSize, slotPlace, timeIn, kindIn, dIn, idIn, textIn}
+use Rattle.table.specs.Cells.{cells}
+use Rattle.table.specs.Layout.{slotSize, slotPlace, pubkeyPlace, timeIn, kindIn, dIn, idIn, textIn}
 use Rattle.table.specs.Sound.{hasHeader, capacityFits, slotsFit, countFits, othersAsAbove}
 
 -- ---- one slot s, whose text answers t
@@ -41,9 +42,9 @@ hasKeyIn Replaceable = true
 hasKeyIn Ephemeral = false
 hasKeyIn Addressable = true
 
--- a text begins [0,"PUBKEY"
+-- the public key, in hex
 unfoldable pub pubkeyIn : List ℕ → List ℕ
-pubkeyIn s = part (textIn s) 4 64
+pubkeyIn s = part (textIn s) pubkeyPlace hexLength
 
 -- d's escaped bytes
 unfoldable pub dBytesIn : List ℕ → List ℕ

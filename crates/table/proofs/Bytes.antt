@@ -16,7 +16,7 @@ use Rattle.wire.specs.Field.{leBytes, fieldAt}
 use Rattle.wire.proofs.Laws.{length-put, take-put, drop-put}
 use Rattle.wire.proofs.Fields.{length-leBytes, field-put, field-before, field-after}
 use Rattle.text.proofs.Pieces.{both}
-use Rattle.law.proofs.Cells.{drop-sets}
+use Rattle.table.proofs.Cells.{drop-sets}
 use Rattle.table.specs.Layout.{headerSize, slotSize, tableSize, slotPlace, countPlace, capacityOf, countOf, slotSizeOf, firstSlotOf}
 use Rattle.table.specs.Sound.{hasHeader, capacityFits, slotsFit, countFits, othersAsAbove, slotsSound, noIdTwice, noKeyTwice, laterZero, sound}
 

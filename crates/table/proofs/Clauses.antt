@@ -21,7 +21,7 @@ use Rattle.text.proofs.RoundTrip.{read-back, read-same}
 use Rattle.law.specs.Lists.{Pairwise}
 use Rattle.law.specs.Table.{keyed, shareKey}
 use Rattle.law.specs.Table as law
-use Rattle.law.proofs.Cells.{length-cells}
+use Rattle.table.proofs.Cells.{length-cells}
 use Rattle.law.proofs.Sound.{Distinct}
 use Rattle.table.specs.Layout.{headerSize, slotSize, tableSize, slotPlace, capacityOf, countOf, slotAt, heldSlots, laterSlots, kindIn, lengthIn, dIn, textIn, restIn, dPlace}
 use Rattle.table.specs.Events.{SignedEvent, signedEvents, inSlot, classFor, classOfEvent, classIn, classOfText, view}

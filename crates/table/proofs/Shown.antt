@@ -9,16 +9,18 @@ use lib.ListN.{length, getD, take, drop, length-drop, List·getD-map}
 use lib.Seq.{drop-drop, take-append-le, drop-append-le}
 use borrow.Author.Tests.{ltb-true, lt-ltb, le-ltb, eqb-true, ne-eqb}
 use Rattle.law.specs.Lists.{_∈_}
-use Rattle.law.proofs.Cells.{length-cells, cell-at}
+use Rattle.table.proofs.Cells.{length-cells, cell-at}
 use Rattle.wire.specs.Limits.{mostText}
+use Rattle.wire.specs.Field.{signed}
 use Rattle.rows.specs.Strings.{part}
-use Rattle.table.specs.Layout.{headerSize, slotSize, tableSize, slotPlace, capacityOf, countOf, slotAt, heldSlots, textPlace, lengthIn, textIn}
-use Rattle.table.specs.Events.{inSlot, view}
+use Rattle.table.specs.Layout.{headerSize, slotSize, tableSize, slotPlace, capacityOf, countOf, slotAt, heldSlots, textPlace, timeIn, lengthIn, textIn}
+use Rattle.table.specs.Events.{timeOfText, inSlot, view}
+use Rattle.table.specs.Events as events
 use Rattle.table.specs.Sound.{slotSound, slotsSound, sound}
 use Rattle.table.specs.Format.{shownRow, shown}
 use Rattle.table.specs.Claims.{ShownHeld, ShownInside, ShownRows, HeldCount, ViewAt, ShownNeverRead}
 use Rattle.table.proofs.Lists.{all-has, entry-in}
-use Rattle.table.proofs.Slots.{sound-text-length, part-length, length-at, text-at}
+use Rattle.table.proofs.Slots.{sound-event, sound-signed, sound-text-length, part-length, length-at, text-at}
 use Rattle.table.proofs.Bytes.{clauses}
 use Rattle.table.proofs.Stored.{length-view}
 use Rattle.table.proofs.Unread.{count-append, sound-append}
@@ -37,6 +39,11 @@ unfolding view
 slot-held b k h =
     Memᴰ·cast (ap inSlot (sym (slot-entry b k h)))
     (Memᴰ·map inSlot (entry-in (heldSlots b) k [] (omega (arith, length-cells slotSize (countOf b) (drop headerSize b)))))
+
+-- ---- a sound slot's field has the time of its text
+pub time-of : (s : List ℕ) → slotSound s ≡ true → timeOfText (textIn s) ≡ signed (timeIn s)
+unfolding timeOfText
+time-of s ok = let (e, r) = sound-event s ok in ap events.timeIn r ∙ sym (sound-signed s ok e r)
 
 -- ---- a held slot of a sound table
 module _ (b : List ℕ) (ok : sound b ≡ true) (k : ℕ) (h : k < countOf b) where

@@ -13,11 +13,11 @@ use borrow.Author.Tests.{lt-ltb, le-ltb}
 use Rattle.wire.specs.Limits.{mostSlots}
 use Rattle.text.specs.Event.{all}
 use Rattle.law.specs.Lists.{any, store}
-use Rattle.law.specs.Cells.{cells}
+use Rattle.table.specs.Cells.{cells}
 use Rattle.law.specs.Table.{hasKey}
 use Rattle.law.proofs.Lists.{find-lt, find-none}
 use Rattle.law.proofs.Sound.{Distinct}
-use Rattle.law.proofs.Cells.{length-cells, cells-over, cells-behind, stored-over, stored-behind}
+use Rattle.table.proofs.Cells.{length-cells, cells-over, cells-behind, stored-over, stored-behind}
 use Rattle.table.specs.Layout.{Held, Fits, headerSize, slotSize, slotPlace, capacityOf, countOf, slotSizeOf, firstSlotOf, heldSlots, laterSlots, slotBytes}
 use Rattle.table.specs.Events.{SignedEvent, signedEvents, inSlot, ofHeld, view}
 use Rattle.table.specs.Sound.{slotSound, slotsSound, isZero, laterZero, sound}

@@ -13,7 +13,7 @@ use Rattle.wire.proofs.Laws.{length-put}
 use Rattle.wire.proofs.Fields.{length-leBytes}
 use Rattle.text.specs.Event.{all}
 use Rattle.law.specs.Lists.{find}
-use Rattle.law.specs.Cells.{cells}
+use Rattle.table.specs.Cells.{cells}
 use Rattle.law.specs.Table.{hasId, hasKey, verdict}
 use Rattle.table.specs.Layout.{headerSize, slotSize, tableSize, slotPlace, countPlace, capacityOf, countOf, slotSizeOf, firstSlotOf, heldSlots, laterSlots, slotBytes}
 use Rattle.table.specs.Events.{signedEvents, inSlot, ofHeld, view}

@@ -31,7 +31,7 @@ use Rattle.table.specs.Offer.{Offering, asMessage, asParts, isEvent, par
 use Rattle.table.proofs.Hex.{unhex-hex, unhex-length, unhex-bytes, digest-length, digest-bytes}
 
 -- ---- chains of tests
-or-else : (r s : ℕ) → orElse r s ≡ 0 → (r ≡ 0) × (s ≡ 0)
+pub or-else : (r s : ℕ) → orElse r s ≡ 0 → (r ≡ 0) × (s ≡ 0)
 or-else r s e = go (eqb r 0) refl e
   where
     go : (t : Bool) → eqb r 0 ≡ t → cond t s r ≡ 0 → (r ≡ 0) × (s ≡ 0)

@@ -28,7 +28,7 @@ use Rattle.table.specs.Layout.{tableSize, capacityOf, countOf}
 use Rattle.table.specs.Events.{SignedEvent, Signature, tableEvents, classOfText, view}
 use Rattle.table.specs.Offer.{Offering, asParts, isStored, judge, answer, next}
 use Rattle.table.specs.Format.{formatRow, formatted}
-use Rattle.table.specs.Relay.{Fresh, AsParts, verdictOf, relay}
+use Rattle.table.specs.Relay.{Fresh, verdictOf, relayWith, relay}
 use Rattle.table.specs.declared.Offered.{Offered}
 use Rattle.table.proofs.Texts.{text-says}
 use Rattle.table.proofs.Formatted.{formatted-capacity, just-formatted}
@@ -103,19 +103,7 @@ table-two = formatted-capacity 2 buffer two-pass
 -- ---- a relay with answers and a next table of its own
 module _ (answer′ : List ℕ → Offering → Offered) (next′ : List ℕ → Offering → List ℕ) where
   abbrev pub another : Machine tableEvents Signature
-  another = record {
-    State = List ℕ;
-    Offering = Offering;
-    Answer = Offered;
-    Fresh = Fresh;
-    answer = answer′;
-    next = next′;
-    verdictOf = verdictOf;
-    capacity = capacityOf;
-    slots = view;
-    judge = judge;
-    AsParts = AsParts;
-  }
+  another = relayWith answer′ next′
 
   of-regular : {o : Offering} {e : law.Event} → OfRegular tableEvents Signature relay o e → OfRegular tableEvents Signature another o e
   of-regular r = record { signature = r .signature; valid = r .valid; kind = r .kind }

@@ -13,7 +13,7 @@ use Rattle.text.specs.Kinds.{classOf}
 use Rattle.text.specs.Answer.{Span, dSpan, tagsPlace}
 use Rattle.text.specs.declared.Class.{Class}
 use Rattle.text.specs.declared.Class.the-variants.{Regular, Replaceable, Ephemeral, Addressable}
-use Rattle.law.specs.Cells.{cells}
+use Rattle.table.specs.Cells.{cells}
 
 -- ---- "Slot: id 32; sig 64; created_at 8, two's complement; kind 2; text length 2; d offset 2 and d length 2 ..; text 4,096":
 -- where each field begins
@@ -47,6 +47,10 @@ dLengthPlace = 110
 abbrev pub textPlace : ℕ
 textPlace = 112
 
+-- a text begins [0,"PUBKEY": where the public key begins in it
+abbrev pub pubkeyPlace : ℕ
+pubkeyPlace = 4
+
 -- ---- "Header, 16 bytes: capacity N, held count C, slot size 4,208, offset of the first slot 16, each 4 bytes."
 abbrev pub headerSize : ℕ
 headerSize = 16
@@ -54,22 +58,31 @@ headerSize = 16
 abbrev pub slotSize : ℕ
 slotSize = textPlace + mostText
 
--- N
-unfoldable pub capacityOf : List ℕ → ℕ
-capacityOf b = fieldAt b 0 4
+abbrev pub capacityPlace : ℕ
+capacityPlace = 0
 
--- C
 abbrev pub countPlace : ℕ
 countPlace = 4
 
+abbrev pub slotSizePlace : ℕ
+slotSizePlace = 8
+
+abbrev pub firstSlotPlace : ℕ
+firstSlotPlace = 12
+
+-- N
+unfoldable pub capacityOf : List ℕ → ℕ
+capacityOf b = fieldAt b capacityPlace 4
+
+-- C
 unfoldable pub countOf : List ℕ → ℕ
 countOf b = fieldAt b countPlace 4
 
 unfoldable pub slotSizeOf : List ℕ → ℕ
-slotSizeOf b = fieldAt b 8 4
+slotSizeOf b = fieldAt b slotSizePlace 4
 
 unfoldable pub firstSlotOf : List ℕ → ℕ
-firstSlotOf b = fieldAt b 12 4
+firstSlotOf b = fieldAt b firstSlotPlace 4
 
 unfoldable pub headerBytes : (capacity count : ℕ) → List ℕ
 headerBytes N C = leBytes 4 N ++ (leBytes 4 C ++ (leBytes 4 slotSize ++ leBytes 4 headerSize))

@@ -70,20 +70,24 @@ verdictOf Older = older
 verdictOf Stored = stored
 verdictOf (Refused r) = cond (eqb r 12) noRoom refused
 
-abbrev pub relay : Machine tableEvents Signature
-relay = record {
+-- a relay over such tables and offers, by what it answers and the table that an offer leaves
+abbrev pub relayWith : (List ℕ → Offering → Offered) → (List ℕ → Offering → List ℕ) → Machine tableEvents Signature
+relayWith answers leaves = record {
   State = List ℕ;
   Offering = Offering;
   Answer = Offered;
   Fresh = Fresh;
-  answer = answer;
-  next = next;
+  answer = answers;
+  next = leaves;
   verdictOf = verdictOf;
   capacity = capacityOf;
   slots = view;
   judge = judge;
   AsParts = AsParts;
 }
+
+abbrev pub relay : Machine tableEvents Signature
+relay = relayWith answer next
 
 -- demand 3, whole: proofs/Demand3
 abbrev pub Demand3 : Type 0

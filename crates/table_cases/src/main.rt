@@ -12,9 +12,6 @@
 //   X at bits                                         turns these bits of a byte of the room over; is the table then sound?
 //
 // Each line prints its answer, the table's count and a print of the table and the 64 bytes behind it: what a call wrote shows in it.
-ghost use mathlib.Core.Path.{_≡_};
-ghost use lib.ListN.{length};
-use libc::STDOUT_FILENO;
 use slots::Shown;
 use table::Offered;
 
@@ -114,46 +111,22 @@ fn step(line: &[u8], lent: &mut [u8], room: &mut [u8], n: usize) -> usize {
     let len = fields::table_len(line, n);
     let mut out = io::buffer();
     let a = put_call(&mut out, line, lent, room, len);
-    let b = fields::put_number(&mut out, a, wire::le_at(room, 4, 4));
+    let b = fields::put_number(&mut out, a, wire::le_at(room, slots::COUNT_PLACE, 4));
     let c = put_print(&mut out, b, looked_at(room, len));
     lines::write_line(&mut out, c);
     len
 }
 
-// A line of 65,536 bytes or more is cut off.
-fn respond(line: &[u8], k: usize, lent: &mut [u8], room: &mut [u8], n: usize) -> usize {
-    if line.len() <= k {
-        io::write_all(STDOUT_FILENO, b"too long\n");
-        return n;
-    }
-    step(wire::piece(line, 0, k), lent, room, n)
-}
-
-fn run(line: &mut [u8], chunk: &mut [u8], lent: &mut [u8], room: &mut [u8]) {
-    let mut n: usize = 0;
-    let mut l = lines::none();
-    let mut k: u64 = 0;
-    while k < 0xffff_ffff_ffff {
-        l = lines::next(line, chunk, l);
-        if !l.some {
-            return;
-        }
-        n = respond(line, l.n, lent, room, n);
-        k += 1;
-    }
-}
-
-// 16 + 64 * 4208 bytes and 256 more.
-fn zeros() -> [u8; 269584]
-    ensures { λ r. ⌜ 269584 ≡ length r ⌝ }
-{
-    [0; 269584]
-}
-
+// Of a line of 65,536 bytes or more it is only said that it is too long.
 fn main() {
     let mut line = io::large_buffer();
     let mut chunk = io::large_buffer();
     let mut lent = io::large_buffer();
-    let mut room = zeros();
-    run(&mut line, &mut chunk, &mut lent, &mut room);
+    let mut room = fields::empty_room();
+    let mut n: usize = 0;
+    let mut l = lines::next_within(&mut line, &mut chunk, lines::none(), b"too long\n");
+    while 0 < l.left {
+        n = step(wire::piece(&line, 0, l.n), &mut lent, &mut room, n);
+        l = lines::next_within(&mut line, &mut chunk, l, b"too long\n");
+    }
 }

@@ -17,18 +17,18 @@ returns-2 c =
 
 answered-requires : tie.Need-answered-requires
 answered-requires c κs =
-    let c1 = c .before in
-    let c2 = c1 .before in
-    let c3 = c2 .before in
-    (sym (c2 .sound .ensures) ∙ not-false _ (c1 .if2 .left), sym (c3 .before .filters-row .ensures) ∙ c3 .if1 .left)
+    let c3 = c .before .before .before in (
+      sym (c .before .before .sound .ensures) ∙ not-false _ (c .before .if2 .left),
+      sym
+          (c3 .before .filters-row .ensures) ∙ c3 .if1 .left,
+    )
 
 returns-3 : tie.Need-returns-3
 returns-3 c =
     let c2 = c .before .before in
-    let c4 = c2 .before .before in
-    let c5 = c4 .before in
-    let c6 = c5 .before in
-    answers-rest _ _ _ _ _ (sym (c6 .before .filters-row .ensures) ∙ c6 .if1 .left) (sym (c5 .sound .ensures) ∙ not-false _ (c4 .if2 .left)) _ _
+    let c6 = c2 .before .before .before .before in
+    answers-rest _ _ _ _ _ (sym (c6 .before .filters-row .ensures) ∙ c6 .if1 .left)
+    (sym (c2 .before .before .before .sound .ensures) ∙ not-false _ (c2 .before .before .if2 .left)) _ _
     (c2 .answered .ensures .0) (c2 .answered .ensures .1)
 
 pub answer-spec : {M : Type 1} → statement M

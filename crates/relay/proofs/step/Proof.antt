@@ -13,13 +13,11 @@ inside : (c : tie.After-known-told) → let c1 = c .before in let c18 = c1 .befo
     (c18 .args .p .at + c1 .used .given .0 .0 ≤ length (now (c18 .args .chunk))) × (1 ≤ c1 .used .given .0 .0)
     × (c18 .args .p .w + c1 .used .given .0 .1 .1 .0 ≤ length (now (c18 .args .out)))
 inside c =
-    let c1 = c .before in
-    let c9 = c1 .before .before .before .before .before .before .before .before in
-    let c10 = c9 .before in
-    let c11 = c10 .before in
-    let c18 = c11 .before .before .before .before .before .before .before in
+    let c9 = c .before .before .before .before .before .before .before .before .before in
+    let c18 = c9 .before .before .before .before .before .before .before .before .before in
     goes _ _ _ _ _ _ _ (c18 .pre .0) (c18 .pre .1 .0) (c18 .pre .1 .1)
-    (c11 .turn-arg3 .given .2, c10 .turn-arg4 .given .2) (c9 .turn .ensures) (c1 .used .given .1)
+    (c9 .before .before .turn-arg3 .given .2, c9 .before .turn-arg4 .given .2) (c9 .turn .ensures)
+    (c .before .used .given .1)
 
 add-next : tie.Need-add-next
 add-next c = omega (arith, inside c)
@@ -29,25 +27,20 @@ add-filled c = omega (arith, inside c)
 
 returns : tie.Need-returns
 returns c =
-    let c1 = c .before in
-    let c4 = c1 .before .before .before in
-    let c9 = c4 .before .before .before .before .before in
-    let c10 = c9 .before in
-    let c11 = c10 .before in
-    let c18 = c11 .before .before .before .before .before .before .before in
+    let c9 = c .before .before .before .before .before .before .before .before .before in
+    let c18 = c9 .before .before .before .before .before .before .before .before .before in
     step-fed _ _ _ _ _ _ _ (c18 .pre .0) (c18 .pre .1 .0) (c18 .pre .1 .1)
-    (c11 .turn-arg3 .given .2, c10 .turn-arg4 .given .2) (c9 .turn .ensures) (c1 .used .given .1) (c4 .out .given .1)
+    (c9 .before .before .turn-arg3 .given .2, c9 .before .turn-arg4 .given .2) (c9 .turn .ensures)
+    (c .before .used .given .1) (c .before .before .before .before .out .given .1)
 
 returns-2 : tie.Need-returns-2
 returns-2 c =
-    let c2 = c .before .before in
-    let c5 = c2 .before .before .before in
+    let c5 = c .before .before .before .before .before in
     let c10 = c5 .before .before .before .before .before in
-    let c11 = c10 .before in
-    let c12 = c11 .before in
-    let c19 = c12 .before .before .before .before .before .before .before in
+    let c19 = c10 .before .before .before .before .before .before .before .before .before in
     step-refused _ _ _ _ _ _ _ (c19 .pre .0) (c19 .pre .1 .0) (c19 .pre .1 .1)
-    (c12 .turn-arg3 .given .2, c11 .turn-arg4 .given .2) (c10 .turn .ensures) (c2 .enum-told .given .1) (c5 .out .given .1)
+    (c10 .before .before .turn-arg3 .given .2, c10 .before .turn-arg4 .given .2) (c10 .turn .ensures)
+    (c .before .before .enum-told .given .1) (c5 .out .given .1)
 
 pub step-spec : {M : Type 1} → statement M
 step-spec =

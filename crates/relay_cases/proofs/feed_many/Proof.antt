@@ -13,25 +13,13 @@ Inv-loop table₀ line₀ b count out₀ cut bytes k₀ rest₀ table line out k
 abbrev μ-loop : tie.MeasureT-loop
 μ-loop table₀ line₀ b count out₀ cut bytes k₀ rest₀ table line out k rest = rest
 
-loop-holds : tie.Need-loop-holds Inv-loop μ-loop
-loop-holds c = search needs
-
-returns : tie.Need-returns Inv-loop μ-loop
-returns c = search needs
-
-loop-again : tie.Need-loop-again Inv-loop μ-loop
-loop-again c = search needs
-
-returns-2 : tie.Need-returns-2 Inv-loop μ-loop
-returns-2 c = search needs
-
 slice-aggregate-feed-all : tie.Need-slice-aggregate-feed-all Inv-loop μ-loop
 slice-aggregate-feed-all c = sym (length-take-le _ _ (omega arith))
 
 pub feed-many-spec : {M : Type 1} → statement M
 feed-many-spec =
     tie.close
-    (tie.spec Inv-loop μ-loop (λ c κs. search needs) (λ c. search needs) (λ c κs. search needs) loop-holds
-    (λ c κs. search needs) (λ c. search needs) (λ c. search needs) (λ c. search needs) returns (λ c. search needs)
-    slice-aggregate-feed-all (λ c κs. search needs) (λ c. search needs) (λ c. omega arith) loop-again (λ c. search needs)
-    (λ c. search needs) (λ c. search needs) returns-2)
+    (tie.spec Inv-loop μ-loop (λ c κs. search needs) (λ c. search needs) (λ c κs. search needs) (λ c. search needs)
+    (λ c κs. search needs) (λ c. search needs) (λ c. search needs) (λ c. search needs) (λ c. search needs)
+    (λ c. search needs) slice-aggregate-feed-all (λ c κs. search needs) (λ c. search needs) (λ c. omega arith)
+    (λ c. search needs) (λ c. search needs) (λ c. search needs) (λ c. search needs) (λ c. search needs))

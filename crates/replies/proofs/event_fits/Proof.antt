@@ -6,10 +6,9 @@ use Rattle.replies.proofs.event_fits.Tie as tie
 
 returns : tie.Need-returns
 returns c =
-    let c1 = c .before in
-    let c2 = c1 .before in
-    let c5 = c2 .before .before .before in
-    event-room _ _ _ (c5 .pre) (c2 .text-len .ensures) (c1 .part-len .ensures) (c .has-room .ensures)
+    let c5 = c .before .before .before .before .before in
+    event-room _ _ _ (c5 .pre) (c .before .before .text-len .ensures) (c .before .part-len .ensures)
+    (c .has-room .ensures)
 
 pub event-fits-spec : {M : Type 1} → statement M
 event-fits-spec =

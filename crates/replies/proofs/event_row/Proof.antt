@@ -6,28 +6,22 @@ use Rattle.replies.proofs.event_row.Tie as tie
 
 returns : tie.Need-returns
 returns c =
-    let c1 = c .before in
-    let c2 = c1 .before in
-    let c3 = c2 .before in
-    event-refused _ _ _ (c1 .lower-row .ensures) (c3 .subscription-row .ensures) (c2 .event-row .ensures) (c .if1 .taken)
+    event-refused _ _ _ (c .before .lower-row .ensures) (c .before .before .before .subscription-row .ensures)
+    (c .before .before .event-row .ensures) (c .if1 .taken)
 
 returns-2 : tie.Need-returns-2
 returns-2 c =
-    let c1 = c .before in
-    let c2 = c1 .before in
-    let c3 = c2 .before in
-    let c4 = c3 .before in
-    let c5 = c4 .before in
-    event-large _ _ _ (c3 .lower-row .ensures) (c5 .subscription-row .ensures) (c4 .event-row .ensures) (c2 .if1 .left) (c1 .text-len .ensures) (c .if2 .taken)
+    let c5 = c .before .before .before .before .before in
+    event-large _ _ _ (c .before .before .before .lower-row .ensures) (c5 .subscription-row .ensures)
+    (c .before .before .before .before .event-row .ensures) (c .before .before .if1 .left)
+    (c .before .text-len .ensures) (c .if2 .taken)
 
 returns-3 : tie.Need-returns-3
 returns-3 c =
-    let c1 = c .before in
-    let c2 = c1 .before in
-    let c3 = c2 .before in
-    let c4 = c3 .before in
-    let c5 = c4 .before in
-    event-passes _ _ _ (c3 .lower-row .ensures) (c5 .subscription-row .ensures) (c4 .event-row .ensures) (c2 .if1 .left) (c1 .text-len .ensures) (c .if2 .left)
+    let c5 = c .before .before .before .before .before in
+    event-passes _ _ _ (c .before .before .before .lower-row .ensures) (c5 .subscription-row .ensures)
+    (c .before .before .before .before .event-row .ensures) (c .before .before .if1 .left)
+    (c .before .text-len .ensures) (c .if2 .left)
 
 pub event-row-spec : {M : Type 1} → statement M
 event-row-spec =

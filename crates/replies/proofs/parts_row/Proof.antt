@@ -6,10 +6,8 @@ use Rattle.replies.proofs.parts_row.Tie as tie
 
 returns : tie.Need-returns
 returns c =
-    let c1 = c .before in
-    let c2 = c1 .before in
-    let c4 = c2 .before .before in
-    same-row _ _ (c4 .p .given .1) (ok-row _ _ _ (c .lower-row .ensures) (c2 .hex-row .ensures) (c1 .string-row .ensures))
+    same-row _ _ (c .before .before .before .before .p .given .1)
+    (ok-row _ _ _ (c .lower-row .ensures) (c .before .before .hex-row .ensures) (c .before .string-row .ensures))
 
 returns-2 : tie.Need-returns-2
 returns-2 c =
@@ -23,10 +21,9 @@ returns-3 c =
 
 returns-4 : tie.Need-returns-4
 returns-4 c =
-    let c1 = c .before in
-    let c2 = c1 .before in
-    let c4 = c2 .before .before in
-    same-row _ _ (c4 .p4 .given .1) (closed-row _ _ _ (c .lower-row2 .ensures) (c2 .subscription-row2 .ensures) (c1 .string-row2 .ensures))
+    same-row _ _ (c .before .before .before .before .p4 .given .1)
+    (closed-row _ _ _ (c .lower-row2 .ensures) (c .before .before .subscription-row2 .ensures)
+    (c .before .string-row2 .ensures))
 
 returns-5 : tie.Need-returns-5
 returns-5 c =

@@ -6,14 +6,9 @@ use Rattle.replies.proofs.put_eose.Tie as tie
 
 returns : tie.Need-returns
 returns c =
-    let c2 = c .before .before in
-    let c7 = c2 .before .before .before .before .before in
-    let c11 = c7 .before .before .before .before in
-    let a = c11 .before .before .before .before .before .args in
-    eose-put (a .b .now) (a .sub) (c11 .put .ensures) (c7 .put-part .ensures) (c2 .put2 .ensures)
+    let k = c .before .before .before .before .before .before .before in
+    let a = k .before .before .before .before .before .before .before .before .before .args in
+    eose-put (a .b .now) (a .sub) (k .before .before .before .before .put .ensures) (k .put-part .ensures) (c .before .before .put2 .ensures)
 
 pub put-eose-spec : {M : Type 1} → statement M
-put-eose-spec =
-    tie.close
-    (tie.spec (λ c. search needs) (λ c κs. search needs) (λ c κs. search needs) (λ c. search needs)
-    (λ c κs. search needs) (λ c. search needs) returns)
+put-eose-spec = tie.close (tie.spec (search needs) (search needs) (search needs) (search needs) (search needs) (search needs) returns)

@@ -6,11 +6,11 @@ use Rattle.replies.proofs.put_event.Tie as tie
 
 returns : tie.Need-returns
 returns c =
-    let c2 = c .before .before in
-    let c6 = c2 .before .before .before .before in
+    let c6 = c .before .before .before .before .before .before in
     let c10 = c6 .before .before .before .before in
     let a = c10 .before .before .before .before .before .before .before .args in
-    event-put (a .b .now) (a .sub) (a .p) (c10 .put-front .ensures) (c6 .put-middle .ensures) (c2 .put-back .ensures)
+    event-put (a .b .now) (a .sub) (a .p) (c10 .put-front .ensures) (c6 .put-middle .ensures)
+    (c .before .before .put-back .ensures)
 
 pub put-event-spec : {M : Type 1} → statement M
 put-event-spec =

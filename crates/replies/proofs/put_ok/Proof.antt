@@ -6,15 +6,14 @@ use Rattle.replies.proofs.put_ok.Tie as tie
 
 returns : tie.Need-returns
 returns c =
-    let c2 = c .before .before in
-    let c7 = c2 .before .before .before .before .before in
-    let c11 = c7 .before .before .before .before in
-    let c16 = c11 .before .before .before .before .before in
-    let c20 = c16 .before .before .before .before in
-    let c25 = c20 .before .before .before .before .before in
+    let c7 = c .before .before .before .before .before .before .before in
+    let c16 = c7 .before .before .before .before .before .before .before .before .before in
+    let c25 = c16 .before .before .before .before .before .before .before .before .before in
     let c29 = c25 .before .before .before .before in
     let a = c29 .before .before .before .before .before .args in
-    ok-put (a .b .now) (a .id) (a .accepted) (a .reason) (c29 .put .ensures) (c25 .put-part .ensures) (c20 .put2 .ensures) (c16 .put-truth .ensures) (c11 .put3 .ensures) (c7 .put-part2 .ensures) (c2 .put4 .ensures)
+    ok-put (a .b .now) (a .id) (a .accepted) (a .reason) (c29 .put .ensures) (c25 .put-part .ensures)
+    (c16 .before .before .before .before .put2 .ensures) (c16 .put-truth .ensures)
+    (c7 .before .before .before .before .put3 .ensures) (c7 .put-part2 .ensures) (c .before .before .put4 .ensures)
 
 pub put-ok-spec : {M : Type 1} → statement M
 put-ok-spec =

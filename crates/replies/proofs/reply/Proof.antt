@@ -11,19 +11,14 @@ returns c =
 
 returns-2 : tie.Need-returns-2
 returns-2 c =
-    let c2 = c .before .before in
-    let c4 = c2 .before .before in
-    let c5 = c4 .before in
-    let c6 = c5 .before in
-    let c7 = c6 .before in
-    reply-put _ _ _ (c7 .parts-row .ensures) (c6 .if1 .left) (c5 .reply-fits .ensures) (c4 .if2 .taken) (c2 .put-reply .ensures)
+    let c5 = c .before .before .before .before .before in
+    reply-put _ _ _ (c5 .before .before .parts-row .ensures) (c5 .before .if1 .left) (c5 .reply-fits .ensures)
+    (c .before .before .before .before .if2 .taken) (c .before .before .put-reply .ensures)
 
 returns-3 : tie.Need-returns-3
 returns-3 c =
-    let c1 = c .before in
-    let c2 = c1 .before in
-    let c3 = c2 .before in
-    reply-short _ _ _ (c3 .parts-row .ensures) (c2 .if1 .left) (c1 .reply-fits .ensures) (c .if2 .left)
+    reply-short _ _ _ (c .before .before .before .parts-row .ensures) (c .before .before .if1 .left)
+    (c .before .reply-fits .ensures) (c .if2 .left)
 
 pub reply-spec : {M : Type 1} → statement M
 reply-spec =

@@ -13,11 +13,9 @@ event-fits-requires c κs =
 
 returns : tie.Need-returns
 returns c =
-    let c1 = c .before in
-    let c2 = c1 .before in
-    let c3 = c2 .before in
-    let c5 = c3 .before .before in
-    ok-room (c5 .before .before .before .args .b .now) _ _ _ (c5 .p .given .1) (c2 .part-len .ensures) (c1 .part-len2 .ensures) (c3 .truth-len .ensures .0) (c .has-room .ensures)
+    let c5 = c .before .before .before .before .before in
+    ok-room (c5 .before .before .before .args .b .now) _ _ _ (c5 .p .given .1) (c .before .before .part-len .ensures)
+    (c .before .part-len2 .ensures) (c .before .before .before .truth-len .ensures .0) (c .has-room .ensures)
 
 returns-2 : tie.Need-returns-2
 returns-2 c =
@@ -32,10 +30,9 @@ returns-3 c =
 
 returns-4 : tie.Need-returns-4
 returns-4 c =
-    let c1 = c .before in
-    let c2 = c1 .before in
-    let c4 = c2 .before .before in
-    closed-room (c4 .before .before .before .args .b .now) _ _ (c4 .p4 .given .1) (c2 .part-len4 .ensures) (c1 .part-len5 .ensures) (c .has-room3 .ensures)
+    let c4 = c .before .before .before .before in
+    closed-room (c4 .before .before .before .args .b .now) _ _ (c4 .p4 .given .1)
+    (c .before .before .part-len4 .ensures) (c .before .part-len5 .ensures) (c .has-room3 .ensures)
 
 returns-5 : tie.Need-returns-5
 returns-5 c =

@@ -15,20 +15,15 @@ returns c = name-refused _ _ _ _ _ (c .before .subscription-row .ensures) (c .if
 
 returns-2 : tie.Need-returns-2
 returns-2 c =
-    let c2 = c .before .before in
-    let c4 = c2 .before .before in
-    let c5 = c4 .before in
-    let c6 = c5 .before in
-    let c7 = c6 .before in
-    let c8 = c7 .before in
-    events-sent _ _ _ _ _ (c8 .subscription-row .ensures) (c7 .if1 .left) (c6 .sound .ensures) (c5 .if2 .taken) (c4 .piece .ensures) (c2 .send .ensures)
+    let c5 = c .before .before .before .before .before in
+    events-sent _ _ _ _ _ (c5 .before .before .before .subscription-row .ensures) (c5 .before .before .if1 .left)
+    (c5 .before .sound .ensures) (c5 .if2 .taken) (c .before .before .before .before .piece .ensures)
+    (c .before .before .send .ensures)
 
 returns-3 : tie.Need-returns-3
 returns-3 c =
-    let c1 = c .before in
-    let c2 = c1 .before in
-    let c3 = c2 .before in
-    table-refused _ _ _ _ _ (c3 .subscription-row .ensures) (c2 .if1 .left) (c1 .sound .ensures) (c .if2 .left)
+    table-refused _ _ _ _ _ (c .before .before .before .subscription-row .ensures) (c .before .before .if1 .left)
+    (c .before .sound .ensures) (c .if2 .left)
 
 pub events-spec : {M : Type 1} → statement M
 events-spec =

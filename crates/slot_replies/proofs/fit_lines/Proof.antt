@@ -17,22 +17,17 @@ abbrev μ-loop : tie.MeasureT-loop
 
 returns : tie.Need-returns Inv-loop μ-loop
 returns c =
-    let c2 = c .before .before in
-    let c3 = c2 .before in
-    let c4 = c3 .before in
-    let c5 = c4 .before in
-    let c6 = c5 .before in
-    fitted-stop _ _ _ _ _ (c5 .loop-test .taken) (c4 .number .ensures) (c3 .slot .ensures) (sym (c .enum-told .given .1) ∙ c2 .line-left .ensures) ∙ sym (c6 .loop .inv)
+    let c5 = c .before .before .before .before .before in
+    fitted-stop _ _ _ _ _ (c5 .loop-test .taken) (c .before .before .before .before .number .ensures)
+    (c .before .before .before .slot .ensures) (sym (c .enum-told .given .1) ∙ c .before .before .line-left .ensures) ∙
+    sym (c5 .before .loop .inv)
 
 loop-again : tie.Need-loop-again Inv-loop μ-loop
 loop-again c =
-    let c1 = c .before in
-    let c3 = c1 .before .before in
-    let c4 = c3 .before in
-    let c5 = c4 .before in
-    let c6 = c5 .before in
-    let c7 = c6 .before in
-    c7 .loop .inv ∙ fitted-turn _ _ _ _ _ (c6 .loop-test .taken) (c5 .number .ensures) (c4 .slot .ensures) (sym (c1 .x .given .1) ∙ c3 .line-left .ensures)
+    let c5 = c .before .before .before .before .before in
+    c5 .before .before .loop .inv ∙ fitted-turn _ _ _ _ _ (c5 .before .loop-test .taken) (c5 .number .ensures)
+    (c .before .before .before .before .slot .ensures)
+    (sym (c .before .x .given .1) ∙ c .before .before .before .line-left .ensures)
 
 returns-2 : tie.Need-returns-2 Inv-loop μ-loop
 returns-2 c = fitted-end _ _ _ _ _ (c .loop-test .left) ∙ sym (c .before .loop .inv)

@@ -17,17 +17,15 @@ abbrev μ-loop : tie.MeasureT-loop
 
 returns : tie.Need-returns Inv-loop μ-loop
 returns c =
-    let c1 = c .before in
-    let c2 = c1 .before in
-    let c3 = c2 .before in
-    held-stop _ _ _ (c3 .loop .inv) (c2 .loop-test .taken) (c1 .number .ensures) (c3 .before .le-at .ensures) (c .if1 .taken)
+    let c3 = c .before .before .before in
+    held-stop _ _ _ (c3 .loop .inv) (c .before .before .loop-test .taken) (c .before .number .ensures)
+    (c3 .before .le-at .ensures) (c .if1 .taken)
 
 loop-again : tie.Need-loop-again Inv-loop μ-loop
 loop-again c =
-    let c1 = c .before in
-    let c2 = c1 .before in
-    let c3 = c2 .before in
-    held-turn _ _ _ (c3 .loop .inv) (c2 .loop-test .taken) (c1 .number .ensures) (c3 .before .le-at .ensures) (c .if1 .left)
+    let c3 = c .before .before .before in
+    held-turn _ _ _ (c3 .loop .inv) (c .before .before .loop-test .taken) (c .before .number .ensures)
+    (c3 .before .le-at .ensures) (c .if1 .left)
 
 pub held-len-spec : {M : Type 1} → statement M
 held-len-spec =

@@ -6,10 +6,9 @@ use Rattle.slot_replies.proofs.put_back.Tie as tie
 
 returns : tie.Need-returns
 returns c =
-    let c2 = c .before .before in
-    let c7 = c2 .before .before .before .before .before in
-    let c11 = c7 .before .before .before .before in
-    back-put _ (c11 .put .ensures) (c7 .put-hex .ensures) (c2 .put2 .ensures)
+    let c7 = c .before .before .before .before .before .before .before in
+    back-put _ (c7 .before .before .before .before .put .ensures) (c7 .put-hex .ensures)
+    (c .before .before .put2 .ensures)
 
 pub put-back-spec : {M : Type 1} → statement M
 put-back-spec =

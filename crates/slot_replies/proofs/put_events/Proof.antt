@@ -19,11 +19,11 @@ abbrev μ-loop : tie.MeasureT-loop
 
 loop-again : tie.Need-loop-again Inv-loop μ-loop
 loop-again c =
-    let c2 = c .before .before in
-    let c4 = c2 .before .before in
-    let c5 = c4 .before in
+    let c5 = c .before .before .before .before .before in
     let c6 = c5 .before in
-    rest-turn (c6 .before .loop .inv) (line-at _ _ (c5 .number .ensures) (c4 .slot .ensures) (c2 .put-line .ensures)) (lines-turn _ _ _ _ (c6 .loop-test .taken))
+    rest-turn (c6 .before .loop .inv)
+    (line-at _ _ (c5 .number .ensures) (c .before .before .before .before .slot .ensures)
+    (c .before .before .put-line .ensures)) (lines-turn _ _ _ _ (c6 .loop-test .taken))
 
 pub put-events-spec : {M : Type 1} → statement M
 put-events-spec =

@@ -6,11 +6,10 @@ use Rattle.slot_replies.proofs.put_front.Tie as tie
 
 returns : tie.Need-returns
 returns c =
-    let c2 = c .before .before in
-    let c6 = c2 .before .before .before .before in
+    let c6 = c .before .before .before .before .before .before in
     let c11 = c6 .before .before .before .before .before in
-    let c15 = c11 .before .before .before .before in
-    front-put _ _ (c15 .put .ensures) (c11 .put-quoted .ensures) (c6 .put2 .ensures) (c2 .put-hex .ensures)
+    front-put _ _ (c11 .before .before .before .before .put .ensures) (c11 .put-quoted .ensures) (c6 .put2 .ensures)
+    (c .before .before .put-hex .ensures)
 
 pub put-front-spec : {M : Type 1} → statement M
 put-front-spec =

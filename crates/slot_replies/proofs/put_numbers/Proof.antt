@@ -6,16 +6,14 @@ use Rattle.slot_replies.proofs.put_numbers.Tie as tie
 
 returns : tie.Need-returns
 returns c =
-    let c2 = c .before .before in
-    let c6 = c2 .before .before .before .before in
+    let c6 = c .before .before .before .before .before .before in
     let c11 = c6 .before .before .before .before .before in
-    let c15 = c11 .before .before .before .before in
-    let c20 = c15 .before .before .before .before .before in
-    let c21 = c20 .before in
-    let c25 = c21 .before .before .before .before in
+    let c20 = c11 .before .before .before .before .before .before .before .before .before in
+    let c25 = c20 .before .before .before .before .before in
     let c32 = c25 .before .before .before .before .before .before .before in
-    numbers-put _ _ (c32 .pre) (c32 .good .1 .1 .1 .0 .1 .1 .0 .1) (c21 .piece .ensures) (c25 .put .ensures) (c20 .put2 .ensures) (c15 .put3 .ensures) (c11 .put-decimal .ensures)
-    (c6 .put4 .ensures) (c2 .put-natural .ensures)
+    numbers-put _ _ (c32 .pre) (c32 .good .1 .1 .1 .0 .1 .1 .0 .1) (c20 .before .piece .ensures) (c25 .put .ensures)
+    (c20 .put2 .ensures) (c11 .before .before .before .before .put3 .ensures) (c11 .put-decimal .ensures)
+    (c6 .put4 .ensures) (c .before .before .put-natural .ensures)
 
 pub put-numbers-spec : {M : Type 1} → statement M
 put-numbers-spec =

@@ -8,14 +8,12 @@ use Rattle.slot_replies.proofs.put_strings.Tie as tie
 
 returns : tie.Need-returns
 returns c =
-    let c2 = c .before .before in
-    let c3 = c2 .before in
-    let c7 = c3 .before .before .before .before in
+    let c7 = c .before .before .before .before .before .before .before in
     let c12 = c7 .before .before .before .before .before in
-    let c13 = c12 .before in
-    let c17 = c13 .before .before .before .before in
+    let c17 = c12 .before .before .before .before .before in
     let c22 = c17 .before .before .before .before .before in
-    strings-put _ _ (c22 .pre) (c13 .piece .ensures) (c3 .piece2 .ensures) (c17 .put .ensures) (c12 .put2 .ensures) (c7 .put3 .ensures) (c2 .put4 .ensures)
+    strings-put _ _ (c22 .pre) (c12 .before .piece .ensures) (c .before .before .before .piece2 .ensures)
+    (c17 .put .ensures) (c12 .put2 .ensures) (c7 .put3 .ensures) (c .before .before .put4 .ensures)
 
 pub put-strings-spec : {M : Type 1} → statement M
 put-strings-spec =

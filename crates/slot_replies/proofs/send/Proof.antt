@@ -11,31 +11,28 @@ slice-aggregate-fit-lines c = sym (length-take-le _ _ (held-few _ _ (c .before .
 
 slice-aggregate-put-events : tie.Need-slice-aggregate-put-events
 slice-aggregate-put-events c =
-    let c4 = c .before .before .before .before in
-    let c6 = c4 .before .before in
+    let c6 = c .before .before .before .before .before .before in
     let c7 = c6 .before in
     let a = c7 .before .before .before .before .before .args in
-    sym (length-take-le _ _ (lines-few (a .table .now) (a .ks .now) _ (c6 .held-len .result) (c7 .escaped-len .result) (c4 .fit-lines .ensures)))
+    sym (length-take-le _ _
+    (lines-few (a .table .now) (a .ks .now) _ (c6 .held-len .result) (c7 .escaped-len .result)
+    (c .before .before .before .before .fit-lines .ensures)))
 
 returns : tie.Need-returns
 returns c =
-    let c1 = c .before in
-    let c2 = c1 .before in
-    let c4 = c2 .before .before in
-    let c5 = c4 .before in
+    let c5 = c .before .before .before .before .before in
     let c10 = c5 .before .before .before .before .before in
-    lines-refused _ _ _ _ (c10 .pre) (c5 .escaped-len .ensures) (c4 .held-len .ensures) (c2 .fit-lines .ensures) (c1 .fit-row .ensures) (c .if1 .taken)
+    lines-refused _ _ _ _ (c10 .pre) (c5 .escaped-len .ensures) (c .before .before .before .before .held-len .ensures)
+    (c .before .before .fit-lines .ensures) (c .before .fit-row .ensures) (c .if1 .taken)
 
 returns-2 : tie.Need-returns-2
 returns-2 c =
-    let c2 = c .before .before in
-    let c5 = c2 .before .before .before in
-    let c6 = c5 .before in
-    let c7 = c6 .before in
-    let c9 = c7 .before .before in
-    let c10 = c9 .before in
+    let c5 = c .before .before .before .before .before in
+    let c10 = c5 .before .before .before .before .before in
     let c15 = c10 .before .before .before .before .before in
-    lines-sent _ _ _ _ (c15 .pre) (c10 .escaped-len .ensures) (c9 .held-len .ensures) (c7 .fit-lines .ensures) (c6 .fit-row .ensures) (c5 .if1 .left) (c2 .put-events .ensures)
+    lines-sent _ _ _ _ (c15 .pre) (c10 .escaped-len .ensures) (c5 .before .before .before .before .held-len .ensures)
+    (c5 .before .before .fit-lines .ensures) (c5 .before .fit-row .ensures) (c5 .if1 .left)
+    (c .before .before .put-events .ensures)
 
 pub send-spec : {M : Type 1} → statement M
 send-spec =

@@ -11,36 +11,21 @@ returns c =
 
 returns-2 : tie.Need-returns-2
 returns-2 c =
-    let c1 = c .before in
-    let c2 = c1 .before in
-    let c3 = c2 .before in
-    not-shown _ _ _ _ _ (c3 .subscription-row .ensures) (c2 .if1 .left) (c1 .shown-row .ensures) (c .if2 .taken)
+    not-shown _ _ _ _ _ (c .before .before .before .subscription-row .ensures) (c .before .before .if1 .left)
+    (c .before .shown-row .ensures) (c .if2 .taken)
 
 returns-3 : tie.Need-returns-3
 returns-3 c =
-    let c2 = c .before .before in
-    let c4 = c2 .before .before in
-    let c5 = c4 .before in
-    let c6 = c5 .before in
-    let c7 = c6 .before in
-    let c8 = c7 .before in
-    let c9 = c8 .before in
-    let c10 = c9 .before in
-    let c11 = c10 .before in
-    let c15 = c11 .before .before .before .before in
-    let a = c15 .args in slot-sent (a .table .now) (a .slot) (a .m .now) (a .sub) (a .out .now) (c11 .subscription-row .ensures) (c10 .if1 .left) (c9 .shown-row .ensures) (c8 .if2 .left) (c7 .slot .ensures) (c6 .piece .ensures) (c5 .slot-fits .ensures) (c4 .if3 .taken) (c2 .put-slot .ensures)
+    let c5 = c .before .before .before .before .before in
+    let c10 = c5 .before .before .before .before .before in
+    let c15 = c10 .before .before .before .before .before in
+    let a = c15 .args in slot-sent (a .table .now) (a .slot) (a .m .now) (a .sub) (a .out .now) (c10 .before .subscription-row .ensures) (c10 .if1 .left) (c5 .before .before .before .before .shown-row .ensures) (c5 .before .before .before .if2 .left) (c5 .before .before .slot .ensures) (c5 .before .piece .ensures) (c5 .slot-fits .ensures) (c .before .before .before .before .if3 .taken) (c .before .before .put-slot .ensures)
 
 returns-4 : tie.Need-returns-4
 returns-4 c =
-    let c1 = c .before in
-    let c2 = c1 .before in
-    let c3 = c2 .before in
-    let c4 = c3 .before in
-    let c5 = c4 .before in
-    let c6 = c5 .before in
-    let c7 = c6 .before in
-    let c11 = c7 .before .before .before .before in
-    let a = c11 .args in no-room (a .table .now) (a .slot) (a .m .now) (a .sub) (a .out .now) (c7 .subscription-row .ensures) (c6 .if1 .left) (c5 .shown-row .ensures) (c4 .if2 .left) (c3 .slot .ensures) (c2 .piece .ensures) (c1 .slot-fits .ensures) (c .if3 .left)
+    let c5 = c .before .before .before .before .before in
+    let c11 = c5 .before .before .before .before .before .before in
+    let a = c11 .args in no-room (a .table .now) (a .slot) (a .m .now) (a .sub) (a .out .now) (c5 .before .before .subscription-row .ensures) (c5 .before .if1 .left) (c5 .shown-row .ensures) (c .before .before .before .before .if2 .left) (c .before .before .before .slot .ensures) (c .before .before .piece .ensures) (c .before .slot-fits .ensures) (c .if3 .left)
 
 pub slot-event-spec : {M : Type 1} → statement M
 slot-event-spec =

@@ -12,17 +12,13 @@ returns c =
 
 returns-2 : tie.Need-returns-2
 returns-2 c =
-    let c1 = c .before in
-    let c2 = c1 .before in
-    let c3 = c2 .before in
-    no-text _ (c2 .le-at .ensures) (c3 .escaped-len .ensures) (c1 .if1 .left) (c .if2 .taken)
+    no-text _ (c .before .before .le-at .ensures) (c .before .before .before .escaped-len .ensures)
+    (c .before .if1 .left) (c .if2 .taken)
 
 returns-3 : tie.Need-returns-3
 returns-3 c =
-    let c1 = c .before in
-    let c2 = c1 .before in
-    let c3 = c2 .before in
-    rest-room _ (c2 .le-at .ensures) (c3 .escaped-len .ensures) (c1 .if1 .left) (c .if2 .left)
+    rest-room _ (c .before .before .le-at .ensures) (c .before .before .before .escaped-len .ensures)
+    (c .before .if1 .left) (c .if2 .left)
 
 pub slot-fits-spec : {M : Type 1} → statement M
 slot-fits-spec =

@@ -15,11 +15,9 @@ returns-3 c = too-short _ _ (c .before .before .if1 .left) (c .before .if2 .left
 
 returns-4 : tie.Need-returns-4
 returns-4 c =
-    let c2 = c .before .before in
-    let c4 = c2 .before .before in
-    let c5 = c4 .before in
-    let c6 = c5 .before in
-    fresh _ _ (c6 .if1 .left) (c5 .if2 .left) (c4 .if3 .left) (c2 .put-fresh .ensures)
+    let c5 = c .before .before .before .before .before in
+    fresh _ _ (c5 .before .if1 .left) (c5 .if2 .left) (c .before .before .before .before .if3 .left)
+    (c .before .before .put-fresh .ensures)
 
 pub format-spec : {M : Type 1} → statement M
 format-spec = tie.close (tie.spec returns returns-2 (search needs) (search needs) returns-3 (λ c κs. search needs) (search needs) returns-4)

@@ -11,22 +11,17 @@ returns c = not-sound _ (c .before .before .before .args .slot) (c .before .soun
 
 returns-2 : tie.Need-returns-2
 returns-2 c =
-    let c1 = c .before in
-    let c2 = c1 .before in
-    let c3 = c2 .before in
-    let c5 = c3 .before .before in
-    not-held _ (c5 .args .slot) (c3 .sound .ensures) (not-false _ (c2 .if1 .left)) (c1 .le-at .ensures .is) (c .if2 .taken)
+    let c5 = c .before .before .before .before .before in
+    not-held _ (c5 .args .slot) (c .before .before .before .sound .ensures) (not-false _ (c .before .before .if1 .left))
+    (c .before .le-at .ensures .is) (c .if2 .taken)
 
 returns-3 : tie.Need-returns-3
 returns-3 c =
-    let c1 = c .before in
-    let c2 = c1 .before in
-    let c3 = c2 .before in
-    let c4 = c3 .before in
-    let c5 = c4 .before in
-    let c7 = c5 .before .before in
-    text-shown _ (c7 .args .slot) (c5 .sound .ensures) (not-false _ (c4 .if1 .left)) (c3 .le-at .ensures .is) (c2 .if2 .left)
-    (c1 .piece .ensures) (c .le-at2 .ensures .is)
+    let c5 = c .before .before .before .before .before in
+    text-shown _ (c5 .before .before .args .slot) (c5 .sound .ensures)
+    (not-false _ (c .before .before .before .before .if1 .left)) (c .before .before .before .le-at .ensures .is)
+    (c .before .before .if2 .left)
+    (c .before .piece .ensures) (c .le-at2 .ensures .is)
 
 -- the slot is held, so it lies in the table
 mul-a : tie.Need-mul-a
@@ -45,10 +40,9 @@ add-a c =
 
 add-t8 : tie.Need-add-t8
 add-t8 c =
-    let c2 = c .before .before in
-    let c3 = c2 .before in
+    let c3 = c .before .before .before in
     let c5 = c3 .before .before in
-    let f = few _ (c5 .before .before .args .slot) (c5 .sound .ensures) (not-false _ (c3 .before .if1 .left)) (c3 .le-at .ensures .is) (c2 .if2 .left) in
+    let f = few _ (c5 .before .before .args .slot) (c5 .sound .ensures) (not-false _ (c3 .before .if1 .left)) (c3 .le-at .ensures .is) (c .before .before .if2 .left) in
     omega arith
 
 pub shown-at-spec : {M : Type 1} → statement M

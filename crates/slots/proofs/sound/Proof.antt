@@ -12,63 +12,42 @@ returns c = header-bad _ (c .before .header-sound .ensures) (not-true _ (c .if1 
 
 slots-sound-requires : tie.Need-slots-sound-requires
 slots-sound-requires c κs =
-    let c1 = c .before in
-    let c2 = c1 .before in
-    let c3 = c2 .before in
-    let f = few _ (c3 .header-sound .ensures) (not-false _ (c2 .if1 .left)) (c1 .le-at .ensures .is) (c .le-at2 .ensures .is) in
+    let f = few _ (c .before .before .before .header-sound .ensures) (not-false _ (c .before .before .if1 .left)) (c .before .le-at .ensures .is) (c .le-at2 .ensures .is) in
     omega arith
 
 returns-2 : tie.Need-returns-2
 returns-2 c =
-    let c1 = c .before in
-    let c2 = c1 .before in
-    let c4 = c2 .before .before in
-    let c5 = c4 .before in
-    slots-bad _ (c5 .header-sound .ensures) (not-false _ (c4 .if1 .left)) (c2 .le-at2 .ensures .is) (c1 .slots-sound .ensures)
+    let c5 = c .before .before .before .before .before in
+    slots-bad _ (c5 .header-sound .ensures) (not-false _ (c .before .before .before .before .if1 .left))
+    (c .before .before .le-at2 .ensures .is) (c .before .slots-sound .ensures)
     (not-true _ (c .if2 .taken))
 
 apart-requires : tie.Need-apart-requires
 apart-requires c κs =
-    let c2 = c .before .before in
-    let c3 = c2 .before in
-    let c4 = c3 .before in
-    let c5 = c4 .before in
-    let f = few _ (c5 .header-sound .ensures) (not-false _ (c4 .if1 .left)) (c3 .le-at .ensures .is) (c2 .le-at2 .ensures .is) in
+    let c5 = c .before .before .before .before .before in
+    let f = few _ (c5 .header-sound .ensures) (not-false _ (c .before .before .before .before .if1 .left)) (c .before .before .before .le-at .ensures .is) (c .before .before .le-at2 .ensures .is) in
     omega arith
 
 returns-3 : tie.Need-returns-3
 returns-3 c =
-    let c1 = c .before in
-    let c2 = c1 .before in
-    let c3 = c2 .before in
-    let c4 = c3 .before in
-    let c6 = c4 .before .before in
-    let c7 = c6 .before in
-    twice-held _ (c7 .header-sound .ensures) (not-false _ (c6 .if1 .left)) (c4 .le-at2 .ensures .is) (c3 .slots-sound .ensures)
-    (not-false _ (c2 .if2 .left)) (c1 .apart .ensures) (not-true _ (c .if3 .taken))
+    let c6 = c .before .before .before .before .before .before in
+    twice-held _ (c6 .before .header-sound .ensures) (not-false _ (c6 .if1 .left))
+    (c .before .before .before .before .le-at2 .ensures .is) (c .before .before .before .slots-sound .ensures)
+    (not-false _ (c .before .before .if2 .left)) (c .before .apart .ensures) (not-true _ (c .if3 .taken))
 
 sub-piece : tie.Need-sub-piece
 sub-piece c =
-    let c4 = c .before .before .before .before in
-    let c5 = c4 .before in
-    let c6 = c5 .before in
-    let c7 = c6 .before in
-    let f = few _ (c7 .header-sound .ensures) (not-false _ (c6 .if1 .left)) (c5 .le-at .ensures .is) (c4 .le-at2 .ensures .is) in
+    let c5 = c .before .before .before .before .before in
+    let f = few _ (c5 .before .before .header-sound .ensures) (not-false _ (c5 .before .if1 .left)) (c5 .le-at .ensures .is) (c .before .before .before .before .le-at2 .ensures .is) in
     omega arith
 
 returns-4 : tie.Need-returns-4
 returns-4 c =
-    let c1 = c .before in
-    let c2 = c1 .before in
-    let c3 = c2 .before in
-    let c4 = c3 .before in
-    let c5 = c4 .before in
-    let c6 = c5 .before in
-    let c7 = c6 .before in
-    let c8 = c7 .before in
-    let c9 = c8 .before in
-    later-decides _ (c9 .header-sound .ensures) (not-false _ (c8 .if1 .left)) (c6 .le-at2 .ensures .is) (c5 .slots-sound .ensures)
-    (not-false _ (c4 .if2 .left)) (c3 .apart .ensures) (not-false _ (c2 .if3 .left)) (c7 .le-at .ensures .is) (c1 .piece .ensures)
+    let c5 = c .before .before .before .before .before in
+    later-decides _ (c5 .before .before .before .before .header-sound .ensures)
+    (not-false _ (c5 .before .before .before .if1 .left)) (c5 .before .le-at2 .ensures .is) (c5 .slots-sound .ensures)
+    (not-false _ (c .before .before .before .before .if2 .left)) (c .before .before .before .apart .ensures)
+    (not-false _ (c .before .before .if3 .left)) (c5 .before .before .le-at .ensures .is) (c .before .piece .ensures)
     (c .is-zero .ensures)
 
 pub sound-spec : {M : Type 1} → statement M

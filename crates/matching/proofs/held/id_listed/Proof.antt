@@ -6,12 +6,11 @@ use Rattle.matching.proofs.held.id_listed.Tie as tie
 
 returns-2 : tie.Need-returns-2
 returns-2 c =
-    let c2 = c .before .before in
-    let c3 = c2 .before in
-    let c4 = c3 .before in
-    let c7 = c4 .before .before .before in
+    let c7 = c .before .before .before .before .before .before .before in
     let c11 = c7 .before .before .before .before in
-    id-given _ _ _ (c7 .ids .given .1) (c11 .shared-slice-known .given) (c11 .before .pre) (c4 .piece .ensures) (c2 .hex2 .given) (c3 .put-hex .ensures) (c .listed .ensures)
+    id-given _ _ _ (c7 .ids .given .1) (c11 .shared-slice-known .given) (c11 .before .pre)
+    (c .before .before .before .before .piece .ensures) (c .before .before .hex2 .given)
+    (c .before .before .before .put-hex .ensures) (c .listed .ensures)
 
 pub id-listed-spec : {M : Type 1} → statement M
 id-listed-spec =

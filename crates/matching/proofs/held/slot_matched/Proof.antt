@@ -17,52 +17,40 @@ returns c =
 
 returns-2 : tie.Need-returns-2
 returns-2 c =
-    let c1 = c .before in
-    let c2 = c1 .before in
-    let c3 = c2 .before in
-    let c4 = c3 .before in
-    let c5 = c4 .before in
+    let c5 = c .before .before .before .before .before in
     let c6 = c5 .before in
-    let c7 = c6 .before in
-    let c8 = c7 .before in
-    let c9 = c8 .before in
-    let c10 = c9 .before in
-    let a = c10 .before .before .before .before in
-    fields-differ (a .args .table .now) (a .pre .0) (a .args .k) (a .pre .1) (a .args .m .now) (a .args .row .now) (a .args .f) (c10 .slot .ensures)
-    (record { sfits = c6 .to-signed .ok }) (c7 .le-at .ensures .is) (c6 .to-signed .ensures) (c5 .le-at2 .ensures .is) (c4 .le-at3 .ensures .is) (c3 .piece .ensures)
-    (c9 .id-listed .ensures) (c8 .if1 .left) (c2 .piece2 .ensures) (c1 .fields-hold .ensures) (c .if2 .taken)
+    let a = c6 .before .before .before .before .before .before .before .before in
+    fields-differ (a .args .table .now) (a .pre .0) (a .args .k) (a .pre .1) (a .args .m .now) (a .args .row .now)
+    (a .args .f) (c6 .before .before .before .before .slot .ensures)
+    (record { sfits = c6 .to-signed .ok }) (c6 .before .le-at .ensures .is) (c6 .to-signed .ensures)
+    (c5 .le-at2 .ensures .is) (c .before .before .before .before .le-at3 .ensures .is)
+    (c .before .before .before .piece .ensures)
+    (c6 .before .before .before .id-listed .ensures) (c6 .before .before .if1 .left)
+    (c .before .before .piece2 .ensures) (c .before .fields-hold .ensures) (c .if2 .taken)
 
 tags-hold-requires : tie.Need-tags-hold-requires
 tags-hold-requires c κs =
-    let c1 = c .before in
-    let c2 = c1 .before in
-    let c3 = c2 .before in
-    let c4 = c3 .before in
-    let c5 = c4 .before in
+    let c5 = c .before .before .before .before .before in
     let c6 = c5 .before in
-    let c7 = c6 .before in
-    let c10 = c7 .before .before .before in
-    let a = c10 .before .before .before .before in
-    tags-there (a .args .table .now) (a .pre .0) (a .args .k) (a .pre .1) (a .args .m .now) (a .args .row .now) (a .args .f) (c10 .slot .ensures)
-    (record { sfits = c6 .to-signed .ok }) (c7 .le-at .ensures .is) (c6 .to-signed .ensures) (c5 .le-at2 .ensures .is) (c4 .le-at3 .ensures .is) (c3 .piece .ensures)
+    let a = c6 .before .before .before .before .before .before .before .before in
+    tags-there (a .args .table .now) (a .pre .0) (a .args .k) (a .pre .1) (a .args .m .now) (a .args .row .now)
+    (a .args .f) (c6 .before .before .before .before .slot .ensures)
+    (record { sfits = c6 .to-signed .ok }) (c6 .before .le-at .ensures .is) (c6 .to-signed .ensures)
+    (c5 .le-at2 .ensures .is) (c .before .before .before .before .le-at3 .ensures .is)
+    (c .before .before .before .piece .ensures)
 
 returns-3 : tie.Need-returns-3
 returns-3 c =
-    let c0 = c .before in
-    let c1 = c0 .before in
-    let c2 = c1 .before in
-    let c3 = c2 .before in
-    let c4 = c3 .before in
-    let c5 = c4 .before in
-    let c6 = c5 .before in
-    let c7 = c6 .before in
-    let c8 = c7 .before in
-    let c9 = c8 .before in
-    let c10 = c9 .before in
-    let a = c10 .before .before .before .before in
-    tags-decide (a .args .table .now) (a .pre .0) (a .args .k) (a .pre .1) (a .args .m .now) (a .args .row .now) (a .args .f) (c10 .slot .ensures)
-    (record { sfits = c6 .to-signed .ok }) (c7 .le-at .ensures .is) (c6 .to-signed .ensures) (c5 .le-at2 .ensures .is) (c4 .le-at3 .ensures .is) (c3 .piece .ensures)
-    (c9 .id-listed .ensures) (c8 .if1 .left) (c2 .piece2 .ensures) (c1 .fields-hold .ensures) (c0 .if2 .left) (c .tags-hold .ensures)
+    let c5 = c .before .before .before .before .before in
+    let c7 = c5 .before .before in
+    let a = c7 .before .before .before .before .before .before .before .before in
+    tags-decide (a .args .table .now) (a .pre .0) (a .args .k) (a .pre .1) (a .args .m .now) (a .args .row .now)
+    (a .args .f) (c7 .before .before .before .before .slot .ensures)
+    (record { sfits = c7 .to-signed .ok }) (c7 .before .le-at .ensures .is) (c7 .to-signed .ensures)
+    (c5 .before .le-at2 .ensures .is) (c5 .le-at3 .ensures .is) (c .before .before .before .before .piece .ensures)
+    (c7 .before .before .before .id-listed .ensures) (c7 .before .before .if1 .left)
+    (c .before .before .before .piece2 .ensures) (c .before .before .fields-hold .ensures) (c .before .if2 .left)
+    (c .tags-hold .ensures)
 
 pub slot-matched-spec : {M : Type 1} → statement M
 slot-matched-spec =
