@@ -223,14 +223,14 @@ pub fn string_row(b: &[u8], p: Span) -> u8
     lent::told(lent::string_rank(b, p))
 }
 
-// The same, and 7 where it is not k characters of lower-case hex.
+// The lowest of rows 2, 4, 5 and 7 that holds of a string part, lent in b, that must be k characters of lower-case hex; 0 where none does.
 pub fn hex_row(b: &[u8], p: Span, k: usize) -> u8
     ensures { λ r. ⌜ r ≡ hexRow k (now (b .entry)) p ⌝ }
 {
     lent::told(lent::hex_rank(b, p, k))
 }
 
-// The same, and 8 where it is no subscription id of 1 to 64 characters.
+// The lowest of rows 2, 4, 5 and 8 that holds of a string part, lent in b, that must be a subscription id; 0 where none does.
 pub fn subscription_row(b: &[u8], p: Span) -> u8
     ensures { λ r. ⌜ r ≡ subscriptionRow (now (b .entry)) p ⌝ }
 {
@@ -257,7 +257,7 @@ pub fn body_row(b: &[u8], p: Body) -> u8
     lent::told(lent::body_rank(b, p))
 }
 
-// The same of an event's parts.
+// The lowest of rows 2 and 4 to 8 that holds of an event's parts, lent in b; 0 where none does.
 pub fn event_row(b: &[u8], p: EventParts) -> u8
     ensures { λ r. ⌜ r ≡ eventRow (now (b .entry)) p ⌝ }
 {
@@ -273,7 +273,7 @@ pub fn event_row(b: &[u8], p: EventParts) -> u8
     ))
 }
 
-// The same of a filter's.
+// The lowest of rows 2 and 4 to 8 that holds of a filter's parts, lent in b; 0 where none does.
 pub fn filter_row(b: &[u8], p: FilterParts) -> u8
     ensures { λ r. ⌜ r ≡ filterRow (now (b .entry)) p ⌝ }
 {

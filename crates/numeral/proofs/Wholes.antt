@@ -11,8 +11,8 @@ use lib.Signed.{mag}
 use lib.ListN.{length, getD}
 use Rattle.numeral.specs.Decimal.{digits, decimal}
 use Rattle.wire.specs.Limits.{widest}
-use Rattle.numeral.specs.Whole.{isDigit, allDigits, valueFrom, valueOf, isEmpty, isNatural, malformed, whole, naturalOf, negativeOf, wholeOf, isWithin, answerOf}
-use Rattle.numeral.specs.declared.Whole.the-variants.{Value}
+use Rattle.numeral.specs.Whole.{isDigit, allDigits, valueFrom, valueOf, isEmpty, isNatural, Read, malformed, whole, naturalOf, negativeOf, wholeOf, isWithin, answerOf}
+use Rattle.numeral.specs.declared.Whole.the-variants.{Value, Large}
 use Rattle.numeral.proofs.Digits.{digits-one, digits-more, digits-all, digits-first, value-digits, digits-few, digits-20}
 
 and-true : (a b : Bool) → a && b ≡ true → (a ≡ true) × (b ≡ true)
@@ -108,6 +108,15 @@ decimal-once y z e = let a : whole y ≡ whole z = sym (whole-decimal y) ∙ ap 
 -- ---- within the widest range
 abbrev pub inRange : ℤ → Bool
 inRange z = isWithin (Value z) (negℤ (pos widest)) (pos widest)
+
+pub answer-value : (r : Read) (z : ℤ) → answerOf r ≡ Value z → (r ≡ whole z) × (inRange z ≡ true)
+unfolding answerOf
+answer-value malformed z e = absurd (let z : _≡_ {A = ℕ} 0 1 = cc in omega arith)
+answer-value (whole y) z e = go (inRange y) refl e
+  where
+    go : (t : Bool) → inRange y ≡ t → cond t (Value y) Large ≡ Value z → (whole y ≡ whole z) × (inRange z ≡ true)
+    go true q e = let k : y ≡ z = cc in (ap whole k, sym (ap inRange k) ∙ q)
+    go false q e = absurd (let z : _≡_ {A = ℕ} 0 1 = cc in omega arith)
 
 pub decimal-value : (z : ℤ) → inRange z ≡ true → answerOf (wholeOf (decimal z)) ≡ Value z
 unfolding answerOf

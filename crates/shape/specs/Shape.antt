@@ -35,7 +35,17 @@ nameAt s p = decode (spelledAt s p)
 abbrev pub named : List ℕ → List ℕ → ℕ → Bool
 named s w p = sameBytes (nameAt s p) w
 
--- id, pubkey, created_at, kind, tags, content, sig
+-- ---- "Each value has its JSON type, list and tag members included"
+abbrev pub isString : Json → Bool
+isString = onString (λ a n. true)
+
+abbrev pub isNumber : Json → Bool
+isNumber = onNumber (λ a n. true)
+
+abbrev pub isArrayOf : (Json → Bool) → Json → Bool
+isArrayOf f = onArray (allItems (λ p t. f t))
+
+-- ---- EVENT: "an object with id, pubkey, created_at, kind, tags, content, sig, each once, in any order, nothing else"
 abbrev pub idName : List ℕ
 idName = ascii "id"
 
@@ -57,53 +67,6 @@ contentName = ascii "content"
 abbrev pub sigName : List ℕ
 sigName = ascii "sig"
 
--- ids, authors, kinds, since, until, limit
-abbrev pub idsName : List ℕ
-idsName = ascii "ids"
-
-abbrev pub authorsName : List ℕ
-authorsName = ascii "authors"
-
-abbrev pub kindsName : List ℕ
-kindsName = ascii "kinds"
-
-abbrev pub sinceName : List ℕ
-sinceName = ascii "since"
-
-abbrev pub untilName : List ℕ
-untilName = ascii "until"
-
-abbrev pub limitName : List ℕ
-limitName = ascii "limit"
-
--- EVENT, REQ, CLOSE
-abbrev pub eventWord : List ℕ
-eventWord = ascii "EVENT"
-
-abbrev pub reqWord : List ℕ
-reqWord = ascii "REQ"
-
-abbrev pub closeWord : List ℕ
-closeWord = ascii "CLOSE"
-
--- "# with one letter a-z or A-Z"
-abbrev pub isLetter : ℕ → Bool
-isLetter b = (leb 97 b && leb b 122) || (leb 65 b && leb b 90)
-
-unfoldable pub isCondition : List ℕ → Bool
-isCondition w = eqb (length w) 2 && (eqb (getD w 0 0) 35 && isLetter (getD w 1 0))
-
--- ---- "Each value has its JSON type, list and tag members included"
-abbrev pub isString : Json → Bool
-isString = onString (λ a n. true)
-
-abbrev pub isNumber : Json → Bool
-isNumber = onNumber (λ a n. true)
-
-abbrev pub isArrayOf : (Json → Bool) → Json → Bool
-isArrayOf f = onArray (allItems (λ p t. f t))
-
--- ---- EVENT: "an object with id, pubkey, created_at, kind, tags, content, sig, each once, in any order, nothing else"
 unfoldable pub eventMember : List ℕ → ℕ → Json → Bool
 eventMember s p t =
     cond (named s idName p) (isString t)
@@ -122,6 +85,36 @@ isEvent s t = onObject (λ ts. allItems (eventMember s) ts &&
     (once s idName ts && (once s pubkeyName ts && (once s createdAtName ts && (once s kindName ts && (once s tagsName ts && (once s contentName ts && once s sigName ts))))))) t
 
 -- ---- "Filters may have ids, authors, kinds, since, until, limit and # with one letter a-z or A-Z, each at most once"
+-- lists: ids, authors, kinds, and those whose name is # with a letter
+abbrev pub idsName : List ℕ
+idsName = ascii "ids"
+
+abbrev pub authorsName : List ℕ
+authorsName = ascii "authors"
+
+abbrev pub kindsName : List ℕ
+kindsName = ascii "kinds"
+
+abbrev pub isLetter : ℕ → Bool
+isLetter b = (leb 97 b && leb b 122) || (leb 65 b && leb b 90)
+
+unfoldable pub isCondition : List ℕ → Bool
+isCondition w = eqb (length w) 2 && (eqb (getD w 0 0) 35 && isLetter (getD w 1 0))
+
+-- numbers: since, until, limit
+abbrev pub sinceName : List ℕ
+sinceName = ascii "since"
+
+abbrev pub untilName : List ℕ
+untilName = ascii "until"
+
+abbrev pub limitName : List ℕ
+limitName = ascii "limit"
+
+unfoldable pub noneTwice : List ℕ → Items → Bool
+noneTwice s nil = true
+noneTwice s (item p v t ts) = not (anyItem (λ q u. sameBytes (nameAt s q) (nameAt s p)) ts) && noneTwice s ts
+
 unfoldable pub filterMember : List ℕ → ℕ → Json → Bool
 filterMember s p t =
     cond (named s idsName p) (isArrayOf isString t)
@@ -132,14 +125,19 @@ filterMember s p t =
     (cond (named s limitName p) (isNumber t)
     (cond (isCondition (nameAt s p)) (isArrayOf isString t) false))))))
 
-unfoldable pub noneTwice : List ℕ → Items → Bool
-noneTwice s nil = true
-noneTwice s (item p v t ts) = not (anyItem (λ q u. sameBytes (nameAt s q) (nameAt s p)) ts) && noneTwice s ts
-
 unfoldable pub isFilter : List ℕ → Json → Bool
 isFilter s t = onObject (λ ts. allItems (filterMember s) ts && noneTwice s ts) t
 
 -- ---- the message: its first word, and the elements after it
+abbrev pub eventWord : List ℕ
+eventWord = ascii "EVENT"
+
+abbrev pub reqWord : List ℕ
+reqWord = ascii "REQ"
+
+abbrev pub closeWord : List ℕ
+closeWord = ascii "CLOSE"
+
 pub data Word : Type 0 where
   event req close other : Word
 
