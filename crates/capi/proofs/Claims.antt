@@ -16,7 +16,7 @@ use Rattle.digest.specs.declared.Finished.{Finished}
 use Rattle.digest.specs.Digest.{rest, digest, digestBytes}
 use Rattle.digest.specs.State.{most, countRow, stateAfter, stateOf, updated, finished}
 use Rattle.digest.specs.Parts.{length-first}
-use Rattle.digest.specs.Pieces.{joined, update-stands, finish-stands}
+use Rattle.digest.specs.Claims.{joined, update-stands, finish-stands}
 use Rattle.digest.specs.Bytes.{stateBytes}
 use Rattle.digest.specs.Back.{length-state, fed-back}
 use Rattle.message.specs.Read.{readOf, rowOf}

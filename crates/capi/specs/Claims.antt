@@ -7,7 +7,7 @@ use lib.Dec.{ltb}
 use lib.ListN.{length, drop}
 use Rattle.digest.specs.Digest.{digest}
 use Rattle.digest.specs.State.{most}
-use Rattle.digest.specs.Pieces.{joined}
+use Rattle.digest.specs.Claims.{joined}
 use Rattle.message.specs.Read.{readOf}
 use Rattle.message.specs.declared.EventParts.{EventParts}
 use Rattle.message.specs.declared.ReqParts.{ReqParts}

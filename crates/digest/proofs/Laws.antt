@@ -11,7 +11,7 @@ use Rattle.digest.specs.declared.Finished.{Finished}
 use Rattle.digest.specs.declared.Digest.{Digest}
 use Rattle.digest.specs.Block.{at, wordAt, next}
 use Rattle.digest.specs.State.{numberOf, countRow, updated, finished, digested}
-use Rattle.digest.specs.Pieces.{update-number, finish-number, digest-number}
+use Rattle.digest.specs.Claims.{update-number, finish-number, digest-number}
 
 -- the first n elements, one more of them
 pub filled : (w : List ℕ) (n m v : ℕ) {f : List ℕ} → take n w ≡ f → m ≡ suc n → n < length w → take m (set w n v) ≡ f ++ (v ∷ [])

@@ -6,6 +6,6 @@ pub mod Digest
 pub mod State
 pub mod Bytes
 pub mod Parts
-pub mod Pieces
+pub mod Claims
 pub mod Back
-pub mod Vectors
+pub mod Examples

@@ -16,7 +16,7 @@ use Rattle.wire.proofs.Laws.{length-put, puts-whole}
 use Rattle.digest.specs.Digest.{digest}
 use Rattle.digest.specs.State.{digested}
 use Rattle.digest.specs.declared.Digest.{Digest}
-use Rattle.digest.specs.Pieces.{digest-done}
+use Rattle.digest.specs.Claims.{digest-done}
 use Rattle.wire.specs.Bytes.{sameBytes}
 use Rattle.spell.specs.Spell.{decode}
 use Rattle.text.proofs.Places.{escape-none}
@@ -29,7 +29,7 @@ use Rattle.event.specs.declared.Identified.{Identified}
 use Rattle.event.specs.Lent.{said, textOf}
 use Rattle.event.specs.Answer.{orElse, isLarge, textRow, shortRow, serialisedRow, answered, serialised, numberOf, outputAfter, serialisedOut, hashedOf, identified, hexDigit, hexOf, hasId, offeredRow}
 use Rattle.event.specs.Answer.{offeredTextRow, offered, offeredOut}
-use Rattle.event.specs.Walk.{Tested}
+use Rattle.event.specs.Inner.{Tested}
 
 -- ---- a text's hash
 pub text-large : (t : List ℕ) → 4096 < length t → record { row = 9; id = replicate 32 0 } ≡ hashedOf t

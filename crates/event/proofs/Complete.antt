@@ -11,7 +11,7 @@ use Rattle.json.specs.declared.Out.the-variants.{Bad}
 use Rattle.message.specs.declared.Body.{Body}
 use Rattle.message.specs.declared.EventParts.{EventParts}
 use Rattle.message.specs.Lent.{lowest, onValue, isTags, string5, value5, body2, body4, body5, body6, body7, body8, bodyRow, event2, event4, event5, event7, eventRow}
-use Rattle.event.specs.Walk.{firstOf, firstTag}
+use Rattle.event.specs.Inner.{firstOf, firstTag}
 use Rattle.event.proofs.Decoded.{or-neither}
 
 -- row 5 does not hold where no row does

@@ -30,7 +30,7 @@ use Rattle.rows.specs.Strings.{part, spelledAt}
 use Rattle.text.specs.Event.{quoted}
 use Rattle.message.proofs.Walks.{never}
 use Rattle.event.specs.Lent.{stringOf, natural}
-use Rattle.event.specs.Walk.{Does, stringText}
+use Rattle.event.specs.Inner.{Does, stringText}
 
 -- ---- between quotes
 pub quoted-put : {d o₁ o₂ o₃ : List ℕ} {i a c r : ℕ} (v : List ℕ) → Puts d i (34 ∷ []) a o₁ → Puts o₁ a (escape v) c o₂ → Puts o₂ c (34 ∷ []) r o₃ → Puts d i (quoted v) r o₃

@@ -17,7 +17,7 @@ use Rattle.json.proofs.Trees.{tree-open}
 use Rattle.text.specs.Event.{membersText, tagText, tagsText}
 use Rattle.message.proofs.Walks.{never, bind-got}
 use Rattle.event.specs.Lent.{stringsOf, tagOf, tagsOf, tagsIn, tagsAt}
-use Rattle.event.specs.Walk.{Does, stringText, stringsText, oneTagText, allTagsText, firstOf, firstTag}
+use Rattle.event.specs.Inner.{Does, stringText, stringsText, oneTagText, allTagsText, firstOf, firstTag}
 use Rattle.event.proofs.Walks.{Printer, Chains}
 
 -- ---- the two printers

@@ -14,7 +14,7 @@ use Rattle.rows.specs.Strings.{part}
 use Rattle.text.specs.Event.{opening, closing, comma, bracket, quoted, tagsText, serialise}
 use Rattle.message.specs.declared.Body.{Body}
 use Rattle.event.specs.Lent.{natural, tagsAt, eventOf, textOf}
-use Rattle.event.specs.Walk.{frontText, backText}
+use Rattle.event.specs.Inner.{frontText, backText}
 
 regroup : (a b c d e f g h : List ℕ) → a ++ (b ++ (c ++ (d ++ (e ++ (f ++ (g ++ h)))))) ≡ (a ++ (b ++ (c ++ (d ++ (e ++ (f ++ g)))))) ++ h
 regroup a b c d e f g h = sym (simp append-assoc)

@@ -12,7 +12,7 @@ use Rattle.json.specs.Tree.{Json, Items, nil, item, Got, got, follow, itemsAt}
 use Rattle.json.specs.declared.Next.{Next}
 use Rattle.json.specs.declared.Next.the-variants.{More, Done, Wrong}
 use Rattle.message.proofs.Walks.{never, bind-got}
-use Rattle.event.specs.Walk.{puts, Counts, Does}
+use Rattle.event.specs.Inner.{puts, Counts, Does}
 
 -- an array's items from i on, of at most f, up to n
 pub data Walk (value : ℕ → Got Json) (s : List ℕ) : ℕ → ℕ → Items → ℕ → Type 0 where

@@ -6,7 +6,7 @@ ghost use lib.ListN.{length};
 ghost use Rattle.json.specs.Tree.{treeAt, itemsAt};
 ghost use Rattle.text.specs.Event.{tagsText};
 ghost use Rattle.event.specs.Lent.{tagsAt};
-ghost use Rattle.event.specs.Walk.{tagDepth, stringDepth, Counts, mostLength, lengthOf, Does, stringText, stringsText, oneTagText, allTagsText};
+ghost use Rattle.event.specs.Inner.{tagDepth, stringDepth, Counts, mostLength, lengthOf, Does, stringText, stringsText, oneTagText, allTagsText};
 use crate::Reached;
 use crate::writing;
 

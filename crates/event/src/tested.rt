@@ -5,7 +5,7 @@ ghost use Rattle.wire.specs.Bytes.{sameBytes};
 ghost use Rattle.message.specs.Lent.{eventRow};
 ghost use Rattle.message.specs.declared.Message.the-variants.{Event};
 ghost use Rattle.event.specs.Lent.{said};
-ghost use Rattle.event.specs.Walk.{Tested};
+ghost use Rattle.event.specs.Inner.{Tested};
 ghost use Rattle.event.specs.Answer.{hexOf, hashedOf, shortRow, answered, outputAfter, numberOf};
 ghost use Rattle.event.specs.Answer.{offeredTextRow, offered, offeredOut};
 ghost use Rattle.event.specs.Sent.{unreadRow, sentRowOf, sentTextOf, sentOutOf, sentTextNumber};

@@ -8,7 +8,7 @@ ghost use Rattle.json.specs.Grammar.{case, startAt};
 ghost use Rattle.json.specs.Tree.{endOf, treeAt, itemsAt};
 ghost use Rattle.text.specs.Event.{tagsText};
 ghost use Rattle.event.specs.Lent.{tagsAt, textOf};
-ghost use Rattle.event.specs.Walk.{tagDepth, stringDepth, puts, Does, firstOf, firstTag, frontText, backText, stringText, stringsText, oneTagText, allTagsText};
+ghost use Rattle.event.specs.Inner.{tagDepth, stringDepth, puts, Does, firstOf, firstTag, frontText, backText, stringText, stringsText, oneTagText, allTagsText};
 ghost use Rattle.event.specs.Answer.{hexDigit};
 use crate::Reached;
 use json::Out;

@@ -18,7 +18,7 @@ use Rattle.law.specs.Lists.{any}
 use Rattle.reply.specs.Program.{tableAfter}
 use Rattle.reply.specs.Feed.{State, mostLine, kept, isEnd, afterByte, afterBytes, before, usedOf, turnState}
 use Rattle.reply.proofs.Feed.{in-pieces}
-use Rattle.feed.specs.Steps.{NoEnd, EndFrom, grown, Keeps, Joins}
+use Rattle.feed.specs.Inner.{NoEnd, EndFrom, grown, Keeps, Joins}
 
 -- ---- a turn of the search for a line's end: x is the whole answer
 module _ (p : List ℕ) (x i : ℕ) where

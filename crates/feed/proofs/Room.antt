@@ -18,7 +18,7 @@ use Rattle.table.proofs.Stored.{stored-capacity}
 use Rattle.reply.specs.Program.{tableIn, tableAfter}
 use Rattle.reply.specs.Respond.{response, respondRow}
 use Rattle.reply.specs.Feed.{isEnd, kept, lastLine, saidLast, before, turnRow, turnState, turnTable}
-use Rattle.reply.specs.Answering.{enoughFor}
+use Rattle.reply.specs.Claims.Respond.{enoughFor}
 use Rattle.reply.proofs.Respond.{fits-if}
 use Rattle.reply.proofs.Feed.{turn-means, turn-row-is}
 use Rattle.reply.proofs.Enough.{enough}

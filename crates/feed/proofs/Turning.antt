@@ -21,7 +21,7 @@ use Rattle.reply.specs.declared.Turned.the-variants as turning
 use Rattle.reply.proofs.Respond.{fits-if, responded-means}
 use Rattle.reply.proofs.Feed.{kept-same, turn-means, turn-row-is}
 use Rattle.feed.specs.Finish.{finishText, finishRow, finished, finishTable, finishOut, lastTable}
-use Rattle.feed.specs.Steps.{grown, Keeps, Answers}
+use Rattle.feed.specs.Inner.{grown, Keeps, Answers}
 use Rattle.feed.proofs.Lines.{within, whole, so-far, state-unended, state-ended}
 
 -- ---- one message answered

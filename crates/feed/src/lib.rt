@@ -7,7 +7,7 @@ ghost use lib.ListN.{length};
 ghost use Rattle.event.specs.Answer.{numberOf};
 ghost use Rattle.reply.specs.Feed.{mostLine, before, turned, turnRow, turnTable, turnLine, turnOut, turnedNumber};
 ghost use Rattle.feed.specs.Finish.{finished, finishRow, finishTable, finishOut};
-ghost use Rattle.feed.specs.Steps.{NoEnd, EndFrom, grown, Keeps, Joins, Answers};
+ghost use Rattle.feed.specs.Inner.{NoEnd, EndFrom, grown, Keeps, Joins, Answers};
 use event::Written;
 use reply::Turned;
 

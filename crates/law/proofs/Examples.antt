@@ -14,7 +14,7 @@ use Rattle.law.specs.Table.{Table, Offer, verdict, after, Valid, Held, I
 use Rattle.wire.specs.Bytes.{sameBytes}
 use Rattle.law.specs.Event.{Event, newer, events}
 use Rattle.law.specs.Signature.{withSignature}
-use Rattle.law.specs.Machine.{Machine, Demand3On, ExchangesOn}
+use Rattle.law.specs.Demand3.{Machine, Demand3On, ExchangesOn}
 use Rattle.law.proofs.Run.{run, verdicts, lacks}
 use Rattle.law.proofs.Relays.{Relay, moment, end, Tells, Exchange, both, Fits}
 use Rattle.law.proofs.Machine.{Faithful, demand-3-on, exchanges-on}

@@ -11,10 +11,10 @@ use lib.ListN.{length, length-map}
 use Rattle.law.specs.Lists.{_∈_}
 use Rattle.law.specs.Table.{Events, Laws, isNoRoom, Offer, verdict, after, Valid, Held, IdPremise, Settled}
 use Rattle.law.specs.Signature.{Slot, withSignature, event, withoutSignature}
-use Rattle.law.specs.Machine.{Machine, view, judged, runOn, answersOn, lacksOn, NoneLacksOn}
-use Rattle.law.specs.Machine.{HeldSetOn, BeginningsOn, OrderFreeOn, RoomLawOn, StoredBy, SignatureStoredOn, SignatureStaysOn}
-use Rattle.law.specs.Machine.{RelayOn, toldOn, momentOn, endOn, FitsOn, TellsOn, ExchangeOn}
-use Rattle.law.specs.Machine.{RelaysAgreeOn, RelaysFitOn, ExchangesOn, Demand3On}
+use Rattle.law.specs.Demand3.{Machine, view, judged, runOn, answersOn, lacksOn, NoneLacksOn}
+use Rattle.law.specs.Demand3.{HeldSetOn, BeginningsOn, OrderFreeOn, RoomLawOn, StoredBy, SignatureStoredOn, SignatureStaysOn}
+use Rattle.law.specs.Demand3.{RelayOn, toldOn, momentOn, endOn, FitsOn, TellsOn, ExchangeOn}
+use Rattle.law.specs.Demand3.{RelaysAgreeOn, RelaysFitOn, ExchangesOn, Demand3On}
 use Rattle.law.proofs.Run.{run, verdicts, lacks}
 use Rattle.law.proofs.Sound.{StoredIn, run-from}
 use Rattle.law.proofs.Law.{held-set, beginnings, order-free, room-law, Enough, enough-law}

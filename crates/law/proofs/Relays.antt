@@ -11,7 +11,7 @@ use Rattle.law.proofs.Held.{puts}
 use Rattle.law.proofs.Room.{puts-grow, puts-append, fits-run, short-fits}
 use Rattle.law.proofs.Law.{settled-same, settled-count, ids-among, wins-among, Enough, enough-count, beginning-fits, held-set, enough-law}
 
--- ---- two relays, as in specs/Machine
+-- ---- two relays, as in specs/Demand3
 
 module _ (E : Events) where
   open Events E using (Event)

@@ -12,7 +12,7 @@ use Rattle.law.specs.Lists.{_∈_}
 use Rattle.law.specs.Table.{regular, Events, Laws, stored, duplicate, firstOf}
 use Rattle.law.specs.Table.{Offer, verdict, after, Valid, IdPremise, Held, Settled, slotsNeeded}
 use Rattle.law.specs.Signature.{Slot, withSignature, event, withoutSignature}
-use Rattle.law.specs.Machine.{Machine, view, judged, runOn, lacksOn, HeldSetOn, RoomLawOn, SignatureStoredOn}
+use Rattle.law.specs.Demand3.{Machine, view, judged, runOn, lacksOn, HeldSetOn, RoomLawOn, SignatureStoredOn}
 use Rattle.law.proofs.Law.{settled-count}
 use Rattle.law.proofs.Signature.{signed-laws}
 use Rattle.law.proofs.Machine.{Faithful}

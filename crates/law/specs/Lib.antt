@@ -1,9 +1,9 @@
 -- Demand 3: what a list of offers leaves in a relay's table, whatever the order of the offers.
 -- Table has what one offer does and what a list should leave, Event the events at bytes, Signature the slots with their signatures, and Machine
 -- the claims for a relay in any form.
--- To read demand 3 at the bytes: Table, Signature, Machine, and then table/specs/Relay. RelaysFitOn and ExchangesOn are beyond demand 3.
+-- To read demand 3 at the bytes: Table, Signature, Machine, and then table/specs/Demand3. RelaysFitOn and ExchangesOn are beyond demand 3.
 pub mod Lists
 pub mod Table
 pub mod Event
 pub mod Signature
-pub mod Machine
+pub mod Demand3

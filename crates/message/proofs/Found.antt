@@ -19,7 +19,7 @@ use Rattle.message.specs.declared.Listed.the-variants.{Absent, At}
 use Rattle.message.specs.declared.Members.{Members}
 use Rattle.message.specs.Lists.{within}
 use Rattle.message.specs.Parts.{Member, missing, member, memberOf, nowhere, spanOf, numberOf, spanIn, numberIn, placeIn, boundIn, listedIn, bodyOf, eventOf, filterOf, membersGot, membersAt, eventAt, filterAt}
-use Rattle.message.specs.Steps.{kept, stepOf, noMembers, foundIn, onStart, leafAt, gotOr, spanAt, numberAt, spanFound, numberFound, boundFound, filterFound, placeFound, bodyFound}
+use Rattle.message.specs.Inner.{kept, stepOf, noMembers, foundIn, onStart, leafAt, gotOr, spanAt, numberAt, spanFound, numberFound, boundFound, filterFound, placeFound, bodyFound}
 use Rattle.message.proofs.Walks.{Walk, last, more, walk-of}
 
 -- ---- a fold over the members of the object at a place, where a value begins

@@ -25,7 +25,7 @@ use Rattle.message.specs.Parts.{Member, missing, member, memberOf, spanI
 use Rattle.message.specs.Lists.{within, elementsFrom, placesOf}
 use Rattle.message.specs.Read.{partsOf, inRoot, readOf}
 use Rattle.message.specs.Lent.{string7, time6, small6, onValue, valueAt, value2, value4, value5, isTags, body2, body4, body5, body6, body7, body8, event2, event4, event5, event7, eventRow, inList, inBound, someHex, someSmall, filter2, filter4, filter5, filter6, filter7, filter8, filterRow}
-use Rattle.message.specs.Passes.{EventPasses, filtersOf, FiltersPass, FiltersCounted}
+use Rattle.message.specs.Claims.{EventPasses, filtersOf, FiltersPass, FiltersCounted}
 use Rattle.message.proofs.Walks.{Walk, more, deeper}
 use Rattle.message.proofs.Elements.{Group, filled, group-of, walk-places, walk-first}
 use Rattle.message.proofs.Found.{Reads, walk-reads, members-read}

@@ -32,7 +32,7 @@ use Rattle.shape.specs.declared.Sort.{Sort}
 use Rattle.shape.specs.declared.Sort.the-variants.{Tags, Hexes, Smalls, Filter}
 use Rattle.message.specs.Lent.{lowest, lowerRow, bytesOf, isInside, isSpelled, string2, string4, string5, string7, subscription8, onValue, valueAt, value2, value4, value5, wrongNumber, time6, small6, inList, inBound, body2, body4, body5, body6, body7, body8, event2, event4, event5, event7, eventRow, filter2, filter4, filter5, filter6, filter7, filter8, filterRow}
 use Rattle.shape.specs.Values.{ownText, fits, sort6, sort7, sort8, sortRow, gotRow, valueRow}
-use Rattle.message.specs.Steps.{rank, toldOf, rankOf, Lowest, ValueRank, ListRank}
+use Rattle.message.specs.Inner.{rank, toldOf, rankOf, Lowest, ValueRank, ListRank}
 
 -- ---- joined by the least: row 2 here, the others as in a message
 first : (a b : Bool) (x y : ℕ) → 2 ≤ x → 2 ≤ y → min (cond a 2 x) (cond b 2 y) ≡ cond (a || b) 2 (min x y)

@@ -29,7 +29,7 @@ use Rattle.message.specs.declared.Named.the-variants as names
 use Rattle.message.specs.Lists.{firstOf, within, nextOf}
 use Rattle.message.specs.Parts.{memberOf, spanOf, spanIn, membersOf, membersGot, membersAt, eventOf, eventAt}
 use Rattle.message.specs.Read.{firstOf as firstElement, secondPlace, partsOf, inRoot, readOf, rowOf, RowRead, idNamed, subscriptionNamed, namedIn, namedRoot, isEarly, namedOf}
-use Rattle.message.specs.Steps.{spanAt, openingOf, openingAt, elementPlace, wordPlace, secondFrom, partsAt, labelNamed, namedAt}
+use Rattle.message.specs.Inner.{spanAt, openingOf, openingAt, elementPlace, wordPlace, secondFrom, partsAt, labelNamed, namedAt}
 use Rattle.message.proofs.Walks.{never, bind-got, deeper}
 use Rattle.message.proofs.Scalars.{scalar-string}
 use Rattle.message.proofs.Elements.{group-of, firstPlace, Listing, end, one, array-listing}

@@ -10,7 +10,7 @@ use Rattle.json.specs.declared.Kind.{Kind}
 use Rattle.json.specs.declared.Kind.the-variants.{Str, Num, Word, None}
 use Rattle.json.specs.declared.Start.{Start}
 use Rattle.json.specs.declared.Start.the-variants.{Leaf, Empty, Many}
-use Rattle.message.specs.Steps.{onStart, leafAt}
+use Rattle.message.specs.Inner.{onStart, leafAt}
 
 pub scalar-string : (s : List ℕ) (v n : ℕ) → scalarAt s v ≡ Str n → stringAt s v ≡ End n
 unfolding scalarAt

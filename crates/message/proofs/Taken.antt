@@ -15,8 +15,8 @@ use Rattle.message.specs.declared.Element.{Element}
 use Rattle.message.specs.declared.Element.the-variants.{At, Ended, Broken}
 use Rattle.message.specs.Lists.{nextOf, upTo, elementsFrom}
 use Rattle.message.specs.Parts.{filterAt, noFilter, firstFour, filtersAt}
-use Rattle.message.specs.Passes.{filtersOf, FiltersTaken}
-use Rattle.message.specs.Steps.{followingOf, filterIn}
+use Rattle.message.specs.Claims.{filtersOf, FiltersTaken}
+use Rattle.message.specs.Inner.{followingOf, filterIn}
 use Rattle.message.proofs.Elements.{upTo-ended, upTo-broken}
 use Rattle.message.proofs.Passes.{filters-counted}
 

@@ -16,7 +16,7 @@ use Rattle.message.specs.declared.Element.the-variants.{At}
 use Rattle.message.specs.Lists.{firstOf, within}
 use Rattle.message.specs.Parts.{spanOf}
 use Rattle.message.specs.Read.{isEventWord, isEvent}
-use Rattle.message.specs.Steps.{spanAt, isEventAt}
+use Rattle.message.specs.Inner.{spanAt, isEventAt}
 use Rattle.message.proofs.Elements.{group-of, Listing, one, array-listing, firstIn, first-in}
 use Rattle.message.proofs.Found.{span-is}
 

@@ -3,5 +3,5 @@ pub mod Parts
 pub mod Lists
 pub mod Read
 pub mod Lent
-pub mod Passes
-pub mod Steps
+pub mod Claims
+pub mod Inner

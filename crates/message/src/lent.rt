@@ -5,7 +5,7 @@ ghost use Rattle.spell.specs.Spell.{characterCount};
 ghost use Rattle.wire.specs.Limits.{mostCharacters};
 ghost use Rattle.shape.specs.Rows.{outside};
 ghost use Rattle.message.specs.Lent.{bytesOf, isInside, string2, string4, string5, string7, subscription8, wrongNumber, inBound, body2, body4, body5, body6, body7, body8};
-ghost use Rattle.message.specs.Steps.{toldOf, rankOf, Lowest, ValueRank, ListRank};
+ghost use Rattle.message.specs.Inner.{toldOf, rankOf, Lowest, ValueRank, ListRank};
 use crate::Body;
 use crate::Bound;
 use crate::Listed;

@@ -3,7 +3,7 @@ ghost use mathlib.Core.Path.{_≡_};
 ghost use mathlib.Core.Bool.{cond};
 ghost use Rattle.shape.specs.Shape.{sigName};
 ghost use Rattle.message.specs.Parts.{membersAt};
-ghost use Rattle.message.specs.Steps.{kept, stepOf, noMembers, foundIn};
+ghost use Rattle.message.specs.Inner.{kept, stepOf, noMembers, foundIn};
 use crate::Listed;
 use crate::Members;
 use json::Next;

@@ -2,7 +2,7 @@
 ghost use mathlib.Core.Path.{_≡_};
 ghost use Prim.Native.Nat.{_-_};
 ghost use Rattle.message.specs.Parts.{valueOf, eventAt};
-ghost use Rattle.message.specs.Steps.{leafAt, spanAt, numberAt, spanFound, numberFound, boundFound, filterFound, placeFound, bodyFound};
+ghost use Rattle.message.specs.Inner.{leafAt, spanAt, numberAt, spanFound, numberFound, boundFound, filterFound, placeFound, bodyFound};
 use crate::Body;
 use crate::Bound;
 use crate::EventParts;

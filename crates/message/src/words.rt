@@ -7,7 +7,7 @@ ghost use Rattle.message.specs.declared.Element.the-variants.{At};
 ghost use Rattle.message.specs.Parts.{noFilter};
 ghost use Rattle.message.specs.Lists.{elementsFrom};
 ghost use Rattle.message.specs.Read.{idNamed, isEarly};
-ghost use Rattle.message.specs.Steps.{openingAt, elementPlace, wordPlace, secondFrom, isEventAt, partsAt, followingOf, filterIn, labelNamed, namedAt};
+ghost use Rattle.message.specs.Inner.{openingAt, elementPlace, wordPlace, secondFrom, isEventAt, partsAt, followingOf, filterIn, labelNamed, namedAt};
 use crate::Element;
 use crate::FilterParts;
 use crate::Listed;

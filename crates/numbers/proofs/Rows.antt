@@ -31,7 +31,7 @@ use Rattle.message.specs.declared.Message.the-variants.{Event, Req, Refused}
 use Rattle.message.specs.Lists.{moreOf, within, nextOf, upTo, elementsFrom}
 use Rattle.message.specs.Parts.{memberOf, membersOf, bodyOf, eventOf, filterAt, noFilter, filtersAt, filterOf}
 use Rattle.message.specs.Lent.{onValue, valueAt, value5, filterRow}
-use Rattle.message.specs.Passes.{filtersOf}
+use Rattle.message.specs.Claims.{filtersOf}
 use Rattle.message.specs.Read.{firstOf, partsOf, inRoot, readOf, rowOf, isEarly}
 use Rattle.message.proofs.Elements.{Group, hollow, filled, group-of}
 use Rattle.message.proofs.Reading.{Shaped, shaped, late-shaped, Begun, begun, begun-of, row-read}

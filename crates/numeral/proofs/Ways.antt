@@ -22,7 +22,7 @@ use Rattle.wire.proofs.Laws.{puts-then}
 use Rattle.numeral.specs.Decimal.{digits, decimal}
 use Rattle.wire.specs.Limits.{widest}
 use Rattle.numeral.specs.Whole.{isDigit, allDigits, valueFrom, valueOf, isNatural, malformed, whole, naturalOf, negativeOf, wholeOf, isWithin, answerOf}
-use Rattle.numeral.specs.Sum.{over, digitsSum, naturalSum, aboveOf, belowOf}
+use Rattle.numeral.specs.Inner.{over, digitsSum, naturalSum, aboveOf, belowOf}
 use Rattle.numeral.specs.declared.Whole.{Whole}
 use Rattle.numeral.specs.declared.Whole.the-variants.{Value, Malformed}
 use Rattle.numeral.specs.declared.Natural.{Natural}

@@ -1,5 +1,5 @@
 -- Whole numbers: how they are written, and which spellings are taken. Sum is what private functions hand on.
 pub mod Decimal
 pub mod Whole
-pub mod Sum
+pub mod Inner
 pub mod Examples

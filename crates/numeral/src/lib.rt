@@ -6,7 +6,7 @@ ghost use lib.ListN.{length, drop};
 ghost use Rattle.wire.specs.Put.{Puts};
 ghost use Rattle.numeral.specs.Decimal.{digits, decimal};
 ghost use Rattle.numeral.specs.Whole.{wholeOf, answerOf, isWithin};
-ghost use Rattle.numeral.specs.Sum.{over, digitsSum, naturalSum, aboveOf, belowOf};
+ghost use Rattle.numeral.specs.Inner.{over, digitsSum, naturalSum, aboveOf, belowOf};
 
 // What a spelling says: a number of 01's widest range, one beyond it on either side, or none.
 pub enum Whole {

@@ -10,11 +10,11 @@ use lib.Dec.{T, eqb}
 use lib.ListN.{length}
 use Rattle.law.specs.Lists.{_∈_, any}
 use Rattle.law.specs.Table.{IdPremise, isNoRoom, noRoom, refused, isStored as isStoredVerdict}
-use Rattle.law.specs.Machine.{RelayOn, StoredBy, runOn, answersOn, lacksOn, NoneLacksOn}
+use Rattle.law.specs.Demand3.{RelayOn, StoredBy, runOn, answersOn, lacksOn, NoneLacksOn}
 use Rattle.table.specs.Layout.{capacityOf, countOf}
 use Rattle.table.specs.Events.{Signature, SignedEvent, tableEvents, view}
 use Rattle.table.specs.Offer.{Offering, judge, answer, numberOf, isStored, next}
-use Rattle.table.specs.Relay.{relay, verdictOf}
+use Rattle.table.specs.Demand3.{relay, verdictOf}
 use Rattle.table.specs.declared.Offered.{Offered}
 use Rattle.table.specs.declared.Offered.the-variants.{Ephemeral, Duplicate, Older, Stored, Refused}
 use Rattle.table.proofs.Demand3.{demand-3}

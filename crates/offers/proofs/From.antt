@@ -34,7 +34,7 @@ use Rattle.event.proofs.Sent.{some-row, sent-wrote, sent-refused}
 use Rattle.table.specs.Layout.{slotSize, textPlace, slotBytes}
 use Rattle.table.specs.Offer.{messageOfferRow, partsIn, partsOf, heldOf}
 use Rattle.table.proofs.Rows.{message-rows, event-rows}
-use Rattle.offers.specs.Slot.{SpellsHex, headOf}
+use Rattle.offers.specs.Inner.{SpellsHex, headOf}
 use Rattle.offers.specs.Taken.{Made, Makes}
 use Rattle.offers.proofs.Makes.{lentPart, given, lent-most, ready, made}
 

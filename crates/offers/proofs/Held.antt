@@ -27,7 +27,7 @@ use Rattle.table.proofs.Stored.{length-view}
 use Rattle.slots.specs.Slots.{hasKeyIn, pubkeyIn, dBytesIn, sameIdIn, sameKeyIn, from}
 use Rattle.slots.proofs.Pairs.{any-map, any-as, none-map, none-as}
 use Rattle.slots.proofs.Keys.{key-same}
-use Rattle.offers.specs.Slot.{newerIn, dLast, slotOf}
+use Rattle.offers.specs.Inner.{newerIn, dLast, slotOf}
 use Rattle.offers.proofs.First.{find-map, find-as, find-any, first-decides}
 
 -- ---- keys of slots

@@ -40,7 +40,7 @@ use Rattle.event.proofs.Answers.{offered-small, row-alone-most}
 use Rattle.table.specs.Layout.{Held, Fits, slotSize, textPlace, dIfAddressable, dPlace, textBytes, slotBytes}
 use Rattle.table.specs.Offer.{asParts, heldOf, isValid}
 use Rattle.table.proofs.Valid.{clean, valid-fits}
-use Rattle.offers.specs.Slot.{SpellsHex, ifAddressable, numbersOf, headOf}
+use Rattle.offers.specs.Inner.{SpellsHex, ifAddressable, numbersOf, headOf}
 
 -- ---- the front of an array that something was put into whole
 module _ {d s o : List ℕ} {n m : ℕ} (room : length o ≡ m) (p : Puts d 0 s n o) (h : length s ≤ m) where

@@ -25,7 +25,7 @@ use Rattle.table.proofs.Distinct.{class-lasts}
 use Rattle.table.proofs.Stored.{length-view}
 use Rattle.table.proofs.Faithful.{answer-invalid, answer-unsound, answer-valid}
 use Rattle.offers.specs.Row.{needsSlot, allInUse, offerRow}
-use Rattle.offers.specs.Slot.{New, answerFor, slotOf, storedFor, offeredTo, offeredNext}
+use Rattle.offers.specs.Inner.{New, answerFor, slotOf, storedFor, offeredTo, offeredNext}
 
 -- ---- the slot of an event that a slot has room for
 pub new-slot : (h : Held) → Fits h → New (slotBytes h)

@@ -24,7 +24,7 @@ use Rattle.table.specs.declared.Offered.{Offered}
 use Rattle.table.specs.declared.Offered.the-variants.{Stored, Refused}
 use Rattle.table.proofs.Bytes.{clauses}
 use Rattle.table.proofs.Stored.{length-view}
-use Rattle.offers.specs.Slot.{New, answerFor, offeredTo, slotOf, DecidedAs, Decides, HasRoom, countFrom, storedFor, offeredNext}
+use Rattle.offers.specs.Inner.{New, answerFor, offeredTo, slotOf, DecidedAs, Decides, HasRoom, countFrom, storedFor, offeredNext}
 use Rattle.offers.specs.declared.Decided.{Decided}
 use Rattle.offers.specs.declared.Decided.the-variants.{Fills, Answered}
 use Rattle.offers.proofs.First.{find-most}

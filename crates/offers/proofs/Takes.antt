@@ -14,7 +14,7 @@ use Rattle.event.specs.declared.SentText.the-variants as sent
 use Rattle.table.specs.Offer.{asMessage, answer, numberOf, next}
 use Rattle.table.specs.declared.Offered.{Offered}
 use Rattle.table.specs.declared.Offered.the-variants as offered
-use Rattle.offers.specs.Slot.{New, offeredTo, offeredNext}
+use Rattle.offers.specs.Inner.{New, offeredTo, offeredNext}
 use Rattle.offers.specs.Taken.{takenAs, taken, takenNumber, takenRowAs, takenRow, tableAs, takenTable, Makes}
 use Rattle.offers.specs.declared.Taken.{Taken}
 use Rattle.offers.specs.declared.Taken.the-variants as takes

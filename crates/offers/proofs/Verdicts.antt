@@ -24,7 +24,7 @@ use Rattle.table.specs.declared.Offered.the-variants.{Ephemeral, Duplicate, Old
 use Rattle.table.proofs.Stored.{length-view}
 use Rattle.table.proofs.Shown.{slot-entry}
 use Rattle.slots.specs.Slots.{sameIdIn, sameKeyIn, from}
-use Rattle.offers.specs.Slot.{newerIn, New, answerFor, slotOf, Decides}
+use Rattle.offers.specs.Inner.{newerIn, New, answerFor, slotOf, Decides}
 use Rattle.offers.specs.declared.Decided.{Decided}
 use Rattle.offers.specs.declared.Decided.the-variants.{Fills, Answered}
 use Rattle.offers.proofs.Held.{ids, slot-is, keys, newers}

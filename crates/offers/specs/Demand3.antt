@@ -12,13 +12,13 @@ use Rattle.digest.specs.Digest.{digest}
 use Rattle.text.specs.Event.{Event, serialise}
 use Rattle.law.specs.Lists.{_∈_, any}
 use Rattle.law.specs.Table.{Offer, Table, IdPremise, SameValid, SameHeld, Settled, slotsNeeded}
-use Rattle.law.specs.Machine.{RelayOn, ExchangeOn, judged}
-use Rattle.law.specs.Machine as law
+use Rattle.law.specs.Demand3.{RelayOn, ExchangeOn, judged}
+use Rattle.law.specs.Demand3 as law
 use Rattle.table.specs.Layout.{countOf}
 use Rattle.table.specs.Events.{Signature, SignedEvent, tableEvents, view}
 use Rattle.table.specs.Offer.{Offering, isValid, offeredOf, judge, answer, numberOf, next}
 use Rattle.table.specs.Format.{formatRow, formatted}
-use Rattle.table.specs.Relay.{Fresh, relay}
+use Rattle.table.specs.Demand3.{Fresh, relay}
 use Rattle.table.specs.declared.Offered.{Offered}
 use Rattle.table.specs.declared.Offered.the-variants.{Stored}
 use Rattle.offers.specs.Row.{offerRow}

@@ -2,6 +2,6 @@
 -- it is an EVENT. Demand3: what a
 -- list of calls leaves.
 pub mod Row
-pub mod Slot
+pub mod Inner
 pub mod Taken
 pub mod Demand3

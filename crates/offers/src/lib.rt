@@ -24,7 +24,7 @@ ghost use Rattle.table.specs.Offer.{asMessage, asParts, partsOf, messageOfferRo
 ghost use Rattle.slots.specs.Slots.{sameIdIn, sameKeyIn, from};
 ghost use Rattle.offers.specs.Row.{offerRow};
 ghost use Rattle.offers.specs.Taken.{Makes, takenAs, taken, takenNumber, takenRow, takenTable};
-ghost use Rattle.offers.specs.Slot.{newerIn, dLast, New, answerFor, offeredTo, Decides, HasRoom, slotOf, storedFor, offeredNext, countFrom, SpellsHex, ifAddressable, numbersOf, headOf};
+ghost use Rattle.offers.specs.Inner.{newerIn, dLast, New, answerFor, offeredTo, Decides, HasRoom, slotOf, storedFor, offeredNext, countFrom, SpellsHex, ifAddressable, numbersOf, headOf};
 
 // What taking a message gives: the place of an EVENT's id in it, and what its offer is answered; or what else was read.
 pub enum Taken {

@@ -1,4 +1,4 @@
--- What a REQ's answer means: the claims of specs/Laws, "the answer".
+-- What a REQ's answer means: the claims of specs/Claims, "the answer".
 use mathlib.Core.Path.{_≡_, refl, sym, ap, ap₂, _∙_}
 use mathlib.Core.Bool.{Bool, true, false, cond, _||_}
 use mathlib.Core.Logic.{_↔_, _⊎_, inl, inr, ⊎-elim, _≢_}
@@ -16,7 +16,7 @@ use Rattle.law.proofs.Lists.{any-yes, any-has, count-law}
 use Rattle.table.proofs.Lists.{is-true}
 use Rattle.query.specs.Filter.{Filter}
 use Rattle.query.specs.Answer.{keep, among, from, newestFirst, cut, picked, pickedBySome, union}
-use Rattle.query.specs.Laws.{Orders, Distinct, NoneNewer, Descending, Match, Picked, PickedMeans, UnionMeans, UnionOnce, UnionNewest, UnionDescends, allPicked, UnionSize, UnionShort, MoreFilters, FilterOrder, KeepMeans, FromMeans}
+use Rattle.query.specs.Claims.{Orders, Distinct, NoneNewer, Descending, Match, Picked, PickedMeans, UnionMeans, UnionOnce, UnionNewest, UnionDescends, allPicked, UnionSize, UnionShort, MoreFilters, FilterOrder, KeepMeans, FromMeans}
 use Rattle.query.proofs.Sorting.{bool, clash, among-here, among-later, among-cases, keep-among, keep-same, keep-length, from-among, Once, Sorted, sort-among, sort-sorted, sort-length, once-sort, sort-same}
 
 -- ---- tests and entries

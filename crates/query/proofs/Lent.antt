@@ -1,4 +1,4 @@
--- The row of lent filters: the claims of specs/Laws, "lent filters".
+-- The row of lent filters: the claims of specs/Claims, "lent filters".
 use mathlib.Core.Path.{_≡_, refl, _∙_}
 use mathlib.Core.Bool.{Bool, true, false, cond}
 use mathlib.Core.Logic.{_⊎_, inl, inr, ⊎-elim, _≢_}
@@ -15,7 +15,7 @@ use Rattle.message.specs.declared.FilterParts.{FilterParts}
 use Rattle.message.specs.Lent.{filterRow}
 use Rattle.law.specs.Lists.{_∈_}
 use Rattle.query.specs.Answer.{lower, lowestOf, filtersRow}
-use Rattle.query.specs.Laws.{RowHolds, of-filter, miscounted, Lowest, LowestMeans, FiltersRowIs, AllPass, FiltersPass}
+use Rattle.query.specs.Claims.{RowHolds, of-filter, miscounted, Lowest, LowestMeans, FiltersRowIs, AllPass, FiltersPass}
 use Rattle.query.proofs.Sorting.{bool, or-cases, no-left, no-right}
 
 -- ---- the lower of two

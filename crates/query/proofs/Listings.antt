@@ -1,4 +1,4 @@
--- What matching lent parts and asking for a REQ's answer give: the claims of specs/Laws, "what is answered".
+-- What matching lent parts and asking for a REQ's answer give: the claims of specs/Claims, "what is answered".
 use mathlib.Core.Path.{_≡_, refl, sym, ap, _∙_}
 use mathlib.Core.Bool.{Bool, true, false, cond}
 use mathlib.Core.Logic.{_↔_, _⊎_, inl, inr, ⊎-elim, _≢_}
@@ -21,7 +21,7 @@ use Rattle.query.specs.declared.Matched.the-variants.{Matches, Differs}
 use Rattle.query.specs.declared.Matched.the-variants as matching
 use Rattle.query.specs.Answer.{meant, filtersRow, answerTo, matchedRow, matched, matchNumber, matchValue, listingRow, listed, listedRow, numberOf, valueOf}
 use Rattle.query.specs.declared.Listing.the-variants.{Count, Refused}
-use Rattle.query.specs.Laws.{RowHolds, of-filter, miscounted, Lowest, MatchedHolds, of-event, of-filters, too-large, MatchedRowIs, MatchedMeans, ListingHolds, of-lent, not-sound, too-short, ListingRowIs, ListingIs, ListingMeans}
+use Rattle.query.specs.Claims.{RowHolds, of-filter, miscounted, Lowest, MatchedHolds, of-event, of-filters, too-large, MatchedRowIs, MatchedMeans, ListingHolds, of-lent, not-sound, too-short, ListingRowIs, ListingIs, ListingMeans}
 use Rattle.query.proofs.Sorting.{bool, clash}
 use Rattle.query.proofs.Lent.{join, alike, alone, filters-row-is}
 

@@ -1,4 +1,4 @@
--- What matching means: the claims of specs/Laws, "matching".
+-- What matching means: the claims of specs/Claims, "matching".
 use mathlib.Core.Path.{_≡_, refl, sym, ap}
 use mathlib.Core.Bool.{Bool, not, _&&_}
 use mathlib.Core.Logic.{_↔_, _⊎_, ⊎-elim}
@@ -21,7 +21,7 @@ use Rattle.wire.proofs.Bytes.{same-bytes}
 use Rattle.law.proofs.Order.{strict-times}
 use Rattle.query.specs.Filter.{Condition, Strings}
 use Rattle.query.specs.Match.{isMember, sameNumber, isListed, kindListed, sinceHolds, untilHolds, tagFits, conditionHolds, matches, matchesSome}
-use Rattle.query.specs.Laws.{ExactMember, NoPrefix, SameNumber, ExactKind, SinceInclusive, UntilInclusive, AtTheBound, Tagged, ConditionMeans, MatchMeans, AnySuffices, LimitAside, EmptyMatches}
+use Rattle.query.specs.Claims.{ExactMember, NoPrefix, SameNumber, ExactKind, SinceInclusive, UntilInclusive, AtTheBound, Tagged, ConditionMeans, MatchMeans, AnySuffices, LimitAside, EmptyMatches}
 
 -- a test that means equality, asked of each entry
 exact : {A : Type 0} (same : A → A → Bool) → ((a b : A) → T (same a b) ↔ (a ≡ b)) → (l : List A) (v : A) → T (any (same v) l) ↔ (v ∈ l)

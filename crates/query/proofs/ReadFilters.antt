@@ -27,7 +27,7 @@ use Rattle.message.proofs.Passes as passes
 use Rattle.law.specs.Lists.{_∈_}
 use Rattle.query.specs.Filter.{filterOf}
 use Rattle.query.specs.Answer.{answerList, filterPlaces, partsAt, filtersAt, meant, listingRow}
-use Rattle.query.specs.Laws.{filtersOf, AllFilters, TextFilters, ReadPasses, ReadListing}
+use Rattle.query.specs.Claims.{filtersOf, AllFilters, TextFilters, ReadPasses, ReadListing}
 use Rattle.query.proofs.Sorting.{no-left, no-right}
 use Rattle.query.proofs.Lent.{filters-pass}
 

@@ -1,4 +1,4 @@
--- A REQ's answer over a table: the claims of specs/Laws, "the answer over the table b".
+-- A REQ's answer over a table: the claims of specs/Claims, "the answer over the table b".
 use mathlib.Core.Path.{_≡_, refl, sym, _∙_}
 use mathlib.Core.Bool.{Bool, true, not, _&&_}
 use mathlib.Core.Logic.{_⊎_, inl, inr, ⊎-elim, _≢_}
@@ -31,7 +31,7 @@ use Rattle.table.proofs.Shown.{slot-entry, slot-sound-at}
 use Rattle.query.specs.Filter.{Filter}
 use Rattle.query.specs.Match.{matches}
 use Rattle.query.specs.Answer.{from, union, newerSlot, matchesIn, matchesSlot, answerList}
-use Rattle.query.specs.Laws.{Distinct, Descending, NewerMeans, SlotsOrdered, SlotMatches, AnswerIs, AnswerMeans, limited, LimitZero}
+use Rattle.query.specs.Claims.{Distinct, Descending, NewerMeans, SlotsOrdered, SlotMatches, AnswerIs, AnswerMeans, limited, LimitZero}
 use Rattle.query.proofs.Sorting.{bool, clash, from-length, once-from}
 use Rattle.query.proofs.Answers.{same-order, true-T, once-distinct, from-means, picked-means, union-means, union-once, union-newest, union-descends, union-size, union-short}
 

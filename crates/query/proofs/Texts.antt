@@ -24,7 +24,7 @@ use Rattle.message.specs.Lent.{wrongNumber, value2, value4, value5, filter2, fi
 use Rattle.event.specs.Lent.{stringsOf}
 use Rattle.query.specs.Filter.{filterOf}
 use Rattle.query.specs.Answer.{partsAt, filtersAt, lowestOf, filtersRow}
-use Rattle.query.specs.Laws.{everything}
+use Rattle.query.specs.Claims.{everything}
 
 -- a text of ASCII characters
 abbrev text : String → List ℕ

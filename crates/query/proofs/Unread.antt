@@ -1,4 +1,4 @@
--- 01, "The table": "Bytes after slot N-1 are never read", of a REQ's answer: the last claim of specs/Laws.
+-- 01, "The table": "Bytes after slot N-1 are never read", of a REQ's answer: the last claim of specs/Claims.
 use mathlib.Core.Path.{_≡_, refl, ap, ap₂, _∙_}
 use mathlib.Core.Bool.{Bool, true, false, cond}
 use mathlib.Core.Logic.{⊎-elim}
@@ -20,7 +20,7 @@ use Rattle.table.proofs.Unread.{count-append, sound-append}
 use Rattle.query.specs.Filter.{Filter}
 use Rattle.query.specs.declared.Listing.the-variants.{Count, Refused}
 use Rattle.query.specs.Answer.{among, from, union, newerSlot, matchesIn, matchesSlot, answerList, meant, filtersRow, listingRow, listed, listedRow}
-use Rattle.query.specs.Laws.{not-sound, ListingNeverRead}
+use Rattle.query.specs.Claims.{not-sound, ListingNeverRead}
 use Rattle.query.proofs.Sorting.{bool, from-among}
 use Rattle.query.proofs.Answers.{union-same}
 use Rattle.query.proofs.Listings.{listing-row-is}

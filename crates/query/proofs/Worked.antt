@@ -14,7 +14,7 @@ use Rattle.law.specs.Event as law
 use Rattle.query.specs.Filter.{Filter}
 use Rattle.query.specs.Match.{isMember, sinceHolds, untilHolds, matches, matchesSome}
 use Rattle.query.specs.Answer.{keep, among, insert, newestFirst, picked, union, lowestOf}
-use Rattle.query.specs.Laws.{limited, everything}
+use Rattle.query.specs.Claims.{limited, everything}
 
 -- ---- the answer
 abbrev higher : ℕ → ℕ → Bool

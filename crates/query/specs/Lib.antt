@@ -2,4 +2,4 @@
 pub mod Filter
 pub mod Match
 pub mod Answer
-pub mod Laws
+pub mod Claims

@@ -12,7 +12,7 @@ use Rattle.event.specs.declared.Written.the-variants as sent
 use Rattle.table.specs.Layout.{capacityOf, tableSize}
 use Rattle.table.specs.Format.{formatted}
 use Rattle.table.proofs.Formatted.{formatted-capacity}
-use Rattle.reply.specs.Answering.{enoughFor}
+use Rattle.reply.specs.Claims.Respond.{enoughFor}
 use Rattle.reply.specs.Program.{programSlots, freshTable}
 use Rattle.reply.specs.Feed.{mostLine, usedOf, turnText, turnState, turned, turnRow, turnTable, turnLine, turnOut, turnedNumber, turnedUsed, turnedBytes}
 use Rattle.reply.specs.declared.Turned.{Turned}
@@ -23,7 +23,7 @@ use Rattle.reply.proofs.Feed.{turn-means, turn-row-is, turned-means}
 use Rattle.feed.specs.Finish.{finishText, finished, finishRow, finishTable, finishOut}
 use Rattle.feed.proofs.Run.{finished-means}
 use Rattle.feed.proofs.Room.{turn-fits, slots-stay}
-use Rattle.relay.specs.Buffers.{Ready, Stands, waiting}
+use Rattle.relay.specs.Inner.{Ready, Stands, waiting}
 use Rattle.relay.specs.declared.Place.{Place}
 
 -- the piece is what is left of the chunk, and the turn's output what is left of the output

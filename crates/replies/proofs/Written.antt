@@ -28,7 +28,7 @@ use Rattle.message.proofs.Facts.{or-not}
 use Rattle.message.proofs.Ranks.{lowest-lower}
 use Rattle.event.specs.Lent.{said, natural, tagsAt, eventOf, textOf}
 use Rattle.event.specs.Answer.{isLarge, numberOf}
-use Rattle.event.specs.Walk.{lengthOf}
+use Rattle.event.specs.Inner.{lengthOf}
 use Rattle.event.specs.declared.Written.{Written}
 use Rattle.event.specs.declared.Written.the-variants.{Wrote, Refused}
 use Rattle.event.proofs.Answers.{refused, passed, too-short, room-for}
@@ -38,7 +38,7 @@ use Rattle.reply.specs.Lent.{replyOf, okRow, eventReplyRow, eoseRow, closedRow,
 use Rattle.reply.specs.declared.ReplyParts.{ReplyParts}
 use Rattle.table.proofs.Valid.{or-else}
 use Rattle.reply.proofs.Sizes.{quoted-length, event-length}
-use Rattle.replies.specs.Pieces.{frontText, middleText, backText, okParts, eventParts, eoseParts, closedParts, noticeParts, Room}
+use Rattle.replies.specs.Inner.{frontText, middleText, backText, okParts, eventParts, eoseParts, closedParts, noticeParts, Room}
 
 -- ---- true or false
 pub truth-put : {a : Bool} (b : Bool) {d o : List ℕ} {i r : ℕ} → a ≡ b → Puts d i (truth b) r o → Puts d i (truth a) r o

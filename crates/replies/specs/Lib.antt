@@ -1,2 +1,2 @@
 -- What the writers of replies hand on to each other.
-pub mod Pieces
+pub mod Inner

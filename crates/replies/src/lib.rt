@@ -8,7 +8,7 @@ ghost use Rattle.event.specs.Lent.{said, eventOf};
 ghost use Rattle.event.specs.Answer.{numberOf};
 ghost use Rattle.reply.specs.Replies.{truth, replyText};
 ghost use Rattle.reply.specs.Lent.{replyOf, partsRow, replyRow, replied, repliedOut};
-ghost use Rattle.replies.specs.Pieces.{frontText, middleText, backText, okParts, eventParts, eoseParts, closedParts, noticeParts, Room};
+ghost use Rattle.replies.specs.Inner.{frontText, middleText, backText, okParts, eventParts, eoseParts, closedParts, noticeParts, Room};
 use event::Written;
 use message::Body;
 use message::EventParts;

@@ -38,7 +38,7 @@ use Rattle.table.specs.Offer.{asMessage, unhex, heldOf, partsOf, offeredOf, jud
 use Rattle.table.specs.Offer as offer
 use Rattle.table.specs.Layout.{tableSize, capacityOf, countOf, slotAt, idIn, sigIn, textIn}
 use Rattle.table.specs.Sound.{sound}
-use Rattle.table.specs.Relay.{Fresh}
+use Rattle.table.specs.Demand3.{Fresh}
 use Rattle.table.specs.declared.Offered.the-variants.{Stored}
 use Rattle.table.proofs.Rows.{rows-in-order}
 use Rattle.table.proofs.Formatted.{just-formatted, formatted-capacity}

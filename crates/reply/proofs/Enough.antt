@@ -1,4 +1,4 @@
--- No answer is longer than an EVENT for each slot and one short reply: `Enough` of specs/Answering.
+-- No answer is longer than an EVENT for each slot and one short reply: `Enough` of specs/Claims/Respond.
 use mathlib.Core.Path.{_≡_, refl, sym, ap, _∙_}
 use mathlib.Core.Bool.{Bool, true, false, cond, not, _||_, false≢true}
 use mathlib.Core.List.{List, [], _∷_, append-nil, List·Memᴰ·head, List·Memᴰ·tail}
@@ -48,7 +48,7 @@ use Rattle.query.proofs.Tables.{answer-means}
 use Rattle.reply.specs.Replies.{Reply, ok, eose, closed, notice, truth, replyText, reasonOf, verdictReason}
 use Rattle.reply.specs.Program.{refusalNaming, refusal, offerReply, requestReplies, repliesTo, replyLine, written}
 use Rattle.reply.specs.Respond.{response, respondRow, slotLine, joined, slotLines}
-use Rattle.reply.specs.Answering.{enoughFor, Enough}
+use Rattle.reply.specs.Claims.Respond.{enoughFor, Enough}
 use Rattle.reply.proofs.Which.{names-id, names-subscription}
 use Rattle.reply.proofs.Shown.{answers-held}
 use Rattle.reply.proofs.Streamed.{one-by-one}

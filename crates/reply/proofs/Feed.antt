@@ -15,11 +15,11 @@ use Rattle.wire.proofs.Laws.{length-put}
 use Rattle.law.specs.Lists.{any}
 use Rattle.reply.specs.Lent.{shortRow}
 use Rattle.reply.specs.Program.{repliesTo, tableAfter, lines, written, outputFrom, freshTable, output}
-use Rattle.reply.specs.Laws.{Plain}
+use Rattle.reply.specs.Claims.Replies.{Plain}
 use Rattle.reply.specs.Respond.{response}
 use Rattle.reply.specs.declared.Turned.the-variants as turning
 use Rattle.reply.specs.Feed.{State, mostLine, kept, isEnd, afterByte, saidAt, afterBytes, saidBy, lastLine, saidLast, stateOf, before, usedOf, turnText, turnState, turnRow, turned, turnTable, turnLine, turnOut, turnedNumber, turnedUsed, turnedLine, turnedBytes}
-use Rattle.reply.specs.Answering.{KeptSame, InPieces, SaysOutput, TurnMeans, TurnRowIs, TurnedMeans}
+use Rattle.reply.specs.Claims.Respond.{KeptSame, InPieces, SaysOutput, TurnMeans, TurnRowIs, TurnedMeans}
 use Rattle.reply.proofs.Which.{overlong}
 use Rattle.reply.proofs.Lines.{line-ends, last-line}
 use Rattle.reply.proofs.Lent.{zero-or, writes-or}

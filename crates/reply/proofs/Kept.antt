@@ -7,13 +7,13 @@ use Rattle.table.specs.Layout.{tableSize}
 use Rattle.table.specs.Events.{Signature, tableEvents}
 use Rattle.table.specs.Sound.{sound}
 use Rattle.table.specs.Offer.{asMessage}
-use Rattle.table.specs.Relay.{Fresh, relay}
+use Rattle.table.specs.Demand3.{Fresh, relay}
 use Rattle.table.proofs.Formatted.{just-formatted}
 use Rattle.table.proofs.Good.{Good}
 use Rattle.table.proofs.Faithful.{faithful}
 use Rattle.table.proofs.Demand3.{demand-3}
 use Rattle.reply.specs.Program.{programSlots, freshTable}
-use Rattle.reply.specs.Laws.{StaysSound, ProgramSettles}
+use Rattle.reply.specs.Claims.Replies.{StaysSound, ProgramSettles}
 use Rattle.reply.proofs.Example.{row-0}
 use Rattle.reply.proofs.Which.{all-offered}
 

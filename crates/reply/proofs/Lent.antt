@@ -1,4 +1,4 @@
--- A reply given as lent parts: its row, its answer and the output; and the number of other answers. The last claims of specs/Laws.
+-- A reply given as lent parts: its row, its answer and the output; and the number of other answers. The last claims of specs/Claims/Replies.
 use mathlib.Core.Path.{_≡_, refl, sym, ap, _∙_}
 use mathlib.Core.Bool.{Bool, true, false, cond, not, _&&_, _||_, false≢true}
 use mathlib.Core.Logic.{_⊎_, inl, inr, ⊎-elim, _≢_}
@@ -23,13 +23,13 @@ use Rattle.table.specs.Offer as offers
 use Rattle.table.specs.Offer.{Offering, isValid, judge, answerOf, verdictOn, answer}
 use Rattle.table.specs.declared.Offered.{Offered}
 use Rattle.table.specs.declared.Offered.the-variants as offered
-use Rattle.query.specs.Laws.{Lowest}
+use Rattle.query.specs.Claims.{Lowest}
 use Rattle.query.proofs.Sorting.{bool, clash, or-cases, or-right}
 use Rattle.query.proofs.Lent.{alike}
 use Rattle.reply.specs.declared.ReplyParts.{ReplyParts}
 use Rattle.reply.specs.declared.ReplyParts.the-variants as parts
 use Rattle.reply.specs.Lent.{subscription8, partsRow, outputAfter, replyRow, replied, repliedOut}
-use Rattle.reply.specs.Laws.{lentText, ok-id, ok-reason, event-subscription, eose-subscription, closed-subscription, closed-reason, notice-reason, of-event, of-eose, of-closed, EventHolds, event-utf8, event-string, event-shape, event-number, event-hex, event-count, event-large, PartsHold, not-utf8, not-allowed, not-spelled, not-hex, miscounted, in-event, PartsRowIs, PartsPass, ReplyHolds, of-parts, too-short, ReplyRowIs, PartsFirst, ShortOutput, ReplyFits, WritesOr, RepliedMeans, SerialisedNumber, OfferedNumber}
+use Rattle.reply.specs.Claims.Replies.{lentText, ok-id, ok-reason, event-subscription, eose-subscription, closed-subscription, closed-reason, notice-reason, of-event, of-eose, of-closed, EventHolds, event-utf8, event-string, event-shape, event-number, event-hex, event-count, event-large, PartsHold, not-utf8, not-allowed, not-spelled, not-hex, miscounted, in-event, PartsRowIs, PartsPass, ReplyHolds, of-parts, too-short, ReplyRowIs, PartsFirst, ShortOutput, ReplyFits, WritesOr, RepliedMeans, SerialisedNumber, OfferedNumber}
 use Rattle.reply.proofs.Which.{verdict-rows}
 
 pub zero-or : (r : ℕ) → (r ≡ 0) ⊎ (r ≢ 0)

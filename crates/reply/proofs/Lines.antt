@@ -9,7 +9,7 @@ use Rattle.table.specs.Layout.{tableSize}
 use Rattle.table.proofs.Formatted.{formatted-capacity, formatted-view, formatted-length}
 use Rattle.reply.specs.Replies.{Reply, replyText}
 use Rattle.reply.specs.Program.{push, repliesTo, tableAfter, lines, replyLine, written, outputFrom, programSlots, freshTable, output}
-use Rattle.reply.specs.Laws.{isNewline, Plain, LineEnds, LastLine, NoLine, Fresh, tableFrom, repliesFrom, GoesOn, OutputGoesOn, OutputIs, OutputLines}
+use Rattle.reply.specs.Claims.Replies.{isNewline, Plain, LineEnds, LastLine, NoLine, Fresh, tableFrom, repliesFrom, GoesOn, OutputGoesOn, OutputIs, OutputLines}
 use Rattle.reply.proofs.Example.{row-0, fresh-sound}
 use Rattle.reply.proofs.Plain.{reply-plain}
 

@@ -31,7 +31,7 @@ use Rattle.text.proofs.Pieces.{Spelt, first-of, left, right, tail, byte-is, bot
 use Rattle.text.proofs.Strings.{utf8-escape}
 use Rattle.utf8.proofs.States.{lead-low}
 use Rattle.message.specs.Lent.{isInside}
-use Rattle.table.specs.Relay.{Spells}
+use Rattle.table.specs.Demand3.{Spells}
 use Rattle.table.proofs.Strings.{ws-none, string-here, string-says, escape-spelling}
 use Rattle.table.proofs.Arrays.{Tight, token-is, token-not}
 

@@ -1,4 +1,4 @@
--- One message answered into a lent output: the first claims of specs/Answering.
+-- One message answered into a lent output: the first claims of specs/Claims/Respond.
 use mathlib.Core.Path.{_≡_, refl}
 use mathlib.Core.Bool.{Bool, true, false, cond}
 use mathlib.Core.Logic.{_≢_}
@@ -10,7 +10,7 @@ use lib.Dec.{ltb}
 use lib.ListN.{length}
 use Rattle.reply.specs.Lent.{shortRow}
 use Rattle.reply.specs.Respond.{response, respondRow, responded, respondedOut, respondedTable}
-use Rattle.reply.specs.Answering.{RespondRowIs, RespondedMeans}
+use Rattle.reply.specs.Claims.Respond.{RespondRowIs, RespondedMeans}
 use Rattle.reply.proofs.Lent.{writes-or}
 
 -- ---- row 13

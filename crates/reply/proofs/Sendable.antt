@@ -49,7 +49,7 @@ use Rattle.event.proofs.Answers.{hex-length}
 use Rattle.table.specs.Layout.{isByte}
 use Rattle.table.specs.Events.{SignedEvent, ofHeld}
 use Rattle.table.specs.Offer.{asMessage, judge}
-use Rattle.table.specs.Relay.{Spells, SpellsTags, Tells}
+use Rattle.table.specs.Demand3.{Spells, SpellsTags, Tells}
 use Rattle.table.proofs.Hex.{hex-is, digest-length, digest-bytes}
 use Rattle.table.proofs.Refused.{not-refused}
 use Rattle.table.proofs.Again.{hex-string, tags-pass}
@@ -59,7 +59,7 @@ use Rattle.table.proofs.Passes.{pubkey-hex, judged-again}
 use Rattle.table.proofs.Rows.{rows-in-order}
 use Rattle.wire.specs.Ascii.{ascii}
 use Rattle.reply.specs.Replies.{objectText}
-use Rattle.reply.specs.Laws.{eventMessage, Sendable}
+use Rattle.reply.specs.Claims.Replies.{eventMessage, Sendable}
 use Rattle.reply.proofs.Sizes.{quoted-length, object-length}
 use Rattle.reply.proofs.Members.{decimal-utf8, number-tight, number-read, string-told, Member, member, item-more, item-last, next-closed, object-read}
 use Rattle.reply.proofs.Ordered.{verbatim-names, Entry, itemOf, string, number, objectOf, messageOf, Fine, partsAt, rows-none, parts-are}

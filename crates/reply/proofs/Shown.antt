@@ -14,7 +14,7 @@ use Rattle.query.specs.Answer.{answerList, filtersAt}
 use Rattle.query.proofs.Tables.{slot-matches, answer-means}
 use Rattle.reply.specs.Replies.{Reply}
 use Rattle.reply.specs.Program.{eventsOf, requestReplies, repliesTo, tableAfter}
-use Rattle.reply.specs.Laws.{Shows, no-slot, slot, ReadRequest, AnswersHeld}
+use Rattle.reply.specs.Claims.Replies.{Shows, no-slot, slot, ReadRequest, AnswersHeld}
 
 pub answers-held : AnswersHeld
 answers-held b fs k m = answer-means b fs .exactly k .0 m .0

@@ -1,4 +1,4 @@
--- A REQ's answer a reply at a time: the claims of specs/Answering on single EVENTs and on as many as fit.
+-- A REQ's answer a reply at a time: the claims of specs/Claims/Respond on single EVENTs and on as many as fit.
 use mathlib.Core.Path.{_≡_, refl, sym, ap, ap₂, _∙_}
 use mathlib.Core.Bool.{Bool, true, false, cond, _&&_}
 use mathlib.Core.Logic.{_⊎_, inl, inr, ⊎-elim, _≢_}
@@ -20,18 +20,18 @@ use Rattle.table.specs.Sound.{sound}
 use Rattle.table.specs.Format.{shownRow}
 use Rattle.table.proofs.Valid as valid
 use Rattle.query.specs.Answer.{answerList, filtersAt}
-use Rattle.query.specs.Laws.{Lowest}
+use Rattle.query.specs.Claims.{Lowest}
 use Rattle.query.proofs.Sorting.{clash}
 use Rattle.query.proofs.Lent.{alike}
 use Rattle.query.proofs.Listings.{or-else}
 use Rattle.reply.specs.Replies.{eose}
 use Rattle.reply.specs.Lent.{eoseRow, outputAfter}
 use Rattle.reply.specs.Program.{eventIn, eventsOf, requestReplies, repliesTo, replyLine, written}
-use Rattle.reply.specs.Laws.{PartsHold, WritesOr}
+use Rattle.reply.specs.Claims.Replies.{PartsHold, WritesOr}
 use Rattle.reply.specs.declared.ReplyParts.the-variants as parts
 use Rattle.reply.specs.Respond.{response, slotText, slotLine, slotEventRow, slotEvent, slotEventOut, joined, fitting, slotLines, fittingText, noneFits, allHeld, eventsRow, sentEvents, sentEventsOut, sentNumber, sentBytes, sentSlots}
 use Rattle.reply.specs.declared.Sent.the-variants as sending
-use Rattle.reply.specs.Answering.{OneByOne, SlotTextIs, SlotEventHolds, of-subscription, not-sound, too-short, not-held, SlotEventRowIs, SlotEventMeans, Batches, EventsHold, of-label, bad-table, none-fits, some-not-held, EventsRowIs, SentIs, SentMeans}
+use Rattle.reply.specs.Claims.Respond.{OneByOne, SlotTextIs, SlotEventHolds, of-subscription, not-sound, too-short, not-held, SlotEventRowIs, SlotEventMeans, Batches, EventsHold, of-label, bad-table, none-fits, some-not-held, EventsRowIs, SentIs, SentMeans}
 use Rattle.reply.proofs.Lent.{parts-row-is, parts-hold, zero-or, writes-or}
 use Rattle.reply.proofs.Lines.{written-append}
 use Rattle.reply.proofs.Shown.{answers-held, slot-reads}

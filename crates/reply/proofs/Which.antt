@@ -31,9 +31,9 @@ use Rattle.law.specs.Lists.{any}
 use Rattle.law.specs.Table as law
 use Rattle.law.specs.Table.{verdict, firstOf as firstVerdict, isEphemeral, hasKeyNewer, lacksSlot}
 use Rattle.table.specs.Layout.{capacityOf}
-use Rattle.law.specs.Machine.{runOn}
+use Rattle.law.specs.Demand3.{runOn}
 use Rattle.table.specs.Events.{Signature, SignedEvent, tableEvents, signedEvents, ofHeld, view}
-use Rattle.table.specs.Relay.{relay}
+use Rattle.table.specs.Demand3.{relay}
 use Rattle.table.specs.Sound.{sound}
 use Rattle.table.specs.Offer as offers
 use Rattle.table.specs.Offer.{asMessage, isEvent, isEventWord, messageOfferRow, isValid, judge, answerOf, verdictOn, answer, isStored, next}
@@ -42,7 +42,7 @@ use Rattle.table.specs.declared.Offered.the-variants as offered
 use Rattle.table.proofs.Valid.{or-else}
 use Rattle.reply.specs.Replies.{Reply, ok, closed, notice, reasonOf, isAccepted, verdictReason}
 use Rattle.reply.specs.Program.{refusalNaming, refusal, offerReply, requestReplies, repliesTo, tableIn, tableAfter}
-use Rattle.reply.specs.Laws.{openedIn, wordIn, restIn, idField, subscriptionField, Covered, EarlyRow, LateWord, LateEvent, LateRequest, LateClose, NamesId, NamesSubscription, LastRows, ReadEvent, ReadClose, BadTable, OnlyStored, Overlong, AllOffered}
+use Rattle.reply.specs.Claims.Replies.{openedIn, wordIn, restIn, idField, subscriptionField, Covered, EarlyRow, LateWord, LateEvent, LateRequest, LateClose, NamesId, NamesSubscription, LastRows, ReadEvent, ReadClose, BadTable, OnlyStored, Overlong, AllOffered}
 
 -- ---- refused when read
 read-refused : (m : List ℕ) → 1 ≤ messageRow m → readOf m ≡ message.Refused (messageRow m)

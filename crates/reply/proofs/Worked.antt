@@ -28,7 +28,7 @@ use Rattle.event.specs.Lent.{said}
 use Rattle.wire.specs.Ascii.{ascii}
 use Rattle.reply.specs.Replies.{ok, event, eose, closed, notice, objectText, replyText, reasonOf}
 use Rattle.reply.specs.Program.{refusal, repliesTo, lines}
-use Rattle.reply.specs.Laws.{wordIn, idField}
+use Rattle.reply.specs.Claims.Replies.{wordIn, idField}
 use Rattle.reply.proofs.Which.{late-event}
 
 -- ids, keys and signatures are shortened here

@@ -6,6 +6,5 @@ pub mod Program
 pub mod Respond
 pub mod Feed
 pub mod Starred
-pub mod Names
-pub mod Laws
-pub mod Answering
+pub mod Examples
+pub mod Claims

@@ -44,7 +44,7 @@ offerReply m i offered.Stored = ok i true (verdictReason offered.Stored)
 offerReply m i (offered.Refused r) = refusal m r
 
 -- ---- "An accepted REQ gives its EVENTs, then EOSE."
--- every held text of a sound table reads, so no slot is left out: specs/Laws, `ReadRequest`
+-- every held text of a sound table reads, so no slot is left out: specs/Claims/Replies, `ReadRequest`
 abbrev pub eventIn : List ℕ → List ℕ → Read → List Reply
 eventIn sub s tooLarge = []
 eventIn sub s wrongShape = []

@@ -22,8 +22,8 @@ use Rattle.wire.specs.Ascii.{ascii}
 use Rattle.reply.specs.Replies.{notice, replyText, truth, isAccepted, verdictReason, reasons, reasonOf}
 use Rattle.reply.specs.Program.{refusalNaming, refusal}
 use Rattle.reply.proofs.Sizes.{quoted-length, reason-short}
-use Rattle.replies.specs.Pieces.{Room}
-use Rattle.responses.specs.Line.{verdictText, okText, closedText, noticeText, namedFor, namingText, eoseLine}
+use Rattle.replies.specs.Inner.{Room}
+use Rattle.responses.specs.Inner.{verdictText, okText, closedText, noticeText, namedFor, namingText, eoseLine}
 use Rattle.responses.specs.Refused.{refusedText}
 
 -- ---- reasons

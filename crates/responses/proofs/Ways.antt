@@ -58,12 +58,12 @@ use Rattle.reply.proofs.Lines.{written-append}
 use Rattle.reply.proofs.Shown.{answers-held}
 use Rattle.reply.proofs.Sizes.{hex-short, reason-short}
 use Rattle.reply.proofs.Which.{names-id, read-event, read-close, bad-table}
-use Rattle.replies.specs.Pieces.{Room}
-use Rattle.slot_replies.specs.Slot.{linesSize, leftIn}
+use Rattle.replies.specs.Inner.{Room}
+use Rattle.slot_replies.specs.Inner.{linesSize, leftIn}
 use Rattle.slot_replies.specs.declared.Left.{Left}
 use Rattle.slot_replies.specs.declared.Left.the-variants as left
 use Rattle.slot_replies.proofs.Lines.{lines-size}
-use Rattle.responses.specs.Line.{verdictText, okText, namedFor, namingText, ended, eoseLine, answerText, AllHeld, Said}
+use Rattle.responses.specs.Inner.{verdictText, okText, namedFor, namingText, ended, eoseLine, answerText, AllHeld, Said}
 use Rattle.responses.specs.Refused.{refusedText, refusedRow, refusedReply, refusedOut}
 use Rattle.responses.proofs.Lines.{ok-length, eose-length, naming-is}
 

@@ -24,7 +24,7 @@ use Rattle.rows.specs.declared.Seen.the-variants.{Clean, Missing}
 use Rattle.rows.specs.Strings.{spelledAt, refusedIn, refusedItems}
 use Rattle.wire.specs.Limits.{mostMessage}
 use Rattle.rows.specs.Rows.{onRoot, row4, textRow}
-use Rattle.rows.specs.Seen.{made, seenOf, nameAt, placeOf, isRefused, toldOf}
+use Rattle.rows.specs.Inner.{made, seenOf, nameAt, placeOf, isRefused, toldOf}
 
 -- ---- strings
 module _ (s : List ℕ) where

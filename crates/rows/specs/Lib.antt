@@ -2,4 +2,4 @@
 -- characters is the number of UTF8-char of RFC 3629: proofs/Counted.
 pub mod Strings
 pub mod Rows
-pub mod Seen
+pub mod Inner

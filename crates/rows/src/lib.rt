@@ -8,7 +8,7 @@ ghost use Rattle.json.specs.Tree.{onLeaf, treeAt, root};
 ghost use Rattle.spell.specs.Spell.{refuses};
 ghost use Rattle.rows.specs.Strings.{part, spelledAt};
 ghost use Rattle.rows.specs.Rows.{row4, textRow};
-ghost use Rattle.rows.specs.Seen.{made, seenOf, nameAt, placeOf, isRefused, toldOf};
+ghost use Rattle.rows.specs.Inner.{made, seenOf, nameAt, placeOf, isRefused, toldOf};
 use json::Kind;
 use json::Next;
 use json::Out;

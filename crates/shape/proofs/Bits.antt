@@ -7,7 +7,7 @@ use native.Mathlib.Omega.{arith}
 use borrow.Author.Tests.{eq-eqb, ne-eqb, eqb-true, eqb-false}
 use lib.Dec.{eqb}
 use lib.Bits.{bitOr, or-shr, or-mod, or-zero-l, or-zero-r}
-use Rattle.shape.specs.Walk.{isIn, isFull}
+use Rattle.shape.specs.Inner.{isIn, isFull}
 use Rattle.shape.proofs.Names.{and-left, and-right, both-ways}
 
 pub bit-fits : (k : ℕ) → k < 64 → 2 ^ k < 18446744073709551616

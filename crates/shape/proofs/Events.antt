@@ -11,7 +11,7 @@ use Rattle.wire.specs.Bytes.{sameBytes}
 use Rattle.rows.specs.Strings.{refusedIn}
 use Rattle.shape.specs.Shape.{allItems, anyItem, countItems, nameAt, named, idName, pubkeyName, createdAtName, kindName, tagsName, contentName, sigName, eventMember, once, isEvent}
 use Rattle.shape.specs.Rows.{eventNumber, eventHex, eventCount}
-use Rattle.shape.specs.Walk.{SHAPE, FINE, UNKNOWN, EVENT, stringForm, stringRow, numberRow, groupForm, nameSlot, eventSlot, eventForm, slotForm, isIn, isFull, fresh, endRow, rowOf}
+use Rattle.shape.specs.Inner.{SHAPE, FINE, UNKNOWN, EVENT, stringForm, stringRow, numberRow, groupForm, nameSlot, eventSlot, eventForm, slotForm, isIn, isFull, fresh, endRow, rowOf}
 use Rattle.shape.proofs.Names.{no, and-left, and-right, both-ways}
 use Rattle.shape.proofs.Bits.{in-none, full-bits}
 use Rattle.shape.proofs.Low.{low, Lowest, said, begins}

@@ -13,7 +13,7 @@ use Rattle.wire.specs.Bytes.{sameBytes}
 use Rattle.rows.specs.Strings.{refusedIn}
 use Rattle.shape.specs.Shape.{allItems, anyItem, countItems, nameAt, isLetter, isCondition, filterMember, noneTwice, isFilter}
 use Rattle.shape.specs.Rows.{outside, filterNumber, filterHex, filterCount, filterCounts}
-use Rattle.shape.specs.Walk.{UNKNOWN, LOWER, UPPER, FILTER, stringForm, stringRow, numberRow, groupForm, nameSlot, letterSlot, conditionSlot, filterSlot, filterForm, slotForm, marksAfter, fresh, endRow, rowOf}
+use Rattle.shape.specs.Inner.{UNKNOWN, LOWER, UPPER, FILTER, stringForm, stringRow, numberRow, groupForm, nameSlot, letterSlot, conditionSlot, filterSlot, filterForm, slotForm, marksAfter, fresh, endRow, rowOf}
 use Rattle.shape.proofs.Names.{no, and-left, and-right}
 use Rattle.shape.proofs.Low.{low, Lowest, said, begins}
 use Rattle.shape.proofs.Never.{never, never-after}

@@ -10,7 +10,7 @@ use lib.ListN.{getD}
 use Rattle.json.specs.Grammar.{within}
 use Rattle.wire.specs.Bytes.{sameBytes}
 use Rattle.shape.specs.Shape.{idName, pubkeyName, createdAtName, kindName, tagsName, contentName, sigName, idsName, authorsName, kindsName, sinceName, untilName, limitName, isLetter, isCondition}
-use Rattle.shape.specs.Walk.{SIG, UNKNOWN, LOWER, UPPER, among, eventSlot, letterSlot, conditionSlot, filterSlot}
+use Rattle.shape.specs.Inner.{SIG, UNKNOWN, LOWER, UPPER, among, eventSlot, letterSlot, conditionSlot, filterSlot}
 use Rattle.wire.proofs.Bytes.{same-equal, same-self}
 use Rattle.shape.proofs.Names.{no, both-ways, within-ends, condition-is, condition-letter, among-none}
 

@@ -12,7 +12,7 @@ use Rattle.numeral.specs.Whole.{wholeOf, answerOf, isWithin}
 use Rattle.rows.specs.Strings.{part, refusedIn}
 use Rattle.shape.specs.Shape.{isString, isNumber}
 use Rattle.shape.specs.Rows.{outside, wrongTime, wrongSmall, wrongHex, wrongSubscription}
-use Rattle.shape.specs.Walk.{COUNT, FINE, TEXT, LABEL, HEX64, HEX128, TIME, SMALL, bounds, hexRow, stringForm, stringRow, rangeRow, numberRow, groupForm, fresh, rowOf}
+use Rattle.shape.specs.Inner.{COUNT, FINE, TEXT, LABEL, HEX64, HEX128, TIME, SMALL, bounds, hexRow, stringForm, stringRow, rangeRow, numberRow, groupForm, fresh, rowOf}
 use Rattle.shape.proofs.Low.{low, Lowest, begins}
 use Rattle.shape.proofs.Never.{never-after}
 

@@ -11,7 +11,7 @@ use Rattle.shape.specs.declared.Tally.{Tally}
 use Rattle.shape.specs.Shape.{anyItem, allItems, countItems, count, isString, isNumber, isArrayOf}
 use Rattle.wire.specs.Limits.{mostTags, mostStrings, mostMembers}
 use Rattle.shape.specs.Rows.{outside, wrongSmall, wrongHex, wrongTag, wrongTags, wrongList}
-use Rattle.shape.specs.Walk.{TEXT, HEX64, SMALL, TAGLIST, TAG, TEXTS, HEXES, SMALLS, stringForm, stringRow, numberRow, groupForm, placeSlot, itemOf, slotForm, fresh, endRow, closed, rowOf, rowItems}
+use Rattle.shape.specs.Inner.{TEXT, HEX64, SMALL, TAGLIST, TAG, TEXTS, HEXES, SMALLS, stringForm, stringRow, numberRow, groupForm, placeSlot, itemOf, slotForm, fresh, endRow, closed, rowOf, rowItems}
 use Rattle.shape.proofs.Low.{low, Lowest, After, said, after-said, ends, begins, not-both, either-first}
 use Rattle.shape.proofs.Never.{turn-after, never-after}
 use Rattle.shape.proofs.Leaves.{bounds-is, text, hex64, small}

@@ -12,7 +12,7 @@ use Rattle.json.specs.Tree.{Json, Items, nil, item}
 use Rattle.rows.specs.Strings.{refusedIn, refusedItems}
 use Rattle.shape.specs.declared.Tally.{Tally}
 use Rattle.shape.specs.Shape.{anyItem, allItems, countItems, nameAt}
-use Rattle.shape.specs.Walk.{nameSlot, memberOf, itemOf, slotForm, isIn, marksAfter, stepped, endRow, closed, rowOf, rowItems}
+use Rattle.shape.specs.Inner.{nameSlot, memberOf, itemOf, slotForm, isIn, marksAfter, stepped, endRow, closed, rowOf, rowItems}
 use Rattle.shape.proofs.Names.{no, and-left, and-right, both-ways}
 use Rattle.shape.proofs.Bits.{in-more, in-none}
 use Rattle.shape.proofs.Low.{Lowest, After, after-said, ends, either-first, broken-first}

@@ -30,7 +30,7 @@ use Rattle.rows.specs.Rows.{row3}
 use Rattle.utf8.specs.Utf8.{isUtf8}
 use Rattle.shape.specs.declared.Judged.the-variants.{Ends, Wrong}
 use Rattle.shape.specs.Rows.{treeRow, rootRow, messageRow}
-use Rattle.shape.specs.Walk.{wordForm, openingOf, rowOf, judgedOf, toldOf}
+use Rattle.shape.specs.Inner.{wordForm, openingOf, rowOf, judgedOf, toldOf}
 use Rattle.shape.proofs.Names.{no}
 use Rattle.shape.proofs.Messages.{tree-row}
 

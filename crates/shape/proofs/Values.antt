@@ -9,7 +9,7 @@ use Rattle.rows.specs.Strings.{part, refusedIn}
 use Rattle.shape.specs.declared.Sort.{Sort}
 use Rattle.shape.specs.declared.Sort.the-variants.{Tags, Hexes, Smalls, Filter}
 use Rattle.shape.specs.declared.Judged.the-variants.{Ends, Wrong}
-use Rattle.shape.specs.Walk.{rowOf, judgedOf, toldOf}
+use Rattle.shape.specs.Inner.{rowOf, judgedOf, toldOf}
 use Rattle.shape.specs.Values.{fits, sort6, sort7, sort8, ownText, sortRow, gotRow, valueRow, formOf}
 use Rattle.shape.proofs.Names.{no}
 use Rattle.shape.proofs.Low.{Lowest}

@@ -16,7 +16,7 @@ use Rattle.shape.specs.declared.Judged.{Judged}
 use Rattle.shape.specs.declared.Judged.the-variants.{Ends, Wrong}
 use Rattle.shape.specs.declared.Item.{Item}
 use Rattle.shape.specs.declared.Tally.{Tally}
-use Rattle.shape.specs.Walk.{groupForm, itemOf, slotForm, fresh, stepped, closed, rowOf, rowItems, judgedOf}
+use Rattle.shape.specs.Inner.{groupForm, itemOf, slotForm, fresh, stepped, closed, rowOf, rowItems, judgedOf}
 use Rattle.shape.proofs.Names.{no}
 
 -- the items as a fold over their number and the tally

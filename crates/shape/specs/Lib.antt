@@ -2,5 +2,5 @@
 pub mod Shape
 pub mod Rows
 pub mod Lowest
-pub mod Walk
+pub mod Inner
 pub mod Values

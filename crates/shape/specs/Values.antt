@@ -9,7 +9,7 @@ use Rattle.rows.specs.Strings.{part, refusedIn}
 use Rattle.shape.specs.Shape.{anyItem, isString, isNumber, isArrayOf, isFilter}
 use Rattle.wire.specs.Limits.{hexLength}
 use Rattle.shape.specs.Rows.{wrongSmall, wrongHex, wrongTags, wrongList, filterNumber, filterHex, filterCounts}
-use Rattle.shape.specs.Walk.{TAGLIST, HEXES, SMALLS, FILTER}
+use Rattle.shape.specs.Inner.{TAGLIST, HEXES, SMALLS, FILTER}
 use Rattle.shape.specs.declared.Sort.{Sort}
 use Rattle.shape.specs.declared.Sort.the-variants.{Tags, Hexes, Smalls, Filter}
 

@@ -1,7 +1,7 @@
 // What is kept from item to item, and what the items of a value break in all.
 ghost use mathlib.Core.Path.{_≡_};
 ghost use Prim.Native.Nat.{_<_, _^_};
-ghost use Rattle.shape.specs.Walk.{isIn, onceRow, marksAfter, fresh, stepped, isFull, endRow, closed};
+ghost use Rattle.shape.specs.Inner.{isIn, onceRow, marksAfter, fresh, stepped, isFull, endRow, closed};
 use crate::Item;
 use crate::Tally;
 use crate::forms;

@@ -2,7 +2,7 @@
 ghost use mathlib.Core.Path.{_≡_};
 ghost use Rattle.spell.specs.Spell.{decode};
 ghost use Rattle.shape.specs.Shape.{wordOf};
-ghost use Rattle.shape.specs.Walk.{groupForm, eventForm, filterForm, elementForm, slotForm, wordForm};
+ghost use Rattle.shape.specs.Inner.{groupForm, eventForm, filterForm, elementForm, slotForm, wordForm};
 ghost use Rattle.shape.specs.Values.{formOf};
 use crate::Sort;
 

@@ -2,7 +2,7 @@
 ghost use mathlib.Core.Path.{_≡_};
 ghost use mathlib.Core.Bool.{cond};
 ghost use Rattle.spell.specs.Spell.{decode};
-ghost use Rattle.shape.specs.Walk.{placeSlot, among, eventSlot, letterSlot, conditionSlot, filterSlot, nameSlot, nameRow, memberOf, itemOf};
+ghost use Rattle.shape.specs.Inner.{placeSlot, among, eventSlot, letterSlot, conditionSlot, filterSlot, nameSlot, nameRow, memberOf, itemOf};
 use crate::Item;
 use crate::forms;
 

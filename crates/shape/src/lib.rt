@@ -4,7 +4,7 @@ ghost use mathlib.Core.Path.{_≡_};
 ghost use Rattle.json.specs.Grammar.{startAt};
 ghost use Rattle.json.specs.Tree.{treeAt};
 ghost use Rattle.shape.specs.Rows.{messageRow};
-ghost use Rattle.shape.specs.Walk.{judgedOf, openingOf, toldOf};
+ghost use Rattle.shape.specs.Inner.{judgedOf, openingOf, toldOf};
 ghost use Rattle.shape.specs.Values.{valueRow};
 
 mod counts;

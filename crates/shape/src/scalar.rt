@@ -6,7 +6,7 @@ ghost use Rattle.json.specs.Grammar.{scalarAt};
 ghost use Rattle.json.specs.Tree.{onLeaf};
 ghost use Rattle.wire.specs.Limits.{widest, mostSmall};
 ghost use Rattle.rows.specs.Strings.{part};
-ghost use Rattle.shape.specs.Walk.{bounds, hexRow, stringForm, stringRow, rangeRow, numberRow, judgedOf};
+ghost use Rattle.shape.specs.Inner.{bounds, hexRow, stringForm, stringRow, rangeRow, numberRow, judgedOf};
 use crate::Judged;
 use crate::forms;
 use json::Kind;

@@ -27,9 +27,9 @@ use Rattle.slots.specs.declared.Shown.{Shown}
 use Rattle.reply.specs.Lent.{eoseRow, shortRow}
 use Rattle.reply.specs.Respond.{slotText, slotEventRow, slotEvent, slotEventOut}
 use Rattle.reply.proofs.Sizes.{slot-length}
-use Rattle.replies.specs.Pieces.{Room}
+use Rattle.replies.specs.Inner.{Room}
 use Rattle.replies.proofs.Written.{eose-row}
-use Rattle.slot_replies.specs.Slot.{heldText}
+use Rattle.slot_replies.specs.Inner.{heldText}
 
 -- ---- room
 pub length-is : (s : List ℕ) {k : ℕ} → Field s 106 2 k → k ≡ lengthIn s

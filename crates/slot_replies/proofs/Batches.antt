@@ -32,7 +32,7 @@ use Rattle.reply.proofs.Lines.{written-append}
 use Rattle.reply.proofs.Sizes.{line-length}
 use Rattle.reply.proofs.Streamed.{batches}
 use Rattle.replies.proofs.Written.{eose-row}
-use Rattle.slot_replies.specs.Slot.{lineSize, sizes, stopped, fittedIn, heldLen, fitRow, linesRow, sentBy, sentLines, sentLinesOut}
+use Rattle.slot_replies.specs.Inner.{lineSize, sizes, stopped, fittedIn, heldLen, fitRow, linesRow, sentBy, sentLines, sentLinesOut}
 use Rattle.slot_replies.specs.declared.Fitted.{Fitted}
 
 -- ---- held from the first on

@@ -22,7 +22,7 @@ use Rattle.reply.specs.Program.{eventIn, eventsOf, written}
 use Rattle.reply.specs.Respond.{firstText, slotLine}
 use Rattle.reply.proofs.Lines.{written-append}
 use Rattle.reply.proofs.Sizes.{line-length}
-use Rattle.slot_replies.specs.Slot.{heldText, heldLine, linesSize, leftIn, lineSize, sizes, stopped, fittedIn}
+use Rattle.slot_replies.specs.Inner.{heldText, heldLine, linesSize, leftIn, lineSize, sizes, stopped, fittedIn}
 use Rattle.slot_replies.specs.declared.Left.the-variants.{Room, Short}
 use Rattle.slot_replies.specs.declared.Fitted.{Fitted}
 use Rattle.slot_replies.proofs.Answers.{length-is}

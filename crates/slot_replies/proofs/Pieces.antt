@@ -26,7 +26,7 @@ use Rattle.wire.specs.Ascii.{ascii}
 use Rattle.reply.specs.Replies.{objectText, replyText}
 use Rattle.reply.specs.Program.{eventIn}
 use Rattle.reply.specs.Respond.{firstText}
-use Rattle.slot_replies.specs.Slot.{numbersText, stringsText, numbersOf, stringsOf, ReadAs, frontText, backText, heldText}
+use Rattle.slot_replies.specs.Inner.{numbersText, stringsText, numbersOf, stringsOf, ReadAs, frontText, backText, heldText}
 
 -- ---- the puts in a row
 module _ (t : List ℕ) (x : Text) (w : ReadAs t x) where

@@ -1,2 +1,2 @@
 -- What the writers of EVENTs hand on to each other. Public promises cite `linesSize` and `leftIn` alone.
-pub mod Slot
+pub mod Inner

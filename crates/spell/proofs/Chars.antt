@@ -14,7 +14,7 @@ use Rattle.wire.proofs.Laws.{tests}
 use Rattle.wire.specs.Bytes.{isControl}
 use Rattle.spell.specs.declared.Char.{Char}
 use Rattle.spell.specs.Spell.{hexVal, four, isPair, unicodeOf, pairOf, fourAt, shortOf, charOf, charsFrom, chars, utf8Of, bytesOf, joined, decode, isRefused, any}
-use Rattle.spell.specs.Steps.{Sized, leftOf, Within, Stepped}
+use Rattle.spell.specs.Inner.{Sized, leftOf, Within, Stepped}
 
 pub and-left : (a b : Bool) → (a && b) ≡ true → a ≡ true
 and-left true b e = refl

@@ -13,7 +13,7 @@ use lib.Seq.{drop-cons, drop-drop, take-add, length-take-le}
 use Rattle.wire.specs.Escape.{letterOf, escOne, escape}
 use Rattle.wire.proofs.Escapes.{plain}
 use Rattle.spell.specs.Spell.{shortOf}
-use Rattle.spell.specs.Steps.{leftOf, Within, Stepped, Stays, Same}
+use Rattle.spell.specs.Inner.{leftOf, Within, Stepped, Stays, Same}
 use Rattle.spell.proofs.Chars.{step-byte, step-short}
 use Rattle.spell.proofs.Loops.{escape-turn}
 

@@ -3,7 +3,7 @@ ghost use mathlib.Core.Path.{_≡_};
 ghost use Prim.Native.Nat.{_+_, _≤_, _<_};
 ghost use lib.ListN.{length, getD, drop};
 ghost use Rattle.spell.specs.Spell.{hexVal, four, fourAt, shortOf, isPair, pairOf, unicodeOf};
-ghost use Rattle.spell.specs.Steps.{Sized, Begins};
+ghost use Rattle.spell.specs.Inner.{Sized, Begins};
 use crate::Char;
 
 // The number of a hex digit, and 0 of any other byte: the digits are told first, then a-f, which most texts spell.

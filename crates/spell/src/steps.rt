@@ -3,7 +3,7 @@ ghost use mathlib.Core.Path.{_≡_};
 ghost use Prim.Native.Nat.{_≤_, _<_};
 ghost use lib.ListN.{length, getD};
 ghost use Rattle.spell.specs.Spell.{utf8Of};
-ghost use Rattle.spell.specs.Steps.{Within, Stepped, Stays, Same};
+ghost use Rattle.spell.specs.Inner.{Within, Stepped, Stays, Same};
 use crate::Step;
 use crate::escapes;
 

@@ -30,7 +30,7 @@ use Rattle.event.proofs.Walks.{Walk, last, more}
 use Rattle.utf8.proofs.States.{lead-low}
 use Rattle.event.proofs.Decoded.{plain-high}
 use Rattle.event.proofs.Fit.{inner, ws-after, more-after, done-after, quoted, Array, bare, full, array, string-after, walk-after, tag-after, strings-count, tags-count}
-use Rattle.table.specs.Relay.{Spells}
+use Rattle.table.specs.Demand3.{Spells}
 use Rattle.table.proofs.Refused.{not-refused}
 
 -- ---- tests

@@ -29,7 +29,7 @@ use Rattle.wire.specs.Escape.{escape}
 use Rattle.message.specs.Lent.{value2, value5}
 use Rattle.message.specs.Lent as lent
 use Rattle.event.specs.Lent.{stringOf, stringsOf, tagOf, tagsOf, tagsIn, tagsAt}
-use Rattle.table.specs.Relay.{SpellsTags}
+use Rattle.table.specs.Demand3.{SpellsTags}
 use Rattle.table.proofs.Strings.{ws-none, string-read, string-says}
 
 -- no white space stands at n

@@ -1,8 +1,8 @@
 -- Demand 3, at the table's bytes.
 use Rattle.law.proofs.Machine.{demand-3-on, relays-fit-on}
-use Rattle.law.specs.Machine.{RelaysFitOn}
+use Rattle.law.specs.Demand3.{RelaysFitOn}
 use Rattle.table.specs.Events.{Signature, tableEvents}
-use Rattle.table.specs.Relay.{relay, Demand3}
+use Rattle.table.specs.Demand3.{relay, Demand3}
 use Rattle.table.proofs.Good.{Good}
 use Rattle.table.proofs.Distinct.{event-laws}
 use Rattle.table.proofs.Faithful.{faithful}

@@ -1,4 +1,4 @@
--- That specs/Relay's `Tells` is neither too narrow nor empty: parts that rows 2 to 10 let pass, and that have the id, text and signature of s,
+-- That specs/Demand3's `Tells` is neither too narrow nor empty: parts that rows 2 to 10 let pass, and that have the id, text and signature of s,
 -- tell s; and of what a list of offers leaves there are offers that tell all of it and nothing else, so exchanges exist.
 use mathlib.Core.Bool.{Bool, true, false, cond}
 use mathlib.Core.Path.{_≡_, refl, sym, ap, _∙_}
@@ -27,11 +27,11 @@ use Rattle.event.specs.Lent.{said, natural, eventOf, textOf}
 use Rattle.event.specs.Answer.{hexDigit, hexOf, hasId, offeredRow}
 use Rattle.event.proofs.Decoded.{or-neither}
 use Rattle.event.proofs.Fit.{and-fails}
-use Rattle.law.specs.Machine.{runOn}
+use Rattle.law.specs.Demand3.{runOn}
 use Rattle.law.proofs.Machine.{good-run, exchanges-on}
 use Rattle.table.specs.Events.{SignedEvent, Signature, tableEvents, ofHeld}
 use Rattle.table.specs.Offer.{asParts, isValid, judge, heldOf, unhex}
-use Rattle.table.specs.Relay.{Spells, Tells, relay}
+use Rattle.table.specs.Demand3.{Spells, Tells, relay}
 use Rattle.table.specs.Claims.{ToldExactly, Tellable, Exchanges}
 use Rattle.table.proofs.Valid.{rows, clean, id-hashed, valid-read, parts-pass}
 use Rattle.table.proofs.Passes.{passes}

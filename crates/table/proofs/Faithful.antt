@@ -20,7 +20,7 @@ use Rattle.table.specs.Layout.{Fits, tableSize, capacityOf, slotBytes}
 use Rattle.table.specs.Events.{SignedEvent, Signature, tableEvents, signedEvents, ofHeld, classOfEvent, classOfText, view}
 use Rattle.table.specs.Sound.{sound}
 use Rattle.table.specs.Offer.{Offering, rowOf, isValid, offeredOf, judge, answerOf, verdictOn, answer, isStored, slotFor, countAfter, storedIn, next}
-use Rattle.table.specs.Relay.{verdictOf, relay}
+use Rattle.table.specs.Demand3.{verdictOf, relay}
 use Rattle.table.specs.Claims.{Unchanged, OtherBytes, BytesAfter}
 use Rattle.table.specs.declared.Offered.{Offered}
 use Rattle.table.specs.declared.Offered.the-variants.{Ephemeral, Duplicate, Older, Stored, Refused}

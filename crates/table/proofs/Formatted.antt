@@ -18,7 +18,7 @@ use Rattle.table.specs.Layout.{headerSize, slotSize, tableSize, capacity
 use Rattle.table.specs.Events.{view}
 use Rattle.table.specs.Sound.{isCapacity, hasHeader, capacityFits, slotsFit, countFits, othersAsAbove, slotsSound, noneTwice, noIdTwice, noKeyTwice, laterZero, sound}
 use Rattle.table.specs.Format.{formatRow, formatted}
-use Rattle.table.specs.Relay.{Fresh}
+use Rattle.table.specs.Demand3.{Fresh}
 use Rattle.table.specs.Claims.{FormattedFresh, FormatRows}
 use Rattle.table.proofs.Fields.{piece, field, after-field, zeros-zero}
 

@@ -11,7 +11,7 @@ use Rattle.table.specs.Layout.{isByte}
 use Rattle.table.specs.Events.{SignedEvent, view}
 use Rattle.table.specs.Sound.{sound}
 use Rattle.table.specs.Format.{formatRow, formatted}
-use Rattle.table.specs.Relay.{Fresh}
+use Rattle.table.specs.Demand3.{Fresh}
 use Rattle.table.proofs.Formatted.{formatted-sound, formatted-view}
 
 pub record Good (b : List ℕ) : Type 0 where

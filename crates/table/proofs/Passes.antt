@@ -33,7 +33,7 @@ use Rattle.law.proofs.Machine.{Passes}
 use Rattle.table.specs.Layout.{isByte}
 use Rattle.table.specs.Events.{SignedEvent, Signature, tableEvents, ofHeld}
 use Rattle.table.specs.Offer.{asMessage, asParts, judge, heldOf}
-use Rattle.table.specs.Relay.{Tells, relay}
+use Rattle.table.specs.Demand3.{Tells, relay}
 use Rattle.table.proofs.Good.{Good}
 use Rattle.table.proofs.Hex.{unhex-hex, hex-is, digest-length, digest-bytes}
 use Rattle.table.proofs.Again.{hex-string, again2, again4, again5, again7, tags-pass}

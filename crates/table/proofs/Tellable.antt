@@ -39,7 +39,7 @@ use Rattle.table.specs.Layout.{isByte, heldSlots}
 use Rattle.table.specs.Events.{SignedEvent, Signature, tableEvents, inSlot, ofHeld, view}
 use Rattle.table.specs.Sound.{slotSound, slotsSound, sound}
 use Rattle.table.specs.Offer.{asParts}
-use Rattle.table.specs.Relay.{Spells, SpellsTags, Tells, relay}
+use Rattle.table.specs.Demand3.{Spells, SpellsTags, Tells, relay}
 use Rattle.table.specs.Claims.{Offerable}
 use Rattle.table.proofs.Good.{Good}
 use Rattle.table.proofs.Slots.{sound-event}

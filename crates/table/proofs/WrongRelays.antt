@@ -21,14 +21,14 @@ use Rattle.text.specs.Kinds.{classOf}
 use Rattle.law.specs.Table.{regular, IdPremise, slotsNeeded}
 use Rattle.law.specs.Event as law
 use Rattle.law.specs.Lists.{_∈_}
-use Rattle.law.specs.Machine.{Machine, HeldSetOn, RoomLawOn, SignatureStoredOn, judged, runOn}
+use Rattle.law.specs.Demand3.{Machine, HeldSetOn, RoomLawOn, SignatureStoredOn, judged, runOn}
 use Rattle.law.proofs.WrongRelays.{OfRegular}
 use Rattle.law.proofs.WrongRelays as wrong
 use Rattle.table.specs.Layout.{tableSize, capacityOf, countOf}
 use Rattle.table.specs.Events.{SignedEvent, Signature, tableEvents, classOfText, view}
 use Rattle.table.specs.Offer.{Offering, asParts, isStored, judge, answer, next}
 use Rattle.table.specs.Format.{formatRow, formatted}
-use Rattle.table.specs.Relay.{Fresh, verdictOf, relayWith, relay}
+use Rattle.table.specs.Demand3.{Fresh, verdictOf, relayWith, relay}
 use Rattle.table.specs.declared.Offered.{Offered}
 use Rattle.table.proofs.Texts.{text-says}
 use Rattle.table.proofs.Formatted.{formatted-capacity, just-formatted}

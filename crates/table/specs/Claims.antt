@@ -1,4 +1,4 @@
--- What is claimed of a table beside demand 3 (specs/Relay). Quotes are from 01. Proofs: Formatted, Rows, Faithful,
+-- What is claimed of a table beside demand 3 (specs/Demand3). Quotes are from 01. Proofs: Formatted, Rows, Faithful,
 -- Unread, Texts, Clauses, SoundBytes, DPlaces, Shown, Tellable, Fair.
 use mathlib.Core.Path.{_≡_}
 use mathlib.Core.Bool.{true, false}
@@ -25,13 +25,13 @@ use Rattle.event.specs.Lent.{said, textOf}
 use Rattle.event.specs.Answer.{hexOf, offeredRow}
 use Rattle.law.specs.Lists.{_∈_}
 use Rattle.law.specs.Table.{ephemeral, regular, keyed, verdict}
-use Rattle.law.specs.Machine.{runOn, ExchangesOn}
+use Rattle.law.specs.Demand3.{runOn, ExchangesOn}
 use Rattle.table.specs.Layout.{Held, Fits, slotSize, tableSize, slotPlace, countPlace, capacityOf, countOf, slotSizeOf, firstSlotOf, slotAt, isByte, idIn, timeIn, kindIn, lengthIn, dIn, textPlace, textIn, noSpan, dPlace, slotBytes}
 use Rattle.table.specs.Events.{SignedEvent, Signature, classOfText, timeOfText, tableEvents, signedEvents, inSlot, ofHeld, view}
 use Rattle.table.specs.Sound.{slotSound, sound}
 use Rattle.table.specs.Offer.{Offering, asMessage, asParts, isEvent, messageOfferRow, rowOf, isValid, isStored, judge, answerOf, answer, offeredOf, slotFor, next}
 use Rattle.table.specs.Format.{formatRow, formatted, shownRow, shown}
-use Rattle.table.specs.Relay.{relay, Fresh, Tells, AsParts}
+use Rattle.table.specs.Demand3.{relay, Fresh, Tells, AsParts}
 use Rattle.table.specs.declared.Offered.the-variants.{Refused}
 
 -- ---- formatting
@@ -201,7 +201,7 @@ abbrev pub Exchanges : Type 0
 Exchanges = ExchangesOn tableEvents Signature relay
 
 -- every event within the limits, with any 64 bytes as its signature, can be offered as parts and is then valid: no relay may refuse
--- everything. Of messages: reply/specs/Laws `Sendable`
+-- everything. Of messages: reply/specs/Claims/Replies `Sendable`
 abbrev pub Offerable : Type 0
 Offerable = (e : Event) (sig : List ℕ) → isFit e ≡ true → length (serialise e) ≤ mostText → length sig ≡ 64 → all isByte sig ≡ true →
     (c : List ℕ) × (p : EventParts) × (judge (asParts c p) ≡ some (ofHeld (record { id = digest (serialise e); sig = sig; event = e })))

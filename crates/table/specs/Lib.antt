@@ -6,6 +6,6 @@ pub mod Events
 pub mod Sound
 pub mod Offer
 pub mod Format
-pub mod Relay
+pub mod Demand3
 pub mod Claims
 pub mod Examples

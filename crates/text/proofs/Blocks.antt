@@ -16,7 +16,7 @@ use Rattle.wire.specs.Escape.{letterOf}
 use Rattle.wire.proofs.Escapes.{allowed-escaped}
 use Rattle.text.specs.Event.{isPlainByte}
 use Rattle.text.specs.Read.{isRaw, bodyFrom}
-use Rattle.text.specs.Parts.{endOf, Passes, Raws}
+use Rattle.text.specs.Inner.Parts.{endOf, Passes, Raws}
 use Rattle.text.proofs.Ways.{body-go}
 
 -- ---- a byte that stands as it is: what the code tests, and that the string goes on after it

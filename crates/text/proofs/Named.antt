@@ -14,7 +14,7 @@ use Rattle.text.specs.Event.{Tag, quoted, membersText, tagText, isPlainB
 use Rattle.text.specs.Read.{Got, none, got, standsAt, bodyFrom, cons, membersAt, tagAt, tagsAt}
 use Rattle.text.specs.Kinds.{isNamedD, second}
 use Rattle.text.specs.Answer.{spanOf, dSpan}
-use Rattle.text.specs.Parts.{endOf, foundOf, lookOf, spanAfter, taggedOf}
+use Rattle.text.specs.Inner.Parts.{endOf, foundOf, lookOf, spanAfter, taggedOf}
 use Rattle.text.specs.declared.Out.the-variants.{End, Bad}
 use Rattle.text.specs.declared.Found.{Found}
 use Rattle.text.specs.declared.Found.the-variants as found

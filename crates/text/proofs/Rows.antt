@@ -14,7 +14,7 @@ use Rattle.wire.specs.Limits.{hexLength}
 use Rattle.wire.specs.Bytes.{isHex}
 use Rattle.text.specs.Event.{Tag, quoted, tagsText, closing, comma, bracket, all, isPubkey, isTime, isKind, isTags, isString}
 use Rattle.text.specs.Read.{Got, none, got, bind, standsAt, closedAt, pairAt, stringAt, tagsAt, timeAt, kindAt, pubkeyAt, Fields, fieldsAt}
-use Rattle.text.specs.Parts.{noZero}
+use Rattle.text.specs.Inner.Parts.{noZero}
 use Rattle.text.proofs.Pieces.{Spelt, Piece, Exact, both, and-true, spelt, join, left, right, byte-is, byte-at, tail, spelt-inside}
 use Rattle.text.proofs.Strings.{string-exact}
 use Rattle.text.proofs.Lists.{tags-exact}

@@ -14,7 +14,7 @@ use Rattle.wire.specs.Limits.{mostText}
 use Rattle.text.specs.Event.{Tag, quoted, tagsText, opening, closing, comma, isPubkey}
 use Rattle.text.specs.Read.{Got, none, got, bind, standsAt, closedAt, pairAt, stringAt, tagsAt, timeAt, kindAt, pubkeyAt, fieldsAt, opened, Read, tooLarge, wrongShape, read, readText}
 use Rattle.text.specs.Answer.{dSpan, answerOf, numberOf, rowOf}
-use Rattle.text.specs.Parts.{endOf, timeIn, kindIn, isGot, opens, taggedOf, restAt, restOf}
+use Rattle.text.specs.Inner.Parts.{endOf, timeIn, kindIn, isGot, opens, taggedOf, restAt, restOf}
 use Rattle.text.specs.declared.Out.the-variants.{End, Bad}
 use Rattle.text.specs.declared.Time.the-variants as time
 use Rattle.text.specs.declared.Kind.the-variants as kind

@@ -17,7 +17,7 @@ use Rattle.wire.specs.Bytes.{isHex}
 use Rattle.text.specs.Event.{all}
 use Rattle.text.specs.Read.{Got, none, got, standsAt, isRaw, byteOf, moveOf, saidOf, push, bodyFrom, checked, stringAt, cons, follow, membersAt, tagAt, runOf}
 use Rattle.text.specs.Kinds.{isEphemeral, isAddressable, classOf}
-use Rattle.text.specs.Parts.{endOf, isLetter, noZero}
+use Rattle.text.specs.Inner.Parts.{endOf, isLetter, noZero}
 use Rattle.text.specs.declared.Class.the-variants.{Regular, Replaceable, Ephemeral, Addressable}
 use Rattle.text.specs.declared.Out.the-variants.{End, Bad}
 use Rattle.text.specs.declared.Move.the-variants.{Go, Stop, Refuse}

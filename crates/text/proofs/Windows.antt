@@ -13,7 +13,7 @@ use Rattle.utf8.specs.declared.Want.{Want}
 use Rattle.utf8.specs.declared.Want.the-variants.{Lead, Tail, Bad}
 use Rattle.utf8.proofs.Laws.{turn, over, bad}
 use Rattle.utf8.proofs.States.{lead-none}
-use Rattle.text.specs.Windows.{wantsTail, isNarrow, isWrong}
+use Rattle.text.specs.Inner.Windows.{wantsTail, isNarrow, isWrong}
 use Rattle.text.proofs.Blocks.{or-false}
 
 or-none : (p : Bool) → (p || false) ≡ p

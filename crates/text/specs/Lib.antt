@@ -3,6 +3,5 @@ pub mod Event
 pub mod Read
 pub mod Kinds
 pub mod Answer
-pub mod Parts
 pub mod Examples
-pub mod Windows
+pub mod Inner

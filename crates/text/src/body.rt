@@ -5,7 +5,7 @@ ghost use Prim.Native.Nat.{_+_, _≤_};
 ghost use lib.ListN.{length, drop};
 ghost use Rattle.utf8.specs.Utf8.{isUtf8};
 ghost use Rattle.text.specs.Read.{standsAt, isRaw, bodyFrom, stringAt};
-ghost use Rattle.text.specs.Parts.{endOf, isLetter, Passes, Raws, noZero};
+ghost use Rattle.text.specs.Inner.Parts.{endOf, isLetter, Passes, Raws, noZero};
 use crate::Out;
 
 // Whether the bytes of `w` stand at a place.

@@ -2,7 +2,7 @@
 ghost use mathlib.Core.Path.{_≡_};
 ghost use mathlib.Core.Bool.{true};
 ghost use Rattle.utf8.specs.Utf8.{isUtf8};
-ghost use Rattle.text.specs.Windows.{wantsTail, isNarrow, isWrong};
+ghost use Rattle.text.specs.Inner.Windows.{wantsTail, isNarrow, isWrong};
 
 // Whether no byte is above 7F, with no way out of the loop.
 pub(crate) fn is_ascii(s: &[u8]) -> bool

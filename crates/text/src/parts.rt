@@ -10,7 +10,7 @@ ghost use Rattle.text.specs.Event.{Tag, comma, isPubkey};
 ghost use Rattle.text.specs.Read.{got, closedAt, tagAt, tagsAt, runOf, timeAt, kindAt};
 ghost use Rattle.text.specs.Kinds.{isNamedD, second};
 ghost use Rattle.text.specs.Answer.{spanOf};
-ghost use Rattle.text.specs.Parts.{endOf, timeIn, kindIn, opens, foundOf, lookOf, taggedOf, restAt, restOf};
+ghost use Rattle.text.specs.Inner.Parts.{endOf, timeIn, kindIn, opens, foundOf, lookOf, taggedOf, restAt, restOf};
 use crate::Found;
 use crate::Kind;
 use crate::Out;

@@ -11,7 +11,7 @@ use lib.ListN.{length, getD, drop, drop-of-length-le, List·getD-eq-default}
 use lib.Seq.{drop-cons}
 use Rattle.utf8.specs.declared.Want.{Want}
 use Rattle.utf8.specs.declared.Want.the-variants.{Lead, Tail, Bad}
-use Rattle.utf8.specs.Steps.{Passed}
+use Rattle.utf8.specs.Inner.{Passed}
 use Rattle.utf8.specs.Utf8.{leadOf, utf8From, next, ends}
 
 pub ruleset tests = (lt-ltb, le-ltb, le-leb, lt-leb, eq-eqb, ne-eqb)

@@ -2,7 +2,7 @@
 ghost use mathlib.Core.Path.{_≡_};
 ghost use Prim.Native.Nat.{_+_, _≤_, _<_};
 ghost use lib.ListN.{length};
-ghost use Rattle.utf8.specs.Steps.{Past, Passed, Small};
+ghost use Rattle.utf8.specs.Inner.{Past, Passed, Small};
 ghost use Rattle.utf8.specs.Utf8.{leadOf, isUtf8};
 
 // What the next byte has to be: the first of a character, one from the first number to the second with so many tails after it, or nothing will do.

@@ -9,7 +9,7 @@ use lib.ListN.{length, replicate}
 use Rattle.digest.specs.declared.Answer.the-variants.{Done, TooLong}
 use Rattle.digest.specs.declared.Updated.{Updated}
 use Rattle.digest.specs.State.{most, stateAfter, stateOf, updated, finished, digested}
-use Rattle.digest.specs.Pieces.{update-stands, update-refused, finish-stands, digest-done, digest-refused}
+use Rattle.digest.specs.Claims.{update-stands, update-refused, finish-stands, digest-done, digest-refused}
 use Rattle.digest.proofs.Laws.{digests}
 use Rattle.digest.proofs.digest_of.Statement.{statement}
 use Rattle.digest.proofs.digest_of.Tie as tie

@@ -2,7 +2,7 @@
 use mathlib.Core.Path.{_≡_}
 use mathlib.Core.Bool.{true}
 use Prim.Native.Nat.{_-_, _≤_}
-use Rattle.feed.specs.Steps.{NoEnd}
+use Rattle.feed.specs.Inner.{NoEnd}
 use Rattle.feed.proofs.Lines.{none-first, none-turn}
 use borrow.Author.Needs.{needs}
 use native.Mathlib.Omega.{arith}

@@ -1,7 +1,7 @@
 -- The invariant: the line's end is looked for from i on.
 use Prim.Native.Nat.{_-_}
 use lib.ListN.{length}
-use Rattle.feed.specs.Steps.{EndFrom}
+use Rattle.feed.specs.Inner.{EndFrom}
 use Rattle.feed.proofs.Lines.{block-passed}
 use borrow.Author.Needs.{needs}
 use native.Mathlib.Omega.{arith}

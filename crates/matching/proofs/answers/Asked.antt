@@ -19,14 +19,14 @@ use Rattle.table.proofs.Bytes.{clauses}
 use Rattle.table.proofs.Lists.{entry-in}
 use Rattle.query.specs.Filter.{Filter, filterOf}
 use Rattle.query.specs.Answer.{among, from, matchesSlot, meant, answerTo, filtersRow, listingRow, listed, listedRow, numberOf}
-use Rattle.query.specs.Laws.{AllPass}
+use Rattle.query.specs.Claims.{AllPass}
 use Rattle.query.specs.declared.Listing.{Listing}
 use Rattle.query.specs.declared.Listing.the-variants.{Count, Refused}
 use Rattle.query.proofs.Sorting.{from-among}
 use Rattle.query.proofs.Lent.{filters-pass}
-use Rattle.matching.specs.Hits.{hitAt, Filled}
-use Rattle.matching.specs.Pass.{taken}
-use Rattle.matching.specs.Order.{over, told, toldRow}
+use Rattle.matching.specs.Inner.Hits.{hitAt, Filled}
+use Rattle.matching.specs.Inner.Pass.{taken}
+use Rattle.matching.specs.Inner.Order.{over, told, toldRow}
 use Rattle.matching.proofs.order.Pass.{Agrees}
 use Rattle.matching.proofs.order.Turns.{taken-answers}
 

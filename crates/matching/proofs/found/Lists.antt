@@ -22,9 +22,9 @@ use Rattle.message.specs.Lent.{value5, onValue, valueAt}
 use Rattle.message.proofs.Facts.{and-true, or-not}
 use Rattle.message.proofs.Elements.{group-of, Listing, end, one}
 use Rattle.message.proofs.Checked.{ListOf, list-of}
-use Rattle.matching.specs.Found.{spelledBy, numbersBy}
-use Rattle.matching.specs.Steps.{placed}
-use Rattle.matching.specs.Finds.{Finds}
+use Rattle.matching.specs.Inner.Found.{spelledBy, numbersBy}
+use Rattle.matching.specs.Inner.Steps.{placed}
+use Rattle.matching.specs.Inner.Finds.{Finds}
 use Rattle.matching.proofs.matcher.Places.{firstLeft, all-left}
 
 -- ---- what is left of an array whose members f takes and g does not, w numbers for each, when n numbers were written

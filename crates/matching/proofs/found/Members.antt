@@ -35,9 +35,9 @@ use Rattle.message.proofs.Walks.{never, bind-got}
 use Rattle.event.specs.Lent.{natural, stringOf, stringsOf, tagOf}
 use Rattle.event.proofs.Strings.{spelled-says}
 use Rattle.query.specs.Filter.{stringsIn, numbersOf, numbersIn}
-use Rattle.matching.specs.Found.{spelledBy, numbersBy}
-use Rattle.matching.specs.Steps.{placed}
-use Rattle.matching.specs.Finds.{Finds, smallFrom, smallOf, smallAt}
+use Rattle.matching.specs.Inner.Found.{spelledBy, numbersBy}
+use Rattle.matching.specs.Inner.Steps.{placed}
+use Rattle.matching.specs.Inner.Finds.{Finds, smallFrom, smallOf, smallAt}
 use Rattle.matching.proofs.found.Lists.{Going, going-none, going-full, going-there, going-more, going-start, take-past, store-one, store-two, strings-more, numbers-more}
 
 -- ---- strings

@@ -32,8 +32,8 @@ use Rattle.message.proofs.Checked.{ListOf, condition-is}
 use Rattle.event.specs.Lent.{tagOf}
 use Rattle.query.specs.Filter.{Condition, stringsIn, conditionsOf, conditionsIn}
 use Rattle.matching.specs.declared.Needed.{Needed}
-use Rattle.matching.specs.Found.{spelledBy, conditionBy}
-use Rattle.matching.specs.Finds.{Finds, FindsConditions, firstNamed, moreNamed, nextNamed, valuePlace, letterOf}
+use Rattle.matching.specs.Inner.Found.{spelledBy, conditionBy}
+use Rattle.matching.specs.Inner.Finds.{Finds, FindsConditions, firstNamed, moreNamed, nextNamed, valuePlace, letterOf}
 use Rattle.matching.proofs.found.Lists.{take-past}
 
 -- ---- the place of the first name that is left; each name is followed by its value and then by the next name

@@ -31,8 +31,8 @@ use Rattle.matching.specs.declared.Members.{Members}
 use Rattle.matching.specs.declared.Members.the-variants as members
 use Rattle.matching.specs.declared.Needed.{Needed}
 use Rattle.matching.specs.declared.Known.{Known}
-use Rattle.matching.specs.Found.{given, spelledBy, numbersBy, conditionBy, filterBy}
-use Rattle.matching.specs.Finds.{Finds, FindsMembers, FindsConditions, reach, firstNamed, moreNamed, nextNamed, valuePlace, letterOf}
+use Rattle.matching.specs.Inner.Found.{given, spelledBy, numbersBy, conditionBy, filterBy}
+use Rattle.matching.specs.Inner.Finds.{Finds, FindsMembers, FindsConditions, reach, firstNamed, moreNamed, nextNamed, valuePlace, letterOf}
 use Rattle.matching.proofs.found.Objects.{part-same, take-shorter}
 
 -- ---- a name

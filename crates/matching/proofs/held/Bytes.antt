@@ -10,7 +10,7 @@ use lib.ListN.{length, getD, set}
 use lib.Seq.{getD-set-same, getD-set-other}
 use Rattle.query.specs.Filter.{Filter}
 use Rattle.query.specs.Answer.{matchesSlot}
-use Rattle.matching.specs.Hits.{hitAt, Filled}
+use Rattle.matching.specs.Inner.Hits.{hitAt, Filled}
 
 pub filled-none : (b : List ℕ) (f : Filter) (j : ℕ) (h : List ℕ) → Filled b f j 0 h h
 filled-none b f j h = record { here = λ s l. absurd (omega arith); others = λ i s l n. refl }

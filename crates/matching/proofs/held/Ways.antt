@@ -29,7 +29,7 @@ use Rattle.event.specs.Answer.{hexOf}
 use Rattle.event.proofs.Answers.{hex-whole}
 use Rattle.table.specs.Layout.{isByte, slotSize, countOf, slotAt, idIn, textIn, timeIn, kindIn, lengthIn}
 use Rattle.table.specs.Sound.{sound}
-use Rattle.table.specs.Relay.{SpellsTags}
+use Rattle.table.specs.Demand3.{SpellsTags}
 use Rattle.table.proofs.Slots.{sound-signed, sound-kind}
 use Rattle.table.proofs.Shown.{slot-sound-at, slot-size}
 use Rattle.table.proofs.Hex.{hex-is}
@@ -41,8 +41,8 @@ use Rattle.query.proofs.Tables.{slot-matches}
 use Rattle.matching.specs.declared.Members.{Members}
 use Rattle.matching.specs.declared.Members.the-variants.{In}
 use Rattle.matching.specs.declared.Known.{Known}
-use Rattle.matching.specs.Found.{spelledBy, given, conditionBy, filterBy}
-use Rattle.matching.specs.Steps.{fieldsHold}
+use Rattle.matching.specs.Inner.Found.{spelledBy, given, conditionBy, filterBy}
+use Rattle.matching.specs.Inner.Steps.{fieldsHold}
 use Rattle.matching.proofs.matcher.Ways.{ids-no, fields-no, all-are}
 
 -- ---- the id in hex

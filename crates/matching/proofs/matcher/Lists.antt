@@ -10,7 +10,7 @@ use Rattle.wire.specs.Bytes.{sameBytes, part}
 use Rattle.spell.specs.Spell.{decode}
 use Rattle.law.specs.Lists.{any}
 use Rattle.query.specs.Match.{isMember}
-use Rattle.matching.specs.Found.{spelledBy}
+use Rattle.matching.specs.Inner.Found.{spelledBy}
 
 -- the two numbers before and at j, and those after
 two : (s : List ℕ) (j : ℕ) → 1 ≤ j → j < length s → drop (j - 1) s ≡ getD s (j - 1) 0 ∷ getD s j 0 ∷ drop (j + 2 - 1) s

@@ -8,7 +8,7 @@ use Rattle.json.specs.Tree.{Items, nil, item}
 use Rattle.message.specs.declared.Listed.{Listed}
 use Rattle.message.specs.Lists.{firstOf}
 use Rattle.message.proofs.Elements.{Group, firstPlace, Listing, array-listing}
-use Rattle.matching.specs.Steps.{placed}
+use Rattle.matching.specs.Inner.Steps.{placed}
 
 -- the place of the first that is left, if there is one
 abbrev pub firstLeft : Items → Listed

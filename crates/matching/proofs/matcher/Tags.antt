@@ -24,7 +24,7 @@ use Rattle.event.proofs.Strings.{spelled-says}
 use Rattle.law.specs.Lists.{any}
 use Rattle.query.specs.Filter.{Condition}
 use Rattle.query.specs.Match.{isMember, tagFits, conditionHolds}
-use Rattle.matching.specs.Steps.{placed, asked, spanOf, secondFrom, secondOf, fitsBy}
+use Rattle.matching.specs.Inner.Steps.{placed, asked, spanOf, secondFrom, secondOf, fitsBy}
 use Rattle.matching.specs.declared.Second.{Second}
 use Rattle.matching.specs.declared.Second.the-variants.{Is, Not}
 use Rattle.matching.proofs.matcher.Places.{firstLeft, all-left}

@@ -24,8 +24,8 @@ use Rattle.event.specs.Lent.{natural, said, tagsAt, eventOf}
 use Rattle.law.specs.Lists.{any}
 use Rattle.query.specs.Filter.{Filter}
 use Rattle.query.specs.Match.{sameNumber, isListed, kindListed, sinceHolds, untilHolds, conditionHolds, matches}
-use Rattle.matching.specs.Found.{spelledBy, numbersBy, given, conditionBy, filterBy}
-use Rattle.matching.specs.Steps.{asked, fieldsHold}
+use Rattle.matching.specs.Inner.Found.{spelledBy, numbersBy, given, conditionBy, filterBy}
+use Rattle.matching.specs.Inner.Steps.{asked, fieldsHold}
 use Rattle.matching.specs.declared.Known.{Known}
 
 -- ---- tests

@@ -14,7 +14,7 @@ use Rattle.message.specs.declared.EventParts.{EventParts}
 use Rattle.message.specs.declared.FilterParts.{FilterParts}
 use Rattle.message.specs.Lent.{lowerRow, eventRow}
 use Rattle.event.specs.Lent.{said, eventOf, textOf}
-use Rattle.event.specs.Walk.{mostLength, lengthOf}
+use Rattle.event.specs.Inner.{mostLength, lengthOf}
 use Rattle.event.specs.Answer.{orElse, isLarge}
 use Rattle.law.specs.Lists.{any}
 use Rattle.query.specs.Match.{matches, matchesSome}

@@ -1,7 +1,7 @@
 -- The tests in the order of the definition.
 use borrow.Author.Needs.{needs}
 use Rattle.wire.proofs.Laws.{tests}
-use Rattle.numeral.specs.Sum.{aboveOf}
+use Rattle.numeral.specs.Inner.{aboveOf}
 use Rattle.numeral.proofs.Ways.{plain}
 use Rattle.numeral.proofs.above.Statement.{statement}
 use Rattle.numeral.proofs.above.Tie as tie

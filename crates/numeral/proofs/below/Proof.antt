@@ -1,7 +1,7 @@
 -- The tests in the order of the definition; a number of the range can be taken from 0.
 use borrow.Author.Needs.{needs}
 use Rattle.wire.proofs.Laws.{tests}
-use Rattle.numeral.specs.Sum.{belowOf}
+use Rattle.numeral.specs.Inner.{belowOf}
 use Rattle.numeral.proofs.Ways.{minus-fits, minus-is}
 use Rattle.numeral.proofs.below.Statement.{statement}
 use Rattle.numeral.proofs.below.Tie as tie

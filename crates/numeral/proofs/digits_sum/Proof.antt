@@ -3,7 +3,7 @@ use mathlib.Core.Path.{refl}
 use Prim.Native.Nat.{_-_}
 use borrow.Author.Needs.{needs}
 use lib.ListN.{length, drop}
-use Rattle.numeral.specs.Sum.{digitsSum}
+use Rattle.numeral.specs.Inner.{digitsSum}
 use Rattle.numeral.proofs.Ways.{Seen, seen-end, seen-low, seen-high, seen-more}
 use Rattle.numeral.proofs.digits_sum.Statement.{statement}
 use Rattle.numeral.proofs.digits_sum.Tie as tie

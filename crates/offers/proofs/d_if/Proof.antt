@@ -1,7 +1,7 @@
 -- By the class of the kind.
 use mathlib.Core.Path.{sym, ap, _∙_}
 use borrow.Author.Needs.{needs}
-use Rattle.offers.specs.Slot.{ifAddressable}
+use Rattle.offers.specs.Inner.{ifAddressable}
 use Rattle.offers.proofs.d_if.Statement.{statement}
 use Rattle.offers.proofs.d_if.Tie as tie
 

@@ -2,7 +2,7 @@
 use native.Mathlib.Omega.{arith}
 use borrow.Author.Needs.{needs}
 use Rattle.wire.proofs.Laws.{puts-then}
-use Rattle.offers.specs.Slot.{headOf}
+use Rattle.offers.specs.Inner.{headOf}
 use Rattle.offers.proofs.Digits.{room-left}
 use Rattle.offers.proofs.put_head.Statement.{statement}
 use Rattle.offers.proofs.put_head.Tie as tie

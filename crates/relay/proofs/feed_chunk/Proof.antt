@@ -3,7 +3,7 @@ use mathlib.Core.Path.{_≡_}
 use native.Mathlib.Omega.{arith}
 use borrow.Author.Needs.{needs}
 use lib.ListN.{length}
-use Rattle.relay.specs.Buffers.{Ready, Stands, waiting}
+use Rattle.relay.specs.Inner.{Ready, Stands, waiting}
 use Rattle.relay.proofs.feed_chunk.Statement.{statement}
 use Rattle.relay.proofs.feed_chunk.Tie as tie
 

@@ -4,7 +4,7 @@ use Prim.Native.Nat.{_≤_, _-_}
 use native.Mathlib.Omega.{arith}
 use borrow.Author.Needs.{needs}
 use lib.ListN.{length}
-use Rattle.relay.specs.Buffers.{Ready}
+use Rattle.relay.specs.Inner.{Ready}
 use Rattle.relay.proofs.Turns.{ready}
 use Rattle.relay.proofs.run.Statement.{statement}
 use Rattle.relay.proofs.run.Tie as tie

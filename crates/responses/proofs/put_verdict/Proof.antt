@@ -3,7 +3,7 @@ use borrow.Author.Needs.{needs}
 use Rattle.wire.specs.Escape.{letterOf, escOne, escape}
 use Rattle.text.specs.Event.{quoted}
 use Rattle.responses.proofs.Lines.{verdict-put, false-put}
-use Rattle.responses.specs.Line.{verdictText}
+use Rattle.responses.specs.Inner.{verdictText}
 use Rattle.responses.proofs.put_verdict.Statement.{statement}
 use Rattle.responses.proofs.put_verdict.Tie as tie
 

@@ -1,7 +1,7 @@
 -- A law for each way out.
 use borrow.Author.Needs.{needs}
 use Rattle.responses.proofs.Ways.{line-none, line-put, line-short}
-use Rattle.responses.specs.Line.{namingText}
+use Rattle.responses.specs.Inner.{namingText}
 use Rattle.responses.proofs.respond_refused.Statement.{statement}
 use Rattle.responses.proofs.respond_refused.Tie as tie
 

@@ -5,7 +5,7 @@ use borrow.Author.Needs.{needs}
 use Rattle.wire.specs.Escape.{letterOf, escOne, escape}
 use Rattle.text.specs.Event.{quoted}
 use Rattle.responses.proofs.Lines.{verdict-length, false-length}
-use Rattle.responses.specs.Line.{verdictText}
+use Rattle.responses.specs.Inner.{verdictText}
 use Rattle.responses.proofs.verdict_len.Statement.{statement}
 use Rattle.responses.proofs.verdict_len.Tie as tie
 

@@ -14,7 +14,7 @@ use Rattle.json.proofs.Trees.{value-open, value-flat, turned}
 use Rattle.json.proofs.after.Reads as after
 use Rattle.json.proofs.begin.Reads as begin
 use Rattle.rows.specs.declared.Seen.the-variants.{Missing}
-use Rattle.rows.specs.Seen.{made, seenOf}
+use Rattle.rows.specs.Inner.{made, seenOf}
 use Rattle.rows.proofs.Laws.{seenItems, seen-empty, seen-many, seen-gone, seen-unnamed, seen-no-value, seen-next}
 use Rattle.rows.proofs.any.Reads as any
 use Rattle.rows.proofs.is_refused.Reads as is-refused

@@ -2,7 +2,7 @@
 use mathlib.Core.Path.{sym, _∙_}
 use borrow.Author.Needs.{needs}
 use Rattle.rows.specs.Strings.{refusedIn}
-use Rattle.rows.specs.Seen.{made}
+use Rattle.rows.specs.Inner.{made}
 use Rattle.rows.proofs.Laws.{scalar-string, string-within}
 use Rattle.rows.proofs.leaf.Statement.{statement}
 use Rattle.rows.proofs.leaf.Tie as tie

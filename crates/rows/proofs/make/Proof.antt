@@ -1,5 +1,5 @@
 -- The flag picks the variant.
-use Rattle.rows.specs.Seen.{made}
+use Rattle.rows.specs.Inner.{made}
 use Rattle.rows.proofs.make.Statement.{statement}
 use Rattle.rows.proofs.make.Tie as tie
 

@@ -2,7 +2,7 @@
 use mathlib.Core.Path.{sym, _∙_}
 use borrow.Author.Needs.{needs}
 use Rattle.rows.specs.Strings.{spelledAt}
-use Rattle.rows.specs.Seen.{made}
+use Rattle.rows.specs.Inner.{made}
 use Rattle.rows.proofs.Laws.{string-within}
 use Rattle.rows.proofs.name.Statement.{statement}
 use Rattle.rows.proofs.name.Tie as tie

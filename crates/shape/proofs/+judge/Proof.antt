@@ -11,7 +11,7 @@ use Rattle.json.specs.declared.Start.the-variants.{Leaf}
 use Rattle.json.specs.declared.Next.the-variants.{More, Done, Wrong}
 use Rattle.json.proofs.Trees.{value-open, value-flat}
 use Rattle.shape.specs.declared.Judged.the-variants.{Ends}
-use Rattle.shape.specs.Walk.{judgedOf}
+use Rattle.shape.specs.Inner.{judgedOf}
 use Rattle.shape.proofs.Slots.{slot-small}
 use Rattle.shape.proofs.Walks.{judgedItems, judge-empty, judge-many, judge-gone, judge-unnamed, judge-bad, judge-next}
 use Rattle.shape.proofs.judge.Reads as judge

@@ -1,5 +1,5 @@
 use Rattle.shape.proofs.Tests.{tests}
-use Rattle.shape.specs.Walk.{toldOf}
+use Rattle.shape.specs.Inner.{toldOf}
 use Rattle.shape.proofs.told.Statement.{statement}
 use Rattle.shape.proofs.told.Tie as tie
 

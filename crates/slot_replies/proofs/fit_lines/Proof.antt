@@ -4,7 +4,7 @@ use Prim.Native.Nat.{_-_}
 use native.Mathlib.Omega.{arith}
 use borrow.Author.Needs.{needs}
 use lib.ListN.{length, drop}
-use Rattle.slot_replies.specs.Slot.{sizes, fittedIn}
+use Rattle.slot_replies.specs.Inner.{sizes, fittedIn}
 use Rattle.slot_replies.proofs.Lines.{fitted-stop, fitted-turn, fitted-end}
 use Rattle.slot_replies.proofs.fit_lines.Statement.{statement}
 use Rattle.slot_replies.proofs.fit_lines.Tie as tie

@@ -4,7 +4,7 @@ use Prim.Native.Nat.{_+_, _-_}
 use native.Mathlib.Omega.{arith}
 use borrow.Author.Needs.{needs}
 use lib.ListN.{length, drop}
-use Rattle.slot_replies.specs.Slot.{heldLen}
+use Rattle.slot_replies.specs.Inner.{heldLen}
 use Rattle.slot_replies.proofs.Batches.{held-stop, held-turn, held-end}
 use Rattle.slot_replies.proofs.held_len.Statement.{statement}
 use Rattle.slot_replies.proofs.held_len.Tie as tie

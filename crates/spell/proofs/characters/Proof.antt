@@ -7,7 +7,7 @@ use denote.Ref.{now}
 use borrow.Author.Tests.{not-true, not-false}
 use lib.ListN.{length}
 use Rattle.spell.specs.Spell.{decode, characterCount, points}
-use Rattle.spell.specs.Steps.{leftOf, Within}
+use Rattle.spell.specs.Inner.{leftOf, Within}
 use Rattle.spell.proofs.Chars.{begin, left-over, step-byte, decode-few}
 use Rattle.spell.proofs.Loops.{points-few, point-passed, point-counted, point-end}
 use Rattle.spell.proofs.characters.Statement.{statement}

@@ -6,7 +6,7 @@ use borrow.Author.Needs.{needs}
 use denote.Ref.{now}
 use lib.ListN.{length}
 use Rattle.spell.specs.Spell.{decode}
-use Rattle.spell.specs.Steps.{leftOf, Within}
+use Rattle.spell.specs.Inner.{leftOf, Within}
 use Rattle.spell.proofs.Chars.{begin, left-over, left-some, step-byte, decode-few}
 use Rattle.spell.proofs.decoded_len.Statement.{statement}
 use Rattle.spell.proofs.decoded_len.Tie as tie

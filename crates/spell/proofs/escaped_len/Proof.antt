@@ -7,7 +7,7 @@ use denote.Ref.{now}
 use lib.ListN.{length, length-append}
 use Rattle.wire.specs.Escape.{escape}
 use Rattle.spell.specs.Spell.{decode}
-use Rattle.spell.specs.Steps.{leftOf, Within}
+use Rattle.spell.specs.Inner.{leftOf, Within}
 use Rattle.spell.proofs.Chars.{begin, left-over, step-byte, decode-few}
 use Rattle.spell.proofs.Loops.{escape-turn, escape-end, escape-few}
 use Rattle.spell.proofs.escaped_len.Statement.{statement}

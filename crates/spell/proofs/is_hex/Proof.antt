@@ -9,7 +9,7 @@ use lib.Dec.{eqb}
 use lib.ListN.{length}
 use Rattle.wire.specs.Bytes.{isHex}
 use Rattle.spell.specs.Spell.{isHexOf, all}
-use Rattle.spell.specs.Steps.{leftOf, Within}
+use Rattle.spell.specs.Inner.{leftOf, Within}
 use Rattle.spell.proofs.Chars.{begin, left-over, left-some, step-byte}
 use Rattle.spell.proofs.Loops.{hex-end, hex-long, hex-bad, hex-good}
 use Rattle.spell.proofs.is_hex.Statement.{statement}

@@ -6,7 +6,7 @@ use denote.Ref.{now}
 use lib.ListN.{length}
 use Rattle.wire.proofs.Laws.{Rest, puts-out, rest-start, rest-turn, rest-end}
 use Rattle.spell.specs.Spell.{decode}
-use Rattle.spell.specs.Steps.{leftOf, Within}
+use Rattle.spell.specs.Inner.{leftOf, Within}
 use Rattle.spell.proofs.Chars.{begin, left-over, step-byte}
 use Rattle.spell.proofs.put_decoded.Statement.{statement}
 use Rattle.spell.proofs.put_decoded.Tie as tie

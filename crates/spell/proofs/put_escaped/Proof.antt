@@ -8,7 +8,7 @@ use lib.ListN.{length, length-append}
 use Rattle.wire.proofs.Laws.{Rest, puts-out, rest-start, rest-turn, rest-end}
 use Rattle.wire.specs.Escape.{escape}
 use Rattle.spell.specs.Spell.{decode}
-use Rattle.spell.specs.Steps.{leftOf, Within}
+use Rattle.spell.specs.Inner.{leftOf, Within}
 use Rattle.spell.proofs.Chars.{begin, left-over}
 use Rattle.spell.proofs.Loops.{escape-turn, escape-end}
 use Rattle.spell.proofs.Runs.{run-less, byte-less}

@@ -6,7 +6,7 @@ use denote.Ref.{now}
 use lib.ListN.{length, drop, drop-of-length-le}
 use Rattle.wire.specs.Bytes.{sameBytes}
 use Rattle.spell.specs.Spell.{decode}
-use Rattle.spell.specs.Steps.{leftOf, Within}
+use Rattle.spell.specs.Inner.{leftOf, Within}
 use Rattle.spell.proofs.Chars.{begin, left-over, left-some, step-byte}
 use Rattle.spell.proofs.Loops.{byte-turn, both-end, first-ends, second-ends, differ, agree}
 use Rattle.spell.proofs.spells.Statement.{statement}

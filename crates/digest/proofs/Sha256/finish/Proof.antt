@@ -4,7 +4,7 @@ use native.Mathlib.Omega.{arith}
 use mathlib.Core.Path.{sym, _∙_}
 use lib.Seq.{length-take-le}
 use Rattle.digest.specs.State.{waiting}
-use Rattle.digest.specs.Pieces.{finish-done, finish-refused}
+use Rattle.digest.specs.Claims.{finish-done, finish-refused}
 use Rattle.digest.proofs.Laws.{finishes}
 use Rattle.digest.proofs.Sha256.finish.Statement.{statement}
 use Rattle.digest.proofs.Sha256.finish.Tie as tie

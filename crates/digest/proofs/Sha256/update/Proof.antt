@@ -8,7 +8,7 @@ use denote.Ref.{now}
 use lib.ListN.{length, take, length-map}
 use Rattle.digest.specs.Digest.{blocks}
 use Rattle.digest.specs.State.{waiting, stateAfter}
-use Rattle.digest.specs.Pieces.{update-done, update-refused}
+use Rattle.digest.specs.Claims.{update-done, update-refused}
 use Rattle.digest.proofs.Laws.{length-message, updates}
 use Rattle.digest.proofs.Sha256.update.Statement.{statement}
 use Rattle.digest.proofs.Sha256.update.Tie as tie

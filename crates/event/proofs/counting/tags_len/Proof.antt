@@ -1,7 +1,7 @@
 -- The first tag and those after it, or none.
 use mathlib.Core.Path.{refl, sym, _∙_}
 use borrow.Author.Needs.{needs}
-use Rattle.event.specs.Walk.{Counts}
+use Rattle.event.specs.Inner.{Counts}
 use Rattle.event.proofs.Walks.{counts-chain}
 use Rattle.event.proofs.Tags.{some-tags, no-tags}
 use Rattle.event.proofs.Lengths.{none-count}

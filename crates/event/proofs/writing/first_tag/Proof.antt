@@ -1,7 +1,7 @@
 -- What the two calls answer.
 use mathlib.Core.Path.{_∙_}
 use borrow.Author.Needs.{needs}
-use Rattle.event.specs.Walk.{firstTag}
+use Rattle.event.specs.Inner.{firstTag}
 use Rattle.event.proofs.writing.first_tag.Statement.{statement}
 use Rattle.event.proofs.writing.first_tag.Tie as tie
 

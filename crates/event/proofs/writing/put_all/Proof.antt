@@ -5,7 +5,7 @@ use native.Mathlib.Omega.{arith}
 use borrow.Author.Needs.{needs}
 use lib.ListN.{length}
 use Rattle.json.specs.Tree.{treeAt}
-use Rattle.event.specs.Walk.{puts, allTagsText}
+use Rattle.event.specs.Inner.{puts, allTagsText}
 use Rattle.event.proofs.Walks.{Left, left-start, left-gone, left-wrong, left-done, left-more, puts-chain}
 use Rattle.event.proofs.Tags.{tags-printer}
 use Rattle.event.proofs.writing.put_all.Statement.{statement}

@@ -1,7 +1,7 @@
 -- The first tag and those after it, or none.
 use mathlib.Core.Path.{sym, _∙_}
 use borrow.Author.Needs.{needs}
-use Rattle.event.specs.Walk.{puts}
+use Rattle.event.specs.Inner.{puts}
 use Rattle.event.proofs.Walks.{puts-chain}
 use Rattle.event.proofs.Tags.{some-tags, no-tags}
 use Rattle.event.proofs.writing.put_tags_from.Statement.{statement}

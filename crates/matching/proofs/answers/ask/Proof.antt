@@ -2,7 +2,7 @@
 use mathlib.Core.Path.{_≡_}
 use native.Mathlib.Omega.{arith}
 use borrow.Author.Needs.{needs}
-use Rattle.matching.specs.Hits.{Filled}
+use Rattle.matching.specs.Inner.Hits.{Filled}
 use Rattle.matching.proofs.answers.Asked.{of-parts}
 use Rattle.matching.proofs.answers.ask.Statement.{statement}
 use Rattle.matching.proofs.answers.ask.Tie as tie

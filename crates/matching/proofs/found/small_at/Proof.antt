@@ -2,7 +2,7 @@
 use borrow.Author.Needs.{needs}
 use mathlib.Core.Path.{sym, ap, _∙_}
 use Rattle.numeral.specs.Whole.{wholeOf, answerOf}
-use Rattle.matching.specs.Finds.{smallFrom}
+use Rattle.matching.specs.Inner.Finds.{smallFrom}
 use Rattle.matching.proofs.found.Members.{small-is, small-none}
 use Rattle.matching.proofs.found.small_at.Statement.{statement}
 use Rattle.matching.proofs.found.small_at.Tie as tie

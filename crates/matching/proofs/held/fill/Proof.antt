@@ -1,8 +1,8 @@
 use mathlib.Core.Path.{_≡_, refl, sym, _∙_}
 use Prim.Native.Nat.{_-_, _≤_}
 use lib.ListN.{length, length-set}
-use Rattle.matching.specs.Found.{filterBy}
-use Rattle.matching.specs.Hits.{Filled}
+use Rattle.matching.specs.Inner.Found.{filterBy}
+use Rattle.matching.specs.Inner.Hits.{Filled}
 use Rattle.matching.proofs.held.Bytes.{filled-none, filled-more}
 use borrow.Author.Needs.{needs}
 use native.Mathlib.Omega.{arith}

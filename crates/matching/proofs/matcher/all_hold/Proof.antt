@@ -5,7 +5,7 @@ use lib.ListN.{length, take, drop}
 use Rattle.text.specs.Event.{all}
 use Rattle.event.specs.Lent.{tagsAt}
 use Rattle.query.specs.Match.{conditionHolds}
-use Rattle.matching.specs.Found.{conditionBy}
+use Rattle.matching.specs.Inner.Found.{conditionBy}
 use native.Mathlib.Nat.{sub-zero}
 use Rattle.matching.proofs.matcher.Ways.{rest-none, rest-no, rest-more, rest-end, condition-test, was-no, was-yes}
 use borrow.Author.Needs.{needs}

@@ -1,7 +1,7 @@
 -- A law for each way out: the id, the fields, the conditions.
 use borrow.Author.Needs.{needs}
 use Rattle.event.specs.Lent.{said, eventOf}
-use Rattle.matching.specs.Found.{filterBy}
+use Rattle.matching.specs.Inner.Found.{filterBy}
 use Rattle.matching.proofs.matcher.Ways.{ids-no, fields-no, all-are, id-test, fields-test, conditions-test}
 use Rattle.matching.proofs.matcher.event_matched.Statement.{statement}
 use Rattle.matching.proofs.matcher.event_matched.Tie as tie

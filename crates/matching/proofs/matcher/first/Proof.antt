@@ -1,6 +1,6 @@
 use borrow.Author.Needs.{needs}
 use mathlib.Core.Path.{ap, _∙_}
-use Rattle.matching.specs.Steps.{placed}
+use Rattle.matching.specs.Inner.Steps.{placed}
 use Rattle.matching.proofs.matcher.first.Statement.{statement}
 use Rattle.matching.proofs.matcher.first.Tie as tie
 

@@ -4,7 +4,7 @@ use lib.IntN.{pos}
 use lib.ListN.{length, drop}
 use Rattle.law.specs.Lists.{any}
 use Rattle.query.specs.Match.{sameNumber}
-use Rattle.matching.specs.Found.{numbersBy}
+use Rattle.matching.specs.Inner.Found.{numbersBy}
 use Rattle.matching.proofs.matcher.Ways.{kinds-hit, kinds-miss, kinds-end}
 use borrow.Author.Needs.{needs}
 use native.Mathlib.Omega.{arith}

@@ -12,7 +12,7 @@ use Rattle.json.specs.declared.Next.the-variants.{More, Done, Wrong}
 use Rattle.json.proofs.Trees.{foldGot, fold-gone, fold-unnamed, fold-bad, fold-next}
 use Rattle.message.specs.Lists.{within}
 use Rattle.message.specs.Parts.{membersAt}
-use Rattle.message.specs.Steps.{noMembers, foundIn}
+use Rattle.message.specs.Inner.{noMembers, foundIn}
 use Rattle.message.proofs.Found.{by, fold-open}
 use Rattle.message.proofs.object.find.Statement.{statement}
 use Rattle.message.proofs.object.find.Tie as tie

@@ -1,5 +1,5 @@
 use borrow.Author.Needs.{needs}
-use Rattle.message.specs.Steps.{kept}
+use Rattle.message.specs.Inner.{kept}
 use Rattle.message.proofs.object.keep.Statement.{statement}
 use Rattle.message.proofs.object.keep.Tie as tie
 

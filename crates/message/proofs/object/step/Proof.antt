@@ -1,5 +1,5 @@
 use borrow.Author.Needs.{needs}
-use Rattle.message.specs.Steps.{stepOf}
+use Rattle.message.specs.Inner.{stepOf}
 use Rattle.message.proofs.object.step.Statement.{statement}
 use Rattle.message.proofs.object.step.Tie as tie
 

@@ -1,7 +1,7 @@
 use borrow.Author.Needs.{needs}
 use mir.Syntax.{w64}
 use mir.ValLaws.{toZ-ofZ}
-use Rattle.message.specs.Steps.{bodyFound}
+use Rattle.message.specs.Inner.{bodyFound}
 use Rattle.message.proofs.values.body_in.Statement.{statement}
 use Rattle.message.proofs.values.body_in.Tie as tie
 

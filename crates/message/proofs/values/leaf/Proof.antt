@@ -1,6 +1,6 @@
 use borrow.Author.Needs.{needs}
 use mathlib.Core.Path.{_∙_}
-use Rattle.message.specs.Steps.{leafAt}
+use Rattle.message.specs.Inner.{leafAt}
 use Rattle.message.proofs.values.leaf.Statement.{statement}
 use Rattle.message.proofs.values.leaf.Tie as tie
 

@@ -2,7 +2,7 @@ use borrow.Author.Needs.{needs}
 use mathlib.Core.Path.{_∙_}
 use mir.Syntax.{w64}
 use mir.ValLaws.{toZ-ofZ}
-use Rattle.message.specs.Steps.{numberAt}
+use Rattle.message.specs.Inner.{numberAt}
 use Rattle.message.proofs.values.number_at.Statement.{statement}
 use Rattle.message.proofs.values.number_at.Tie as tie
 

@@ -3,7 +3,7 @@ use borrow.Author.Needs.{needs}
 use mathlib.Core.Path.{sym, _∙_}
 use native.Mathlib.Omega.{arith}
 use Rattle.json.proofs.Spelled.{string-parts}
-use Rattle.message.specs.Steps.{spanAt}
+use Rattle.message.specs.Inner.{spanAt}
 use Rattle.message.proofs.Scalars.{leaf-string}
 use Rattle.message.proofs.values.span_at.Statement.{statement}
 use Rattle.message.proofs.values.span_at.Tie as tie

@@ -1,4 +1,4 @@
-use Rattle.message.specs.Steps.{isEventAt}
+use Rattle.message.specs.Inner.{isEventAt}
 use borrow.Author.Needs.{needs}
 use Rattle.message.proofs.words.is_event_at.Statement.{statement}
 use Rattle.message.proofs.words.is_event_at.Tie as tie

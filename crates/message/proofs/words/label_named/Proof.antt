@@ -1,5 +1,5 @@
 use borrow.Author.Needs.{needs}
-use Rattle.message.specs.Steps.{labelNamed}
+use Rattle.message.specs.Inner.{labelNamed}
 use Rattle.message.proofs.words.label_named.Statement.{statement}
 use Rattle.message.proofs.words.label_named.Tie as tie
 

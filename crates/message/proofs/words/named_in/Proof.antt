@@ -1,6 +1,6 @@
 use borrow.Author.Needs.{needs}
 use mathlib.Core.Path.{_∙_}
-use Rattle.message.specs.Steps.{namedAt}
+use Rattle.message.specs.Inner.{namedAt}
 use Rattle.message.proofs.words.named_in.Statement.{statement}
 use Rattle.message.proofs.words.named_in.Tie as tie
 

@@ -1,6 +1,6 @@
 use borrow.Author.Needs.{needs}
 use Rattle.shape.specs.Shape.{nameAt, wordOf}
-use Rattle.message.specs.Steps.{openingAt}
+use Rattle.message.specs.Inner.{openingAt}
 use Rattle.message.proofs.words.opening_at.Statement.{statement}
 use Rattle.message.proofs.words.opening_at.Tie as tie
 

@@ -1,5 +1,5 @@
 use borrow.Author.Needs.{needs}
-use Rattle.message.specs.Steps.{partsAt}
+use Rattle.message.specs.Inner.{partsAt}
 use Rattle.message.proofs.words.parts.Statement.{statement}
 use Rattle.message.proofs.words.parts.Tie as tie
 

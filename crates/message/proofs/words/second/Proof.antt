@@ -1,6 +1,6 @@
 use borrow.Author.Needs.{needs}
 use mathlib.Core.Path.{_∙_}
-use Rattle.message.specs.Steps.{secondFrom}
+use Rattle.message.specs.Inner.{secondFrom}
 use Rattle.message.proofs.words.second.Statement.{statement}
 use Rattle.message.proofs.words.second.Tie as tie
 

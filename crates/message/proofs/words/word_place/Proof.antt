@@ -1,6 +1,6 @@
 use borrow.Author.Needs.{needs}
 use mathlib.Core.Path.{_∙_}
-use Rattle.message.specs.Steps.{wordPlace}
+use Rattle.message.specs.Inner.{wordPlace}
 use Rattle.message.proofs.words.word_place.Statement.{statement}
 use Rattle.message.proofs.words.word_place.Tie as tie
 

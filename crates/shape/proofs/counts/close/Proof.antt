@@ -1,4 +1,4 @@
-use Rattle.shape.specs.Walk.{closed}
+use Rattle.shape.specs.Inner.{closed}
 use borrow.Author.Needs.{needs}
 use Rattle.shape.proofs.counts.close.Statement.{statement}
 use Rattle.shape.proofs.counts.close.Tie as tie

@@ -1,5 +1,5 @@
 use Rattle.shape.proofs.Tests.{tests}
-use Rattle.shape.specs.Walk.{endRow}
+use Rattle.shape.specs.Inner.{endRow}
 use borrow.Author.Tests.{eq-eqb}
 use borrow.Author.Needs.{needs}
 use Rattle.shape.proofs.counts.end_row.Statement.{statement}

@@ -1,5 +1,5 @@
 use mathlib.Core.Path.{refl}
-use Rattle.shape.specs.Walk.{isFull}
+use Rattle.shape.specs.Inner.{isFull}
 use Rattle.shape.proofs.counts.is_full.Statement.{statement}
 use Rattle.shape.proofs.counts.is_full.Tie as tie
 

@@ -1,6 +1,6 @@
 use borrow.Author.Needs.{needs}
 use mathlib.Core.Path.{refl}
-use Rattle.shape.specs.Walk.{isIn}
+use Rattle.shape.specs.Inner.{isIn}
 use Rattle.shape.proofs.counts.is_in.Statement.{statement}
 use Rattle.shape.proofs.counts.is_in.Tie as tie
 

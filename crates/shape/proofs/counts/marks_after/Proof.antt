@@ -1,7 +1,7 @@
 use borrow.Author.Needs.{needs}
 use borrow.Author.Tests.{lt-ltb, le-ltb}
 use native.Mathlib.Omega.{arith}
-use Rattle.shape.specs.Walk.{marksAfter}
+use Rattle.shape.specs.Inner.{marksAfter}
 use Rattle.shape.proofs.counts.marks_after.Statement.{statement}
 use Rattle.shape.proofs.counts.marks_after.Tie as tie
 

@@ -1,4 +1,4 @@
-use Rattle.shape.specs.Walk.{onceRow}
+use Rattle.shape.specs.Inner.{onceRow}
 use borrow.Author.Needs.{needs}
 use Rattle.shape.proofs.counts.once_row.Statement.{statement}
 use Rattle.shape.proofs.counts.once_row.Tie as tie

@@ -1,4 +1,4 @@
-use Rattle.shape.specs.Walk.{fresh}
+use Rattle.shape.specs.Inner.{fresh}
 use mathlib.Core.Path.{refl}
 use Rattle.shape.proofs.counts.start.Statement.{statement}
 use Rattle.shape.proofs.counts.start.Tie as tie

@@ -1,5 +1,5 @@
 use borrow.Author.Needs.{needs}
-use Rattle.shape.specs.Walk.{stepped}
+use Rattle.shape.specs.Inner.{stepped}
 use Rattle.shape.proofs.counts.step.Statement.{statement}
 use Rattle.shape.proofs.counts.step.Tie as tie
 

@@ -1,5 +1,5 @@
 use Rattle.shape.proofs.Tests.{tests}
-use Rattle.shape.specs.Walk.{elementForm}
+use Rattle.shape.specs.Inner.{elementForm}
 use Rattle.shape.proofs.forms.element_form.Statement.{statement}
 use Rattle.shape.proofs.forms.element_form.Tie as tie
 

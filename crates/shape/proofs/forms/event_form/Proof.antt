@@ -1,5 +1,5 @@
 use Rattle.shape.proofs.Tests.{tests}
-use Rattle.shape.specs.Walk.{eventForm}
+use Rattle.shape.specs.Inner.{eventForm}
 use Rattle.shape.proofs.forms.event_form.Statement.{statement}
 use Rattle.shape.proofs.forms.event_form.Tie as tie
 

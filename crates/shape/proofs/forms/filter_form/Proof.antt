@@ -1,5 +1,5 @@
 use Rattle.shape.proofs.Tests.{tests}
-use Rattle.shape.specs.Walk.{filterForm}
+use Rattle.shape.specs.Inner.{filterForm}
 use Rattle.shape.proofs.forms.filter_form.Statement.{statement}
 use Rattle.shape.proofs.forms.filter_form.Tie as tie
 

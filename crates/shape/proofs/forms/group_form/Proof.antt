@@ -1,5 +1,5 @@
 use Rattle.shape.proofs.Tests.{tests}
-use Rattle.shape.specs.Walk.{groupForm}
+use Rattle.shape.specs.Inner.{groupForm}
 use Rattle.shape.proofs.forms.group_form.Statement.{statement}
 use Rattle.shape.proofs.forms.group_form.Tie as tie
 

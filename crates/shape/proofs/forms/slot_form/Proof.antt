@@ -1,5 +1,5 @@
 use Rattle.shape.proofs.Tests.{tests}
-use Rattle.shape.specs.Walk.{slotForm}
+use Rattle.shape.specs.Inner.{slotForm}
 use borrow.Author.Needs.{needs}
 use Rattle.shape.proofs.forms.slot_form.Statement.{statement}
 use Rattle.shape.proofs.forms.slot_form.Tie as tie

@@ -1,6 +1,6 @@
 use borrow.Author.Needs.{needs}
 use Rattle.shape.specs.Shape.{wordOf}
-use Rattle.shape.specs.Walk.{wordForm}
+use Rattle.shape.specs.Inner.{wordForm}
 use Rattle.shape.proofs.forms.word_form.Statement.{statement}
 use Rattle.shape.proofs.forms.word_form.Tie as tie
 

@@ -9,7 +9,7 @@ use native.Mathlib.Omega.{arith}
 use Rattle.wire.specs.Bytes.{sameBytes}
 use Rattle.spell.specs.Spell.{decode}
 use Rattle.shape.specs.Shape.{isCondition}
-use Rattle.shape.specs.Walk.{conditionSlot}
+use Rattle.shape.specs.Inner.{conditionSlot}
 use Rattle.wire.proofs.Bytes.{same-equal}
 use Rattle.shape.proofs.Names.{condition-letter, condition-none, one-more}
 use Rattle.shape.proofs.items.escaped_condition.Statement.{statement}

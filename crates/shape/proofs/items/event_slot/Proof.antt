@@ -2,7 +2,7 @@
 use borrow.Author.Needs.{needs}
 use mathlib.Core.Bool.{Bool, true, cond}
 use mathlib.Core.Path.{sym, ap, _∙_}
-use Rattle.shape.specs.Walk.{SIG, UNKNOWN, eventSlot}
+use Rattle.shape.specs.Inner.{SIG, UNKNOWN, eventSlot}
 use Rattle.shape.proofs.Names.{among-one}
 use Rattle.shape.proofs.Known.{seventh}
 use Rattle.shape.proofs.items.event_slot.Statement.{statement}

@@ -2,7 +2,7 @@
 use borrow.Author.Needs.{needs}
 use mathlib.Core.Bool.{false}
 use mathlib.Core.Path.{_∙_}
-use Rattle.shape.specs.Walk.{filterSlot}
+use Rattle.shape.specs.Inner.{filterSlot}
 use Rattle.shape.proofs.Names.{among-one, among-none}
 use Rattle.shape.proofs.items.filter_slot.Statement.{statement}
 use Rattle.shape.proofs.items.filter_slot.Tie as tie

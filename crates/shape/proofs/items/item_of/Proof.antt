@@ -1,4 +1,4 @@
-use Rattle.shape.specs.Walk.{itemOf}
+use Rattle.shape.specs.Inner.{itemOf}
 use borrow.Author.Needs.{needs}
 use Rattle.shape.proofs.items.item_of.Statement.{statement}
 use Rattle.shape.proofs.items.item_of.Tie as tie

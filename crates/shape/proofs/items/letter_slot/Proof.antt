@@ -1,7 +1,7 @@
 use borrow.Author.Needs.{needs}
 use mathlib.Core.Path.{sym, _∙_}
 use native.Mathlib.Omega.{arith}
-use Rattle.shape.specs.Walk.{letterSlot}
+use Rattle.shape.specs.Inner.{letterSlot}
 use Rattle.shape.proofs.Names.{within-ends}
 use Rattle.shape.proofs.items.letter_slot.Statement.{statement}
 use Rattle.shape.proofs.items.letter_slot.Tie as tie

@@ -1,4 +1,4 @@
-use Rattle.shape.specs.Walk.{memberOf}
+use Rattle.shape.specs.Inner.{memberOf}
 use borrow.Author.Needs.{needs}
 use Rattle.shape.proofs.items.member.Statement.{statement}
 use Rattle.shape.proofs.items.member.Tie as tie

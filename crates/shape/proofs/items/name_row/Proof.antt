@@ -1,4 +1,4 @@
-use Rattle.shape.specs.Walk.{nameRow}
+use Rattle.shape.specs.Inner.{nameRow}
 use borrow.Author.Needs.{needs}
 use Rattle.shape.proofs.items.name_row.Statement.{statement}
 use Rattle.shape.proofs.items.name_row.Tie as tie

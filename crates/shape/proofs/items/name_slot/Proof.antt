@@ -1,5 +1,5 @@
 use Rattle.shape.proofs.Tests.{tests}
-use Rattle.shape.specs.Walk.{nameSlot}
+use Rattle.shape.specs.Inner.{nameSlot}
 use borrow.Author.Needs.{needs}
 use Rattle.shape.proofs.items.name_slot.Statement.{statement}
 use Rattle.shape.proofs.items.name_slot.Tie as tie

@@ -1,5 +1,5 @@
 use Rattle.shape.proofs.Tests.{tests}
-use Rattle.shape.specs.Walk.{placeSlot}
+use Rattle.shape.specs.Inner.{placeSlot}
 use Rattle.shape.proofs.items.place_slot.Statement.{statement}
 use Rattle.shape.proofs.items.place_slot.Tie as tie
 

@@ -1,5 +1,5 @@
 use Rattle.shape.proofs.Tests.{tests}
-use Rattle.shape.specs.Walk.{bounds}
+use Rattle.shape.specs.Inner.{bounds}
 use Rattle.shape.proofs.scalar.bounded.Statement.{statement}
 use Rattle.shape.proofs.scalar.bounded.Tie as tie
 

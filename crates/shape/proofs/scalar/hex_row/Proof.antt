@@ -1,4 +1,4 @@
-use Rattle.shape.specs.Walk.{hexRow}
+use Rattle.shape.specs.Inner.{hexRow}
 use borrow.Author.Needs.{needs}
 use Rattle.shape.proofs.scalar.hex_row.Statement.{statement}
 use Rattle.shape.proofs.scalar.hex_row.Tie as tie

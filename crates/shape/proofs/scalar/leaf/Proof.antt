@@ -1,7 +1,7 @@
 use borrow.Author.Needs.{needs}
 use mathlib.Core.Path.{sym, _∙_}
 use native.Mathlib.Omega.{arith}
-use Rattle.shape.specs.Walk.{judgedOf, rowOf}
+use Rattle.shape.specs.Inner.{judgedOf, rowOf}
 use Rattle.shape.proofs.Places.{string-within, string-inner, scalar-string}
 use Rattle.shape.proofs.scalar.leaf.Statement.{statement}
 use Rattle.shape.proofs.scalar.leaf.Tie as tie

@@ -1,5 +1,5 @@
 use borrow.Author.Needs.{needs}
-use Rattle.shape.specs.Walk.{numberRow}
+use Rattle.shape.specs.Inner.{numberRow}
 use Rattle.shape.proofs.Tests.{tests}
 use Rattle.shape.proofs.scalar.number_row.Statement.{statement}
 use Rattle.shape.proofs.scalar.number_row.Tie as tie

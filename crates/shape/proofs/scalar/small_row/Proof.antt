@@ -1,5 +1,5 @@
 use borrow.Author.Needs.{needs}
-use Rattle.shape.specs.Walk.{rangeRow}
+use Rattle.shape.specs.Inner.{rangeRow}
 use Rattle.shape.proofs.scalar.small_row.Statement.{statement}
 use Rattle.shape.proofs.scalar.small_row.Tie as tie
 

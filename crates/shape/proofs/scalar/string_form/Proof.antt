@@ -1,5 +1,5 @@
 use Rattle.shape.proofs.Tests.{tests}
-use Rattle.shape.specs.Walk.{stringForm}
+use Rattle.shape.specs.Inner.{stringForm}
 use borrow.Author.Needs.{needs}
 use Rattle.shape.proofs.scalar.string_form.Statement.{statement}
 use Rattle.shape.proofs.scalar.string_form.Tie as tie

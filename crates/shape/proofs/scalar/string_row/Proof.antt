@@ -1,4 +1,4 @@
-use Rattle.shape.specs.Walk.{stringRow}
+use Rattle.shape.specs.Inner.{stringRow}
 use borrow.Author.Needs.{needs}
 use Rattle.shape.proofs.scalar.string_row.Statement.{statement}
 use Rattle.shape.proofs.scalar.string_row.Tie as tie

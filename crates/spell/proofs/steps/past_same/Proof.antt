@@ -3,7 +3,7 @@ use borrow.Author.Needs.{needs}
 use native.Mathlib.Omega.{arith}
 use Prim.Native.Nat.{_-_}
 use lib.ListN.{length}
-use Rattle.spell.specs.Steps.{Same}
+use Rattle.spell.specs.Inner.{Same}
 use Rattle.spell.proofs.Runs.{same-start, same-byte, same-pair}
 use Rattle.spell.proofs.steps.past_same.Statement.{statement}
 use Rattle.spell.proofs.steps.past_same.Tie as tie

@@ -7,7 +7,7 @@ use borrow.Author.Needs.{needs}
 use borrow.Author.Tests.{not-true, not-false}
 use lib.ListN.{length, drop}
 use Rattle.text.specs.Read.{bodyFrom}
-use Rattle.text.specs.Parts.{endOf}
+use Rattle.text.specs.Inner.Parts.{endOf}
 use Rattle.text.proofs.Ways.{body-over, body-pair, body-unknown, body-quote, body-stuck, body-raw}
 use Rattle.text.proofs.body.body_end.Statement.{statement}
 use Rattle.text.proofs.body.body_end.Tie as tie

@@ -5,7 +5,7 @@ use native.Mathlib.Omega.{arith}
 use borrow.Author.Needs.{needs}
 use borrow.Author.Tests.{not-false}
 use lib.ListN.{length}
-use Rattle.text.specs.Parts.{Passes}
+use Rattle.text.specs.Inner.Parts.{Passes}
 use Rattle.text.proofs.Ways.{body-pair}
 use Rattle.text.proofs.body.past_escapes.Statement.{statement}
 use Rattle.text.proofs.body.past_escapes.Tie as tie

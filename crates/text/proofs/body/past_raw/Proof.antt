@@ -3,7 +3,7 @@ use mathlib.Core.Path.{refl}
 use Prim.Native.Nat.{_-_, _≤_}
 use native.Mathlib.Omega.{arith}
 use lib.ListN.{length}
-use Rattle.text.specs.Parts.{Passes}
+use Rattle.text.specs.Inner.Parts.{Passes}
 use Rattle.text.proofs.Blocks.{pass-on}
 use Rattle.text.proofs.body.past_raw.Statement.{statement}
 use Rattle.text.proofs.body.past_raw.Tie as tie

@@ -1,6 +1,6 @@
 -- The definition's tests.
 use mathlib.Core.Path.{refl}
-use Rattle.text.specs.Windows.{isNarrow}
+use Rattle.text.specs.Inner.Windows.{isNarrow}
 use Rattle.text.proofs.octets.is_narrow.Statement.{statement}
 use Rattle.text.proofs.octets.is_narrow.Tie as tie
 

@@ -1,6 +1,6 @@
 -- The definition's tests.
 use borrow.Author.Needs.{needs}
-use Rattle.text.specs.Windows.{isWrong}
+use Rattle.text.specs.Inner.Windows.{isWrong}
 use Rattle.text.proofs.octets.is_wrong.Statement.{statement}
 use Rattle.text.proofs.octets.is_wrong.Tie as tie
 

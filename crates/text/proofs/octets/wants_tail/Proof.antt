@@ -1,6 +1,6 @@
 -- The definition's tests.
 use mathlib.Core.Path.{refl}
-use Rattle.text.specs.Windows.{wantsTail}
+use Rattle.text.specs.Inner.Windows.{wantsTail}
 use Rattle.text.proofs.octets.wants_tail.Statement.{statement}
 use Rattle.text.proofs.octets.wants_tail.Tie as tie
 

@@ -3,7 +3,7 @@ use mathlib.Core.Path.{_≡_, sym, _∙_}
 use native.Mathlib.Omega.{arith}
 use borrow.Author.Needs.{needs}
 use Rattle.text.specs.Read.{stringAt, tagAt, membersAt}
-use Rattle.text.specs.Parts.{endOf}
+use Rattle.text.specs.Inner.Parts.{endOf}
 use Rattle.text.proofs.Pieces.{in-text}
 use Rattle.text.proofs.Ways.{tag-other, tag-open, turn-out, turn-bad, turn-more, turn-done, turn-wrong}
 use Rattle.text.proofs.parts.tag_end.Statement.{statement}

@@ -4,7 +4,7 @@ use Prim.Native.Nat.{_+_}
 use native.Mathlib.Omega.{arith}
 use borrow.Author.Needs.{needs}
 use Rattle.text.specs.Read.{tagAt, tagsAt, membersAt}
-use Rattle.text.specs.Parts.{taggedOf}
+use Rattle.text.specs.Inner.Parts.{taggedOf}
 use Rattle.text.specs.declared.Found.the-variants.{Not}
 use Rattle.text.proofs.Pieces.{in-text}
 use Rattle.text.proofs.Named.{tags-other, tags-empty, tags-open, tags-out, tags-bad, tags-more, tags-done, tags-wrong}

@@ -17,11 +17,11 @@ use Rattle.law.specs.Lists.{_∈_, any}
 use Rattle.table.specs.Layout.{capacityOf, countOf, slotAt, idIn, sigIn, textIn}
 use Rattle.table.specs.Sound.{sound}
 use Rattle.query.specs.Answer.{answerList, filtersAt}
-use Rattle.query.specs.Laws.{Lowest}
+use Rattle.query.specs.Claims.{Lowest}
 use Rattle.reply.specs.Replies.{event, eose, replyText}
 use Rattle.reply.specs.declared.ReplyParts.the-variants as parts
 use Rattle.reply.specs.Program.{repliesTo, tableAfter, replyLine, output}
-use Rattle.reply.specs.Laws.{PartsHold, WritesOr}
+use Rattle.reply.specs.Claims.Replies.{PartsHold, WritesOr}
 use Rattle.reply.specs.Respond.{response, respondRow, responded, respondedOut, respondedTable, slotText, slotLine, slotEventRow, slotEvent, slotEventOut, joined, fitting, slotLines, fittingText, eventsRow, sentEvents, sentEventsOut, sentNumber, sentBytes, sentSlots}
 use Rattle.reply.specs.Feed.{State, start, kept, isEnd, afterBytes, saidBy, saidLast, stateOf, before, usedOf, turnText, turnState, turnRow, turned, turnTable, turnLine, turnOut, turnedNumber, turnedUsed, turnedLine, turnedBytes, mostLine}
 

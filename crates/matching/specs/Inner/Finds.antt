@@ -27,7 +27,7 @@ use Rattle.query.specs.Filter.{conditionsIn}
 use Rattle.matching.specs.declared.Members.{Members}
 use Rattle.matching.specs.declared.Members.the-variants as members
 use Rattle.matching.specs.declared.Needed.{Needed}
-use Rattle.matching.specs.Found.{given, conditionBy}
+use Rattle.matching.specs.Inner.Found.{given, conditionBy}
 
 -- ---- the row that a filter's members are written to: two numbers for each string, one for each kind
 abbrev pub stringsRoom : ℕ

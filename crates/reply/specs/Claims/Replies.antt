@@ -33,16 +33,16 @@ use Rattle.law.specs.Lists.{_∈_, any}
 use Rattle.table.specs.Layout.{isByte, tableSize, capacityOf, countOf, slotAt, idIn, sigIn, textIn}
 use Rattle.law.specs.Table.{Offer, IdPremise, Settled}
 use Rattle.law.specs.Signature as signature
-use Rattle.law.specs.Machine.{judged, runOn, NoneLacksOn}
+use Rattle.law.specs.Demand3.{judged, runOn, NoneLacksOn}
 use Rattle.table.specs.Events.{Signature, tableEvents, ofHeld, view}
 use Rattle.table.specs.Sound.{sound}
-use Rattle.table.specs.Relay.{relay}
+use Rattle.table.specs.Demand3.{relay}
 use Rattle.table.specs.Offer as offers
 use Rattle.table.specs.Offer.{Offering, asMessage, answer, next}
 use Rattle.table.specs.declared.Offered.the-variants.{Stored, Refused}
 use Rattle.query.specs.Filter.{Filter}
 use Rattle.query.specs.Answer.{answerList, filtersAt}
-use Rattle.query.specs.Laws.{Lowest}
+use Rattle.query.specs.Claims.{Lowest}
 use Rattle.wire.specs.Ascii.{ascii}
 use Rattle.reply.specs.Replies as replies
 use Rattle.reply.specs.Replies.{Reply, ok, eose, closed, notice, objectText, replyText, reasonOf, isAccepted, verdictReason}

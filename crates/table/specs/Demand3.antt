@@ -1,4 +1,4 @@
--- Demand 3 at the table's bytes. Law/Machine has its claims for a relay in any form; here the relay is a table in a buffer, with the
+-- Demand 3 at the table's bytes. Law/Demand3 has its claims for a relay in any form; here the relay is a table in a buffer, with the
 -- answers and the bytes of specs/Offer. Quotes are from 01.
 use mathlib.Core.Path.{_≡_}
 use mathlib.Core.Bool.{true, false, cond}
@@ -16,7 +16,7 @@ use Rattle.message.specs.Lent.{bytesOf, isInside, isTags, value2, value5}
 use Rattle.event.specs.Lent.{said, tagsAt}
 use Rattle.event.specs.Answer.{hexOf}
 use Rattle.law.specs.Table.{Verdict, refused, wasEphemeral, duplicate, older, stored, noRoom}
-use Rattle.law.specs.Machine.{Machine, Demand3On}
+use Rattle.law.specs.Demand3.{Machine, Demand3On}
 use Rattle.table.specs.Layout.{capacityOf}
 use Rattle.table.specs.Events.{SignedEvent, Signature, tableEvents, view}
 use Rattle.table.specs.Offer.{Offering, asMessage, asParts, judge, answer, next}

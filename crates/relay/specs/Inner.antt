@@ -6,7 +6,7 @@ use lib.ListN.{length}
 use Rattle.table.specs.Layout.{capacityOf}
 use Rattle.reply.specs.Program.{programSlots}
 use Rattle.reply.specs.Feed.{mostLine}
-use Rattle.reply.specs.Answering.{enoughFor}
+use Rattle.reply.specs.Claims.Respond.{enoughFor}
 use Rattle.relay.specs.declared.Place.{Place}
 
 -- a table of 8 slots, a line buffer that holds what is kept of a line, an output that is never too short

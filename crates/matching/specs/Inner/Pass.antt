@@ -10,7 +10,7 @@ use Rattle.message.specs.declared.FilterParts.{FilterParts}
 use Rattle.event.specs.Lent.{natural}
 use Rattle.table.specs.Layout.{countOf}
 use Rattle.query.specs.Answer.{from, newestFirst, newerSlot}
-use Rattle.matching.specs.Hits.{hitAt}
+use Rattle.matching.specs.Inner.Hits.{hitAt}
 
 -- how many more matches a filter takes, once it has met a slot
 abbrev pub after : Bool → ℕ → ℕ
