@@ -10,7 +10,7 @@ use Rattle.query.specs.declared.Listing.{Listing}
 use Rattle.query.specs.declared.Listing.the-variants as listing
 
 -- ---- whether an event matches some filter
-abbrev pub matchOf : List ℕ → List ℕ → List ℕ → List ℕ → Matched
+abbrev pub matchOf : (b e m l : List ℕ) → Matched
 matchOf b e m l = matched b (eventFrom e) m (filtersFrom l) (filterCount l)
 
 -- the row that refuses the parts; 0 says that it matches, and a number that no row has that it does not
@@ -20,10 +20,10 @@ matchedNumber matching.Differs = 103
 matchedNumber (matching.Refused r) = r
 
 -- ---- a REQ's answer: the row, the slots in a lent row of numbers, and how many they are in a number of its own, which stays on a refusal
-abbrev pub listOf : List ℕ → List ℕ → List ℕ → List ℕ → Listing
+abbrev pub listOf : (t m l row : List ℕ) → Listing
 listOf t m l row = query.listed t m (filtersFrom l) (filterCount l) row
 
-abbrev pub listOut : List ℕ → List ℕ → List ℕ → List ℕ → List ℕ
+abbrev pub listOut : (t m l row : List ℕ) → List ℕ
 listOut t m l row = listedRow t m (filtersFrom l) (filterCount l) row
 
 abbrev pub countOr : Listing → ℕ → ℕ

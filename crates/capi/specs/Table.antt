@@ -7,9 +7,10 @@ use Rattle.table.specs.declared.Offered.{Offered}
 use Rattle.table.specs.declared.Offered.the-variants as offered
 use Rattle.slots.specs.declared.Shown.{Shown}
 use Rattle.slots.specs.declared.Shown.the-variants as shown
+use Rattle.wire.specs.Bytes.{Bytes, Row}
 
 -- 11, "table not sound", or 0
-unfoldable pub soundRow : List ℕ → ℕ
+unfoldable pub soundRow : Bytes → Row
 soundRow b = cond (sound b) 0 11
 
 -- the row that refuses an offer, and for the verdicts numbers that no row has; 0 says that it was stored

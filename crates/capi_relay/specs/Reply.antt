@@ -41,8 +41,8 @@ replyFrom f l =
     (cond (eqb f 4) (parts.Closed (nameFrom l) (reasonFrom l)) (parts.Notice (nameFrom l)))))
 
 -- the reply written; a row of no form is refused by 5, "wrong shape", before all else
-unfoldable pub writtenReply : List ℕ → List ℕ → List ℕ → Written
+unfoldable pub writtenReply : (b l out : List ℕ) → Written
 writtenReply b l out = cond (isForm (formOf l)) (replied b (replyFrom (formOf l) l) out) (sent.Refused 5)
 
-unfoldable pub writtenReplyOut : List ℕ → List ℕ → List ℕ → List ℕ
+unfoldable pub writtenReplyOut : (b l out : List ℕ) → List ℕ
 writtenReplyOut b l out = cond (isForm (formOf l)) (repliedOut b (replyFrom (formOf l) l) out) out

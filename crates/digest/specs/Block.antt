@@ -45,18 +45,18 @@ schedule M zero = M
 schedule M (suc k) = schedule M k ++ (next (schedule M k) k ∷ [])
 
 -- step 3: T1, T2 and a round, at the constant k and the schedule's word w. The working variables a to h are the list s
-abbrev pub T1 : ℕ → ℕ → List ℕ → ℕ
+abbrev pub T1 : (k w : ℕ) (s : List ℕ) → ℕ
 T1 k w s = plus (plus (plus (plus (at s 7) (Σ1 (at s 4))) (Ch (at s 4) (at s 5) (at s 6))) k) w
 
 abbrev pub T2 : List ℕ → ℕ
 T2 s = plus (Σ0 (at s 0)) (Maj (at s 0) (at s 1) (at s 2))
 
-unfoldable pub round : ℕ → ℕ → List ℕ → List ℕ
+unfoldable pub round : (k w : ℕ) (s : List ℕ) → List ℕ
 round k w s =
     plus (T1 k w s) (T2 s) ∷ at s 0 ∷ at s 1 ∷ at s 2 ∷ plus (at s 3) (T1 k w s) ∷ at s 4 ∷ at s 5 ∷ at s 6 ∷ []
 
 -- the working variables after t rounds from s, over the schedule W
-unfoldable pub rounds : List ℕ → List ℕ → ℕ → List ℕ
+unfoldable pub rounds : (s s′ : List ℕ) (t : ℕ) → List ℕ
 rounds W s zero = s
 rounds W s (suc t) = round (at K t) (at W t) (rounds W s t)
 

@@ -97,7 +97,7 @@ unfoldable pub joined : List (List ℕ) → List ℕ
 joined [] = []
 joined (d ∷ ds) = d ++ joined ds
 
-abbrev pub onDone : Updated → Answer → Updated → Updated
+abbrev pub onDone : (u : Updated) (x : Answer) (v : Updated) → Updated
 onDone u Done v = v
 onDone u TooLong v = u
 

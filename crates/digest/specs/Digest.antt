@@ -25,7 +25,7 @@ unfoldable pub padded : List ℕ → List ℕ
 padded l = l ++ padding (length l)
 
 -- section 6.2.2: the hash value H(n), after the first n blocks of l, from h
-unfoldable pub hashAfter : List ℕ → List ℕ → ℕ → List ℕ
+unfoldable pub hashAfter : (h l : List ℕ) (n : ℕ) → List ℕ
 hashAfter h l zero = h
 hashAfter h l (suc n) = compress (hashAfter h l n) (take 64 (drop (64 * n) l))
 

@@ -22,7 +22,7 @@ numberOf TooLong = 8
 abbrev pub most : ℕ
 most = 2 ^ 61 - 1
 
-abbrev pub pick : {A : Type 0} → Bool → A → A → A
+abbrev pub pick : {A : Type 0} (q : Bool) (a b : A) → A
 pick true a b = a
 pick false a b = b
 
@@ -40,7 +40,7 @@ unfoldable pub waiting : Sha256 → List ℕ
 waiting s = take (s .total % 64) (s .block)
 
 -- a state with the hash value h that l was fed to, n bytes in all: the whole blocks of l are hashed, the rest waits, zeros behind it
-unfoldable pub stateAfter : List ℕ → List ℕ → ℕ → Sha256
+unfoldable pub stateAfter : (h l : List ℕ) (n : ℕ) → Sha256
 stateAfter h l n = record { words = hashed h l; block = firstBytes (rest l) 64; total = n }
 
 -- the state of nothing fed, and of the bytes l fed

@@ -5,7 +5,7 @@ use mathlib.Core.List.{List, [], _∷_}
 use lib.Dec.{eqb, ltb}
 use lib.ListN.{length, replicate}
 use Rattle.wire.specs.Limits.{mostText}
-use Rattle.wire.specs.Bytes.{sameBytes}
+use Rattle.wire.specs.Bytes.{Bytes, Row, sameBytes}
 pub use Rattle.wire.specs.Put.{shortRow, outputAfter}
 use Rattle.digest.specs.Digest.{digest}
 use Rattle.message.specs.declared.Body.{Body}
@@ -17,7 +17,7 @@ use Rattle.event.specs.declared.Written.the-variants.{Wrote, Refused}
 use Rattle.event.specs.declared.Identified.{Identified}
 
 -- row 9: "serialised text over 4,096 bytes"
-unfoldable pub isLarge : List ℕ → Body → Bool
+unfoldable pub isLarge : Bytes → Body → Bool
 isLarge b p = ltb mostText (length (textOf b p))
 
 -- a row, or else the next
@@ -25,19 +25,19 @@ abbrev pub orElse : ℕ → ℕ → ℕ
 orElse r s = cond (eqb r 0) s r
 
 -- ---- serialising: rows 2 and 4 to 9; then 13, "lent output too short"
-unfoldable pub textRow : List ℕ → Body → ℕ
+unfoldable pub textRow : Bytes → Body → Row
 textRow b p = orElse (bodyRow b p) (cond (isLarge b p) 9 0)
 
-unfoldable pub serialisedRow : List ℕ → Body → List ℕ → ℕ
+unfoldable pub serialisedRow : (b : Bytes) (p : Body) (out : Bytes) → Row
 serialisedRow b p out = orElse (textRow b p) (shortRow (textOf b p) out)
 
 abbrev pub answered : ℕ → ℕ → Written
 answered r n = cond (eqb r 0) (Wrote n) (Refused r)
 
-unfoldable pub serialised : List ℕ → Body → List ℕ → Written
+unfoldable pub serialised : (b : Bytes) (p : Body) (out : Bytes) → Written
 serialised b p out = answered (serialisedRow b p out) (length (textOf b p))
 
-unfoldable pub serialisedOut : List ℕ → Body → List ℕ → List ℕ
+unfoldable pub serialisedOut : (b : Bytes) (p : Body) (out : Bytes) → Bytes
 serialisedOut b p out = outputAfter (serialisedRow b p out) (textOf b p) out
 
 -- the number of 01, and the value
@@ -50,37 +50,37 @@ valueOf (Wrote n) = n
 valueOf (Refused r) = 0
 
 -- ---- the id: SHA-256 of the text; zeros on a refusal
-abbrev pub identifiedBy : ℕ → List ℕ → Identified
+abbrev pub identifiedBy : ℕ → Bytes → Identified
 identifiedBy r t = record { row = r; id = cond (eqb r 0) (digest t) (replicate 32 0) }
 
 -- by the text alone: row 9, or none
-unfoldable pub hashedOf : List ℕ → Identified
+unfoldable pub hashedOf : Bytes → Identified
 hashedOf t = identifiedBy (cond (ltb mostText (length t)) 9 0) t
 
-unfoldable pub identified : List ℕ → Body → Identified
+unfoldable pub identified : Bytes → Body → Identified
 identified b p = identifiedBy (textRow b p) (textOf b p)
 
 -- ---- offering: row 10, "id is not the SHA-256 of the text"; the id is its hex, in lower case
 abbrev pub hexDigit : ℕ → ℕ
 hexDigit d = cond (ltb d 10) (48 + d) (87 + d)
 
-unfoldable pub hexOf : List ℕ → List ℕ
+unfoldable pub hexOf : Bytes → Bytes
 hexOf [] = []
 hexOf (x ∷ l) = hexDigit (x / 16) ∷ hexDigit (x % 16) ∷ hexOf l
 
-unfoldable pub hasId : List ℕ → EventParts → Bool
+unfoldable pub hasId : Bytes → EventParts → Bool
 hasId b p = sameBytes (said b (p .id)) (hexOf (digest (textOf b (p .body))))
 
 -- rows 2 and 4 to 8 of all parts, then 9, then 10
-unfoldable pub offeredRow : List ℕ → EventParts → ℕ
+unfoldable pub offeredRow : Bytes → EventParts → Row
 offeredRow b p = orElse (eventRow b p) (cond (isLarge b (p .body)) 9 (cond (hasId b p) 0 10))
 
 -- the text of what is offered, into an output: then 13
-unfoldable pub offeredTextRow : List ℕ → EventParts → List ℕ → ℕ
+unfoldable pub offeredTextRow : (b : Bytes) (p : EventParts) (out : Bytes) → Row
 offeredTextRow b p out = orElse (offeredRow b p) (shortRow (textOf b (p .body)) out)
 
-unfoldable pub offered : List ℕ → EventParts → List ℕ → Written
+unfoldable pub offered : (b : Bytes) (p : EventParts) (out : Bytes) → Written
 offered b p out = answered (offeredTextRow b p out) (length (textOf b (p .body)))
 
-unfoldable pub offeredOut : List ℕ → EventParts → List ℕ → List ℕ
+unfoldable pub offeredOut : (b : Bytes) (p : EventParts) (out : Bytes) → Bytes
 offeredOut b p out = outputAfter (offeredTextRow b p out) (textOf b (p .body)) out

@@ -18,6 +18,7 @@ use Rattle.message.specs.declared.EventParts.{EventParts}
 use Rattle.event.specs.declared.Written.{Written}
 use Rattle.event.specs.Lent.{said, natural, stringOf, stringsOf, tagOf, tagsOf, tagsAt, textOf}
 use Rattle.event.specs.Answer.{answered, offeredRow}
+use Rattle.wire.specs.Bytes.{Bytes, Place}
 
 -- the brackets and braces that may be open at once in a tag, and in what it holds
 abbrev pub tagDepth : ℕ
@@ -27,14 +28,14 @@ abbrev pub stringDepth : ℕ
 stringDepth = 6
 
 -- a writer's state: the buffer and the index in it
-abbrev pub puts : List ℕ × ℕ → List ℕ → List ℕ × ℕ → Type 0
+abbrev pub puts : (x : List ℕ × ℕ) (s : Bytes) (y : List ℕ × ℕ) → Type 0
 puts x s y = Puts (x .0) (x .1) s (y .1) (y .0)
 
 -- a counter's state: the count so far, which stops at the most that a number holds
 abbrev pub mostLength : ℕ
 mostLength = 18446744073709551615
 
-abbrev pub lengthOf : List ℕ → ℕ
+abbrev pub lengthOf : Bytes → ℕ
 lengthOf s = min (length s) mostLength
 
 pub record Counts (n : ℕ) (s : List ℕ) (m : ℕ) : Type 0 where
@@ -46,16 +47,16 @@ pub record Does {A S : Type 0} (does : S → List ℕ → S → Type 0) (g : Got
   pub ends : (a : A) (n : ℕ) → g ≡ got a n → next ≡ n
 
 -- a string of a tag, the strings to the closing bracket; a tag, the tags to the closing bracket
-unfoldable pub stringText : List ℕ → Json → List ℕ
+unfoldable pub stringText : Bytes → Json → Bytes
 stringText b t = quoted (stringOf b t)
 
-unfoldable pub stringsText : List ℕ → Items → List ℕ
+unfoldable pub stringsText : Bytes → Items → Bytes
 stringsText b ts = membersText quoted (stringsOf b ts)
 
-unfoldable pub oneTagText : List ℕ → Json → List ℕ
+unfoldable pub oneTagText : Bytes → Json → Bytes
 oneTagText b t = tagText (tagOf b t)
 
-unfoldable pub allTagsText : List ℕ → Items → List ℕ
+unfoldable pub allTagsText : Bytes → Items → Bytes
 allTagsText b ts = membersText tagText (tagsOf b ts)
 
 -- the first item of the array at a place that holds some, if the whole of it stands there
@@ -65,7 +66,7 @@ firstOf (Empty n named) = Bad
 firstOf (Many first true) = Bad
 firstOf (Many first false) = End first
 
-unfoldable pub firstTag : List ℕ → ℕ → Out
+unfoldable pub firstTag : Bytes → Place → Out
 firstTag b at = case (endOf (treeAt b depth at)) (λ n. firstOf (startAt b at)) Bad
 
 -- the rows of an offer are tested: what that answers, and where none holds, the text at the start of a buffer
@@ -74,8 +75,8 @@ pub record Tested (b : List ℕ) (p : EventParts) (r : Written) (t : List ℕ) :
   pub there : offeredRow b p ≡ 0 → take (length (textOf b (p .body))) t ≡ textOf b (p .body)
 
 -- the text up to the tags, and from them on
-unfoldable pub frontText : List ℕ → Body → List ℕ
+unfoldable pub frontText : Bytes → Body → Bytes
 frontText b p = opening ++ (said b (p .pubkey) ++ (closing ++ (decimal (p .«created_at») ++ (comma ++ (digits (natural (p .kind)) ++ comma)))))
 
-unfoldable pub backText : List ℕ → Body → List ℕ
+unfoldable pub backText : Bytes → Body → Bytes
 backText b p = tagsText (tagsAt b (p .tags)) ++ (comma ++ (quoted (said b (p .content)) ++ bracket))

@@ -8,35 +8,36 @@ use Rattle.spell.specs.Spell.{decode}
 use Rattle.text.specs.Event.{Tag, Event, serialise}
 use Rattle.message.specs.declared.Span.{Span}
 use Rattle.message.specs.declared.Body.{Body}
+use Rattle.wire.specs.Bytes.{Bytes, Place}
 
 -- what a string part decodes to
-abbrev pub said : List ℕ → Span → List ℕ
+abbrev pub said : Bytes → Span → Bytes
 said b p = decode (part b (p .start) (p .len))
 
 -- ---- the tags at a place; what is no string, no tag or no array of them counts as empty
-abbrev pub stringOf : List ℕ → Json → List ℕ
+abbrev pub stringOf : Bytes → Json → Bytes
 stringOf b (word a n) = []
 stringOf b (num a n) = []
 stringOf b (str a n) = decode (part b a n)
 stringOf b (arr ts) = []
 stringOf b (obj ts) = []
 
-unfoldable pub stringsOf : List ℕ → Items → Tag
+unfoldable pub stringsOf : Bytes → Items → Tag
 stringsOf b nil = []
 stringsOf b (item p v t ts) = stringOf b t ∷ stringsOf b ts
 
-abbrev pub tagOf : List ℕ → Json → Tag
+abbrev pub tagOf : Bytes → Json → Tag
 tagOf b (word a n) = []
 tagOf b (num a n) = []
 tagOf b (str a n) = []
 tagOf b (arr ts) = stringsOf b ts
 tagOf b (obj ts) = []
 
-unfoldable pub tagsOf : List ℕ → Items → List Tag
+unfoldable pub tagsOf : Bytes → Items → List Tag
 tagsOf b nil = []
 tagsOf b (item p v t ts) = tagOf b t ∷ tagsOf b ts
 
-abbrev pub tagsIn : List ℕ → Got Json → List Tag
+abbrev pub tagsIn : Bytes → Got Json → List Tag
 tagsIn b none = []
 tagsIn b (got (word a n) m) = []
 tagsIn b (got (num a n) m) = []
@@ -44,7 +45,7 @@ tagsIn b (got (str a n) m) = []
 tagsIn b (got (arr ts) m) = tagsOf b ts
 tagsIn b (got (obj ts) m) = []
 
-unfoldable pub tagsAt : List ℕ → ℕ → List Tag
+unfoldable pub tagsAt : Bytes → Place → List Tag
 tagsAt b at = tagsIn b (treeAt b depth at)
 
 -- a kind is not negative
@@ -52,7 +53,7 @@ abbrev pub natural : ℤ → ℕ
 natural (pos n) = n
 natural (negsuc n) = 0
 
-unfoldable pub eventOf : List ℕ → Body → Event
+unfoldable pub eventOf : Bytes → Body → Event
 eventOf b p = record {
   pubkey = said b (p .pubkey);
   time = p .«created_at»;
@@ -62,5 +63,5 @@ eventOf b p = record {
 }
 
 -- 01, "The text that is hashed"
-unfoldable pub textOf : List ℕ → Body → List ℕ
+unfoldable pub textOf : Bytes → Body → Bytes
 textOf b p = serialise (eventOf b p)

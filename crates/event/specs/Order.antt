@@ -6,12 +6,13 @@ use Prim.Native.Nat.{ℕ}
 use lib.IntN.{ℤ}
 use Rattle.law.specs.Event.{Event, lower, earlier}
 use Rattle.law.specs.Event as law
+use Rattle.wire.specs.Bytes.{Bytes}
 
-unfoldable pub isLower : List ℕ → List ℕ → Bool
+unfoldable pub isLower : Bytes → Bytes → Bool
 isLower i j = lower i j
 
 -- "created_at compares as a signed number; between equal times the lower id is newer"
-unfoldable pub isNewer : ℤ → List ℕ → ℤ → List ℕ → Bool
+unfoldable pub isNewer : (s : ℤ) (i : Bytes) (t : ℤ) (j : Bytes) → Bool
 isNewer s i t j = earlier t s || (not (earlier s t) && isLower i j)
 
 -- the order of demand 3 is this one, at the times of the texts

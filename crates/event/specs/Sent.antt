@@ -12,43 +12,44 @@ use Rattle.event.specs.Lent.{textOf}
 use Rattle.event.specs.Answer.{offeredTextRow, offeredOut}
 use Rattle.event.specs.declared.SentText.{SentText}
 use Rattle.event.specs.declared.SentText.the-variants.{Wrote, Refused}
+use Rattle.wire.specs.Bytes.{Bytes, Row}
 
 -- "Reading a message tests rows 1 to 8", "offering one .. gives 5 also if it isn't an EVENT": where the reader refused m by r. "The lowest number is
 -- given", so 5 goes after 1 to 4 and before 6 to 8
-abbrev pub unreadRow : List ℕ → ℕ → ℕ
+abbrev pub unreadRow : Bytes → ℕ → Row
 unreadRow m r = cond (leb r 4 || isEvent m) r 5
 
 -- by what the reader answers: a REQ and a CLOSE aren't EVENTs; an EVENT is tested "by 9 too, and by 10 when offered", then by 13
-abbrev pub sentRowOf : List ℕ → List ℕ → Message → ℕ
+abbrev pub sentRowOf : (m out : Bytes) (x : Message) → ℕ
 sentRowOf m out (message.Event p) = offeredTextRow m p out
 sentRowOf m out (message.Req p) = 5
 sentRowOf m out (message.Close p) = 5
 sentRowOf m out (message.Refused r) = unreadRow m r
 
-unfoldable pub sentRow : List ℕ → List ℕ → ℕ
+unfoldable pub sentRow : Bytes → Bytes → Row
 sentRow m out = sentRowOf m out (readOf m)
 
 -- "A refusal carries its number and no other value"; else the parts of the event, and how many bytes its text has
-abbrev pub sentAs : ℕ → EventParts → ℕ → SentText
+abbrev pub sentAs : (r : ℕ) (p : EventParts) (n : ℕ) → SentText
 sentAs r p n = cond (eqb r 0) (Wrote p n) (Refused r)
 
-abbrev pub sentTextOf : List ℕ → List ℕ → Message → SentText
+abbrev pub sentTextOf : (m out : Bytes) (x : Message) → SentText
 sentTextOf m out (message.Event p) = sentAs (offeredTextRow m p out) p (length (textOf m (p .body)))
 sentTextOf m out (message.Req p) = Refused 5
 sentTextOf m out (message.Close p) = Refused 5
 sentTextOf m out (message.Refused r) = Refused (unreadRow m r)
 
-unfoldable pub sentText : List ℕ → List ℕ → SentText
+unfoldable pub sentText : Bytes → Bytes → SentText
 sentText m out = sentTextOf m out (readOf m)
 
 -- "Output is written from its start, and its rest stays"; on a refusal "every lent buffer stays as found"
-abbrev pub sentOutOf : List ℕ → List ℕ → Message → List ℕ
+abbrev pub sentOutOf : (m out : Bytes) (x : Message) → Bytes
 sentOutOf m out (message.Event p) = offeredOut m p out
 sentOutOf m out (message.Req p) = out
 sentOutOf m out (message.Close p) = out
 sentOutOf m out (message.Refused r) = out
 
-unfoldable pub sentOut : List ℕ → List ℕ → List ℕ
+unfoldable pub sentOut : Bytes → Bytes → Bytes
 sentOut m out = sentOutOf m out (readOf m)
 
 -- the number of 01

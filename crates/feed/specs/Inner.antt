@@ -7,10 +7,11 @@ use Rattle.wire.specs.Put.{put}
 use Rattle.event.specs.declared.Written.{Written}
 use Rattle.reply.specs.Respond.{responded, respondedOut, respondedTable}
 use Rattle.reply.specs.Feed.{mostLine, kept, before}
+use Rattle.wire.specs.Bytes.{Bytes}
 
 -- ---- the search for a line's end
 -- none of the n bytes at i ends a line
-abbrev pub NoEnd : (p : List ℕ) (i n : ℕ) → Type 0
+abbrev pub NoEnd : (p : Bytes) (i n : ℕ) → Type 0
 NoEnd p i n = (j : ℕ) → j < n → getD p (i + j) 0 ≡ 0x0a → ⊥
 
 -- no byte before i does: the line's end is looked for from there on
@@ -20,7 +21,7 @@ pub record EndFrom (p : List ℕ) (i : ℕ) : Type 0 where
 
 -- ---- the line
 -- what is kept of the line so far, n bytes of the line buffer, with the bytes p more
-unfoldable pub grown : (line : List ℕ) → ℕ → (p : List ℕ) → List ℕ
+unfoldable pub grown : (line : Bytes) (n : ℕ) (p : Bytes) → Bytes
 grown line n p = kept (take n (kept line) ++ p)
 
 -- the line buffer is o then, and r the number of its bytes that are the line

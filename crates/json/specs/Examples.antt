@@ -8,9 +8,10 @@ use Prim.Native.String.{String, [] as none-left, _∷_ as _then_}
 use Rattle.json.specs.declared.Class.the-variants.{Space, Digit, Plain, Hex, Short, Exponent, Sign}
 use Rattle.json.specs.Grammar.{classOf, run, past, oneAt, tokenAt, wordAt, literalAt, digitsAt, intAt, fracAt, expAt, numberAt, hexAt, escapedAt, charAt, charsUpTo, charsAt, stringAt, isSpelling, scalarAt}
 use Rattle.json.specs.Tree.{word, num, str, arr, obj, nil, item, got, itemsAt, treeAt, root, isText}
+use Rattle.wire.specs.Bytes.{Bytes}
 
 -- the bytes of a text of ASCII characters
-abbrev bytes : String → List ℕ
+abbrev bytes : String → Bytes
 bytes none-left = []
 bytes (c then s) = code c ∷ bytes s
 

@@ -16,15 +16,16 @@ use Rattle.json.specs.declared.Start.{Start}
 use Rattle.json.specs.declared.Start.the-variants.{Leaf, Empty, Many}
 use Rattle.json.specs.declared.Next.{Next}
 use Rattle.json.specs.declared.Next.the-variants.{More, Done, Wrong}
+use Rattle.wire.specs.Bytes.{Bytes, Place}
 
 -- f of the end, or z where there is none
-abbrev pub case : {A : Type 0} → Out → (ℕ → A) → A → A
+abbrev pub case : {A : Type 0} (x : Out) (f : ℕ → A) (z : A) → A
 case (End n) f z = f n
 case Bad f z = z
 
 -- ---- bytes
 -- %xlow-high
-abbrev pub within : ℕ → ℕ → ℕ → Bool
+abbrev pub within : (low high b : ℕ) → Bool
 within low high b = leb low b && leb b high
 
 unfoldable pub classOf : Class → ℕ → Bool
@@ -45,105 +46,105 @@ classOf Sign b = eqb b 0x2D || eqb b 0x2B
 classOf (Byte c) b = eqb b c
 
 -- *class: how many bytes of the class the list begins with
-unfoldable pub run : Class → List ℕ → ℕ
+unfoldable pub run : Class → Bytes → ℕ
 run class [] = 0
 run class (b ∷ l) = cond (classOf class b) (suc (run class l)) 0
 
 -- *class: the place after the bytes of the class
-unfoldable pub past : Class → List ℕ → ℕ → ℕ
+unfoldable pub past : (class : Class) (s : Bytes) (at : Place) → ℕ
 past class s at = at + run class (drop at s)
 
 -- class
-unfoldable pub oneAt : List ℕ → Class → ℕ → Out
+unfoldable pub oneAt : (s : Bytes) (class : Class) (at : Place) → Out
 oneAt s class at = cond (classOf class (getD s at 0)) (End (at + 1)) Bad
 
 -- [ class ]
-abbrev pub optAt : List ℕ → Class → ℕ → ℕ
+abbrev pub optAt : (s : Bytes) (class : Class) (at : Place) → ℕ
 optAt s class at = case (oneAt s class at) (λ n. n) at
 
 -- ---- section 2: ws and the six structural characters
 -- ws
-abbrev pub wsAt : List ℕ → ℕ → ℕ
+abbrev pub wsAt : Bytes → Place → ℕ
 wsAt s at = past Space s at
 
 -- a structural character, with the ws after it (the ws before it belongs to what stands before)
-unfoldable pub tokenAt : List ℕ → ℕ → ℕ → Out
+unfoldable pub tokenAt : (s : Bytes) (b : ℕ) (at : Place) → Out
 tokenAt s b at = case (oneAt s (Byte b) at) (λ n. End (wsAt s n)) Bad
 
 -- ---- section 3: the literal names
 -- the bytes of w
-unfoldable pub wordAt : List ℕ → List ℕ → ℕ → Out
+unfoldable pub wordAt : (s w : Bytes) (at : Place) → Out
 wordAt s [] at = End at
 wordAt s (b ∷ w) at = case (oneAt s (Byte b) at) (wordAt s w) Bad
 
 -- false = %x66.61.6c.73.65
-abbrev pub falseName : List ℕ
+abbrev pub falseName : Bytes
 falseName = 0x66 ∷ 0x61 ∷ 0x6C ∷ 0x73 ∷ 0x65 ∷ []
 
 -- null = %x6e.75.6c.6c
-abbrev pub nullName : List ℕ
+abbrev pub nullName : Bytes
 nullName = 0x6E ∷ 0x75 ∷ 0x6C ∷ 0x6C ∷ []
 
 -- true = %x74.72.75.65
-abbrev pub trueName : List ℕ
+abbrev pub trueName : Bytes
 trueName = 0x74 ∷ 0x72 ∷ 0x75 ∷ 0x65 ∷ []
 
 -- false / null / true
-unfoldable pub literalAt : List ℕ → ℕ → Out
+unfoldable pub literalAt : Bytes → Place → Out
 literalAt s at = case (wordAt s falseName at) End (case (wordAt s nullName at) End (wordAt s trueName at))
 
 -- ---- section 6: number = [ minus ] int [ frac ] [ exp ]
 -- 1*DIGIT
-unfoldable pub digitsAt : List ℕ → ℕ → Out
+unfoldable pub digitsAt : Bytes → Place → Out
 digitsAt s at = case (oneAt s Digit at) (λ n. End (past Digit s n)) Bad
 
 -- int = zero / ( digit1-9 *DIGIT )
-unfoldable pub intAt : List ℕ → ℕ → Out
+unfoldable pub intAt : Bytes → Place → Out
 intAt s at = case (oneAt s (Byte 0x30) at) End (digitsAt s at)
 
 -- [ frac ], frac = decimal-point 1*DIGIT
-unfoldable pub fracAt : List ℕ → ℕ → Out
+unfoldable pub fracAt : Bytes → Place → Out
 fracAt s at = case (oneAt s (Byte 0x2E) at) (digitsAt s) (End at)
 
 -- [ exp ], exp = e [ minus / plus ] 1*DIGIT
-unfoldable pub expAt : List ℕ → ℕ → Out
+unfoldable pub expAt : Bytes → Place → Out
 expAt s at = case (oneAt s Exponent at) (λ n. digitsAt s (optAt s Sign n)) (End at)
 
-unfoldable pub numberAt : List ℕ → ℕ → Out
+unfoldable pub numberAt : Bytes → Place → Out
 numberAt s at = case (intAt s (optAt s (Byte 0x2D) at)) (λ n. case (fracAt s n) (expAt s) Bad) Bad
 
 -- ---- section 7: string = quotation-mark *char quotation-mark
 -- 4HEXDIG
-unfoldable pub hexAt : List ℕ → ℕ → Out
+unfoldable pub hexAt : Bytes → Place → Out
 hexAt s at = case (oneAt s Hex at) (λ a. case (oneAt s Hex a) (λ b. case (oneAt s Hex b) (oneAt s Hex) Bad) Bad) Bad
 
 -- escape ( one of eight / %x75 4HEXDIG )
-unfoldable pub escapedAt : List ℕ → ℕ → Out
+unfoldable pub escapedAt : Bytes → Place → Out
 escapedAt s at = case (oneAt s (Byte 0x5C) at) (λ n. case (oneAt s (Byte 0x75) n) (hexAt s) (oneAt s Short n)) Bad
 
 -- char = unescaped / escape ( .. )
-unfoldable pub charAt : List ℕ → ℕ → Out
+unfoldable pub charAt : Bytes → Place → Out
 charAt s at = case (oneAt s Plain at) End (escapedAt s at)
 
 -- *char, of at most f characters
-unfoldable pub charsUpTo : ℕ → List ℕ → ℕ → ℕ
+unfoldable pub charsUpTo : (f : ℕ) (s : Bytes) (at : Place) → ℕ
 charsUpTo zero s at = at
 charsUpTo (suc f) s at = case (charAt s at) (charsUpTo f s) at
 
 -- *char: a text has no more characters than bytes
-unfoldable pub charsAt : List ℕ → ℕ → ℕ
+unfoldable pub charsAt : Bytes → Place → ℕ
 charsAt s at = charsUpTo (length s) s at
 
-unfoldable pub stringAt : List ℕ → ℕ → Out
+unfoldable pub stringAt : Bytes → Place → Out
 stringAt s at = case (oneAt s (Byte 0x22) at) (λ n. oneAt s (Byte 0x22) (charsAt s n)) Bad
 
 -- what may stand between quotation marks: *char and no more
-abbrev pub isSpelling : List ℕ → Bool
+abbrev pub isSpelling : Bytes → Bool
 isSpelling p = eqb (charsAt p 0) (length p)
 
 -- ---- section 3: values that hold no value
 -- false / null / true / number / string, its kind and the place after it
-unfoldable pub scalarAt : List ℕ → ℕ → Kind
+unfoldable pub scalarAt : Bytes → Place → Kind
 scalarAt s at = case (stringAt s at) Str (case (numberAt s at) Num (case (literalAt s at) Word None))
 
 -- ---- sections 4 and 5: objects and arrays, whose items are members with their names, and values
@@ -153,24 +154,24 @@ closeOf true = 0x7D
 closeOf false = 0x5D
 
 -- after begin-object or begin-array: what closes it, or the first item
-abbrev pub openedAt : List ℕ → ℕ → Bool → Start
+abbrev pub openedAt : (s : Bytes) (at : Place) (named : Bool) → Start
 openedAt s at named = case (tokenAt s (closeOf named) at) (λ n. Empty n named) (Many at named)
 
 -- begin-array, begin-object, or what begins with neither
-abbrev pub startAt : List ℕ → ℕ → Start
+abbrev pub startAt : Bytes → Place → Start
 startAt s at = case (tokenAt s 0x5B at) (λ n. openedAt s n false) (case (tokenAt s 0x7B at) (λ n. openedAt s n true) Leaf)
 
 -- member = string name-separator value: the place of the value
-abbrev pub headAt : List ℕ → ℕ → Bool → Out
+abbrev pub headAt : (s : Bytes) (at : Place) (q : Bool) → Out
 headAt s at true = case (stringAt s at) (λ n. tokenAt s 0x3A (wsAt s n)) Bad
 headAt s at false = End at
 
 -- after an item: value-separator and the next item's place, or what closes
-abbrev pub nextAt : List ℕ → ℕ → Bool → Next
+abbrev pub nextAt : (s : Bytes) (at : Place) (named : Bool) → Next
 nextAt s at named = case (tokenAt s 0x2C at) More (case (tokenAt s (closeOf named) at) Done Wrong)
 
 -- ---- for the code alone: no byte of w is 0
-abbrev pub noZero : List ℕ → Bool
+abbrev pub noZero : Bytes → Bool
 noZero [] = true
 noZero (b ∷ w) = ltb 0 b && noZero w
 

@@ -14,6 +14,7 @@ use Rattle.json.specs.declared.Start.the-variants.{Leaf, Empty, Many}
 use Rattle.json.specs.declared.Next.{Next}
 use Rattle.json.specs.declared.Next.the-variants.{More, Done, Wrong}
 use Rattle.json.specs.Grammar.{case, wsAt, scalarAt, startAt, headAt, nextAt}
+use Rattle.wire.specs.Bytes.{Bytes, Place}
 
 -- 01, row 3: the most brackets and braces that may be open at once
 abbrev pub depth : ℕ
@@ -48,19 +49,19 @@ bind none k = none
 bind (got t n) k = k t n
 
 -- a value that holds no value, and the ws after it
-abbrev pub onLeaf : List ℕ → ℕ → Kind → Got Json
+abbrev pub onLeaf : (s : Bytes) (at : Place) (x : Kind) → Got Json
 onLeaf s at (Str n) = got (str (at + 1) (n - at - 2)) (wsAt s n)
 onLeaf s at (Num n) = got (num at (n - at)) (wsAt s n)
 onLeaf s at (Word n) = got (word at (n - at)) (wsAt s n)
 onLeaf s at None = none
 
-abbrev pub follow : (Items → Items) → Next → (ℕ → Got Items) → Got Items
+abbrev pub follow : (f : Items → Items) (x : Next) (rest : ℕ → Got Items) → Got Items
 follow f (More n) rest = bind (rest n) λ ts m. got (f ts) m
 follow f (Done n) rest = got (f nil) n
 follow f Wrong rest = none
 
 -- item *( value-separator item ), and what closes; of at most f items
-unfoldable pub itemsAt : (ℕ → Got Json) → List ℕ → Bool → ℕ → ℕ → Got Items
+unfoldable pub itemsAt : (value : ℕ → Got Json) (s : Bytes) (named : Bool) (f : ℕ) (at : Place) → Got Items
 itemsAt value s named zero at = none
 itemsAt value s named (suc f) at =
     case (headAt s at named) (λ v. bind (value v) λ t n. follow (item at v t) (nextAt s n named) (itemsAt value s named f)) none
@@ -70,13 +71,13 @@ node true ts = obj ts
 node false ts = arr ts
 
 -- a text has no more items than bytes
-abbrev pub groupAt : (ℕ → Got Json) → List ℕ → ℕ → Start → Got Json
+abbrev pub groupAt : (value : ℕ → Got Json) (s : Bytes) (at : Place) (x : Start) → Got Json
 groupAt value s at Leaf = onLeaf s at (scalarAt s at)
 groupAt value s at (Empty n named) = got (node named nil) n
 groupAt value s at (Many first named) = bind (itemsAt value s named (length s) first) λ ts n. got (node named ts) n
 
 -- value, with at most d brackets and braces open at once, and the ws after it
-unfoldable pub treeAt : List ℕ → ℕ → ℕ → Got Json
+unfoldable pub treeAt : (s : Bytes) (d : ℕ) (at : Place) → Got Json
 treeAt s zero at = onLeaf s at (scalarAt s at)
 treeAt s (suc d) at = groupAt (treeAt s d) s at (startAt s at)
 
@@ -85,41 +86,41 @@ endsAt k (End n) = eqb n k
 endsAt k Bad = false
 
 -- the value of a text
-abbrev pub root : List ℕ → Got Json
+abbrev pub root : Bytes → Got Json
 root s = treeAt s depth (wsAt s 0)
 
 -- JSON-text = ws value ws
-abbrev pub isText : List ℕ → Bool
+abbrev pub isText : Bytes → Bool
 isText s = endsAt (length s) (endOf (root s))
 
 -- f over the items, from the first on
-abbrev pub foldItems : {A : Type 0} → (A → ℕ → ℕ → Json → A) → A → Items → A
+abbrev pub foldItems : {A : Type 0} (f : A → ℕ → ℕ → Json → A) (a : A) (nil : Items) → A
 foldItems f a nil = a
 foldItems f a (item p v t ts) = foldItems f (f a p v t) ts
 
 -- what f makes of a string, of a number, of the items of an array or of an object; z of any other value
-abbrev pub ofString : {A : Type 0} → A → (ℕ → ℕ → A) → Json → A
+abbrev pub ofString : {A : Type 0} (z : A) (f : ℕ → ℕ → A) (x : Json) → A
 ofString z f (word a n) = z
 ofString z f (num a n) = z
 ofString z f (str a n) = f a n
 ofString z f (arr ts) = z
 ofString z f (obj ts) = z
 
-abbrev pub ofNumber : {A : Type 0} → A → (ℕ → ℕ → A) → Json → A
+abbrev pub ofNumber : {A : Type 0} (z : A) (f : ℕ → ℕ → A) (x : Json) → A
 ofNumber z f (word a n) = z
 ofNumber z f (num a n) = f a n
 ofNumber z f (str a n) = z
 ofNumber z f (arr ts) = z
 ofNumber z f (obj ts) = z
 
-abbrev pub ofArray : {A : Type 0} → A → (Items → A) → Json → A
+abbrev pub ofArray : {A : Type 0} (z : A) (f : Items → A) (x : Json) → A
 ofArray z f (word a n) = z
 ofArray z f (num a n) = z
 ofArray z f (str a n) = z
 ofArray z f (arr ts) = f ts
 ofArray z f (obj ts) = z
 
-abbrev pub ofObject : {A : Type 0} → A → (Items → A) → Json → A
+abbrev pub ofObject : {A : Type 0} (z : A) (f : Items → A) (x : Json) → A
 ofObject z f (word a n) = z
 ofObject z f (num a n) = z
 ofObject z f (str a n) = z

@@ -5,7 +5,7 @@ use Prim.Native.Nat.{ℕ}
 use lib.Dec.{ltb}
 use lib.IntN.{ℤ}
 use lib.Signed.{ltZ}
-use Rattle.wire.specs.Bytes.{sameBytes}
+use Rattle.wire.specs.Bytes.{Bytes, sameBytes}
 use Rattle.law.specs.Table.{Class, Events}
 
 -- 01: "The set held is the pairs of id and text"
@@ -14,7 +14,7 @@ pub record Event : Type 0 where
   pub text : List ℕ
 
 -- by the first byte that differs; of two where one begins the other, the shorter
-abbrev pub lower : List ℕ → List ℕ → Bool
+abbrev pub lower : List ℕ → Bytes → Bool
 lower [] [] = false
 lower [] (y ∷ ys) = true
 lower (x ∷ xs) [] = false
@@ -25,10 +25,10 @@ abbrev pub earlier : ℤ → ℤ → Bool
 earlier a b = ltZ a b
 
 -- 01: "between equal times the lower id is newer"; "We apply that tie rule to addressable kinds too."
-abbrev pub newer : (List ℕ → ℤ) → Event → Event → Bool
+abbrev pub newer : (time : List ℕ → ℤ) (e f : Event) → Bool
 newer time e f = earlier (time (f .text)) (time (e .text)) || (not (earlier (time (e .text)) (time (f .text))) && lower (e .id) (f .id))
 
-abbrev pub events : (Key : Type 0) → (Key → Key → Bool) → (List ℕ → Class Key) → (List ℕ → ℤ) → Events
+abbrev pub events : (Key : Type 0) (sameKey : Key → Key → Bool) (class : List ℕ → Class Key) (time : List ℕ → ℤ) → Events
 events Key sameKey class time = record {
   Event = Event;
   Id = List ℕ;

@@ -20,7 +20,7 @@ find p [] = zero
 find p (x ∷ xs) = cond (p x) zero (suc (find p xs))
 
 -- a put over the first entry that passes the test, else behind the last
-abbrev pub store : {A : Type 0} → (A → Bool) → A → List A → List A
+abbrev pub store : {A : Type 0} (p : A → Bool) (a : A) (xs : List A) → List A
 store p a [] = a ∷ []
 store p a (x ∷ xs) = cond (p x) (a ∷ xs) (x ∷ store p a xs)
 

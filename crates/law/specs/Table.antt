@@ -42,7 +42,7 @@ isEphemeral regular = false
 isEphemeral (keyed k) = false
 
 -- both have a key, and it is the same
-abbrev pub shareKey : {K : Type 0} → (K → K → Bool) → Class K → Class K → Bool
+abbrev pub shareKey : {K : Type 0} (same : K → K → Bool) (ephemeral c : Class K) → Bool
 shareKey same ephemeral c = false
 shareKey same regular c = false
 shareKey same (keyed k) ephemeral = false

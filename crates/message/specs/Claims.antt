@@ -11,12 +11,13 @@ use Rattle.message.specs.Parts.{filterAt, filtersAt}
 use Rattle.message.specs.Lists.{elementsFrom}
 use Rattle.message.specs.Read.{readOf}
 use Rattle.message.specs.Lent.{eventRow, filterRow}
+use Rattle.wire.specs.Bytes.{Bytes}
 
 abbrev pub EventPasses : Type 0
 EventPasses = (s : List ℕ) (p : EventParts) → readOf s ≡ Event p → eventRow s p ≡ 0
 
 -- the filters of a REQ, one after the other
-abbrev pub filtersOf : List ℕ → ReqParts → List ℕ
+abbrev pub filtersOf : Bytes → ReqParts → List ℕ
 filtersOf s r = elementsFrom s (At (r .filters))
 
 abbrev pub FiltersPass : Type 0

@@ -12,7 +12,7 @@ use Rattle.json.specs.declared.Kind.the-variants.{None}
 use Rattle.json.specs.declared.Start.{Start}
 use Rattle.json.specs.declared.Start.the-variants.{Leaf, Empty, Many}
 use Rattle.wire.specs.Limits.{mostCharacters}
-use Rattle.wire.specs.Bytes.{sameBytes}
+use Rattle.wire.specs.Bytes.{Bytes, Place, Row, sameBytes}
 use Rattle.spell.specs.Spell.{decode, characterCount}
 use Rattle.rows.specs.Strings.{part, spelledAt}
 use Rattle.shape.specs.Shape.{nameAt, Word, event, req, close, other, wordOf, eventWord, idName, pubkeyName, createdAtName, kindName, tagsName, contentName, sigName, idsName, authorsName, kindsName, sinceName, untilName, limitName}
@@ -41,12 +41,12 @@ use Rattle.shape.specs.Values.{fits, sort6, sort7, sort8}
 use Rattle.shape.specs.declared.Sort.{Sort}
 
 -- a member whose name is spelled l and whose value stands at v is the first one named w, or what was found before it stays
-unfoldable pub kept : List ℕ → List ℕ → Listed → ℕ → Listed
+unfoldable pub kept : (l w : Bytes) (x : Listed) (v : ℕ) → Listed
 kept l w (At u) v = At u
 kept l w Absent v = cond (sameBytes (decode l) w) (At v) Absent
 
 -- a member of an event (b) or of a filter: the first of each name, or what was found before it stays
-unfoldable pub stepOf : List ℕ → Bool → Members → ℕ → ℕ → Members
+unfoldable pub stepOf : (s : Bytes) (b : Bool) (a : Members) (p v : ℕ) → Members
 stepOf s b a p v = record {
   m1 = kept (spelledAt s p) (cond b idName idsName) (a .m1) v;
   m2 = kept (spelledAt s p) (cond b pubkeyName authorsName) (a .m2) v;
@@ -60,7 +60,7 @@ stepOf s b a p v = record {
 abbrev pub noMembers : Members
 noMembers = record { m1 = Absent; m2 = Absent; m3 = Absent; m4 = Absent; m5 = Absent; m6 = Absent; m7 = Absent }
 
-abbrev pub foundIn : List ℕ → Bool → Items → Members
+abbrev pub foundIn : (s : Bytes) (e : Bool) (ts : Items) → Members
 foundIn s e ts = foldItems (λ a p v t. stepOf s e a p v) noMembers ts
 
 -- ---- what stands at a place, where a value may hold no value
@@ -69,34 +69,34 @@ onStart k Leaf = k
 onStart k (Empty n named) = None
 onStart k (Many n named) = None
 
-unfoldable pub leafAt : List ℕ → ℕ → Kind
+unfoldable pub leafAt : Bytes → Place → Kind
 leafAt s at = onStart (scalarAt s at) (startAt s at)
 
 -- f of the value there
-abbrev pub gotOr : {A : Type 0} → (Json → A) → A → Got Json → A
+abbrev pub gotOr : {A : Type 0} (f : Json → A) (z : A) (none : Got Json) → A
 gotOr f z none = z
 gotOr f z (got t n) = f t
 
-unfoldable pub spanAt : List ℕ → ℕ → Span
+unfoldable pub spanAt : Bytes → ℕ → Span
 spanAt s v = gotOr spanOf nowhere (onLeaf s v (leafAt s v))
 
-unfoldable pub numberAt : List ℕ → ℕ → ℤ
+unfoldable pub numberAt : Bytes → ℕ → ℤ
 numberAt s v = gotOr (numberOf s) (pos 0) (onLeaf s v (leafAt s v))
 
-abbrev pub spanFound : List ℕ → Listed → Span
+abbrev pub spanFound : Bytes → Listed → Span
 spanFound s Absent = nowhere
 spanFound s (At v) = spanAt s v
 
-abbrev pub numberFound : List ℕ → Listed → ℤ
+abbrev pub numberFound : Bytes → Listed → ℤ
 numberFound s Absent = pos 0
 numberFound s (At v) = numberAt s v
 
-abbrev pub boundFound : List ℕ → Listed → Bound
+abbrev pub boundFound : Bytes → Listed → Bound
 boundFound s Absent = bound.Absent
 boundFound s (At v) = bound.Number (numberAt s v)
 
 -- a filter by its members, and the place of its # conditions
-abbrev pub filterFound : List ℕ → Members → Listed → FilterParts
+abbrev pub filterFound : (s : Bytes) (m : Members) (c : Listed) → FilterParts
 filterFound s m c = record {
   ids = m .m1;
   authors = m .m2;
@@ -111,7 +111,7 @@ abbrev pub placeFound : Listed → ℕ
 placeFound Absent = 0
 placeFound (At v) = v
 
-unfoldable pub bodyFound : List ℕ → Members → Body
+unfoldable pub bodyFound : Bytes → Members → Body
 bodyFound s m = record {
   pubkey = spanFound s (m .m2);
   «created_at» = numberFound s (m .m3);
@@ -127,7 +127,7 @@ openingOf req = opening.Req
 openingOf close = opening.Close
 openingOf other = opening.Other
 
-unfoldable pub openingAt : List ℕ → ℕ → Opening
+unfoldable pub openingAt : Bytes → ℕ → Opening
 openingAt s i = openingOf (wordOf (nameAt s i))
 
 abbrev pub elementPlace : Element → ℕ
@@ -135,40 +135,40 @@ elementPlace (element.At v) = v
 elementPlace element.Ended = 0
 elementPlace element.Broken = 0
 
-unfoldable pub wordPlace : List ℕ → ℕ
+unfoldable pub wordPlace : Bytes → ℕ
 wordPlace s = elementPlace (firstOf (startAt s (wsAt s 0)))
 
-unfoldable pub secondFrom : List ℕ → ℕ → ℕ
+unfoldable pub secondFrom : Bytes → ℕ → ℕ
 secondFrom s i = elementPlace (nextOf s i)
 
 -- whether an element is the string EVENT
-unfoldable pub isEventAt : List ℕ → Element → Bool
+unfoldable pub isEventAt : Bytes → Element → Bool
 isEventAt s (element.At v) = sameBytes (decode (part s (spanAt s v .start) (spanAt s v .len))) eventWord
 isEventAt s element.Ended = false
 isEventAt s element.Broken = false
 
-unfoldable pub partsAt : List ℕ → Opening → ℕ → Message
+unfoldable pub partsAt : (s : Bytes) (x : Opening) (j : ℕ) → Message
 partsAt s opening.Event j = message.Event (eventAt s j)
 partsAt s opening.Req j = message.Req (record { subscription = spanAt s j; filters = secondFrom s j })
 partsAt s opening.Close j = message.Close (spanAt s j)
 partsAt s opening.Other j = message.Refused 5
 
 -- ---- the filters of a REQ, one element after the other
-abbrev pub followingOf : List ℕ → Element → Element
+abbrev pub followingOf : Bytes → Element → Element
 followingOf s (element.At v) = nextOf s v
 followingOf s element.Ended = element.Ended
 followingOf s element.Broken = element.Broken
 
-abbrev pub filterIn : List ℕ → Element → FilterParts
+abbrev pub filterIn : Bytes → Element → FilterParts
 filterIn s (element.At v) = filterAt s v
 filterIn s element.Ended = noFilter
 filterIn s element.Broken = noFilter
 
 -- ---- what a refusal's reply names
-unfoldable pub labelNamed : List ℕ → Span → Named
+unfoldable pub labelNamed : Bytes → Span → Named
 labelNamed s p = cond (outside 1 mostCharacters (characterCount (part s (p .start) (p .len)))) names.Nothing (names.Subscription p)
 
-unfoldable pub namedAt : List ℕ → Opening → ℕ → Named
+unfoldable pub namedAt : (s : Bytes) (x : Opening) (j : ℕ) → Named
 namedAt s opening.Event j = idNamed s (eventAt s j .id)
 namedAt s opening.Req j = labelNamed s (spanAt s j)
 namedAt s opening.Close j = names.Nothing
@@ -178,13 +178,13 @@ namedAt s opening.Other j = names.Nothing
 abbrev pub FINE : ℕ
 FINE = 9
 
-unfoldable pub rank : Bool → Bool → Bool → Bool → Bool → Bool → ℕ
+unfoldable pub rank : (row2 row4 row5 row6 row7 row8 : Bool) → ℕ
 rank row2 row4 row5 row6 row7 row8 = cond row2 2 (cond row4 4 (cond row5 5 (cond row6 6 (cond row7 7 (cond row8 8 FINE)))))
 
-abbrev pub toldOf : ℕ → ℕ
+abbrev pub toldOf : Row → ℕ
 toldOf row = cond (eqb row FINE) 0 row
 
-abbrev pub rankOf : ℕ → ℕ
+abbrev pub rankOf : Row → ℕ
 rankOf row = cond (eqb row 0) FINE row
 
 -- x is the lowest of the rows that hold
@@ -192,11 +192,11 @@ pub record Lowest (x : ℕ) (row2 row4 row5 row6 row7 row8 : Bool) : Type 0 wher
   pub is : x ≡ rank row2 row4 row5 row6 row7 row8
 
 -- the rows of the value at a place, where a sort must stand
-abbrev pub ValueRank : List ℕ → ℕ → Sort → ℕ → Type 0
+abbrev pub ValueRank : (b : Bytes) (at : Place) (k : Sort) (x : ℕ) → Type 0
 ValueRank b at k x =
     Lowest x (value2 b at) (value4 b at) (value5 (fits b k) b at) (onValue (sort6 b k) (valueAt b at)) (onValue (sort7 b k) (valueAt b at)) (onValue (sort8 b k) (valueAt b at))
 
-abbrev pub ListRank : List ℕ → Listed → Sort → ℕ → Type 0
+abbrev pub ListRank : (b : Bytes) (l : Listed) (k : Sort) (x : ℕ) → Type 0
 ListRank b l k x =
     Lowest x (inList (value2 b) l) (inList (value4 b) l) (inList (value5 (fits b k) b) l) (inList (λ v. onValue (sort6 b k) (valueAt b v)) l)
     (inList (λ v. onValue (sort7 b k) (valueAt b v)) l) (inList (λ v. onValue (sort8 b k) (valueAt b v)) l)

@@ -25,54 +25,55 @@ use Rattle.message.specs.declared.Bound.the-variants as bound
 use Rattle.message.specs.declared.Listed.{Listed}
 use Rattle.message.specs.declared.Listed.the-variants as listed
 use Rattle.message.specs.declared.FilterParts.{FilterParts}
+use Rattle.wire.specs.Bytes.{Bytes, Place, Row}
 
 -- the lowest row, and 0 where none holds
-abbrev pub lowest : Bool → Bool → Bool → Bool → Bool → Bool → ℕ
+abbrev pub lowest : (row2 row4 row5 row6 row7 row8 : Bool) → ℕ
 lowest row2 row4 row5 row6 row7 row8 = cond row2 2 (cond row4 4 (cond row5 5 (cond row6 6 (cond row7 7 (cond row8 8 0)))))
 
 -- "Where several hold, the lowest number is given": the lower of two rows, where 0 is none
-abbrev pub lowerRow : ℕ → ℕ → ℕ
+abbrev pub lowerRow : ℕ → ℕ → Row
 lowerRow r s = cond (eqb r 0) s (cond (eqb s 0) r (min r s))
 
 -- ---- a string part. One that lies outside b adds row 5 only, and so does one that is no spelling, unless it is not UTF-8
-abbrev pub bytesOf : List ℕ → Span → List ℕ
+abbrev pub bytesOf : Bytes → Span → Bytes
 bytesOf b p = part b (p .start) (p .len)
 
-unfoldable pub isInside : List ℕ → Span → Bool
+unfoldable pub isInside : Bytes → Span → Bool
 isInside b p = leb (p .start + p .len) (length b)
 
-unfoldable pub isSpelled : List ℕ → Span → Bool
+unfoldable pub isSpelled : Bytes → Span → Bool
 isSpelled b p = isInside b p && isSpelling (bytesOf b p)
 
-unfoldable pub string2 : List ℕ → Span → Bool
+unfoldable pub string2 : Bytes → Span → Bool
 string2 b p = isInside b p && not (isUtf8 (bytesOf b p))
 
-unfoldable pub string4 : List ℕ → Span → Bool
+unfoldable pub string4 : Bytes → Span → Bool
 string4 b p = isSpelled b p && refuses (bytesOf b p)
 
-unfoldable pub string5 : List ℕ → Span → Bool
+unfoldable pub string5 : Bytes → Span → Bool
 string5 b p = not (isSpelled b p)
 
 -- row 7: k characters of lower-case hex
-unfoldable pub string7 : ℕ → List ℕ → Span → Bool
+unfoldable pub string7 : (k : ℕ) (b : Bytes) (p : Span) → Bool
 string7 k b p = isSpelled b p && not (isHexOf k (bytesOf b p))
 
 -- row 8 of a subscription id: "1 to 64 characters (code points)"
-unfoldable pub subscription8 : List ℕ → Span → Bool
+unfoldable pub subscription8 : Bytes → Span → Bool
 subscription8 b p = isSpelled b p && outside 1 mostCharacters (characterCount (bytesOf b p))
 
 -- a part by itself: any string, hex of k characters, a subscription id
-unfoldable pub stringRow : List ℕ → Span → ℕ
+unfoldable pub stringRow : Bytes → Span → Row
 stringRow b p = lowest (string2 b p) (string4 b p) (string5 b p) false false false
 
-unfoldable pub hexRow : ℕ → List ℕ → Span → ℕ
+unfoldable pub hexRow : (k : ℕ) (b : Bytes) (p : Span) → Row
 hexRow k b p = lowest (string2 b p) (string4 b p) (string5 b p) false (string7 k b p) false
 
-unfoldable pub subscriptionRow : List ℕ → Span → ℕ
+unfoldable pub subscriptionRow : Bytes → Span → Row
 subscriptionRow b p = lowest (string2 b p) (string4 b p) (string5 b p) false false (subscription8 b p)
 
 -- ---- a number
-unfoldable pub wrongNumber : ℤ → ℤ → ℤ → Bool
+unfoldable pub wrongNumber : (low high z : ℤ) → Bool
 wrongNumber low high z = not (isWithin (Value z) low high)
 
 abbrev pub time6 : ℤ → Bool
@@ -87,17 +88,17 @@ abbrev pub onValue : (Json → Bool) → Got Json → Bool
 onValue f none = false
 onValue f (got t n) = f t
 
-abbrev pub valueAt : List ℕ → ℕ → Got Json
+abbrev pub valueAt : Bytes → Place → Got Json
 valueAt b at = treeAt b depth at
 
 -- its own text is not UTF-8
-unfoldable pub value2 : List ℕ → ℕ → Bool
+unfoldable pub value2 : Bytes → Place → Bool
 value2 b at = ownText b at (valueAt b at)
 
-unfoldable pub value4 : List ℕ → ℕ → Bool
+unfoldable pub value4 : Bytes → Place → Bool
 value4 b at = onValue (refusedIn b) (valueAt b at)
 
-unfoldable pub value5 : (Json → Bool) → List ℕ → ℕ → Bool
+unfoldable pub value5 : (f : Json → Bool) (b : Bytes) (at : Place) → Bool
 value5 f b at = not (onValue f (valueAt b at))
 
 -- tags: an array of arrays of strings; at most 64, each of 1 to 16 strings
@@ -105,41 +106,41 @@ abbrev pub isTags : Json → Bool
 isTags t = isArrayOf (isArrayOf isString) t
 
 -- ---- the fields of an event's text
-unfoldable pub body2 : List ℕ → Body → Bool
+unfoldable pub body2 : Bytes → Body → Bool
 body2 b p = string2 b (p .pubkey) || (value2 b (p .tags) || string2 b (p .content))
 
-unfoldable pub body4 : List ℕ → Body → Bool
+unfoldable pub body4 : Bytes → Body → Bool
 body4 b p = string4 b (p .pubkey) || (value4 b (p .tags) || string4 b (p .content))
 
-unfoldable pub body5 : List ℕ → Body → Bool
+unfoldable pub body5 : Bytes → Body → Bool
 body5 b p = string5 b (p .pubkey) || (value5 isTags b (p .tags) || string5 b (p .content))
 
 unfoldable pub body6 : Body → Bool
 body6 p = time6 (p .«created_at») || small6 (p .kind)
 
-unfoldable pub body7 : List ℕ → Body → Bool
+unfoldable pub body7 : Bytes → Body → Bool
 body7 b p = string7 hexLength b (p .pubkey)
 
-unfoldable pub body8 : List ℕ → Body → Bool
+unfoldable pub body8 : Bytes → Body → Bool
 body8 b p = onValue wrongTags (valueAt b (p .tags))
 
-unfoldable pub bodyRow : List ℕ → Body → ℕ
+unfoldable pub bodyRow : Bytes → Body → Row
 bodyRow b p = lowest (body2 b p) (body4 b p) (body5 b p) (body6 p) (body7 b p) (body8 b p)
 
 -- ---- the parts of an event
-unfoldable pub event2 : List ℕ → EventParts → Bool
+unfoldable pub event2 : Bytes → EventParts → Bool
 event2 b p = string2 b (p .id) || (body2 b (p .body) || string2 b (p .sig))
 
-unfoldable pub event4 : List ℕ → EventParts → Bool
+unfoldable pub event4 : Bytes → EventParts → Bool
 event4 b p = string4 b (p .id) || (body4 b (p .body) || string4 b (p .sig))
 
-unfoldable pub event5 : List ℕ → EventParts → Bool
+unfoldable pub event5 : Bytes → EventParts → Bool
 event5 b p = string5 b (p .id) || (body5 b (p .body) || string5 b (p .sig))
 
-unfoldable pub event7 : List ℕ → EventParts → Bool
+unfoldable pub event7 : Bytes → EventParts → Bool
 event7 b p = string7 hexLength b (p .id) || (body7 b (p .body) || string7 sigLength b (p .sig))
 
-unfoldable pub eventRow : List ℕ → EventParts → ℕ
+unfoldable pub eventRow : Bytes → EventParts → Row
 eventRow b p = lowest (event2 b p) (event4 b p) (event5 b p) (body6 (p .body)) (event7 b p) (body8 b (p .body))
 
 -- ---- the parts of a filter: each is absent or tested
@@ -151,42 +152,42 @@ abbrev pub inBound : (ℤ → Bool) → Bound → Bool
 inBound f bound.Absent = false
 inBound f (bound.Number z) = f z
 
-abbrev pub someHex : List ℕ → Json → Bool
+abbrev pub someHex : Bytes → Json → Bool
 someHex b t = onArray (anyItem (λ q u. wrongHex hexLength b u)) t
 
-abbrev pub someSmall : List ℕ → Json → Bool
+abbrev pub someSmall : Bytes → Json → Bool
 someSmall b t = onArray (anyItem (λ q u. wrongSmall b u)) t
 
-unfoldable pub filter2 : List ℕ → FilterParts → Bool
+unfoldable pub filter2 : Bytes → FilterParts → Bool
 filter2 b p = inList (value2 b) (p .ids) || (inList (value2 b) (p .authors) || (inList (value2 b) (p .kinds) || inList (value2 b) (p .conditions)))
 
-unfoldable pub filter4 : List ℕ → FilterParts → Bool
+unfoldable pub filter4 : Bytes → FilterParts → Bool
 filter4 b p = inList (value4 b) (p .ids) || (inList (value4 b) (p .authors) || (inList (value4 b) (p .kinds) || inList (value4 b) (p .conditions)))
 
 -- the object at `conditions` is a filter; of its members those with # are taken
-unfoldable pub filter5 : List ℕ → FilterParts → Bool
+unfoldable pub filter5 : Bytes → FilterParts → Bool
 filter5 b p =
     inList (value5 (isArrayOf isString) b) (p .ids)
     || (inList (value5 (isArrayOf isString) b) (p .authors)
     || (inList (value5 (isArrayOf isNumber) b) (p .kinds) || inList (value5 (isFilter b) b) (p .conditions)))
 
-unfoldable pub filter6 : List ℕ → FilterParts → Bool
+unfoldable pub filter6 : Bytes → FilterParts → Bool
 filter6 b p =
     inList (λ v. onValue (someSmall b) (valueAt b v)) (p .kinds)
     || (inBound time6 (p .since)
     || (inBound time6 (p .until)
     || (inBound small6 (p .limit) || inList (λ v. onValue (onObject (anyItem (filterNumber b))) (valueAt b v)) (p .conditions))))
 
-unfoldable pub filter7 : List ℕ → FilterParts → Bool
+unfoldable pub filter7 : Bytes → FilterParts → Bool
 filter7 b p =
     inList (λ v. onValue (someHex b) (valueAt b v)) (p .ids)
     || (inList (λ v. onValue (someHex b) (valueAt b v)) (p .authors) || inList (λ v. onValue (onObject (anyItem (filterHex b))) (valueAt b v)) (p .conditions))
 
-unfoldable pub filter8 : List ℕ → FilterParts → Bool
+unfoldable pub filter8 : Bytes → FilterParts → Bool
 filter8 b p =
     inList (λ v. onValue wrongList (valueAt b v)) (p .ids)
     || (inList (λ v. onValue wrongList (valueAt b v)) (p .authors)
     || (inList (λ v. onValue wrongList (valueAt b v)) (p .kinds) || inList (λ v. onValue (onObject (filterCounts b)) (valueAt b v)) (p .conditions)))
 
-unfoldable pub filterRow : List ℕ → FilterParts → ℕ
+unfoldable pub filterRow : Bytes → FilterParts → Row
 filterRow b p = lowest (filter2 b p) (filter4 b p) (filter5 b p) (filter6 b p) (filter7 b p) (filter8 b p)

@@ -12,6 +12,7 @@ use Rattle.json.specs.declared.Next.the-variants.{More, Done, Wrong}
 use mathlib.Core.Bool.{Bool, true, false}
 use Rattle.message.specs.declared.Element.{Element}
 use Rattle.message.specs.declared.Element.the-variants.{At, Ended, Broken}
+use Rattle.wire.specs.Bytes.{Bytes, Place}
 
 -- the first element of the array that begins so; Broken where no array begins
 abbrev pub firstOf : Start → Element
@@ -32,22 +33,22 @@ abbrev pub within : ℕ
 within = 7
 
 -- the element after the one at v; Broken where no value stands there
-unfoldable pub nextOf : List ℕ → ℕ → Element
+unfoldable pub nextOf : Bytes → ℕ → Element
 nextOf s v = case (endOf (treeAt s within v)) (λ n. moreOf (nextAt s n false)) Broken
 
 -- an element and those after it, of at most f
-unfoldable pub upTo : ℕ → List ℕ → Element → List ℕ
+unfoldable pub upTo : (f : ℕ) (s : Bytes) (x : Element) → List ℕ
 upTo zero s x = []
 upTo (suc f) s Ended = []
 upTo (suc f) s Broken = []
 upTo (suc f) s (At v) = v ∷ upTo f s (nextOf s v)
 
 -- an element and those after it: a text has no more elements than bytes
-unfoldable pub elementsFrom : List ℕ → Element → List ℕ
+unfoldable pub elementsFrom : Bytes → Element → List ℕ
 elementsFrom s x = upTo (length s) s x
 
 -- the elements of the array at a place
-unfoldable pub elements : List ℕ → ℕ → List ℕ
+unfoldable pub elements : Bytes → Place → List ℕ
 elements s at = elementsFrom s (firstOf (startAt s at))
 
 -- the places of a tree's items

@@ -22,13 +22,14 @@ use Rattle.message.specs.declared.FilterParts.{FilterParts}
 use Rattle.message.specs.declared.Filters.{Filters}
 use Rattle.message.specs.declared.Element.the-variants.{At}
 use Rattle.message.specs.Lists.{elementsFrom}
+use Rattle.wire.specs.Bytes.{Bytes, Place}
 
 -- the member of a name: the place of its value, and the value
 pub data Member : Type 0 where
   missing : Member
   member : ℕ → Json → Member
 
-unfoldable pub memberOf : List ℕ → List ℕ → Items → Member
+unfoldable pub memberOf : (s w : Bytes) (nil : Items) → Member
 memberOf s w nil = missing
 memberOf s w (item p v t ts) = cond (named s w p) (member v t) (memberOf s w ts)
 
@@ -44,14 +45,14 @@ valueOf (Value z) = z
 valueOf Large = pos 0
 valueOf Malformed = pos 0
 
-abbrev pub numberOf : List ℕ → Json → ℤ
+abbrev pub numberOf : Bytes → Json → ℤ
 numberOf s = ofNumber (pos 0) (λ a n. valueOf (answerOf (wholeOf (part s a n))))
 
 abbrev pub spanIn : Member → Span
 spanIn missing = nowhere
 spanIn (member v t) = spanOf t
 
-abbrev pub numberIn : List ℕ → Member → ℤ
+abbrev pub numberIn : Bytes → Member → ℤ
 numberIn s missing = pos 0
 numberIn s (member v t) = numberOf s t
 
@@ -59,7 +60,7 @@ abbrev pub placeIn : Member → ℕ
 placeIn missing = 0
 placeIn (member v t) = v
 
-abbrev pub boundIn : List ℕ → Member → Bound
+abbrev pub boundIn : Bytes → Member → Bound
 boundIn s missing = bound.Absent
 boundIn s (member v t) = bound.Number (numberOf s t)
 
@@ -68,7 +69,7 @@ listedIn missing = listed.Absent
 listedIn (member v t) = listed.At v
 
 -- ---- the parts
-unfoldable pub bodyOf : List ℕ → Items → Body
+unfoldable pub bodyOf : Bytes → Items → Body
 bodyOf s ts = record {
   pubkey = spanIn (memberOf s pubkeyName ts);
   «created_at» = numberIn s (memberOf s createdAtName ts);
@@ -77,7 +78,7 @@ bodyOf s ts = record {
   content = spanIn (memberOf s contentName ts);
 }
 
-unfoldable pub eventOf : List ℕ → Items → EventParts
+unfoldable pub eventOf : Bytes → Items → EventParts
 eventOf s ts = record {
   id = spanIn (memberOf s idName ts);
   body = bodyOf s ts;
@@ -85,7 +86,7 @@ eventOf s ts = record {
 }
 
 -- the filter whose object stands at v
-unfoldable pub filterOf : List ℕ → ℕ → Items → FilterParts
+unfoldable pub filterOf : (s : Bytes) (v : ℕ) (ts : Items) → FilterParts
 filterOf s v ts = record {
   ids = listedIn (memberOf s idsName ts);
   authors = listedIn (memberOf s authorsName ts);
@@ -107,13 +108,13 @@ membersGot none = nil
 membersGot (got t n) = membersOf t
 
 -- the items of the object at a place; none where there is no object
-unfoldable pub membersAt : List ℕ → ℕ → Items
+unfoldable pub membersAt : Bytes → Place → Items
 membersAt s at = membersGot (treeAt s depth at)
 
-unfoldable pub eventAt : List ℕ → ℕ → EventParts
+unfoldable pub eventAt : Bytes → Place → EventParts
 eventAt s at = eventOf s (membersAt s at)
 
-unfoldable pub filterAt : List ℕ → ℕ → FilterParts
+unfoldable pub filterAt : Bytes → Place → FilterParts
 filterAt s at = filterOf s at (membersAt s at)
 
 -- ---- 01: "REQ: a string, then objects"; "1 to 4 filters". The filters from a place on, as values
@@ -134,5 +135,5 @@ abbrev pub firstFour : List FilterParts → List FilterParts
 firstFour l = getD l 0 noFilter ∷ getD l 1 noFilter ∷ getD l 2 noFilter ∷ getD l 3 noFilter ∷ []
 
 -- all of them are counted
-unfoldable pub filtersAt : List ℕ → ℕ → Filters
+unfoldable pub filtersAt : Bytes → Place → Filters
 filtersAt s at = record { parts = firstFour (map (filterAt s) (elementsFrom s (At at))); n = length (elementsFrom s (At at)) }

@@ -17,6 +17,7 @@ use Rattle.message.specs.declared.Message.{Message}
 use Rattle.message.specs.declared.Message.the-variants as message
 use Rattle.message.specs.declared.Named.{Named}
 use Rattle.message.specs.declared.Named.the-variants as names
+use Rattle.wire.specs.Bytes.{Bytes}
 
 -- the first of some elements, and the place of the second
 abbrev pub firstOf : Items → Json
@@ -29,18 +30,18 @@ secondPlace (item p v t nil) = 0
 secondPlace (item p v t (item q w u us)) = w
 
 -- the elements after the first word
-abbrev pub partsOf : List ℕ → Word → Items → Message
+abbrev pub partsOf : (s : Bytes) (event : Word) (ts : Items) → Message
 partsOf s event ts = message.Event (eventOf s (membersOf (firstOf ts)))
 partsOf s req ts = message.Req (record { subscription = spanOf (firstOf ts); filters = secondPlace ts })
 partsOf s close ts = message.Close (spanOf (firstOf ts))
 partsOf s other ts = message.Refused 5
 
-abbrev pub inRoot : List ℕ → Got Json → Message
+abbrev pub inRoot : Bytes → Got Json → Message
 inRoot s none = message.Refused 3
 inRoot s (got t n) = partsOf s (opened s t .first) (opened s t .rest)
 
 -- 01: "A read message is an EVENT, a REQ or a CLOSE, each with its own parts"; "A refusal carries its number and no other value"
-unfoldable pub readOf : List ℕ → Message
+unfoldable pub readOf : Bytes → Message
 readOf s = cond (eqb (messageRow s) 0) (inRoot s (root s)) (message.Refused (messageRow s))
 
 -- 01's number of an answer: 0 where none of rows 1 to 8 holds. That it is the message's row is proved in proofs/Reading.antt
@@ -61,24 +62,24 @@ isEventWord close = false
 isEventWord other = false
 
 -- the message's first word is EVENT, whatever else is wrong with it; false where no JSON value begins the text
-unfoldable pub isEvent : List ℕ → Bool
+unfoldable pub isEvent : Bytes → Bool
 isEvent m = onRoot (λ t. isEventWord (opened m t .first)) (root m)
 
 -- ---- 01, "Filters and replies": "Rows 6-12 give OK with false if the id field is 64 lower-case hex; CLOSED for a REQ whose subscription
 -- id is within bounds; otherwise NOTICE". What is found in a text that has its shape (rows 1 to 5 do not hold); nothing elsewhere
-abbrev pub idNamed : List ℕ → Span → Named
+abbrev pub idNamed : Bytes → Span → Named
 idNamed s p = cond (isHexOf hexLength (part s (p .start) (p .len))) (names.Id p) names.Nothing
 
-abbrev pub subscriptionNamed : List ℕ → Json → Named
+abbrev pub subscriptionNamed : Bytes → Json → Named
 subscriptionNamed s t = cond (wrongSubscription s t) names.Nothing (names.Subscription (spanOf t))
 
-abbrev pub namedIn : List ℕ → Word → Items → Named
+abbrev pub namedIn : (s : Bytes) (event : Word) (ts : Items) → Named
 namedIn s event ts = idNamed s (spanIn (memberOf s idName (membersOf (firstOf ts))))
 namedIn s req ts = subscriptionNamed s (firstOf ts)
 namedIn s close ts = names.Nothing
 namedIn s other ts = names.Nothing
 
-abbrev pub namedRoot : List ℕ → Got Json → Named
+abbrev pub namedRoot : Bytes → Got Json → Named
 namedRoot s none = names.Nothing
 namedRoot s (got t n) = namedIn s (opened s t .first) (opened s t .rest)
 
@@ -86,5 +87,5 @@ namedRoot s (got t n) = namedIn s (opened s t .first) (opened s t .rest)
 abbrev pub isEarly : ℕ → Bool
 isEarly r = leb 1 r && leb r 5
 
-unfoldable pub namedOf : List ℕ → Named
+unfoldable pub namedOf : Bytes → Named
 namedOf s = cond (isEarly (messageRow s)) names.Nothing (namedRoot s (root s))

@@ -10,15 +10,16 @@ use Rattle.numeral.specs.declared.Whole.{Whole}
 use Rattle.numeral.specs.declared.Whole.the-variants.{Value, Large, Malformed}
 use Rattle.numeral.specs.declared.Natural.{Natural}
 use Rattle.numeral.specs.declared.Natural.the-variants.{Sum, NotOne}
+use Rattle.wire.specs.Bytes.{Bytes}
 
 -- the first number that is too large
 abbrev pub over : ℕ
 over = suc widest
 
-unfoldable pub digitsSum : ℕ → List ℕ → Natural
+unfoldable pub digitsSum : ℕ → Bytes → Natural
 digitsSum v l = cond (allDigits l) (Sum (min (valueFrom v l) over)) NotOne
 
-unfoldable pub naturalSum : List ℕ → Natural
+unfoldable pub naturalSum : Bytes → Natural
 naturalSum l = cond (isNatural l) (Sum (min (valueOf l) over)) NotOne
 
 unfoldable pub aboveOf : Natural → Whole

@@ -8,28 +8,29 @@ use lib.Signed.{ltZ}
 use Rattle.wire.specs.Limits.{widest}
 use Rattle.numeral.specs.declared.Whole.{Whole}
 use Rattle.numeral.specs.declared.Whole.the-variants.{Value, Large, Malformed}
+use Rattle.wire.specs.Bytes.{Bytes}
 
 unfoldable pub isDigit : ℕ → Bool
 isDigit x = leb 48 x && leb x 57
 
-unfoldable pub allDigits : List ℕ → Bool
+unfoldable pub allDigits : Bytes → Bool
 allDigits [] = true
 allDigits (x ∷ l) = isDigit x && allDigits l
 
 -- the number that digits spell; v is what those before them spell
-unfoldable pub valueFrom : ℕ → List ℕ → ℕ
+unfoldable pub valueFrom : ℕ → Bytes → ℕ
 valueFrom v [] = v
 valueFrom v (x ∷ l) = valueFrom (v * 10 + (x - 48)) l
 
-abbrev pub valueOf : List ℕ → ℕ
+abbrev pub valueOf : Bytes → ℕ
 valueOf l = valueFrom 0 l
 
-abbrev pub isEmpty : List ℕ → Bool
+abbrev pub isEmpty : Bytes → Bool
 isEmpty [] = true
 isEmpty (x ∷ l) = false
 
 -- at least one digit, and a first 0 only alone
-unfoldable pub isNatural : List ℕ → Bool
+unfoldable pub isNatural : Bytes → Bool
 isNatural [] = false
 isNatural (x ∷ l) = cond (eqb x 48) (isEmpty l) (allDigits (x ∷ l))
 
@@ -37,18 +38,18 @@ pub data Read : Type 0 where
   malformed : Read
   whole : ℤ → Read
 
-unfoldable pub naturalOf : List ℕ → Read
+unfoldable pub naturalOf : Bytes → Read
 naturalOf l = cond (isNatural l) (whole (pos (valueOf l))) malformed
 
 -- what stands after a minus: not 0
-unfoldable pub negativeOf : List ℕ → Read
+unfoldable pub negativeOf : Bytes → Read
 negativeOf l = cond (isNatural l) (cond (eqb (valueOf l) 0) malformed (whole (negℤ (pos (valueOf l))))) malformed
 
-unfoldable pub wholeOf : List ℕ → Read
+unfoldable pub wholeOf : Bytes → Read
 wholeOf [] = malformed
 wholeOf (x ∷ l) = cond (eqb x 45) (negativeOf l) (naturalOf (x ∷ l))
 
-unfoldable pub isWithin : Whole → ℤ → ℤ → Bool
+unfoldable pub isWithin : (x : Whole) (lo hi : ℤ) → Bool
 isWithin (Value z) lo hi = not (ltZ z lo) && not (ltZ hi z)
 isWithin Large lo hi = false
 isWithin Malformed lo hi = false

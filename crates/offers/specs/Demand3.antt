@@ -22,6 +22,7 @@ use Rattle.table.specs.Demand3.{Fresh, relay}
 use Rattle.table.specs.declared.Offered.{Offered}
 use Rattle.table.specs.declared.Offered.the-variants.{Stored}
 use Rattle.offers.specs.Row.{offerRow}
+use Rattle.wire.specs.Bytes.{Bytes}
 
 -- ---- calls
 -- of `offer_message` or `offer_parts`: what is offered, the answer, and the table at exit
@@ -37,12 +38,12 @@ pub record Promised (b : List ℕ) (c : Call) : Type 0 where
   pub leaves : c .exit ≡ next b (c .offer)
 
 -- "each other to the table the last one left". 01: "Nobody else writes the table meanwhile."
-abbrev pub InTurn : List ℕ → List Call → Type 0
+abbrev pub InTurn : Bytes → List Call → Type 0
 InTurn b [] = Unit {0}
 InTurn b (c ∷ cs) = Promised b c × InTurn (c .exit) cs
 
 -- the table after the last
-abbrev pub left : List ℕ → List Call → List ℕ
+abbrev pub left : Bytes → List Call → Bytes
 left b [] = b
 left b (c ∷ cs) = left (c .exit) cs
 
@@ -57,7 +58,7 @@ pub record Session (cs : List Call) : Type 0 where
   pub passes : row ≡ 0
   pub calls : InTurn table cs
 
-abbrev pub atEnd : {cs : List Call} → Session cs → List ℕ
+abbrev pub atEnd : {cs : List Call} → Session cs → Bytes
 atEnd {cs} s = left (s .table) cs
 
 abbrev pub offersOf : List Call → List Offering
@@ -72,7 +73,7 @@ abbrev pub lacksRoom : List Call → Bool
 lacksRoom cs = any (λ (c : Call). eqb (numberOf (c .answer)) 12) cs
 
 -- 01: "The set held is the pairs of id and text in slots 0 to C-1."
-abbrev pub heldIn : List ℕ → Table tableEvents
+abbrev pub heldIn : Bytes → Table tableEvents
 heldIn b = law.view tableEvents Signature relay b
 
 -- ---- what they leave
@@ -121,7 +122,7 @@ abbrev pub isFresh : {cs : List Call} (s : Session cs) → Fresh (s .table)
 isFresh s = record { capacity = s .capacity; buffer = s .buffer; passes = sym (s .answers) ∙ s .passes; is = s .leaves }
 
 -- a history, then calls up to the moment at which this relay's table is taken for the other, and calls after it
-abbrev pub relayOf : (hs es ls : List Call) → Session (hs ++ (es ++ ls)) → RelayOn tableEvents Signature relay
+abbrev pub relayOf : (hs es ls : List Call) (s : Session (hs ++ (es ++ ls))) → RelayOn tableEvents Signature relay
 relayOf hs es ls s = record { table = s .table; fresh = isFresh s; history = offersOf hs; early = offersOf es; late = offersOf ls }
 
 -- "Two relays that offer each other, as parts, all they hold end with equal sets, if neither lacks room and the id premise holds over both

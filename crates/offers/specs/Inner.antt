@@ -7,7 +7,7 @@ use mathlib.Core.List.{List, _++_}
 use Prim.Native.Nat.{ℕ, _+_, _-_}
 use lib.Dec.{ltb}
 use lib.ListN.{length, getD}
-use Rattle.wire.specs.Bytes.{part}
+use Rattle.wire.specs.Bytes.{Bytes, part}
 use Rattle.wire.specs.Field.{leBytes, signed, unsigned}
 use Rattle.wire.specs.Put.{put}
 use Rattle.spell.specs.Spell.{unhex, isHexOf}
@@ -34,11 +34,11 @@ use Rattle.offers.specs.declared.Decided.the-variants.{Fills, Answered}
 
 -- ---- the verdict
 -- the event of slot s is newer than that of slot t
-unfoldable pub newerIn : List ℕ → List ℕ → Bool
+unfoldable pub newerIn : Bytes → Bytes → Bool
 newerIn s t = isNewer (signed (timeIn s)) (idIn s) (signed (timeIn t)) (idIn t)
 
 -- the last byte of d, and 0 where there is none
-unfoldable pub dLast : List ℕ → ℕ
+unfoldable pub dLast : Bytes → ℕ
 dLast s = getD (dBytesIn s) (length (dBytesIn s) - 1) 0
 
 -- the bytes of a slot that a valid event would fill
@@ -48,19 +48,19 @@ pub record New (s : List ℕ) : Type 0 where
   pub ok : isEphemeral (kindIn s) ≡ false → slotSound s ≡ true
 
 -- "Verdicts of an offer"
-unfoldable pub answerFor : List ℕ → List ℕ → Offered
+unfoldable pub answerFor : Bytes → Bytes → Offered
 answerFor b s = answerOf 0 (verdict signedEvents (capacityOf b) (view b) (some (inSlot s)))
 
 -- row 11, then the verdict
-unfoldable pub offeredTo : List ℕ → List ℕ → Offered
+unfoldable pub offeredTo : Bytes → Bytes → Offered
 offeredTo b s = cond (sound b) (answerFor b s) (Refused 11)
 
 -- "over the slot with its key, else in slot C"
-unfoldable pub slotOf : List ℕ → List ℕ → ℕ
+unfoldable pub slotOf : Bytes → Bytes → ℕ
 slotOf b s = find (hasKey signedEvents (inSlot s)) (view b)
 
 -- what is decided of an offer s to the table b that is answered a
-abbrev pub DecidedAs : (b s : List ℕ) → Offered → Decided → Type 0
+abbrev pub DecidedAs : (b s : Bytes) (a : Offered) (x : Decided) → Type 0
 DecidedAs b s a (Fills k) = (Stored ≡ a) × (k ≡ slotOf b s)
 DecidedAs b s a (Answered x) = (x ≡ a) × (isStored x ≡ false)
 
@@ -77,15 +77,15 @@ abbrev pub countFrom : ℕ → ℕ → ℕ
 countFrom c k = cond (ltb k c) c (c + 1)
 
 -- "A store writes only the bytes of the one slot it fills, and the count."
-unfoldable pub storedFor : List ℕ → List ℕ → List ℕ
+unfoldable pub storedFor : Bytes → Bytes → Bytes
 storedFor b s = put (put b (slotPlace (slotOf b s)) s) countPlace (leBytes 4 (countFrom (countOf b) (slotOf b s)))
 
-unfoldable pub offeredNext : List ℕ → List ℕ → List ℕ
+unfoldable pub offeredNext : Bytes → Bytes → Bytes
 offeredNext b s = cond (isStored (offeredTo b s)) (storedFor b s) b
 
 -- ---- the bytes before the text, by what is read from it
 -- the part p of the buffer c spells n digits of lower-case hex
-abbrev pub SpellsHex : List ℕ → Span → ℕ → Type 0
+abbrev pub SpellsHex : (c : Bytes) (p : Span) (n : ℕ) → Type 0
 SpellsHex c p n = isHexOf n (part c (p .start) (p .len)) ≡ true
 
 -- d's place is 0 unless the kind is addressable
@@ -96,7 +96,7 @@ ifAddressable Ephemeral x = 0
 ifAddressable Addressable x = x
 
 -- "created_at 8, two's complement; kind 2; text length 2; d offset 2 and d length 2"
-unfoldable pub numbersOf : Text → ℕ → List ℕ
+unfoldable pub numbersOf : Text → ℕ → Bytes
 numbersOf t n =
     leBytes 8 (unsigned (t .time))
     ++ leBytes 2 (t .kind)
@@ -105,5 +105,5 @@ numbersOf t n =
     ++ leBytes 2 (ifAddressable (classOf (t .kind)) (t .«d_len»))
 
 -- "id 32; sig 64", of the parts p over c, and these numbers
-unfoldable pub headOf : List ℕ → EventParts → ℕ → Text → List ℕ
+unfoldable pub headOf : (c : Bytes) (p : EventParts) (n : ℕ) (t : Text) → Bytes
 headOf c p n t = unhex (said c (p .id)) ++ unhex (said c (p .sig)) ++ numbersOf t n

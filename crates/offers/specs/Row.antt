@@ -11,17 +11,18 @@ use Rattle.table.specs.Layout.{Held, capacityOf, countOf}
 use Rattle.table.specs.Events.{signedEvents, ofHeld, view}
 use Rattle.table.specs.Sound.{sound}
 use Rattle.table.specs.Offer.{Offering, rowOf, offeredOf}
+use Rattle.wire.specs.Bytes.{Bytes, Row}
 
 -- "new slot needed": it is not ephemeral, and neither its id nor its key is held
-unfoldable pub needsSlot : List ℕ → Held → Bool
+unfoldable pub needsSlot : Bytes → Held → Bool
 needsSlot b h =
     not (isEphemeral (h .event .kind))
     && (not (any (hasId signedEvents (ofHeld h)) (view b)) && not (any (hasKey signedEvents (ofHeld h)) (view b)))
 
 -- "all in use"
-unfoldable pub allInUse : List ℕ → Bool
+unfoldable pub allInUse : Bytes → Bool
 allInUse b = leb (capacityOf b) (countOf b)
 
 -- rows 1 to 10 of what is offered; then 11, "table not sound"; then 12
-unfoldable pub offerRow : List ℕ → Offering → ℕ
+unfoldable pub offerRow : Bytes → Offering → Row
 offerRow b o = orElse (rowOf o) (cond (sound b) (cond (needsSlot b (offeredOf o) && allInUse b) 12 0) 11)

@@ -13,6 +13,7 @@ use Rattle.table.specs.declared.Offered.{Offered}
 use Rattle.offers.specs.Row.{offerRow}
 use Rattle.offers.specs.declared.Taken.{Taken}
 use Rattle.offers.specs.declared.Taken.the-variants.{Event, Req, Close, Refused}
+use Rattle.wire.specs.Bytes.{Bytes, Row}
 
 -- by what was read, where an EVENT's offer is answered a: the place of its id, and that answer
 abbrev pub takenAs : Offered → Message → Taken
@@ -21,7 +22,7 @@ takenAs a (message.Req q) = Req q
 takenAs a (message.Close s) = Close s
 takenAs a (message.Refused r) = Refused r
 
-unfoldable pub taken : List ℕ → List ℕ → Taken
+unfoldable pub taken : Bytes → Bytes → Taken
 taken b m = takenAs (answer b (asMessage m)) (readOf m)
 
 -- the number of 01: "Reading a message tests rows 1 to 8; offering one tests 1 to 12"
@@ -37,21 +38,21 @@ takenRowAs k (message.Req q) = 0
 takenRowAs k (message.Close s) = 0
 takenRowAs k (message.Refused r) = r
 
-unfoldable pub takenRow : List ℕ → List ℕ → ℕ
+unfoldable pub takenRow : Bytes → Bytes → Row
 takenRow b m = takenRowAs (offerRow b (asMessage m)) (readOf m)
 
 -- the table afterwards, t where an EVENT was offered
-abbrev pub tableAs : List ℕ → List ℕ → Message → List ℕ
+abbrev pub tableAs : (b t : Bytes) (x : Message) → Bytes
 tableAs b t (message.Event p) = t
 tableAs b t (message.Req q) = b
 tableAs b t (message.Close s) = b
 tableAs b t (message.Refused r) = b
 
-unfoldable pub takenTable : List ℕ → List ℕ → List ℕ
+unfoldable pub takenTable : Bytes → Bytes → Bytes
 takenTable b m = tableAs b (next b (asMessage m)) (readOf m)
 
 -- ---- what private functions hand on: the parts of the event of m, and o the bytes of its slot; or the row that refuses its offer
-abbrev pub Made : List ℕ → SentText → List ℕ → Type 0
+abbrev pub Made : (m : Bytes) (x : SentText) (o : Bytes) → Type 0
 Made m (sent.Wrote p n) o = (readOf m ≡ message.Event p) × ((0 ≡ messageOfferRow m) × (o ≡ slotBytes (heldOf m (partsOf m))))
 Made m (sent.Refused r) o = (r ≡ messageOfferRow m) × (r ≡ 0 → ⊥)
 

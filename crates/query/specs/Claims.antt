@@ -35,6 +35,7 @@ use Rattle.table.specs.Sound.{sound}
 use Rattle.query.specs.Filter.{Condition, Filter, filterOf}
 use Rattle.query.specs.Match.{isMember, sameNumber, kindListed, sinceHolds, untilHolds, conditionHolds, matches, matchesSome}
 use Rattle.query.specs.Answer.{keep, from, picked, union, newerSlot, matchesSlot, answerList, partsAt, filtersAt, meant, lowestOf, filtersRow, answerTo, matchedRow, matched, matchNumber, matchValue, listingRow, listed, listedRow, numberOf, valueOf}
+use Rattle.wire.specs.Bytes.{Bytes}
 
 -- ---- matching
 -- "exact membership"
@@ -117,15 +118,15 @@ pub record Orders (newer : ℕ → ℕ → Bool) : Type 0 where
   pub past : (a b c : ℕ) → newer a b ≡ true → newer c b ≡ false → newer a c ≡ true
 
 -- each entry once
-abbrev pub Distinct : List ℕ → Type 0
+abbrev pub Distinct : Bytes → Type 0
 Distinct l = Once (λ (s : ℕ). s) l
 
 -- no later entry is newer
-abbrev pub NoneNewer : (ℕ → ℕ → Bool) → List ℕ → Type 0
+abbrev pub NoneNewer : (ℕ → ℕ → Bool) → Bytes → Type 0
 NoneNewer newer l = Pairwise (λ x y. T (newer y x) → ⊥) l
 
 -- each is newer than all after it
-abbrev pub Descending : (ℕ → ℕ → Bool) → List ℕ → Type 0
+abbrev pub Descending : (ℕ → ℕ → Bool) → Bytes → Type 0
 Descending newer l = Pairwise (λ x y. T (newer x y)) l
 
 module _ (newer : ℕ → ℕ → Bool) (fits : Filter → ℕ → Bool) (held : List ℕ) where
@@ -232,7 +233,7 @@ LimitZero = (b : List ℕ) (f : Filter) → answerList b (limited f (Number (pos
 
 -- ---- the filters of a REQ
 -- what some elements of a message's array mean as filters, one each
-unfoldable pub filtersOf : List ℕ → Items → List Filter
+unfoldable pub filtersOf : Bytes → Items → List Filter
 filtersOf m nil = []
 filtersOf m (item p v t ts) = filterOf m (parts.filterOf m v (membersOf t)) ∷ filtersOf m ts
 

@@ -14,6 +14,7 @@ use Rattle.message.specs.declared.Listed.{Listed}
 use Rattle.message.specs.declared.Listed.the-variants as listed
 use Rattle.message.specs.declared.FilterParts.{FilterParts}
 use Rattle.event.specs.Lent.{tagOf}
+use Rattle.wire.specs.Bytes.{Bytes}
 
 -- a list of strings that may be absent
 abbrev pub Strings : Type 0
@@ -35,15 +36,15 @@ pub record Filter : Type 0 where
   pub conditions : List Condition
 
 -- ---- what is at a place of b: its strings, its numbers; of no array none
-abbrev pub stringsIn : List ℕ → Got Json → List (List ℕ)
+abbrev pub stringsIn : Bytes → Got Json → List (List ℕ)
 stringsIn b tree.none = []
 stringsIn b (tree.got t n) = tagOf b t
 
-abbrev pub numbersOf : List ℕ → Items → List ℤ
+abbrev pub numbersOf : Bytes → Items → List ℤ
 numbersOf b nil = []
 numbersOf b (item p v t ts) = numberOf b t ∷ numbersOf b ts
 
-abbrev pub numbersIn : List ℕ → Got Json → List ℤ
+abbrev pub numbersIn : Bytes → Got Json → List ℤ
 numbersIn b tree.none = []
 numbersIn b (tree.got (word a n) m) = []
 numbersIn b (tree.got (num a n) m) = []
@@ -52,7 +53,7 @@ numbersIn b (tree.got (arr ts) m) = numbersOf b ts
 numbersIn b (tree.got (obj ts) m) = []
 
 -- the members of an object that are conditions
-abbrev pub conditionsOf : List ℕ → Items → List Condition
+abbrev pub conditionsOf : Bytes → Items → List Condition
 conditionsOf b nil = []
 conditionsOf b (item p v t ts) =
     cond (isCondition (nameAt b p)) (record { letter = getD (nameAt b p) 1 0; members = tagOf b t } ∷ conditionsOf b ts) (conditionsOf b ts)
@@ -62,11 +63,11 @@ abbrev pub ifListed : {A : Type 0} → (ℕ → A) → Listed → Option A
 ifListed f listed.Absent = none
 ifListed f (listed.At v) = some (f v)
 
-abbrev pub conditionsIn : List ℕ → Listed → List Condition
+abbrev pub conditionsIn : Bytes → Listed → List Condition
 conditionsIn b listed.Absent = []
 conditionsIn b (listed.At v) = conditionsOf b (membersAt b v)
 
-unfoldable pub filterOf : List ℕ → FilterParts → Filter
+unfoldable pub filterOf : Bytes → FilterParts → Filter
 filterOf b p = record {
   ids = ifListed (λ v. stringsIn b (treeAt b depth v)) (p .ids);
   authors = ifListed (λ v. stringsIn b (treeAt b depth v)) (p .authors);

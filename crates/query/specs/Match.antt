@@ -4,7 +4,7 @@ use mathlib.Core.Option.{Option, none, some}
 use mathlib.Core.List.{List, [], _∷_}
 use Prim.Native.Nat.{ℕ}
 use lib.IntN.{ℤ, pos}
-use Rattle.wire.specs.Bytes.{sameBytes}
+use Rattle.wire.specs.Bytes.{Bytes, sameBytes}
 use Rattle.text.specs.Event.{Tag, Event, all}
 use Rattle.message.specs.declared.Bound.{Bound}
 use Rattle.message.specs.declared.Bound.the-variants.{Absent, Number}
@@ -13,7 +13,7 @@ use Rattle.law.specs.Event.{earlier}
 use Rattle.query.specs.Filter.{Condition, Filter, Strings}
 
 -- "ids, authors, kinds: exact membership."
-abbrev pub isMember : List (List ℕ) → List ℕ → Bool
+abbrev pub isMember : List (List ℕ) → Bytes → Bool
 isMember l v = any (sameBytes v) l
 
 -- two numbers are the same
@@ -25,7 +25,7 @@ abbrev pub ifGiven : {A : Type 0} → (A → Bool) → Option A → Bool
 ifGiven f none = true
 ifGiven f (some l) = f l
 
-abbrev pub isListed : Strings → List ℕ → Bool
+abbrev pub isListed : Strings → Bytes → Bool
 isListed l v = ifGiven (λ m. isMember m v) l
 
 abbrev pub kindListed : Option (List ℤ) → ℕ → Bool
@@ -50,7 +50,7 @@ abbrev pub conditionHolds : List Tag → Condition → Bool
 conditionHolds ts c = any (tagFits c) ts
 
 -- "All conditions of a filter hold" of the event e whose id is i, in hex. Limit is no condition on an event
-unfoldable pub matches : Filter → List ℕ → Event → Bool
+unfoldable pub matches : (f : Filter) (i : Bytes) (e : Event) → Bool
 matches f i e =
     isListed (f .ids) i
     && (isListed (f .authors) (e .pubkey)
@@ -58,5 +58,5 @@ matches f i e =
     && (sinceHolds (f .since) (e .time) && (untilHolds (f .until) (e .time) && all (conditionHolds (e .tags)) (f .conditions)))))
 
 -- "any filter suffices."
-unfoldable pub matchesSome : List Filter → List ℕ → Event → Bool
+unfoldable pub matchesSome : (fs : List Filter) (i : Bytes) (e : Event) → Bool
 matchesSome fs i e = any (λ f. matches f i e) fs

@@ -10,19 +10,20 @@ use Rattle.message.specs.declared.EventParts.{EventParts}
 use Rattle.wire.specs.Ascii.{ascii}
 use Rattle.reply.specs.declared.ReplyParts.{ReplyParts}
 use Rattle.reply.specs.declared.ReplyParts.the-variants.{Ok, Event as EventOf, Eose, Closed, Notice}
+use Rattle.wire.specs.Bytes.{Bytes}
 
 -- ---- the EVENT of the event e, for the subscription id sub, with the id i and the signature s, in pieces
-unfoldable pub frontText : (sub i : List ℕ) → Event → List ℕ
+unfoldable pub frontText : (sub i : Bytes) (e : Event) → Bytes
 frontText sub i e = ascii "[\"EVENT\"," ++ (quoted sub ++ (ascii ",{\"id\":" ++ (quoted i ++ (ascii ",\"pubkey\":" ++ quoted (e .pubkey)))))
 
-unfoldable pub middleText : Event → List ℕ
+unfoldable pub middleText : Event → Bytes
 middleText e = ascii ",\"created_at\":" ++ (decimal (e .time) ++ (ascii ",\"kind\":" ++ (digits (e .kind) ++ (ascii ",\"tags\":" ++ tagsText (e .tags)))))
 
-unfoldable pub backText : Event → (s : List ℕ) → List ℕ
+unfoldable pub backText : Event → (s : Bytes) → Bytes
 backText e s = ascii ",\"content\":" ++ (quoted (e .content) ++ (ascii ",\"sig\":" ++ (quoted s ++ ascii "}]")))
 
 -- ---- the parts by what they are of
-abbrev pub okParts : Span → Bool → Span → ReplyParts
+abbrev pub okParts : (i : Span) (accepted : Bool) (r : Span) → ReplyParts
 okParts i accepted r = Ok i accepted r
 
 abbrev pub eventParts : Span → EventParts → ReplyParts

@@ -16,9 +16,10 @@ use Rattle.event.specs.declared.Written.{Written}
 use Rattle.reply.specs.Replies.{Reply, ok, event, eose, closed, notice, replyText}
 use Rattle.reply.specs.declared.ReplyParts.{ReplyParts}
 use Rattle.reply.specs.declared.ReplyParts.the-variants as parts
+use Rattle.wire.specs.Bytes.{Bytes, Row}
 
 -- the reply that the parts spell
-abbrev pub replyOf : List ℕ → ReplyParts → Reply
+abbrev pub replyOf : Bytes → ReplyParts → Reply
 replyOf b (parts.Ok i accepted r) = ok (said b i) accepted (said b r)
 replyOf b (parts.Event s p) = event (said b s) (said b (p .id)) (eventOf b (p .body)) (said b (p .sig))
 replyOf b (parts.Eose s) = eose (said b s)
@@ -29,11 +30,11 @@ replyOf b (parts.Notice r) = notice (said b r)
 abbrev pub none : Bool
 none = false
 
-abbrev pub okRow : List ℕ → Span → Span → ℕ
+abbrev pub okRow : (b : Bytes) (i r : Span) → Row
 okRow b i r =
     lowest (string2 b i || string2 b r) (string4 b i || string4 b r) (string5 b i || string5 b r) none (string7 hexLength b i) none
 
-abbrev pub eventReplyRow : List ℕ → Span → EventParts → ℕ
+abbrev pub eventReplyRow : (b : Bytes) (s : Span) (p : EventParts) → Row
 eventReplyRow b s p =
     lowest
     (string2 b s || event2 b p)
@@ -43,17 +44,17 @@ eventReplyRow b s p =
     (event7 b p)
     (subscription8 b s || body8 b (p .body))
 
-abbrev pub eoseRow : List ℕ → Span → ℕ
+abbrev pub eoseRow : Bytes → Span → Row
 eoseRow b s = lowest (string2 b s) (string4 b s) (string5 b s) none none (subscription8 b s)
 
-abbrev pub closedRow : List ℕ → Span → Span → ℕ
+abbrev pub closedRow : (b : Bytes) (s r : Span) → Row
 closedRow b s r =
     lowest (string2 b s || string2 b r) (string4 b s || string4 b r) (string5 b s || string5 b r) none none (subscription8 b s)
 
-abbrev pub noticeRow : List ℕ → Span → ℕ
+abbrev pub noticeRow : Bytes → Span → Row
 noticeRow b r = lowest (string2 b r) (string4 b r) (string5 b r) none none none
 
-abbrev pub partsRow : List ℕ → ReplyParts → ℕ
+abbrev pub partsRow : Bytes → ReplyParts → Row
 partsRow b (parts.Ok i accepted r) = okRow b i r
 partsRow b (parts.Event s p) = orElse (eventReplyRow b s p) (cond (isLarge b (p .body)) 9 0)
 partsRow b (parts.Eose s) = eoseRow b s
@@ -61,11 +62,11 @@ partsRow b (parts.Closed s r) = closedRow b s r
 partsRow b (parts.Notice r) = noticeRow b r
 
 -- ---- the reply written: the answer, and the output afterwards
-unfoldable pub replyRow : List ℕ → ReplyParts → List ℕ → ℕ
+unfoldable pub replyRow : (b : Bytes) (p : ReplyParts) (out : Bytes) → Row
 replyRow b p out = orElse (partsRow b p) (shortRow (replyText (replyOf b p)) out)
 
-unfoldable pub replied : List ℕ → ReplyParts → List ℕ → Written
+unfoldable pub replied : (b : Bytes) (p : ReplyParts) (out : Bytes) → Written
 replied b p out = answered (replyRow b p out) (length (replyText (replyOf b p)))
 
-unfoldable pub repliedOut : List ℕ → ReplyParts → List ℕ → List ℕ
+unfoldable pub repliedOut : (b : Bytes) (p : ReplyParts) (out : Bytes) → Bytes
 repliedOut b p out = outputAfter (replyRow b p out) (replyText (replyOf b p)) out

@@ -20,23 +20,24 @@ use Rattle.table.specs.declared.Offered.{Offered}
 use Rattle.table.specs.declared.Offered.the-variants as offered
 use Rattle.query.specs.Answer.{answerList, filtersAt}
 use Rattle.reply.specs.Replies.{Reply, ok, event, eose, closed, notice, replyText, reasonOf, verdictReason}
+use Rattle.wire.specs.Bytes.{Bytes}
 
 -- ---- "Rows 1-5 give NOTICE. Rows 6-12 give OK with false if the id field is 64 lower-case hex; CLOSED for a REQ whose subscription id is
 -- within bounds; otherwise NOTICE."
-abbrev pub refusalNaming : List ℕ → Named → List ℕ → Reply
+abbrev pub refusalNaming : (m : Bytes) (x : Named) (reason : Bytes) → Reply
 refusalNaming m (names.Id p) reason = ok (said m p) false reason
 refusalNaming m (names.Subscription p) reason = closed (said m p) reason
 refusalNaming m names.Nothing reason = notice reason
 
 -- the reason why row r refuses the message m: the row's text
-abbrev pub reasonFor : List ℕ → ℕ → List ℕ
+abbrev pub reasonFor : Bytes → ℕ → Bytes
 reasonFor m r = reasonOf r
 
-unfoldable pub refusal : List ℕ → ℕ → Reply
+unfoldable pub refusal : Bytes → ℕ → Reply
 refusal m r = cond (leb r 5) (notice (reasonFor m r)) (refusalNaming m (namedOf m) (reasonFor m r))
 
 -- ---- an EVENT message: the verdict on the event, whose id is i
-abbrev pub offerReply : List ℕ → List ℕ → Offered → Reply
+abbrev pub offerReply : (m i : Bytes) (x : Offered) → Reply
 offerReply m i offered.Ephemeral = ok i true (verdictReason offered.Ephemeral)
 offerReply m i offered.Duplicate = ok i true (verdictReason offered.Duplicate)
 offerReply m i offered.Older = ok i true (verdictReason offered.Older)
@@ -45,36 +46,36 @@ offerReply m i (offered.Refused r) = refusal m r
 
 -- ---- "An accepted REQ gives its EVENTs, then EOSE."
 -- every held text of a sound table reads, so no slot is left out: specs/Claims/Replies, `ReadRequest`
-abbrev pub eventIn : List ℕ → List ℕ → Read → List Reply
+abbrev pub eventIn : (sub s : Bytes) (tooLarge : Read) → List Reply
 eventIn sub s tooLarge = []
 eventIn sub s wrongShape = []
 eventIn sub s (read e) = event sub (hexOf (idIn s)) e (hexOf (sigIn s)) ∷ []
 
-unfoldable pub eventsOf : List ℕ → List ℕ → List ℕ → List Reply
+unfoldable pub eventsOf : (b sub : Bytes) (ks : List ℕ) → List Reply
 eventsOf b sub [] = []
 eventsOf b sub (k ∷ ks) = eventIn sub (slotAt b k) (readText (textIn (slotAt b k))) ++ eventsOf b sub ks
 
-unfoldable pub requestReplies : List ℕ → List ℕ → List ℕ → ℕ → List Reply
+unfoldable pub requestReplies : (b m sub : Bytes) (v : ℕ) → List Reply
 requestReplies b m sub v = cond (sound b) (eventsOf b sub (answerList b (filtersAt m v)) ++ (eose sub ∷ [])) (refusal m 11 ∷ [])
 
 -- ---- one message m to the table b: the replies, and the table afterwards
-abbrev pub repliesIn : List ℕ → List ℕ → Message → List Reply
+abbrev pub repliesIn : (b m : Bytes) (x : Message) → List Reply
 repliesIn b m (message.Event p) = offerReply m (said m (p .id)) (answer b (asMessage m)) ∷ []
 repliesIn b m (message.Req r) = requestReplies b m (said m (r .subscription)) (r .filters)
 -- "CLOSE gives nothing."
 repliesIn b m (message.Close p) = []
 repliesIn b m (message.Refused r) = refusal m r ∷ []
 
-unfoldable pub repliesTo : List ℕ → List ℕ → List Reply
+unfoldable pub repliesTo : Bytes → Bytes → List Reply
 repliesTo b m = repliesIn b m (readOf m)
 
-abbrev pub tableIn : List ℕ → List ℕ → Message → List ℕ
+abbrev pub tableIn : (b m : Bytes) (x : Message) → Bytes
 tableIn b m (message.Event p) = next b (asMessage m)
 tableIn b m (message.Req r) = b
 tableIn b m (message.Close p) = b
 tableIn b m (message.Refused r) = b
 
-unfoldable pub tableAfter : List ℕ → List ℕ → List ℕ
+unfoldable pub tableAfter : Bytes → Bytes → Bytes
 tableAfter b m = tableIn b m (readOf m)
 
 -- ---- "One program reads messages from standard input, one a line, over a fresh table of 8 slots. 0A ends a line and is no part of the
@@ -83,28 +84,28 @@ abbrev pub push : ℕ → List (List ℕ) → List (List ℕ)
 push x [] = (x ∷ []) ∷ []
 push x (l ∷ ls) = (x ∷ l) ∷ ls
 
-unfoldable pub lines : List ℕ → List (List ℕ)
+unfoldable pub lines : Bytes → List (List ℕ)
 lines [] = []
 lines (x ∷ s) = cond (eqb x 0x0a) ([] ∷ lines s) (push x (lines s))
 
 -- "The program ends each reply with 0A."
-abbrev pub replyLine : Reply → List ℕ
+abbrev pub replyLine : Reply → Bytes
 replyLine r = replyText r ++ (0x0a ∷ [])
 
-unfoldable pub written : List Reply → List ℕ
+unfoldable pub written : List Reply → Bytes
 written [] = []
 written (r ∷ rs) = replyLine r ++ written rs
 
-unfoldable pub outputFrom : List ℕ → List (List ℕ) → List ℕ
+unfoldable pub outputFrom : Bytes → List (List ℕ) → Bytes
 outputFrom b [] = []
 outputFrom b (m ∷ ms) = written (repliesTo b m) ++ outputFrom (tableAfter b m) ms
 
 abbrev pub programSlots : ℕ
 programSlots = 8
 
-abbrev pub freshTable : List ℕ
+abbrev pub freshTable : Bytes
 freshTable = formatted programSlots (replicate (tableSize programSlots) 0)
 
 -- what the program writes to standard output, of its standard input
-unfoldable pub output : List ℕ → List ℕ
+unfoldable pub output : Bytes → Bytes
 output input = outputFrom freshTable (lines input)

@@ -9,6 +9,7 @@ use Rattle.text.specs.Event.{Event, quoted, tagsText}
 use Rattle.table.specs.declared.Offered.{Offered}
 use Rattle.table.specs.declared.Offered.the-variants.{Ephemeral, Duplicate, Older, Stored, Refused}
 use Rattle.wire.specs.Ascii.{ascii}
+use Rattle.wire.specs.Bytes.{Bytes}
 
 -- strings are decoded; ids and signatures are in hex
 pub data Reply : Type 0 where
@@ -18,12 +19,12 @@ pub data Reply : Type 0 where
   closed : (subscription reason : List ℕ) → Reply
   notice : (reason : List ℕ) → Reply
 
-abbrev pub truth : Bool → List ℕ
+abbrev pub truth : Bool → Bytes
 truth true = ascii "true"
 truth false = ascii "false"
 
 -- "id, pubkey, created_at, kind, tags, content, sig"
-unfoldable pub objectText : (id : List ℕ) → Event → (sig : List ℕ) → List ℕ
+unfoldable pub objectText : (id : Bytes) (e : Event) (sig : Bytes) → Bytes
 objectText i e s =
     ascii "{\"id\":"
     ++ (quoted i
@@ -37,7 +38,7 @@ objectText i e s =
     ++ (tagsText (e .tags)
     ++ (ascii ",\"content\":" ++ (quoted (e .content) ++ (ascii ",\"sig\":" ++ (quoted s ++ ascii "}")))))))))))))
 
-unfoldable pub replyText : Reply → List ℕ
+unfoldable pub replyText : Reply → Bytes
 replyText (ok i accepted reason) = ascii "[\"OK\"," ++ (quoted i ++ (ascii "," ++ (truth accepted ++ (ascii "," ++ (quoted reason ++ ascii "]")))))
 replyText (event s i e sig) = ascii "[\"EVENT\"," ++ (quoted s ++ (ascii "," ++ (objectText i e sig ++ ascii "]")))
 replyText (eose s) = ascii "[\"EOSE\"," ++ (quoted s ++ ascii "]")
@@ -62,7 +63,7 @@ reasons =
     ∷ ascii "error: no room"
     ∷ []
 
-unfoldable pub reasonOf : ℕ → List ℕ
+unfoldable pub reasonOf : ℕ → Bytes
 reasonOf r = getD reasons r []
 
 -- ---- "Replies: ephemeral and stored `true,""`; duplicate .. ; older .."
@@ -73,7 +74,7 @@ isAccepted Duplicate = true
 isAccepted Older = true
 isAccepted (Refused r) = false
 
-abbrev pub verdictReason : Offered → List ℕ
+abbrev pub verdictReason : Offered → Bytes
 verdictReason Ephemeral = []
 verdictReason Stored = []
 verdictReason Duplicate = ascii "duplicate: already have this event"

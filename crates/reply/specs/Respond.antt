@@ -18,52 +18,53 @@ use Rattle.reply.specs.Lent.{eoseRow, shortRow, outputAfter}
 use Rattle.reply.specs.Program.{eventIn, repliesTo, tableAfter, written}
 use Rattle.reply.specs.declared.Sent.{Sent}
 use Rattle.reply.specs.declared.Sent.the-variants as sending
+use Rattle.wire.specs.Bytes.{Bytes, Row}
 
 -- ---- the message m to the table b, answered to the output: what refuses the message is a reply, so the call is refused by row 13 alone
-unfoldable pub response : List ℕ → List ℕ → List ℕ
+unfoldable pub response : Bytes → Bytes → Bytes
 response b m = written (repliesTo b m)
 
-unfoldable pub respondRow : List ℕ → List ℕ → List ℕ → ℕ
+unfoldable pub respondRow : (b m out : Bytes) → Row
 respondRow b m out = shortRow (response b m) out
 
-unfoldable pub responded : List ℕ → List ℕ → List ℕ → Written
+unfoldable pub responded : (b m out : Bytes) → Written
 responded b m out = answered (respondRow b m out) (length (response b m))
 
-unfoldable pub respondedOut : List ℕ → List ℕ → List ℕ → List ℕ
+unfoldable pub respondedOut : (b m out : Bytes) → Bytes
 respondedOut b m out = outputAfter (respondRow b m out) (response b m) out
 
 -- "every lent buffer stays as found": the table too
-unfoldable pub respondedTable : List ℕ → List ℕ → List ℕ → List ℕ
+unfoldable pub respondedTable : (b m out : Bytes) → Bytes
 respondedTable b m out = cond (eqb (respondRow b m out) 0) (tableAfter b m) b
 
 -- ---- the EVENT of slot k, for the subscription id sub; of a slot that is not held there is none
-abbrev pub slotReplies : List ℕ → List ℕ → ℕ → List Reply
+abbrev pub slotReplies : (b sub : Bytes) (k : ℕ) → List Reply
 slotReplies b sub k = cond (ltb k (countOf b)) (eventIn sub (slotAt b k) (readText (textIn (slotAt b k)))) []
 
-abbrev pub firstText : List Reply → List ℕ
+abbrev pub firstText : List Reply → Bytes
 firstText [] = []
 firstText (r ∷ rs) = replyText r
 
 -- alone, and as a line
-unfoldable pub slotText : List ℕ → List ℕ → ℕ → List ℕ
+unfoldable pub slotText : (b sub : Bytes) (k : ℕ) → Bytes
 slotText b sub k = firstText (slotReplies b sub k)
 
-unfoldable pub slotLine : List ℕ → List ℕ → ℕ → List ℕ
+unfoldable pub slotLine : (b sub : Bytes) (k : ℕ) → Bytes
 slotLine b sub k = written (slotReplies b sub k)
 
 -- ---- the EVENT of slot k alone, for the subscription id that stands at s in the buffer m: rows 2, 4, 5 and 8 of that id, then 11; then 14,
 -- "slot not held", or 13
-unfoldable pub slotEventRow : List ℕ → ℕ → List ℕ → Span → List ℕ → ℕ
+unfoldable pub slotEventRow : (b : Bytes) (k : ℕ) (m : Bytes) (s : Span) (out : Bytes) → Row
 slotEventRow b k m s out = orElse (eoseRow m s) (orElse (shownRow b k) (shortRow (slotText b (said m s) k) out))
 
-unfoldable pub slotEvent : List ℕ → ℕ → List ℕ → Span → List ℕ → Written
+unfoldable pub slotEvent : (b : Bytes) (k : ℕ) (m : Bytes) (s : Span) (out : Bytes) → Written
 slotEvent b k m s out = answered (slotEventRow b k m s out) (length (slotText b (said m s) k))
 
-unfoldable pub slotEventOut : List ℕ → ℕ → List ℕ → Span → List ℕ → List ℕ
+unfoldable pub slotEventOut : (b : Bytes) (k : ℕ) (m : Bytes) (s : Span) (out : Bytes) → Bytes
 slotEventOut b k m s out = outputAfter (slotEventRow b k m s out) (slotText b (said m s) k) out
 
 -- ---- the EVENTs of the slots ks, each a line: as many as fit whole, from the first on
-unfoldable pub joined : List (List ℕ) → List ℕ
+unfoldable pub joined : List (List ℕ) → Bytes
 joined [] = []
 joined (l ∷ ls) = l ++ joined ls
 
@@ -71,10 +72,10 @@ unfoldable pub fitting : (room : ℕ) → List (List ℕ) → ℕ
 fitting room [] = 0
 fitting room (l ∷ ls) = cond (ltb room (length l)) 0 (suc (fitting (room - length l) ls))
 
-abbrev pub slotLines : List ℕ → List ℕ → List ℕ → List (List ℕ)
+abbrev pub slotLines : (b sub : Bytes) (ks : List ℕ) → List (List ℕ)
 slotLines b sub ks = map (slotLine b sub) ks
 
-unfoldable pub fittingText : List ℕ → List ℕ → List ℕ → List ℕ → List ℕ
+unfoldable pub fittingText : (b sub : Bytes) (ks : List ℕ) (out : Bytes) → Bytes
 fittingText b sub ks out = joined (take (fitting (length out) (slotLines b sub ks)) (slotLines b sub ks))
 
 -- rows 2, 4, 5 and 8 of the subscription id, then 11, then 13 where not even the first fits, then 14
@@ -82,21 +83,21 @@ abbrev pub noneFits : (room : ℕ) → List (List ℕ) → Bool
 noneFits room [] = false
 noneFits room (l ∷ ls) = ltb room (length l)
 
-abbrev pub allHeld : List ℕ → List ℕ → Bool
+abbrev pub allHeld : Bytes → List ℕ → Bool
 allHeld b ks = all (λ k. ltb k (countOf b)) ks
 
-unfoldable pub eventsRow : List ℕ → List ℕ → List ℕ → Span → List ℕ → ℕ
+unfoldable pub eventsRow : (b : Bytes) (ks : List ℕ) (m : Bytes) (s : Span) (out : Bytes) → Row
 eventsRow b ks m s out =
     orElse (eoseRow m s) (cond (sound b) (cond (noneFits (length out) (slotLines b (said m s) ks)) 13 (cond (allHeld b ks) 0 14)) 11)
 
 -- how many bytes, and of how many slots
-unfoldable pub sentEvents : List ℕ → List ℕ → List ℕ → Span → List ℕ → Sent
+unfoldable pub sentEvents : (b : Bytes) (ks : List ℕ) (m : Bytes) (s : Span) (out : Bytes) → Sent
 sentEvents b ks m s out =
     cond (eqb (eventsRow b ks m s out) 0)
     (sending.Wrote (length (fittingText b (said m s) ks out)) (fitting (length out) (slotLines b (said m s) ks)))
     (sending.Refused (eventsRow b ks m s out))
 
-unfoldable pub sentEventsOut : List ℕ → List ℕ → List ℕ → Span → List ℕ → List ℕ
+unfoldable pub sentEventsOut : (b : Bytes) (ks : List ℕ) (m : Bytes) (s : Span) (out : Bytes) → Bytes
 sentEventsOut b ks m s out = outputAfter (eventsRow b ks m s out) (fittingText b (said m s) ks out) out
 
 -- the number of 01, and the values

@@ -20,6 +20,7 @@ use Rattle.query.specs.Filter.{Filter, filterOf}
 use Rattle.query.specs.Match.{matches}
 use Rattle.query.specs.Answer.{answerList}
 use Rattle.wire.specs.Ascii.{ascii}
+use Rattle.wire.specs.Bytes.{Bytes}
 
 -- what a case says
 pub data Case : Type 0 where
@@ -40,7 +41,7 @@ pub data Case : Type 0 where
   shutsOut : List ℕ → Event → Case
 
 -- the filter whose text begins the buffer
-abbrev pub filterIn : List ℕ → Filter
+abbrev pub filterIn : Bytes → Filter
 filterIn t = filterOf t (filterAt t 0)
 
 abbrev pub Holds : Case → Type 0
@@ -60,18 +61,18 @@ AllHold [] = Unit {0}
 AllHold (c ∷ cs) = Holds c × AllHold cs
 
 -- ---- "Let A be 64 times `a`."
-abbrev pub A : List ℕ
+abbrev pub A : Bytes
 A = replicate 64 97
 
-abbrev pub dated : ℤ → ℕ → List Tag → List ℕ → Event
+abbrev pub dated : (time : ℤ) (kind : ℕ) (tags : List Tag) (content : Bytes) → Event
 dated time kind tags content = record { pubkey = A; time = time; kind = kind; tags = tags; content = content }
 
 -- 00..01 and the like: 32 bytes
-abbrev pub lastByte : ℕ → List ℕ
+abbrev pub lastByte : ℕ → Bytes
 lastByte x = replicate 31 0 ++ (x ∷ [])
 
 -- a buffer that begins with A and an empty array of tags, with n times `x` behind, and the parts in it
-abbrev pub lentIn : ℕ → List ℕ
+abbrev pub lentIn : ℕ → Bytes
 lentIn n = A ++ (ascii "[]," ++ replicate n 120)
 
 abbrev pub lentParts : ℕ → Body

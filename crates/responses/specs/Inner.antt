@@ -19,38 +19,39 @@ use Rattle.wire.specs.Ascii.{ascii}
 use Rattle.reply.specs.Replies.{ok, eose, closed, notice, replyText, truth, reasonOf, isAccepted, verdictReason}
 use Rattle.reply.specs.Lent.{shortRow, outputAfter}
 use Rattle.reply.specs.Program.{refusalNaming, eventsOf, written}
+use Rattle.wire.specs.Bytes.{Bytes, Row}
 
 -- ---- the replies
 -- ACCEPTED,REASON of an offer that was answered a
-unfoldable pub verdictText : Offered → List ℕ
+unfoldable pub verdictText : Offered → Bytes
 verdictText a = truth (isAccepted a) ++ (ascii "," ++ quoted (verdictReason a))
 
-unfoldable pub okText : (id : List ℕ) (a : Offered) → List ℕ
+unfoldable pub okText : (id : Bytes) (a : Offered) → Bytes
 okText i a = replyText (ok i (isAccepted a) (verdictReason a))
 
-unfoldable pub closedText : (sub : List ℕ) (row : ℕ) → List ℕ
+unfoldable pub closedText : (sub : Bytes) (row : Row) → Bytes
 closedText s row = replyText (closed s (reasonOf row))
 
-unfoldable pub noticeText : (row : ℕ) → List ℕ
+unfoldable pub noticeText : (row : Row) → Bytes
 noticeText row = replyText (notice (reasonOf row))
 
 -- what the reply to a refusal by a row may name
-unfoldable pub namedFor : (m : List ℕ) (row : ℕ) → Named
+unfoldable pub namedFor : (m : Bytes) (row : Row) → Named
 namedFor m row = cond (leb row 5) Nothing (namedOf m)
 
 -- the reply to a refusal by a row, of which n is named
-unfoldable pub namingText : (m : List ℕ) (n : Named) (row : ℕ) → List ℕ
+unfoldable pub namingText : (m : Bytes) (n : Named) (row : Row) → Bytes
 namingText m n row = replyText (refusalNaming m n (reasonOf row))
 
 -- "The program ends each reply with 0A."
-abbrev pub ended : List ℕ → List ℕ
+abbrev pub ended : Bytes → Bytes
 ended t = t ++ (0x0a ∷ [])
 
 -- the EVENTs of the slots ks, then EOSE
-unfoldable pub eoseLine : (sub : List ℕ) → List ℕ
+unfoldable pub eoseLine : (sub : Bytes) → Bytes
 eoseLine sub = ended (replyText (eose sub))
 
-unfoldable pub answerText : (b sub ks : List ℕ) → List ℕ
+unfoldable pub answerText : (b sub ks : Bytes) → Bytes
 answerText b sub ks = written (eventsOf b sub ks) ++ eoseLine sub
 
 -- the table is sound, and it holds the slots ks

@@ -8,15 +8,16 @@ use Rattle.event.specs.declared.Written.{Written}
 use Rattle.reply.specs.Replies.{replyText}
 use Rattle.reply.specs.Lent.{shortRow, outputAfter}
 use Rattle.reply.specs.Program.{refusal}
+use Rattle.wire.specs.Bytes.{Bytes, Row}
 
-unfoldable pub refusedText : (m : List ℕ) (row : ℕ) → List ℕ
+unfoldable pub refusedText : (m : Bytes) (row : Row) → Bytes
 refusedText m row = replyText (refusal m row)
 
-unfoldable pub refusedRow : (m : List ℕ) (row : ℕ) (out : List ℕ) → ℕ
+unfoldable pub refusedRow : (m : Bytes) (row : Row) (out : Bytes) → Row
 refusedRow m row out = shortRow (refusedText m row) out
 
-unfoldable pub refusedReply : (m : List ℕ) (row : ℕ) (out : List ℕ) → Written
+unfoldable pub refusedReply : (m : Bytes) (row : Row) (out : Bytes) → Written
 refusedReply m row out = answered (refusedRow m row out) (length (refusedText m row))
 
-unfoldable pub refusedOut : (m : List ℕ) (row : ℕ) (out : List ℕ) → List ℕ
+unfoldable pub refusedOut : (m : Bytes) (row : Row) (out : Bytes) → Bytes
 refusedOut m row out = outputAfter (refusedRow m row out) (refusedText m row) out

@@ -11,17 +11,18 @@ use Rattle.spell.specs.Spell.{refuses}
 use Rattle.rows.specs.declared.Seen.{Seen}
 use Rattle.rows.specs.declared.Seen.the-variants.{Clean, Refused, Missing}
 use Rattle.rows.specs.Strings.{spelledAt, refusedIn}
+use Rattle.wire.specs.Bytes.{Bytes, Place}
 
 unfoldable pub made : ℕ → Bool → Seen
 made n true = Refused n
 made n false = Clean n
 
-abbrev pub seenOf : List ℕ → Got Json → Seen
+abbrev pub seenOf : Bytes → Got Json → Seen
 seenOf s none = Missing
 seenOf s (got t n) = made n (refusedIn s t)
 
 -- an item up to its value: where the value begins, and whether the item's name is refused
-abbrev pub nameAt : List ℕ → ℕ → Bool → Seen
+abbrev pub nameAt : (s : Bytes) (at : Place) (named : Bool) → Seen
 nameAt s at named = case (headAt s at named) (λ v. made v (named && refuses (spelledAt s at))) Missing
 
 -- the two parts of an answer

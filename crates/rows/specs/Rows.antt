@@ -8,6 +8,7 @@ use Rattle.wire.specs.Limits.{mostMessage}
 use Rattle.utf8.specs.Utf8.{isUtf8}
 use Rattle.json.specs.Tree.{Json, Got, none, got, root, isText}
 use Rattle.rows.specs.Strings.{refusedIn}
+use Rattle.wire.specs.Bytes.{Bytes, Row}
 
 -- what holds of the value of a text; false where there is none
 abbrev pub onRoot : (Json → Bool) → Got Json → Bool
@@ -15,17 +16,17 @@ onRoot f none = false
 onRoot f (got t n) = f t
 
 -- rows 1 to 4, each by itself
-abbrev pub row1 : List ℕ → Bool
+abbrev pub row1 : Bytes → Bool
 row1 s = ltb mostMessage (length s)
 
-abbrev pub row2 : List ℕ → Bool
+abbrev pub row2 : Bytes → Bool
 row2 s = not (isUtf8 s)
 
-abbrev pub row3 : List ℕ → Bool
+abbrev pub row3 : Bytes → Bool
 row3 s = not (isText s)
 
-unfoldable pub row4 : List ℕ → Bool
+unfoldable pub row4 : Bytes → Bool
 row4 s = onRoot (refusedIn s) (root s)
 
-unfoldable pub textRow : List ℕ → ℕ
+unfoldable pub textRow : Bytes → Row
 textRow s = cond (row1 s) 1 (cond (row2 s) 2 (cond (row3 s) 3 (cond (row4 s) 4 0)))

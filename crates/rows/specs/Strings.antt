@@ -6,9 +6,10 @@ pub use Rattle.wire.specs.Bytes.{part}
 use Rattle.json.specs.Grammar.{case, stringAt}
 use Rattle.json.specs.Tree.{Json, word, num, str, arr, obj, Items, nil, item}
 use Rattle.spell.specs.Spell.{refuses}
+use Rattle.wire.specs.Bytes.{Bytes}
 
 -- the string that begins at p, as spelled between its quotes: an object's item begins with its name
-unfoldable pub spelledAt : List ℕ → ℕ → List ℕ
+unfoldable pub spelledAt : Bytes → ℕ → Bytes
 spelledAt s p = case (stringAt s p) (λ n. part s (p + 1) (n - p - 2)) []
 
 -- some string in a value, or in the items of an object (named) or an array, is refused

@@ -13,7 +13,7 @@ use Rattle.json.specs.declared.Start.{Start}
 use Rattle.json.specs.declared.Start.the-variants.{Leaf, Empty, Many}
 use Rattle.rows.specs.Strings.{part, spelledAt}
 use Rattle.wire.specs.Limits.{widest, mostSmall, hexLength, sigLength, mostTags, mostStrings, mostFilters, mostMembers, mostConditions, mostCharacters}
-use Rattle.wire.specs.Bytes.{sameBytes}
+use Rattle.wire.specs.Bytes.{Bytes, Row, sameBytes}
 use Rattle.spell.specs.Spell.{decode, refuses, characterCount, isHexOf}
 use Rattle.numeral.specs.Whole.{wholeOf, answerOf, isWithin}
 use Rattle.shape.specs.declared.Judged.{Judged}
@@ -156,26 +156,26 @@ abbrev pub UPPER : ℕ
 UPPER = 38
 
 -- ---- values that hold no value
-unfoldable pub bounds : ℕ → ℕ → ℕ → ℕ
+unfoldable pub bounds : (low high n : ℕ) → ℕ
 bounds low high n = cond (ltb n low) COUNT (cond (ltb high n) COUNT FINE)
 
-unfoldable pub hexRow : ℕ → List ℕ → ℕ
+unfoldable pub hexRow : ℕ → Bytes → Row
 hexRow k p = cond (isHexOf k p) FINE HEX
 
-unfoldable pub stringForm : ℕ → List ℕ → ℕ
+unfoldable pub stringForm : ℕ → Bytes → ℕ
 stringForm f p =
     cond (eqb f TEXT) FINE
     (cond (eqb f LABEL) (bounds 1 mostCharacters (characterCount p))
     (cond (eqb f HEX64) (hexRow hexLength p)
     (cond (eqb f HEX128) (hexRow sigLength p) SHAPE)))
 
-unfoldable pub stringRow : ℕ → List ℕ → ℕ
+unfoldable pub stringRow : ℕ → Bytes → Row
 stringRow f p = cond (refuses p) STRING (stringForm f p)
 
-unfoldable pub rangeRow : ℤ → ℤ → List ℕ → ℕ
+unfoldable pub rangeRow : (low high : ℤ) (p : Bytes) → Row
 rangeRow low high p = cond (isWithin (answerOf (wholeOf p)) low high) FINE NUMBER
 
-unfoldable pub numberRow : ℕ → List ℕ → ℕ
+unfoldable pub numberRow : ℕ → Bytes → Row
 numberRow f p = cond (eqb f TIME) (rangeRow (negℤ (pos widest)) (pos widest) p) (cond (eqb f SMALL) (rangeRow (pos 0) (pos mostSmall) p) SHAPE)
 
 -- ---- arrays and objects: the form inside
@@ -187,7 +187,7 @@ unfoldable pub placeSlot : ℕ → ℕ
 placeSlot k = cond (eqb k 0) FIRST (cond (eqb k 1) SECOND LATER)
 
 -- which of six names w is, of an event (b) or of a filter, from 0 on, or else k
-abbrev pub among : (w : List ℕ) (b : Bool) (k : ℕ) → ℕ
+abbrev pub among : (w : Bytes) (b : Bool) (k : ℕ) → ℕ
 among w b k =
     cond (sameBytes w (cond b idName idsName)) 0
     (cond (sameBytes w (cond b pubkeyName authorsName)) 1
@@ -197,32 +197,32 @@ among w b k =
     (cond (sameBytes w (cond b contentName limitName)) 5 k)))))
 
 -- ID to CONTENT, SIG
-unfoldable pub eventSlot : List ℕ → ℕ
+unfoldable pub eventSlot : Bytes → ℕ
 eventSlot w = among w true (cond (sameBytes w sigName) SIG UNKNOWN)
 
 unfoldable pub letterSlot : ℕ → ℕ
 letterSlot b = cond (within 97 122 b) (b - 97 + LOWER) (cond (within 65 90 b) (b - 65 + UPPER) UNKNOWN)
 
-unfoldable pub conditionSlot : List ℕ → ℕ
+unfoldable pub conditionSlot : Bytes → ℕ
 conditionSlot w = cond (isCondition w) (letterSlot (getD w 1 0)) UNKNOWN
 
 -- IDS to LIMIT, # and a letter
-unfoldable pub filterSlot : List ℕ → ℕ
+unfoldable pub filterSlot : Bytes → ℕ
 filterSlot w = among w false (conditionSlot w)
 
-unfoldable pub nameSlot : ℕ → List ℕ → ℕ
+unfoldable pub nameSlot : ℕ → Bytes → ℕ
 nameSlot f w = cond (eqb f EVENT) (eventSlot w) (cond (eqb f FILTER) (filterSlot w) UNKNOWN)
 
 -- row 4 of a name
-unfoldable pub nameRow : List ℕ → ℕ
+unfoldable pub nameRow : Bytes → Row
 nameRow p = cond (refuses p) STRING FINE
 
 -- a member of an object of the form f, whose name is spelled p
-unfoldable pub memberOf : ℕ → List ℕ → Item
+unfoldable pub memberOf : ℕ → Bytes → Item
 memberOf f p = record { slot = nameSlot f (decode p); row = nameRow p }
 
 -- item k, which begins at p
-unfoldable pub itemOf : List ℕ → ℕ → Bool → ℕ → ℕ → Item
+unfoldable pub itemOf : (s : Bytes) (f : ℕ) (named : Bool) (k p : ℕ) → Item
 itemOf s f named k p =
     cond named (memberOf f (spelledAt s p)) (record { slot = placeSlot k; row = FINE })
 
@@ -241,7 +241,7 @@ filterForm slot =
     (cond (eqb slot SINCE) TIME (cond (eqb slot UNTIL) TIME (cond (eqb slot LIMIT) SMALL NEVER))))))
 
 -- an element of a message, by the form after the first two
-unfoldable pub elementForm : ℕ → ℕ → ℕ → ℕ
+unfoldable pub elementForm : (slot second later : ℕ) → ℕ
 elementForm slot second later = cond (eqb slot FIRST) TEXT (cond (eqb slot SECOND) second later)
 
 unfoldable pub slotForm : ℕ → ℕ → ℕ
@@ -262,7 +262,7 @@ unfoldable pub isIn : ℕ → ℕ → Bool
 isIn slot seen = eqb (seen / 2 ^ slot % 2) 1
 
 -- a member that is there already
-unfoldable pub onceRow : Bool → ℕ → ℕ → ℕ
+unfoldable pub onceRow : (named : Bool) (slot seen : ℕ) → Row
 onceRow named slot seen = cond named (cond (isIn slot seen) SHAPE FINE) FINE
 
 unfoldable pub marksAfter : ℕ → ℕ → ℕ
@@ -271,7 +271,7 @@ marksAfter slot marks = cond (ltb slot LOWER) marks (min (marks + 1) 5)
 unfoldable pub fresh : Tally
 fresh = record { row = FINE; seen = 0; marks = 0 }
 
-unfoldable pub stepped : Bool → Tally → Item → ℕ → Tally
+unfoldable pub stepped : (named : Bool) (a : Tally) (it : Item) (row : Row) → Tally
 stepped named a it row = record {
   row = min (a .row) (min (it .row) (min row (onceRow named (it .slot) (a .seen))));
   seen = bitOr (a .seen) (2 ^ (it .slot));
@@ -283,7 +283,7 @@ unfoldable pub isFull : ℕ → Bool
 isFull seen = eqb (seen % 128) 127
 
 -- k items in all
-unfoldable pub endRow : ℕ → ℕ → Tally → ℕ
+unfoldable pub endRow : (f k : ℕ) (a : Tally) → Row
 endRow f k a =
     cond (eqb f EVENT) (cond (isFull (a .seen)) FINE SHAPE)
     (cond (eqb f FILTER) (bounds 0 mostConditions (a .marks))
@@ -293,7 +293,7 @@ endRow f k a =
     (cond (ltb f OFFER) (bounds 1 mostMembers k)
     (cond (eqb f REQUEST) (cond (ltb k 2) SHAPE (bounds 3 (2 + mostFilters) k)) (cond (eqb k 2) FINE SHAPE)))))))
 
-unfoldable pub closed : ℕ → ℕ → Tally → ℕ
+unfoldable pub closed : (f k : ℕ) (a : Tally) → ℕ
 closed f k a = min (a .row) (endRow f k a)
 
 -- ---- the walk
@@ -313,7 +313,7 @@ unfoldable mutual
       rowItems s named f (k + 1) (stepped named a (itemOf s f named k p) (rowOf s (slotForm f (itemOf s f named k p .slot)) t)) ts
 
 -- where a value ends, and the lowest row in it
-unfoldable pub judgedOf : List ℕ → ℕ → Got Json → Judged
+unfoldable pub judgedOf : (s : Bytes) (f : ℕ) (none : Got Json) → Judged
 judgedOf s f none = Wrong
 judgedOf s f (got t n) = Ends n (rowOf s f t)
 
@@ -324,7 +324,7 @@ wordForm req = REQUEST
 wordForm close = CLOSING
 wordForm other = NEVER
 
-abbrev pub openingOf : List ℕ → Start → ℕ
+abbrev pub openingOf : Bytes → Start → ℕ
 openingOf s Leaf = NEVER
 openingOf s (Empty n named) = NEVER
 openingOf s (Many first named) = cond named NEVER (wordForm (wordOf (nameAt s first)))

@@ -7,9 +7,10 @@ use lib.Dec.{eqb}
 use Rattle.json.specs.Tree.{root}
 use Rattle.rows.specs.Rows.{row1, row2, row3, onRoot}
 use Rattle.shape.specs.Rows.{row4, row5, row6, row7, row8}
+use Rattle.wire.specs.Bytes.{Bytes}
 
 -- rows 4 to 8 are asked of the tree
-unfoldable pub holds : List ℕ → ℕ → Bool
+unfoldable pub holds : Bytes → ℕ → Bool
 holds s r =
     cond (eqb r 1) (row1 s)
     (cond (eqb r 2) (row2 s)

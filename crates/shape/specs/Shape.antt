@@ -7,7 +7,7 @@ use lib.Dec.{eqb, leb}
 use lib.ListN.{length, getD}
 use Rattle.json.specs.Tree.{Json, word, num, str, arr, obj, Items, nil, item, onString, onNumber, onArray, onObject}
 use Rattle.wire.specs.Ascii.{ascii}
-use Rattle.wire.specs.Bytes.{sameBytes}
+use Rattle.wire.specs.Bytes.{Bytes, sameBytes}
 use Rattle.spell.specs.Spell.{decode}
 use Rattle.rows.specs.Strings.{part, spelledAt}
 
@@ -29,10 +29,10 @@ count ts = countItems (λ p t. true) ts
 
 -- ---- names
 -- what the name that begins at p decodes to
-unfoldable pub nameAt : List ℕ → ℕ → List ℕ
+unfoldable pub nameAt : Bytes → ℕ → Bytes
 nameAt s p = decode (spelledAt s p)
 
-abbrev pub named : List ℕ → List ℕ → ℕ → Bool
+abbrev pub named : (s w : Bytes) (p : ℕ) → Bool
 named s w p = sameBytes (nameAt s p) w
 
 -- ---- "Each value has its JSON type, list and tag members included"
@@ -46,28 +46,28 @@ abbrev pub isArrayOf : (Json → Bool) → Json → Bool
 isArrayOf f = onArray (allItems (λ p t. f t))
 
 -- ---- EVENT: "an object with id, pubkey, created_at, kind, tags, content, sig, each once, in any order, nothing else"
-abbrev pub idName : List ℕ
+abbrev pub idName : Bytes
 idName = ascii "id"
 
-abbrev pub pubkeyName : List ℕ
+abbrev pub pubkeyName : Bytes
 pubkeyName = ascii "pubkey"
 
-abbrev pub createdAtName : List ℕ
+abbrev pub createdAtName : Bytes
 createdAtName = ascii "created_at"
 
-abbrev pub kindName : List ℕ
+abbrev pub kindName : Bytes
 kindName = ascii "kind"
 
-abbrev pub tagsName : List ℕ
+abbrev pub tagsName : Bytes
 tagsName = ascii "tags"
 
-abbrev pub contentName : List ℕ
+abbrev pub contentName : Bytes
 contentName = ascii "content"
 
-abbrev pub sigName : List ℕ
+abbrev pub sigName : Bytes
 sigName = ascii "sig"
 
-unfoldable pub eventMember : List ℕ → ℕ → Json → Bool
+unfoldable pub eventMember : (s : Bytes) (p : ℕ) (t : Json) → Bool
 eventMember s p t =
     cond (named s idName p) (isString t)
     (cond (named s pubkeyName p) (isString t)
@@ -77,45 +77,45 @@ eventMember s p t =
     (cond (named s contentName p) (isString t)
     (cond (named s sigName p) (isString t) false))))))
 
-unfoldable pub once : List ℕ → List ℕ → Items → Bool
+unfoldable pub once : (s w : Bytes) (ts : Items) → Bool
 once s w ts = eqb (countItems (λ p t. named s w p) ts) 1
 
-unfoldable pub isEvent : List ℕ → Json → Bool
+unfoldable pub isEvent : Bytes → Json → Bool
 isEvent s t = onObject (λ ts. allItems (eventMember s) ts &&
     (once s idName ts && (once s pubkeyName ts && (once s createdAtName ts && (once s kindName ts && (once s tagsName ts && (once s contentName ts && once s sigName ts))))))) t
 
 -- ---- "Filters may have ids, authors, kinds, since, until, limit and # with one letter a-z or A-Z, each at most once"
 -- lists: ids, authors, kinds, and those whose name is # with a letter
-abbrev pub idsName : List ℕ
+abbrev pub idsName : Bytes
 idsName = ascii "ids"
 
-abbrev pub authorsName : List ℕ
+abbrev pub authorsName : Bytes
 authorsName = ascii "authors"
 
-abbrev pub kindsName : List ℕ
+abbrev pub kindsName : Bytes
 kindsName = ascii "kinds"
 
 abbrev pub isLetter : ℕ → Bool
 isLetter b = (leb 97 b && leb b 122) || (leb 65 b && leb b 90)
 
-unfoldable pub isCondition : List ℕ → Bool
+unfoldable pub isCondition : Bytes → Bool
 isCondition w = eqb (length w) 2 && (eqb (getD w 0 0) 35 && isLetter (getD w 1 0))
 
 -- numbers: since, until, limit
-abbrev pub sinceName : List ℕ
+abbrev pub sinceName : Bytes
 sinceName = ascii "since"
 
-abbrev pub untilName : List ℕ
+abbrev pub untilName : Bytes
 untilName = ascii "until"
 
-abbrev pub limitName : List ℕ
+abbrev pub limitName : Bytes
 limitName = ascii "limit"
 
-unfoldable pub noneTwice : List ℕ → Items → Bool
+unfoldable pub noneTwice : Bytes → Items → Bool
 noneTwice s nil = true
 noneTwice s (item p v t ts) = not (anyItem (λ q u. sameBytes (nameAt s q) (nameAt s p)) ts) && noneTwice s ts
 
-unfoldable pub filterMember : List ℕ → ℕ → Json → Bool
+unfoldable pub filterMember : (s : Bytes) (p : ℕ) (t : Json) → Bool
 filterMember s p t =
     cond (named s idsName p) (isArrayOf isString t)
     (cond (named s authorsName p) (isArrayOf isString t)
@@ -125,23 +125,23 @@ filterMember s p t =
     (cond (named s limitName p) (isNumber t)
     (cond (isCondition (nameAt s p)) (isArrayOf isString t) false))))))
 
-unfoldable pub isFilter : List ℕ → Json → Bool
+unfoldable pub isFilter : Bytes → Json → Bool
 isFilter s t = onObject (λ ts. allItems (filterMember s) ts && noneTwice s ts) t
 
 -- ---- the message: its first word, and the elements after it
-abbrev pub eventWord : List ℕ
+abbrev pub eventWord : Bytes
 eventWord = ascii "EVENT"
 
-abbrev pub reqWord : List ℕ
+abbrev pub reqWord : Bytes
 reqWord = ascii "REQ"
 
-abbrev pub closeWord : List ℕ
+abbrev pub closeWord : Bytes
 closeWord = ascii "CLOSE"
 
 pub data Word : Type 0 where
   event req close other : Word
 
-unfoldable pub wordOf : List ℕ → Word
+unfoldable pub wordOf : Bytes → Word
 wordOf w = cond (sameBytes w eventWord) event (cond (sameBytes w reqWord) req (cond (sameBytes w closeWord) close other))
 
 -- the first word of a message, and what follows it; `other` where no string comes first
@@ -149,7 +149,7 @@ pub record Opened : Type 0 where
   pub first : Word
   pub rest : Items
 
-abbrev pub opened : List ℕ → Json → Opened
+abbrev pub opened : Bytes → Json → Opened
 opened s (word a n) = record { first = other; rest = nil }
 opened s (num a n) = record { first = other; rest = nil }
 opened s (str a n) = record { first = other; rest = nil }
@@ -167,11 +167,11 @@ isOne f nil = false
 isOne f (item p v t nil) = f t
 isOne f (item p v t (item q w u us)) = false
 
-abbrev pub isThen : (Json → Bool) → (Json → Bool) → Items → Bool
+abbrev pub isThen : (f g : Json → Bool) (nil : Items) → Bool
 isThen f g nil = false
 isThen f g (item p v t ts) = f t && allItems (λ q u. g u) ts
 
-abbrev pub hasShape : List ℕ → Word → Items → Bool
+abbrev pub hasShape : (s : Bytes) (event : Word) (ts : Items) → Bool
 hasShape s event ts = isOne (isEvent s) ts
 hasShape s req ts = isThen isString (isFilter s) ts
 hasShape s close ts = isOne isString ts

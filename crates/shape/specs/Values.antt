@@ -12,45 +12,46 @@ use Rattle.shape.specs.Rows.{wrongSmall, wrongHex, wrongTags, wrongList,
 use Rattle.shape.specs.Inner.{TAGLIST, HEXES, SMALLS, FILTER}
 use Rattle.shape.specs.declared.Sort.{Sort}
 use Rattle.shape.specs.declared.Sort.the-variants.{Tags, Hexes, Smalls, Filter}
+use Rattle.wire.specs.Bytes.{Bytes, Place, Row}
 
-abbrev pub fits : List ℕ → Sort → Json → Bool
+abbrev pub fits : (s : Bytes) (x : Sort) (t : Json) → Bool
 fits s Tags t = isArrayOf (isArrayOf isString) t
 fits s Hexes t = isArrayOf isString t
 fits s Smalls t = isArrayOf isNumber t
 fits s Filter t = isFilter s t
 
-abbrev pub sort6 : List ℕ → Sort → Json → Bool
+abbrev pub sort6 : (s : Bytes) (x : Sort) (t : Json) → Bool
 sort6 s Tags t = false
 sort6 s Hexes t = false
 sort6 s Smalls t = onArray (anyItem (λ q u. wrongSmall s u)) t
 sort6 s Filter t = onObject (anyItem (filterNumber s)) t
 
-abbrev pub sort7 : List ℕ → Sort → Json → Bool
+abbrev pub sort7 : (s : Bytes) (x : Sort) (t : Json) → Bool
 sort7 s Tags t = false
 sort7 s Hexes t = onArray (anyItem (λ q u. wrongHex hexLength s u)) t
 sort7 s Smalls t = false
 sort7 s Filter t = onObject (anyItem (filterHex s)) t
 
-abbrev pub sort8 : List ℕ → Sort → Json → Bool
+abbrev pub sort8 : (s : Bytes) (x : Sort) (t : Json) → Bool
 sort8 s Tags t = wrongTags t
 sort8 s Hexes t = wrongList t
 sort8 s Smalls t = wrongList t
 sort8 s Filter t = onObject (filterCounts s) t
 
 -- row 2: the value's own text, and the white space after it, is not UTF-8
-abbrev pub ownText : List ℕ → ℕ → Got Json → Bool
+abbrev pub ownText : (s : Bytes) (at : Place) (none : Got Json) → Bool
 ownText s at none = false
 ownText s at (got t n) = not (isUtf8 (part s at (n - at)))
 
-unfoldable pub sortRow : List ℕ → Sort → Json → ℕ
+unfoldable pub sortRow : (s : Bytes) (k : Sort) (t : Json) → Row
 sortRow s k t = cond (refusedIn s t) 4 (cond (not (fits s k t)) 5 (cond (sort6 s k t) 6 (cond (sort7 s k t) 7 (cond (sort8 s k t) 8 0))))
 
-abbrev pub gotRow : List ℕ → Sort → Got Json → ℕ
+abbrev pub gotRow : (s : Bytes) (k : Sort) (none : Got Json) → Row
 gotRow s k none = 5
 gotRow s k (got t n) = sortRow s k t
 
 -- of the value at a place
-unfoldable pub valueRow : List ℕ → ℕ → Sort → ℕ
+unfoldable pub valueRow : (s : Bytes) (at : Place) (k : Sort) → Row
 valueRow s at k = cond (ownText s at (treeAt s depth at)) 2 (gotRow s k (treeAt s depth at))
 
 -- the form by which the walk goes

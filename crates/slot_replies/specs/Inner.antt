@@ -22,29 +22,30 @@ use Rattle.reply.specs.declared.Sent.the-variants.{Wrote, Refused}
 use Rattle.slot_replies.specs.declared.Left.{Left}
 use Rattle.slot_replies.specs.declared.Left.the-variants.{Room, Short}
 use Rattle.slot_replies.specs.declared.Fitted.{Fitted}
+use Rattle.wire.specs.Bytes.{Bytes, Row}
 
-unfoldable pub frontText : (sub i : List ℕ) → List ℕ
+unfoldable pub frontText : (sub i : Bytes) → Bytes
 frontText sub i = ascii "[\"EVENT\"," ++ (quoted sub ++ (ascii ",{\"id\":" ++ quoted i))
 
-abbrev pub numbersText : Event → List ℕ
+abbrev pub numbersText : Event → Bytes
 numbersText e = ascii ",\"pubkey\":" ++ (quoted (e .pubkey) ++ (ascii ",\"created_at\":" ++ (decimal (e .time) ++ (ascii ",\"kind\":" ++ digits (e .kind)))))
 
-abbrev pub stringsText : Event → List ℕ
+abbrev pub stringsText : Event → Bytes
 stringsText e = ascii ",\"tags\":" ++ (tagsText (e .tags) ++ (ascii ",\"content\":" ++ quoted (e .content)))
 
-unfoldable pub backText : (s : List ℕ) → List ℕ
+unfoldable pub backText : (s : Bytes) → Bytes
 backText s = ascii ",\"sig\":" ++ (quoted s ++ ascii "}]")
 
 -- of a text that reads
-abbrev pub ofRead : (Event → List ℕ) → Read → List ℕ
+abbrev pub ofRead : (Event → List ℕ) → Read → Bytes
 ofRead f tooLarge = []
 ofRead f wrongShape = []
 ofRead f (read e) = f e
 
-unfoldable pub numbersOf : List ℕ → List ℕ
+unfoldable pub numbersOf : Bytes → Bytes
 numbersOf t = ofRead numbersText (readText t)
 
-unfoldable pub stringsOf : List ℕ → List ℕ
+unfoldable pub stringsOf : Bytes → Bytes
 stringsOf t = ofRead stringsText (readText t)
 
 -- the text t was read, and x is what was answered
@@ -52,16 +53,16 @@ pub record ReadAs (t : List ℕ) (x : Text) : Type 0 where
   pub is : answer.Read x ≡ answerOf (readText t)
 
 -- the EVENT of the slot s; nothing where its text does not read
-unfoldable pub heldText : (sub s : List ℕ) → List ℕ
+unfoldable pub heldText : (sub s : Bytes) → Bytes
 heldText sub s = firstText (eventIn sub s (readText (textIn s)))
 
 -- as a line, which 0A ends
-unfoldable pub heldLine : (sub s : List ℕ) → List ℕ
+unfoldable pub heldLine : (sub s : Bytes) → Bytes
 heldLine sub s = written (eventIn sub s (readText (textIn s)))
 
 -- ---- the EVENTs of the slots ks, each a line, whatever bytes are lent: `written (eventsOf b sub ks)` of reply/specs/Program
 -- how many bytes that is if the table is sound and holds them: each line is 267 bytes longer than the slot's text and the subscription id escaped
-unfoldable pub linesSize : (b sub : List ℕ) → List ℕ → ℕ
+unfoldable pub linesSize : (b sub : Bytes) (ks : List ℕ) → ℕ
 linesSize b sub [] = 0
 linesSize b sub (k ∷ ks) = lengthIn (slotAt b k) + length (escape sub) + 267 + linesSize b sub ks
 
@@ -70,39 +71,39 @@ unfoldable pub leftIn : (room n : ℕ) → Left
 leftIn room n = cond (ltb room n) Short (Room (room - n))
 
 -- how long each of these lines is, for a subscription id that has n bytes when escaped
-abbrev pub lineSize : (b : List ℕ) (n k : ℕ) → ℕ
+abbrev pub lineSize : (b : Bytes) (n k : ℕ) → ℕ
 lineSize b n k = lengthIn (slotAt b k) + n + 267
 
-abbrev pub sizes : (b : List ℕ) (n : ℕ) → List ℕ → List ℕ
+abbrev pub sizes : (b : Bytes) (n : ℕ) (ks : List ℕ) → List ℕ
 sizes b n ks = map (lineSize b n) ks
 
 -- how many of these sizes a room has, from the first on, with the i before them, and what they leave of it
 abbrev pub stopped : (i room : ℕ) → Fitted
 stopped i room = record { lines = i; left = room }
 
-unfoldable pub fittedIn : (i room : ℕ) → List ℕ → Fitted
+unfoldable pub fittedIn : (i room : ℕ) (xs : List ℕ) → Fitted
 fittedIn i room [] = stopped i room
 fittedIn i room (x ∷ xs) = cond (ltb room x) (stopped i room) (fittedIn (i + 1) (room - x) xs)
 
 -- ---- as many as fit, of a sound table
 -- how many of the slots ks are held, from the first on
-unfoldable pub heldLen : (b : List ℕ) → List ℕ → ℕ
+unfoldable pub heldLen : (b : Bytes) → List ℕ → ℕ
 heldLen b [] = 0
 heldLen b (k ∷ ks) = cond (ltb k (countOf b)) (suc (heldLen b ks)) 0
 
 -- of `all` slots `held` are held, from the first on, and the lines of so many of these fit: row 13, then 14
-unfoldable pub fitRow : (lines held all : ℕ) → ℕ
+unfoldable pub fitRow : (lines held all : ℕ) → Row
 fitRow lines held all = cond (ltb 0 held && eqb lines 0) 13 (cond (ltb held all) 14 0)
 
 -- the rows of `eventsRow` behind 11, what is answered where no row before them holds, and the output then
-abbrev pub linesRow : (b sub ks out : List ℕ) → ℕ
+abbrev pub linesRow : (b sub ks out : Bytes) → Row
 linesRow b sub ks out = cond (noneFits (length out) (slotLines b sub ks)) 13 (cond (allHeld b ks) 0 14)
 
-abbrev pub sentBy : (row n k : ℕ) → Sent
+abbrev pub sentBy : (row n k : Row) → Sent
 sentBy row n k = cond (eqb row 0) (Wrote n k) (Refused row)
 
-unfoldable pub sentLines : (b sub ks out : List ℕ) → Sent
+unfoldable pub sentLines : (b sub ks out : Bytes) → Sent
 sentLines b sub ks out = sentBy (linesRow b sub ks out) (length (fittingText b sub ks out)) (fitting (length out) (slotLines b sub ks))
 
-unfoldable pub sentLinesOut : (b sub ks out : List ℕ) → List ℕ
+unfoldable pub sentLinesOut : (b sub ks out : Bytes) → Bytes
 sentLinesOut b sub ks out = outputAfter (linesRow b sub ks out) (fittingText b sub ks out) out

@@ -10,17 +10,18 @@ use Rattle.wire.specs.Field.{fieldAt}
 use Rattle.text.specs.Kinds.{classOf}
 use Rattle.table.specs.Layout.{slotAt, idIn, kindIn}
 use Rattle.slots.specs.Slots.{hasKeyIn, pubkeyIn, dBytesIn}
+use Rattle.wire.specs.Bytes.{Bytes}
 
 -- the id's first bytes
-unfoldable pub idMark : List ℕ → ℕ
+unfoldable pub idMark : Bytes → ℕ
 idMark s = fieldAt (idIn s) 0 4
 
 -- the last four of the bytes d, or all of fewer
-unfoldable pub lastOf : List ℕ → ℕ
+unfoldable pub lastOf : Bytes → ℕ
 lastOf d = fieldAt d (length d - 4) 4
 
 -- of a slot with a key: the last bytes of d and of the pubkey, and the kind; of any other its id's, which tells it from the others
-unfoldable pub keyMark : List ℕ → ℕ
+unfoldable pub keyMark : Bytes → ℕ
 keyMark s = cond (hasKeyIn (classOf (kindIn s))) (bitXor (bitXor (lastOf (dBytesIn s)) (lastOf (pubkeyIn s))) (kindIn s)) (idMark s)
 
 -- the rows hold the marks of slots 0 to c-1 of the table b

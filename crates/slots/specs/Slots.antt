@@ -6,7 +6,7 @@ use Prim.Native.Nat.{ℕ}
 use lib.Dec.{eqb}
 use lib.ListN.{drop}
 use Rattle.wire.specs.Limits.{hexLength}
-use Rattle.wire.specs.Bytes.{sameBytes, part}
+use Rattle.wire.specs.Bytes.{Bytes, Place, sameBytes, part}
 use Rattle.wire.specs.Field.{unsigned}
 use Rattle.text.specs.Kinds.{classOf}
 use Rattle.text.specs.declared.Class.{Class}
@@ -19,20 +19,20 @@ use Rattle.table.specs.Sound.{hasHeader, capacityFits, slotsFit, countFits, oth
 -- ---- one slot s, whose text answers t
 -- "d offset 2 and d length 2 .. (both 0 unless addressable with a non-empty d)": the slot's at and len, the text's d and n. "no ephemeral
 -- kind"
-abbrev pub dAgrees : Class → (at len d n : ℕ) → Bool
+abbrev pub dAgrees : (x : Class) (at len d n : Place) → Bool
 dAgrees Regular at len d n = eqb at 0 && eqb len 0
 dAgrees Replaceable at len d n = eqb at 0 && eqb len 0
 dAgrees Ephemeral at len d n = false
 dAgrees Addressable at len d n = eqb at d && eqb len n
 
 -- time, kind and d's place agree
-unfoldable pub agreesText : List ℕ → Text → Bool
+unfoldable pub agreesText : Bytes → Text → Bool
 agreesText s t =
     eqb (timeIn s) (unsigned (t .time)) && (eqb (kindIn s) (t .kind) && dAgrees (classOf (t .kind)) (dIn s .at) (dIn s .len) (t .d) (t .«d_len»))
 
 -- ---- two slots
 -- slot t has the id of slot s
-unfoldable pub sameIdIn : List ℕ → List ℕ → Bool
+unfoldable pub sameIdIn : Bytes → Bytes → Bool
 sameIdIn s t = sameBytes (idIn t) (idIn s)
 
 -- 01, "Kinds and keys": events of the class have a key
@@ -43,27 +43,27 @@ hasKeyIn Ephemeral = false
 hasKeyIn Addressable = true
 
 -- the public key, in hex
-unfoldable pub pubkeyIn : List ℕ → List ℕ
+unfoldable pub pubkeyIn : Bytes → Bytes
 pubkeyIn s = part (textIn s) pubkeyPlace hexLength
 
 -- d's escaped bytes
-unfoldable pub dBytesIn : List ℕ → List ℕ
+unfoldable pub dBytesIn : Bytes → Bytes
 dBytesIn s = part (textIn s) (dIn s .at) (dIn s .len)
 
 -- slot t has the key of slot s
-unfoldable pub sameKeyIn : List ℕ → List ℕ → Bool
+unfoldable pub sameKeyIn : Bytes → Bytes → Bool
 sameKeyIn s t =
     eqb (kindIn t) (kindIn s) && (hasKeyIn (classOf (kindIn t)) && (sameBytes (pubkeyIn t) (pubkeyIn s) && sameBytes (dBytesIn t) (dBytesIn s)))
 
 -- it has the one or the other
-unfoldable pub clash : List ℕ → List ℕ → Bool
+unfoldable pub clash : Bytes → Bytes → Bool
 clash s t = sameIdIn s t || sameKeyIn s t
 
 -- ---- the table b
 -- slots k to k + n - 1
-unfoldable pub from : List ℕ → ℕ → ℕ → List (List ℕ)
+unfoldable pub from : (b : Bytes) (k n : ℕ) → List (List ℕ)
 from b k n = cells slotSize n (drop (slotPlace k) b)
 
 -- the clauses of "Sound: .." on the header
-unfoldable pub headerSound : List ℕ → Bool
+unfoldable pub headerSound : Bytes → Bool
 headerSound b = hasHeader b && (capacityFits b && (slotsFit b && (countFits b && othersAsAbove b)))

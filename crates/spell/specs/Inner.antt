@@ -8,6 +8,7 @@ use Rattle.wire.specs.Escape.{escOne, escape}
 use Rattle.spell.specs.declared.Char.{Char}
 use Rattle.spell.specs.declared.Step.{Step}
 use Rattle.spell.specs.Spell.{shortOf, charOf, bytesOf, decode}
+use Rattle.wire.specs.Bytes.{Bytes}
 
 -- a character's width and its code are within bounds, and the code of a raw one is a byte
 pub record Sized (c : Char) : Type 0 where
@@ -21,7 +22,7 @@ pub record Begins (l : List ℕ) (c : Char) : Type 0 where
   pub sized : Sized c
 
 -- what is left of the decoded bytes after k bytes of the character that begins at i
-unfoldable pub leftOf : List ℕ → ℕ → ℕ → List ℕ
+unfoldable pub leftOf : (p : Bytes) (i k : ℕ) → Bytes
 leftOf p i k = drop k (decode (drop i p))
 
 -- k bytes are fewer than the character at i has

@@ -13,6 +13,7 @@ use Rattle.law.specs.Event.{events}
 use Rattle.law.specs.Event as law
 use Rattle.law.specs.Signature.{Slot, withSignature}
 use Rattle.table.specs.Layout.{Held, idIn, sigIn, textIn, heldSlots}
+use Rattle.wire.specs.Bytes.{Bytes}
 
 -- 01, "Kinds and keys": replaceable and addressable events have a key
 abbrev pub classFor : kinds.Class → Key → Class Key
@@ -35,10 +36,10 @@ timeIn tooLarge = pos 0
 timeIn wrongShape = pos 0
 timeIn (read e) = e .time
 
-unfoldable pub classOfText : List ℕ → Class Key
+unfoldable pub classOfText : Bytes → Class Key
 classOfText t = classIn (readText t)
 
-unfoldable pub timeOfText : List ℕ → ℤ
+unfoldable pub timeOfText : Bytes → ℤ
 timeOfText t = timeIn (readText t)
 
 abbrev pub tableEvents : Events
@@ -55,12 +56,12 @@ abbrev pub signedEvents : Events
 signedEvents = withSignature tableEvents Signature
 
 -- what the bytes of a slot hold; what an event with its id and signature is, held
-abbrev pub inSlot : List ℕ → SignedEvent
+abbrev pub inSlot : Bytes → SignedEvent
 inSlot s = (record { id = idIn s; text = textIn s }, sigIn s)
 
 abbrev pub ofHeld : Held → SignedEvent
 ofHeld h = (record { id = h .id; text = serialise (h .event) }, h .sig)
 
 -- slots 0 to C-1 of the table b
-unfoldable pub view : List ℕ → List SignedEvent
+unfoldable pub view : Bytes → List SignedEvent
 view b = map inSlot (heldSlots b)

@@ -34,11 +34,11 @@ fields :
 fields = (refl, refl, refl, refl, refl, refl, refl, refl)
 
 -- the event of a kind and a time, with d in its tags
-abbrev made : ℕ → ℤ → ℕ → Event
+abbrev made : (kind : ℕ) (time : ℤ) (d : ℕ) → Event
 made kind time d = record { pubkey = replicate 64 97; time = time; kind = kind; tags = ((100 ∷ []) ∷ (d ∷ []) ∷ []) ∷ []; content = [] }
 
 -- with an id of one byte, and a signature
-abbrev entry : ℕ → ℕ → Event → SignedEvent
+abbrev entry : (i s : ℕ) (e : Event) → SignedEvent
 entry i s e = (record { id = i ∷ []; text = serialise e }, s ∷ [])
 
 -- a regular event, and a tile dated -7200

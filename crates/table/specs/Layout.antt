@@ -14,6 +14,7 @@ use Rattle.text.specs.Answer.{Span, dSpan, tagsPlace}
 use Rattle.text.specs.declared.Class.{Class}
 use Rattle.text.specs.declared.Class.the-variants.{Regular, Replaceable, Ephemeral, Addressable}
 use Rattle.table.specs.Cells.{cells}
+use Rattle.wire.specs.Bytes.{Bytes}
 
 -- ---- "Slot: id 32; sig 64; created_at 8, two's complement; kind 2; text length 2; d offset 2 and d length 2 ..; text 4,096":
 -- where each field begins
@@ -71,20 +72,20 @@ abbrev pub firstSlotPlace : ℕ
 firstSlotPlace = 12
 
 -- N
-unfoldable pub capacityOf : List ℕ → ℕ
+unfoldable pub capacityOf : Bytes → ℕ
 capacityOf b = fieldAt b capacityPlace 4
 
 -- C
-unfoldable pub countOf : List ℕ → ℕ
+unfoldable pub countOf : Bytes → ℕ
 countOf b = fieldAt b countPlace 4
 
-unfoldable pub slotSizeOf : List ℕ → ℕ
+unfoldable pub slotSizeOf : Bytes → ℕ
 slotSizeOf b = fieldAt b slotSizePlace 4
 
-unfoldable pub firstSlotOf : List ℕ → ℕ
+unfoldable pub firstSlotOf : Bytes → ℕ
 firstSlotOf b = fieldAt b firstSlotPlace 4
 
-unfoldable pub headerBytes : (capacity count : ℕ) → List ℕ
+unfoldable pub headerBytes : (capacity count : ℕ) → Bytes
 headerBytes N C = leBytes 4 N ++ (leBytes 4 C ++ (leBytes 4 slotSize ++ leBytes 4 headerSize))
 
 -- the header and N slots
@@ -96,40 +97,40 @@ abbrev pub slotPlace : ℕ → ℕ
 slotPlace k = headerSize + k * slotSize
 
 -- the bytes of slot k; "Slots 0 to C-1 are held"; "later slots"
-abbrev pub slotAt : List ℕ → ℕ → List ℕ
+abbrev pub slotAt : Bytes → ℕ → Bytes
 slotAt b k = part b (slotPlace k) slotSize
 
-abbrev pub heldSlots : List ℕ → List (List ℕ)
+abbrev pub heldSlots : Bytes → List (List ℕ)
 heldSlots b = cells slotSize (countOf b) (drop headerSize b)
 
-abbrev pub laterSlots : List ℕ → List ℕ
+abbrev pub laterSlots : Bytes → List ℕ
 laterSlots b = part b (slotPlace (countOf b)) ((capacityOf b - countOf b) * slotSize)
 
 -- ---- the fields of a slot's bytes s
-unfoldable pub idIn : List ℕ → List ℕ
+unfoldable pub idIn : Bytes → Bytes
 idIn s = part s idPlace idSize
 
-unfoldable pub sigIn : List ℕ → List ℕ
+unfoldable pub sigIn : Bytes → Bytes
 sigIn s = part s sigPlace sigSize
 
 -- the bits of created_at; in a sound slot it is the time as a signed number (proofs/Slots, `sound-signed`)
-abbrev pub timeIn : List ℕ → ℕ
+abbrev pub timeIn : Bytes → ℕ
 timeIn s = fieldAt s timePlace 8
 
-unfoldable pub kindIn : List ℕ → ℕ
+unfoldable pub kindIn : Bytes → ℕ
 kindIn s = fieldAt s kindPlace 2
 
-unfoldable pub lengthIn : List ℕ → ℕ
+unfoldable pub lengthIn : Bytes → ℕ
 lengthIn s = fieldAt s lengthPlace 2
 
-unfoldable pub dIn : List ℕ → Span
+unfoldable pub dIn : Bytes → Span
 dIn s = record { at = fieldAt s dOffsetPlace 2; len = fieldAt s dLengthPlace 2 }
 
-unfoldable pub textIn : List ℕ → List ℕ
+unfoldable pub textIn : Bytes → Bytes
 textIn s = part s textPlace (lengthIn s)
 
 -- what stands after the text's end
-unfoldable pub restIn : List ℕ → List ℕ
+unfoldable pub restIn : Bytes → Bytes
 restIn s = drop (textPlace + lengthIn s) s
 
 -- ---- the bytes of a slot
@@ -165,10 +166,10 @@ unfoldable pub dPlace : Event → Span
 dPlace e = dIfAddressable (classOf (e .kind)) e
 
 -- "text 4,096, zero after its end"
-unfoldable pub textBytes : List ℕ → List ℕ
+unfoldable pub textBytes : Bytes → Bytes
 textBytes t = t ++ replicate (mostText - length t) 0
 
-unfoldable pub slotBytes : Held → List ℕ
+unfoldable pub slotBytes : Held → Bytes
 slotBytes h =
     h .id
     ++ (h .sig

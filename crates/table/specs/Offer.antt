@@ -27,6 +27,7 @@ use Rattle.table.specs.Events.{SignedEvent, signedEvents, ofHeld, view}
 use Rattle.table.specs.Sound.{sound}
 use Rattle.table.specs.declared.Offered.{Offered}
 use Rattle.table.specs.declared.Offered.the-variants.{Ephemeral, Duplicate, Older, Stored, Refused}
+use Rattle.wire.specs.Bytes.{Bytes, Row}
 
 -- "Offers of any bytes as a message and of any parts", which lie in a buffer
 pub data Offering : Type 0 where
@@ -48,11 +49,11 @@ partsIn (message.Req r) = noParts
 partsIn (message.Close p) = noParts
 partsIn (message.Refused r) = noParts
 
-unfoldable pub partsOf : List ℕ → EventParts
+unfoldable pub partsOf : Bytes → EventParts
 partsOf m = partsIn (readOf m)
 
 -- "offering one tests 1 to 12 .. and gives 5 also if it isn't an EVENT": rows 1 to 4, then that, then 5 to 8, 9 and 10
-unfoldable pub messageOfferRow : List ℕ → ℕ
+unfoldable pub messageOfferRow : Bytes → Row
 messageOfferRow m = orElse (textRow m) (cond (isEvent m) (orElse (messageRow m) (offeredRow m (partsOf m))) 5)
 
 abbrev pub rowOf : Offering → ℕ
@@ -64,7 +65,7 @@ abbrev pub isValid : Offering → Bool
 isValid o = eqb (rowOf o) 0
 
 -- the event of parts, with its id and signature as bytes
-unfoldable pub heldOf : List ℕ → EventParts → Held
+unfoldable pub heldOf : Bytes → EventParts → Held
 heldOf b p = record { id = unhex (said b (p .id)); sig = unhex (said b (p .sig)); event = eventOf b (p .body) }
 
 abbrev pub offeredOf : Offering → Held
@@ -85,11 +86,11 @@ answerOf r stored = Stored
 answerOf r noRoom = Refused 12
 
 -- "Verdicts of an offer after row 11": law/Table, `verdict`
-unfoldable pub verdictOn : List ℕ → Offering → Verdict
+unfoldable pub verdictOn : Bytes → Offering → Verdict
 verdictOn b o = verdict signedEvents (capacityOf b) (view b) (judge o)
 
 -- rows 1 to 10, then 11, then the verdict
-unfoldable pub answer : List ℕ → Offering → Offered
+unfoldable pub answer : Bytes → Offering → Offered
 answer b o = cond (isValid o && not (sound b)) (Refused 11) (answerOf (rowOf o) (verdictOn b o))
 
 -- the number of 01
@@ -109,16 +110,16 @@ isStored (Refused r) = false
 
 -- ---- the table afterwards
 -- "over the slot with its key, else in slot C"
-unfoldable pub slotFor : List ℕ → Held → ℕ
+unfoldable pub slotFor : Bytes → Held → ℕ
 slotFor b h = find (hasKey signedEvents (ofHeld h)) (view b)
 
-abbrev pub countAfter : List ℕ → ℕ → ℕ
+abbrev pub countAfter : Bytes → ℕ → ℕ
 countAfter b k = cond (ltb k (countOf b)) (countOf b) (countOf b + 1)
 
 -- "A store writes only the bytes of the one slot it fills, and the count."
-unfoldable pub storedIn : List ℕ → Held → List ℕ
+unfoldable pub storedIn : Bytes → Held → Bytes
 storedIn b h = put (put b (slotPlace (slotFor b h)) (slotBytes h)) countPlace (leBytes 4 (countAfter b (slotFor b h)))
 
 -- "every lent buffer stays as found" on a refusal, and with every other verdict
-unfoldable pub next : List ℕ → Offering → List ℕ
+unfoldable pub next : Bytes → Offering → Bytes
 next b o = cond (isStored (answer b o)) (storedIn b (offeredOf o)) b

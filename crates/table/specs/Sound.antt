@@ -15,28 +15,29 @@ use Rattle.law.specs.Lists.{any}
 use Rattle.law.specs.Table.{hasId, hasKey}
 use Rattle.table.specs.Layout.{headerSize, slotSize, capacityOf, countOf, slotSizeOf, firstSlotOf, tableSize, heldSlots, laterSlots, timeIn, kindIn, lengthIn, dIn, textIn, restIn, dPlace}
 use Rattle.table.specs.Events.{SignedEvent, signedEvents, view}
+use Rattle.wire.specs.Bytes.{Bytes}
 
 -- "the buffer has at least 16 bytes"
-unfoldable pub hasHeader : List ℕ → Bool
+unfoldable pub hasHeader : Bytes → Bool
 hasHeader b = leb headerSize (length b)
 
 -- "N is 1 to 64"
 abbrev pub isCapacity : ℕ → Bool
 isCapacity N = leb 1 N && leb N mostSlots
 
-unfoldable pub capacityFits : List ℕ → Bool
+unfoldable pub capacityFits : Bytes → Bool
 capacityFits b = isCapacity (capacityOf b)
 
 -- "and its slots fit the buffer"
-unfoldable pub slotsFit : List ℕ → Bool
+unfoldable pub slotsFit : Bytes → Bool
 slotsFit b = leb (tableSize (capacityOf b)) (length b)
 
 -- "C is at most N"
-unfoldable pub countFits : List ℕ → Bool
+unfoldable pub countFits : Bytes → Bool
 countFits b = leb (countOf b) (capacityOf b)
 
 -- "the other header numbers as above"
-unfoldable pub othersAsAbove : List ℕ → Bool
+unfoldable pub othersAsAbove : Bytes → Bool
 othersAsAbove b = eqb (slotSizeOf b) slotSize && eqb (firstSlotOf b) headerSize
 
 -- ---- one slot s
@@ -46,38 +47,38 @@ isRead tooLarge = false
 isRead wrongShape = false
 isRead (read e) = true
 
-unfoldable pub textReads : List ℕ → Bool
+unfoldable pub textReads : Bytes → Bool
 textReads s = leb (lengthIn s) mostText && isRead (readText (textIn s))
 
 -- ".. that agree with their slot fields"
-unfoldable pub agreesWith : List ℕ → Event → Bool
+unfoldable pub agreesWith : Bytes → Event → Bool
 agreesWith s e =
     eqb (timeIn s) (unsigned (e .time))
     && (eqb (kindIn s) (e .kind) && (eqb (dIn s .at) (dPlace e .at) && eqb (dIn s .len) (dPlace e .len)))
 
-abbrev pub agreesIn : List ℕ → Read → Bool
+abbrev pub agreesIn : Bytes → Read → Bool
 agreesIn s tooLarge = false
 agreesIn s wrongShape = false
 agreesIn s (read e) = agreesWith s e
 
-unfoldable pub fieldsAgree : List ℕ → Bool
+unfoldable pub fieldsAgree : Bytes → Bool
 fieldsAgree s = agreesIn s (readText (textIn s))
 
 -- "no ephemeral kind"
-unfoldable pub isLasting : List ℕ → Bool
+unfoldable pub isLasting : Bytes → Bool
 isLasting s = not (isEphemeral (kindIn s))
 
 -- "zeros where said": "text 4,096, zero after its end"
-abbrev pub isZero : List ℕ → Bool
+abbrev pub isZero : Bytes → Bool
 isZero l = all (eqb 0) l
 
-unfoldable pub zeroAfterText : List ℕ → Bool
+unfoldable pub zeroAfterText : Bytes → Bool
 zeroAfterText s = isZero (restIn s)
 
-unfoldable pub slotSound : List ℕ → Bool
+unfoldable pub slotSound : Bytes → Bool
 slotSound s = textReads s && (fieldsAgree s && (isLasting s && zeroAfterText s))
 
-unfoldable pub slotsSound : List ℕ → Bool
+unfoldable pub slotsSound : Bytes → Bool
 slotsSound b = all slotSound (heldSlots b)
 
 -- ---- all slots
@@ -87,18 +88,18 @@ noneTwice same [] = true
 noneTwice same (x ∷ xs) = not (any (same x) xs) && noneTwice same xs
 
 -- "no id .. held twice"
-unfoldable pub noIdTwice : List ℕ → Bool
+unfoldable pub noIdTwice : Bytes → Bool
 noIdTwice b = noneTwice (hasId signedEvents) (view b)
 
 -- "no .. key held twice"
-unfoldable pub noKeyTwice : List ℕ → Bool
+unfoldable pub noKeyTwice : Bytes → Bool
 noKeyTwice b = noneTwice (hasKey signedEvents) (view b)
 
 -- "zeros where said": "later slots are zero". "Bytes after slot N-1 are never read"
-unfoldable pub laterZero : List ℕ → Bool
+unfoldable pub laterZero : Bytes → Bool
 laterZero b = isZero (laterSlots b)
 
-unfoldable pub sound : List ℕ → Bool
+unfoldable pub sound : Bytes → Bool
 sound b =
     hasHeader b
     && (capacityFits b && (slotsFit b && (countFits b && (othersAsAbove b && (slotsSound b && (noIdTwice b && (noKeyTwice b && laterZero b)))))))

@@ -11,6 +11,7 @@ use Rattle.text.specs.Kinds.{isNamedD, second}
 use Rattle.text.specs.declared.Text.{Text}
 use Rattle.text.specs.declared.TextAnswer.{TextAnswer}
 use Rattle.text.specs.declared.TextAnswer.the-variants as answer
+use Rattle.wire.specs.Bytes.{Bytes}
 
 -- bytes of a text: where they begin, and how many
 pub record Span : Type 0 where
@@ -18,7 +19,7 @@ pub record Span : Type 0 where
   pub len : ℕ
 
 -- both 0 for no bytes
-abbrev pub spanOf : ℕ → List ℕ → Span
+abbrev pub spanOf : ℕ → Bytes → Span
 spanOf i [] = record { at = 0; len = 0 }
 spanOf i (x ∷ l) = record { at = i; len = length (x ∷ l) }
 

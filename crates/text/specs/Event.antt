@@ -9,7 +9,7 @@ use Rattle.wire.specs.Ascii.{ascii}
 use Rattle.wire.specs.Escape.{escape}
 use Rattle.numeral.specs.Decimal.{digits, decimal}
 use Rattle.wire.specs.Limits.{widest, mostSmall, hexLength, mostTags, mostStrings}
-use Rattle.wire.specs.Bytes.{isHex, isControl}
+use Rattle.wire.specs.Bytes.{Bytes, isHex, isControl}
 use Rattle.numeral.specs.Whole.{isWithin}
 use Rattle.numeral.specs.declared.Whole.the-variants.{Value}
 use Rattle.utf8.specs.Utf8.{isUtf8}
@@ -27,37 +27,37 @@ pub record Event : Type 0 where
   pub content : List ℕ
 
 -- ---- the text
-unfoldable pub quoted : List ℕ → List ℕ
+unfoldable pub quoted : Bytes → Bytes
 quoted v = 34 ∷ (escape v ++ (34 ∷ []))
 
 -- the members of a list, a comma between two, and the closing bracket
-unfoldable pub membersText : {A : Type 0} → (A → List ℕ) → List A → List ℕ
+unfoldable pub membersText : {A : Type 0} → (A → List ℕ) → List A → Bytes
 membersText p [] = 93 ∷ []
 membersText p (x ∷ []) = p x ++ (93 ∷ [])
 membersText p (x ∷ y ∷ ys) = p x ++ (44 ∷ membersText p (y ∷ ys))
 
-unfoldable pub tagText : Tag → List ℕ
+unfoldable pub tagText : Tag → Bytes
 tagText t = 91 ∷ membersText quoted t
 
-unfoldable pub tagsText : List Tag → List ℕ
+unfoldable pub tagsText : List Tag → Bytes
 tagsText ts = 91 ∷ membersText tagText ts
 
 -- [0,"
-abbrev pub opening : List ℕ
+abbrev pub opening : Bytes
 opening = ascii "[0,\""
 
 -- ",
-abbrev pub closing : List ℕ
+abbrev pub closing : Bytes
 closing = ascii "\","
 
-abbrev pub comma : List ℕ
+abbrev pub comma : Bytes
 comma = ascii ","
 
-abbrev pub bracket : List ℕ
+abbrev pub bracket : Bytes
 bracket = ascii "]"
 
 -- [0,pubkey,created_at,kind,tags,content] with no white space
-unfoldable pub serialise : Event → List ℕ
+unfoldable pub serialise : Event → Bytes
 serialise e =
     opening ++ (e .pubkey ++ (closing ++ (decimal (e .time) ++ (comma ++ (digits (e .kind) ++ (comma ++ (tagsText (e .tags) ++ (comma ++ (quoted (e .content) ++ bracket)))))))))
 
@@ -66,7 +66,7 @@ unfoldable pub all : {A : Type 0} → (A → Bool) → List A → Bool
 all p [] = true
 all p (x ∷ xs) = p x && all p xs
 
-unfoldable pub isPubkey : List ℕ → Bool
+unfoldable pub isPubkey : Bytes → Bool
 isPubkey k = eqb (length k) hexLength && all isHex k
 
 unfoldable pub isTime : ℤ → Bool
@@ -79,7 +79,7 @@ isKind k = leb k mostSmall
 unfoldable pub isPlainByte : ℕ → Bool
 isPlainByte b = not (isControl b)
 
-unfoldable pub isString : List ℕ → Bool
+unfoldable pub isString : Bytes → Bool
 isString v = all isPlainByte v && isUtf8 v
 
 unfoldable pub isTag : Tag → Bool

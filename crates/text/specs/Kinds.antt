@@ -3,7 +3,7 @@ use mathlib.Core.Bool.{Bool, true, false, cond, _&&_, _||_}
 use mathlib.Core.List.{List, [], _∷_}
 use Prim.Native.Nat.{ℕ}
 use lib.Dec.{eqb, leb}
-use Rattle.wire.specs.Bytes.{sameBytes}
+use Rattle.wire.specs.Bytes.{Bytes, sameBytes}
 use Rattle.text.specs.Event.{Tag, Event}
 use Rattle.text.specs.declared.Class.{Class}
 use Rattle.text.specs.declared.Class.the-variants.{Regular, Replaceable, Ephemeral, Addressable}
@@ -32,13 +32,13 @@ isNamedD ((x ∷ []) ∷ t) = eqb x 100
 isNamedD ((x ∷ y ∷ v) ∷ t) = false
 
 -- its second string, empty if it has one
-abbrev pub second : Tag → List ℕ
+abbrev pub second : Tag → Bytes
 second [] = []
 second (v ∷ []) = []
 second (v ∷ w ∷ t) = w
 
 -- the second string of the first tag named d, empty if there is no such tag
-unfoldable pub dOf : List Tag → List ℕ
+unfoldable pub dOf : List Tag → Bytes
 dOf [] = []
 dOf (t ∷ ts) = cond (isNamedD t) (second t) (dOf ts)
 

@@ -16,6 +16,7 @@ use Rattle.wire.specs.Limits.{mostText, hexLength, mostTags, mostStrings}
 use Rattle.text.specs.Event.{Tag, Event, opening, closing, comma, bracket, serialise, isFit, isPubkey, isTime, isKind, isPlainByte}
 use Rattle.text.specs.declared.Move.{Move}
 use Rattle.text.specs.declared.Move.the-variants.{Go, Stop, Refuse}
+use Rattle.wire.specs.Bytes.{Bytes, Place}
 
 pub data Got (A : Type 0) : Type 0 where
   none : Got A
@@ -27,15 +28,15 @@ bind (got x n) f = f x n
 
 -- ---- fixed bytes, and things in a row
 -- the bytes w stand at a place
-unfoldable pub standsAt : List ℕ → List ℕ → ℕ → Bool
+unfoldable pub standsAt : (s w : Bytes) (at : Place) → Bool
 standsAt s [] at = true
 standsAt s (b ∷ w) at = eqb (getD s at 0) b && standsAt s w (at + 1)
 
 -- a thing with the bytes w after it
-unfoldable pub closedAt : {A : Type 0} → List ℕ → List ℕ → (ℕ → Got A) → ℕ → Got A
+unfoldable pub closedAt : {A : Type 0} (s w : Bytes) (f : ℕ → Got A) (at : Place) → Got A
 closedAt s w f at = bind (f at) λ x n. cond (standsAt s w n) (got x (n + length w)) none
 
-unfoldable pub pairAt : {A B : Type 0} → (ℕ → Got A) → (ℕ → Got B) → ℕ → Got (A × B)
+unfoldable pub pairAt : {A B : Type 0} (f : ℕ → Got A) (g : ℕ → Got B) (at : Place) → Got (A × B)
 pairAt f g at = bind (f at) λ x n. bind (g n) λ y m. got (x, y) m
 
 -- ---- strings
@@ -55,16 +56,16 @@ moveOf true x = cond (eqb (byteOf x) 0) Refuse (Go false)
 moveOf false x = cond (eqb x 34) Stop (cond (eqb x 92) (Go true) (cond (isRaw x) (Go false) Refuse))
 
 -- what it adds to the string
-abbrev pub saidOf : Bool → ℕ → List ℕ
+abbrev pub saidOf : Bool → ℕ → Bytes
 saidOf true x = byteOf x ∷ []
 saidOf false x = cond (eqb x 92) [] (x ∷ [])
 
-abbrev pub push : List ℕ → Got (List ℕ) → Got (List ℕ)
+abbrev pub push : Bytes → Got (List ℕ) → Got (List ℕ)
 push p none = none
 push p (got v n) = got (p ++ v) n
 
 -- a string after its opening quote, with the closing one; the list stands at i
-unfoldable pub bodyFrom : Bool → ℕ → List ℕ → Got (List ℕ)
+unfoldable pub bodyFrom : (e : Bool) (i : ℕ) (l : Bytes) → Got (List ℕ)
 bodyFrom e i [] = none
 bodyFrom e i (x ∷ l) = elim (moveOf e x) [ Go f ↦ push (saidOf e x) (bodyFrom f (i + 1) l) | Stop ↦ got [] (i + 1) | Refuse ↦ none ]
 
@@ -72,7 +73,7 @@ abbrev pub checked : Got (List ℕ) → Got (List ℕ)
 checked none = none
 checked (got v n) = cond (isUtf8 v) (got v n) none
 
-unfoldable pub stringAt : List ℕ → ℕ → Got (List ℕ)
+unfoldable pub stringAt : Bytes → Place → Got (List ℕ)
 stringAt s at = cond (eqb (getD s at 0) 34) (checked (bodyFrom false (at + 1) (drop (at + 1) s))) none
 
 -- ---- lists of 1 to k members
@@ -81,23 +82,23 @@ cons x none = none
 cons x (got xs n) = got (x ∷ xs) n
 
 -- after a member a comma and more of them, or the closing bracket
-abbrev pub follow : {A : Type 0} → A → ℕ → ℕ → Got (List A) → Got (List A)
+abbrev pub follow : {A : Type 0} (x : A) (b n : ℕ) (more : Got (List A)) → Got (List A)
 follow x b n more = cond (eqb b 44) (cons x more) (cond (eqb b 93) (got (x ∷ []) (n + 1)) none)
 
-unfoldable pub membersAt : {A : Type 0} → (ℕ → Got A) → List ℕ → ℕ → ℕ → Got (List A)
+unfoldable pub membersAt : {A : Type 0} (one : ℕ → Got A) (s : Bytes) (k : ℕ) (at : Place) → Got (List A)
 membersAt one s zero at = none
 membersAt one s (suc k) at = bind (one at) λ x n. follow x (getD s n 0) n (membersAt one s k (n + 1))
 
-unfoldable pub tagAt : List ℕ → ℕ → Got Tag
+unfoldable pub tagAt : Bytes → Place → Got Tag
 tagAt s at = cond (eqb (getD s at 0) 91) (membersAt (stringAt s) s mostStrings (at + 1)) none
 
 -- or none at all
-unfoldable pub tagsAt : List ℕ → ℕ → Got (List Tag)
+unfoldable pub tagsAt : Bytes → Place → Got (List Tag)
 tagsAt s at = cond (eqb (getD s at 0) 91) (cond (eqb (getD s (at + 1) 0) 93) (got [] (at + 2)) (membersAt (tagAt s) s mostTags (at + 1))) none
 
 -- ---- numbers
 -- the bytes before the next comma
-unfoldable pub runOf : List ℕ → List ℕ
+unfoldable pub runOf : Bytes → Bytes
 runOf [] = []
 runOf (x ∷ l) = cond (eqb x 44) [] (x ∷ runOf l)
 
@@ -110,17 +111,17 @@ kindOf numeral.malformed n = none
 kindOf (numeral.whole (negsuc k)) n = none
 kindOf (numeral.whole (pos k)) n = cond (isKind k) (got k n) none
 
-unfoldable pub timeAt : List ℕ → ℕ → Got ℤ
+unfoldable pub timeAt : Bytes → Place → Got ℤ
 timeAt s at = timeOf (wholeOf (runOf (drop at s))) (at + length (runOf (drop at s)))
 
-unfoldable pub kindAt : List ℕ → ℕ → Got ℕ
+unfoldable pub kindAt : Bytes → Place → Got ℕ
 kindAt s at = kindOf (wholeOf (runOf (drop at s))) (at + length (runOf (drop at s)))
 
 -- ---- hex
-abbrev pub pubkeyIn : List ℕ → ℕ → Got (List ℕ)
+abbrev pub pubkeyIn : Bytes → ℕ → Got (List ℕ)
 pubkeyIn k n = cond (isPubkey k) (got k n) none
 
-unfoldable pub pubkeyAt : List ℕ → ℕ → Got (List ℕ)
+unfoldable pub pubkeyAt : Bytes → Place → Got (List ℕ)
 pubkeyAt s at = pubkeyIn (take hexLength (drop at s)) (at + hexLength)
 
 -- ---- the whole text
@@ -128,7 +129,7 @@ abbrev pub Fields : Type 0
 Fields = List ℕ × (ℤ × (ℕ × (List Tag × List ℕ)))
 
 -- PUBKEY",TIME,KIND,TAGS,"CONTENT"]
-unfoldable pub fieldsAt : List ℕ → ℕ → Got Fields
+unfoldable pub fieldsAt : Bytes → ℕ → Got Fields
 fieldsAt s =
     pairAt (closedAt s closing (pubkeyAt s))
     (pairAt (closedAt s comma (timeAt s)) (pairAt (closedAt s comma (kindAt s)) (pairAt (closedAt s comma (tagsAt s)) (closedAt s bracket (stringAt s)))))
@@ -142,15 +143,15 @@ pub data Read : Type 0 where
   read : Event → Read
 
 -- the text ends after its event
-abbrev pub ending : List ℕ → Got Fields → Read
+abbrev pub ending : Bytes → Got Fields → Read
 ending t none = wrongShape
 ending t (got x n) = cond (eqb n (length t)) (read (eventOf x)) wrongShape
 
-unfoldable pub opened : List ℕ → Got Fields
+unfoldable pub opened : Bytes → Got Fields
 opened t = cond (standsAt t opening 0) (fieldsAt t (length opening)) none
 
 -- refused by 9 if over 4,096 bytes, else by 5 if it isn't byte for byte the serialisation of an event within these limits
-unfoldable pub readText : List ℕ → Read
+unfoldable pub readText : Bytes → Read
 readText t = cond (leb (length t) mostText) (ending t (opened t)) tooLarge
 
 -- t is the serialisation of e, an event within these limits

@@ -5,6 +5,7 @@ use Prim.Native.Nat.{ℕ, _-_}
 use lib.Dec.{ltb, leb, eqb}
 use Rattle.utf8.specs.declared.Want.{Want}
 use Rattle.utf8.specs.declared.Want.the-variants.{Lead, Tail, Bad}
+use Rattle.wire.specs.Bytes.{Bytes}
 
 -- what follows the first octet of a character. `Tail lo hi n`: an octet from lo to hi, and after it n times UTF8-tail, which is 80 to BF
 unfoldable pub leadOf : ℕ → Want
@@ -32,10 +33,10 @@ ends Lead = true
 ends (Tail lo hi n) = false
 ends Bad = false
 
-unfoldable pub utf8From : Want → List ℕ → Bool
+unfoldable pub utf8From : Want → Bytes → Bool
 utf8From w [] = ends w
 utf8From w (x ∷ s) = utf8From (next w x) s
 
 -- UTF8-octets
-unfoldable pub isUtf8 : List ℕ → Bool
+unfoldable pub isUtf8 : Bytes → Bool
 isUtf8 s = utf8From Lead s

@@ -6,7 +6,7 @@ use mathlib.Core.List.{List, map}
 use Prim.Native.Nat.{ℕ, _+_, _-_, _*_, _≤_}
 use lib.ListN.{length, getD, take, drop}
 use Rattle.wire.specs.Limits.{mostMembers, mostConditions}
-use Rattle.wire.specs.Bytes.{part}
+use Rattle.wire.specs.Bytes.{Bytes, Place, part}
 use Rattle.json.specs.Grammar.{case, scalarAt, headAt, nextAt}
 use Rattle.json.specs.Tree.{endOf, treeAt}
 use Rattle.json.specs.declared.Kind.{Kind}
@@ -77,13 +77,13 @@ pub record FindsConditions (m : List ℕ) (l : Listed) (before : List ℕ) (list
 abbrev pub smallFrom : Whole → ℕ
 smallFrom w = natural (valueOf w)
 
-abbrev pub smallOf : List ℕ → ℕ → Kind → ℕ
+abbrev pub smallOf : (s : Bytes) (at : Place) (x : Kind) → ℕ
 smallOf s at (Str n) = 0
 smallOf s at (Num n) = smallFrom (answerOf (wholeOf (part s at (n - at))))
 smallOf s at (Word n) = 0
 smallOf s at None = 0
 
-unfoldable pub smallAt : List ℕ → ℕ → ℕ
+unfoldable pub smallAt : Bytes → Place → ℕ
 smallAt s at = smallOf s at (scalarAt s at)
 
 -- ---- the members of an object: the place of the first name, of a name's value, of the name after a value
@@ -98,12 +98,12 @@ moreNamed (More j) = At j
 moreNamed (Done n) = Absent
 moreNamed Wrong = Absent
 
-unfoldable pub nextNamed : List ℕ → ℕ → Listed
+unfoldable pub nextNamed : Bytes → ℕ → Listed
 nextNamed s v = case (endOf (treeAt s within v)) (λ n. moreNamed (nextAt s n true)) Absent
 
-abbrev pub valuePlace : List ℕ → ℕ → ℕ
+abbrev pub valuePlace : Bytes → ℕ → ℕ
 valuePlace s p = case (headAt s p true) (λ v. v) 0
 
 -- the letter of a condition's name; 0 of another name
-unfoldable pub letterOf : List ℕ → ℕ
+unfoldable pub letterOf : Bytes → ℕ
 letterOf w = cond (isCondition w) (getD w 1 0) 0

@@ -5,7 +5,7 @@ use mathlib.Core.List.{List, [], _∷_, map}
 use Prim.Native.Nat.{ℕ}
 use lib.IntN.{ℤ, pos}
 use lib.ListN.{take}
-use Rattle.wire.specs.Bytes.{part}
+use Rattle.wire.specs.Bytes.{Bytes, part}
 use Rattle.spell.specs.Spell.{decode}
 use Rattle.query.specs.Filter.{Filter, Condition}
 use Rattle.matching.specs.declared.Members.{Members}
@@ -13,24 +13,24 @@ use Rattle.matching.specs.declared.Members.the-variants.{Absent, In}
 use Rattle.matching.specs.declared.Needed.{Needed}
 use Rattle.matching.specs.declared.Known.{Known}
 
-unfoldable pub spelledBy : List ℕ → List ℕ → List (List ℕ)
+unfoldable pub spelledBy : Bytes → Bytes → List (List ℕ)
 spelledBy m [] = []
 spelledBy m (a ∷ []) = []
 spelledBy m (a ∷ n ∷ r) = decode (part m a n) ∷ spelledBy m r
 
-unfoldable pub numbersBy : List ℕ → List ℤ
+unfoldable pub numbersBy : Bytes → List ℤ
 numbersBy [] = []
 numbersBy (k ∷ r) = pos k ∷ numbersBy r
 
 -- the members that stand in the row, or none given
-abbrev pub given : {A : Type 0} → (List ℕ → A) → List ℕ → Members → Option A
+abbrev pub given : {A : Type 0} (f : List ℕ → A) (row : List ℕ) (x : Members) → Option A
 given f row Absent = none
 given f row (In a n) = some (f (part row a n))
 
-abbrev pub conditionBy : List ℕ → List ℕ → Needed → Condition
+abbrev pub conditionBy : (m : Bytes) (row : List ℕ) (c : Needed) → Condition
 conditionBy m row c = record { letter = c .letter; members = spelledBy m (part row (c .from) (c .len)) }
 
-unfoldable pub filterBy : List ℕ → List ℕ → Known → Filter
+unfoldable pub filterBy : (m : Bytes) (row : List ℕ) (k : Known) → Filter
 filterBy m row k = record {
   ids = given (spelledBy m) row (k .ids);
   authors = given (spelledBy m) row (k .authors);

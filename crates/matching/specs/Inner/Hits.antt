@@ -10,7 +10,7 @@ use Rattle.query.specs.Filter.{Filter}
 use Rattle.query.specs.Answer.{matchesSlot}
 
 -- filter number f matches slot s
-unfoldable pub hitAt : List ℕ → ℕ → ℕ → Bool
+unfoldable pub hitAt : (h : List ℕ) (f s : ℕ) → Bool
 hitAt h f s = not (eqb (getD h (s * 4 + f) 0) 0)
 
 -- the filter f, number j, was asked of the first c slots of the table b, and what the other filters hit stays

@@ -18,21 +18,21 @@ after true k = k - 1
 after false k = k
 
 -- `hit f s`: filter number f matches slot s. What is left to each filter from f on, and how many of them take s
-unfoldable pub lefts : (ℕ → ℕ → Bool) → ℕ → ℕ → List ℕ → List ℕ
+unfoldable pub lefts : (hit : ℕ → ℕ → Bool) (s f : ℕ) (ks : List ℕ) → List ℕ
 lefts hit s f [] = []
 lefts hit s f (k ∷ ks) = after (hit f s) k ∷ lefts hit s (suc f) ks
 
-unfoldable pub takers : (ℕ → ℕ → Bool) → ℕ → ℕ → List ℕ → ℕ
+unfoldable pub takers : (hit : ℕ → ℕ → Bool) (s f : ℕ) (ks : List ℕ) → ℕ
 takers hit s f [] = 0
 takers hit s f (k ∷ ks) = (k - after (hit f s) k) + takers hit s (suc f) ks
 
 -- the slots that some filter takes
-unfoldable pub pass : (ℕ → ℕ → Bool) → List ℕ → List ℕ → List ℕ
+unfoldable pub pass : (hit : ℕ → ℕ → Bool) (ks l : List ℕ) → List ℕ
 pass hit ks [] = []
 pass hit ks (s ∷ l) = cond (ltb 0 (takers hit s 0 ks)) (s ∷ pass hit (lefts hit s 0 ks) l) (pass hit (lefts hit s 0 ks) l)
 
 -- some filter takes s where each has its number to begin with
-unfoldable pub mayTake : (ℕ → ℕ → Bool) → List ℕ → ℕ → Bool
+unfoldable pub mayTake : (hit : ℕ → ℕ → Bool) (ks : List ℕ) (s : ℕ) → Bool
 mayTake hit ks s = ltb 0 (takers hit s 0 ks)
 
 -- a number to begin with: c where there is no limit, c being at least as many as there are slots
@@ -44,9 +44,9 @@ abbrev pub roomFor : ℕ → FilterParts → ℕ
 roomFor c p = room c (p .limit)
 
 -- four numbers, of which those past the first n filters are 0
-unfoldable pub rooms : ℕ → ℕ → List FilterParts → List ℕ
+unfoldable pub rooms : (c n : ℕ) (fs : List FilterParts) → List ℕ
 rooms c n fs = map (roomFor c) (take n fs) ++ replicate (4 - n) 0
 
 -- the slots of the table b that the first n filters take, where the bytes h say what matches
-unfoldable pub taken : List ℕ → List ℕ → List FilterParts → ℕ → List ℕ
+unfoldable pub taken : (b h : List ℕ) (fs : List FilterParts) (n : ℕ) → List ℕ
 taken b h fs n = pass (hitAt h) (rooms (countOf b) n fs) (newestFirst (newerSlot b) (from 0 (countOf b)))

@@ -3,7 +3,7 @@ use mathlib.Core.Bool.{Bool, true, false, cond, _&&_}
 use mathlib.Core.List.{List, [], _∷_}
 use Prim.Native.Nat.{ℕ, _+_, _-_}
 use lib.IntN.{ℤ}
-use Rattle.wire.specs.Bytes.{part, sameBytes}
+use Rattle.wire.specs.Bytes.{Bytes, part, sameBytes}
 use Rattle.spell.specs.Spell.{decode}
 use Rattle.json.specs.Grammar.{case, stringAt, startAt}
 use Rattle.rows.specs.Strings.{spelledAt}
@@ -28,23 +28,23 @@ abbrev pub asked : ℕ → List (List ℕ) → Condition
 asked x ms = record { letter = x; members = ms }
 
 -- the second string of the tag at a place, if its first is the letter
-abbrev pub spanOf : List ℕ → Listed → Second
+abbrev pub spanOf : Bytes → Listed → Second
 spanOf b Absent = Not
 spanOf b (At j) = case (stringAt b j) (λ n. Is (j + 1) (n - j - 2)) (Is 0 0)
 
-abbrev pub secondFrom : List ℕ → ℕ → Listed → Second
+abbrev pub secondFrom : (b : Bytes) (x : ℕ) (x′ : Listed) → Second
 secondFrom b x Absent = Not
 secondFrom b x (At i) = cond (sameBytes (decode (spelledAt b i)) (x ∷ [])) (spanOf b (placed (nextOf b i))) Not
 
-unfoldable pub secondOf : List ℕ → ℕ → ℕ → Second
+unfoldable pub secondOf : (b : Bytes) (v x : ℕ) → Second
 secondOf b v x = secondFrom b x (placed (firstOf (startAt b v)))
 
 -- it is in the list
-abbrev pub fitsBy : List ℕ → List (List ℕ) → Second → Bool
+abbrev pub fitsBy : (b : Bytes) (ms : List (List ℕ)) (x : Second) → Bool
 fitsBy b ms Not = false
 fitsBy b ms (Is a n) = isMember ms (decode (part b a n))
 
 -- the conditions on an event's public key, kind and time
-unfoldable pub fieldsHold : Filter → List ℕ → ℤ → ℕ → Bool
+unfoldable pub fieldsHold : (f : Filter) (key : Bytes) (time : ℤ) (kind : ℕ) → Bool
 fieldsHold f key time kind =
     isListed (f .authors) key && (kindListed (f .kinds) kind && (sinceHolds (f .since) time && untilHolds (f .until) time))

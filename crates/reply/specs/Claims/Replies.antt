@@ -50,23 +50,24 @@ use Rattle.reply.specs.declared.ReplyParts.{ReplyParts}
 use Rattle.reply.specs.declared.ReplyParts.the-variants as parts
 use Rattle.reply.specs.Lent.{subscription8, replyOf, partsRow, replyRow, replied, repliedOut}
 use Rattle.reply.specs.Program.{repliesTo, tableAfter, lines, written, outputFrom, freshTable, output}
+use Rattle.wire.specs.Bytes.{Bytes}
 
 -- ---- a message's first word and the elements after it; `other` where there is no such word
-abbrev pub openedIn : List ℕ → Got Json → Opened
+abbrev pub openedIn : Bytes → Got Json → Opened
 openedIn m none = record { first = other; rest = nil }
 openedIn m (got t n) = opened m t
 
-abbrev pub wordIn : List ℕ → Word
+abbrev pub wordIn : Bytes → Word
 wordIn m = openedIn m (root m) .first
 
-abbrev pub restIn : List ℕ → Items
+abbrev pub restIn : Bytes → Items
 restIn m = openedIn m (root m) .rest
 
 -- where an EVENT's id field stands, and a REQ's subscription id
-abbrev pub idField : List ℕ → Span
+abbrev pub idField : Bytes → Span
 idField m = spanIn (memberOf m idName (membersOf (firstOf (restIn m))))
 
-abbrev pub subscriptionField : List ℕ → Span
+abbrev pub subscriptionField : Bytes → Span
 subscriptionField m = spanOf (firstOf (restIn m))
 
 -- ---- a message is refused by one of rows 1 to 8, or it is read
@@ -154,7 +155,7 @@ OnlyStored = (b m : List ℕ) → (tableAfter b m ≡ b) ⊎ ((p : EventParts) �
 
 -- ---- messages that are valid
 -- "EVENT: two elements, the second an object with id, pubkey, created_at, kind, tags, content, sig": the object spelled as in replies
-abbrev pub eventMessage : (id : List ℕ) → Event → (sig : List ℕ) → List ℕ
+abbrev pub eventMessage : (id : Bytes) (e : Event) (sig : Bytes) → Bytes
 eventMessage i e s = ascii "[\"EVENT\"," ++ (objectText i e s ++ ascii "]")
 
 -- "A valid event is one offered, as a message or as parts, that none of rows 1 to 10 refuses." Each event within the limits has such a message,
@@ -168,7 +169,7 @@ abbrev pub isNewline : ℕ → Bool
 isNewline x = eqb x 0x0a
 
 -- no byte 0A
-abbrev pub Plain : List ℕ → Type 0
+abbrev pub Plain : Bytes → Type 0
 Plain l = any isNewline l ≡ false
 
 -- "0A ends a line and is no part of the message"
@@ -192,11 +193,11 @@ abbrev pub Fresh : Type 0
 Fresh = (sound freshTable ≡ true) × (capacityOf freshTable ≡ 8) × (view freshTable ≡ []) × (length freshTable ≡ tableSize 8)
 
 -- each message finds the table that the last one left
-abbrev pub tableFrom : List ℕ → List (List ℕ) → List ℕ
+abbrev pub tableFrom : Bytes → List (List ℕ) → Bytes
 tableFrom b [] = b
 tableFrom b (m ∷ ms) = tableFrom (tableAfter b m) ms
 
-abbrev pub repliesFrom : List ℕ → List (List ℕ) → List Reply
+abbrev pub repliesFrom : Bytes → List (List ℕ) → List Reply
 repliesFrom b [] = []
 repliesFrom b (m ∷ ms) = repliesTo b m ++ repliesFrom (tableAfter b m) ms
 
@@ -240,7 +241,7 @@ ProgramSettles = (ms : List (List ℕ)) → IdPremise tableEvents (offersOf ms) 
     Settled tableEvents (map (signature.event tableEvents Signature) (view (tableFrom freshTable ms))) (offersOf ms)
 
 -- ---- a reply given as lent parts (specs/Lent): proved in proofs/Lent
-abbrev pub lentText : List ℕ → ReplyParts → List ℕ
+abbrev pub lentText : Bytes → ReplyParts → Bytes
 lentText b q = replyText (replyOf b q)
 
 -- the strings of a reply, its event's aside, and which of them is a subscription id

@@ -23,6 +23,7 @@ use Rattle.text.specs.declared.Tagged.{Tagged}
 use Rattle.text.specs.declared.Tagged.the-variants as tagged
 use Rattle.text.specs.declared.Rest.{Rest}
 use Rattle.text.specs.declared.Rest.the-variants as rest
+use Rattle.wire.specs.Bytes.{Bytes, Place}
 
 abbrev pub endOf : {A : Type 0} → Got A → Out
 endOf none = out.Bad
@@ -56,10 +57,10 @@ isGot none = false
 isGot (got x n) = true
 
 -- [0,"PUBKEY",
-unfoldable pub opens : List ℕ → Bool
+unfoldable pub opens : Bytes → Bool
 opens t = standsAt t opening 0 && isGot (closedAt t closing (pubkeyAt t) 4)
 
-abbrev pub noZero : List ℕ → Bool
+abbrev pub noZero : Bytes → Bool
 noZero [] = true
 noZero (b ∷ w) = ltb 0 b && noZero w
 
@@ -68,24 +69,24 @@ abbrev pub foundOf : Span → Found
 foundOf p = found.At (p .at) (p .len)
 
 -- the tag t stands at i
-abbrev pub lookOf : ℕ → Found → Tag → Found
+abbrev pub lookOf : (i : ℕ) (x : Found) (t : Tag) → Found
 lookOf i (found.At a l) t = found.At a l
 lookOf i found.Not t = cond (isNamedD t) (foundOf (spanOf (i + 6) (escape (second t)))) found.Not
 
 -- the tags ts stand at i
-abbrev pub spanAfter : Found → ℕ → List Tag → Span
+abbrev pub spanAfter : (x : Found) (i : ℕ) (ts : List Tag) → Span
 spanAfter (found.At a l) i ts = record { at = a; len = l }
 spanAfter found.Not i ts = dSpan i ts
 
-abbrev pub taggedOf : Found → ℕ → Got (List Tag) → Tagged
+abbrev pub taggedOf : (d : Found) (i : ℕ) (none : Got (List Tag)) → Tagged
 taggedOf d i none = tagged.Bad
 taggedOf d i (got ts n) = tagged.End n (spanAfter d i ts .at) (spanAfter d i ts .len)
 
 -- ---- TAGS,"CONTENT"] from a place to the end
-unfoldable pub restAt : List ℕ → ℕ → Got (List Tag × List ℕ)
+unfoldable pub restAt : Bytes → ℕ → Got (List Tag × List ℕ)
 restAt s = pairAt (closedAt s comma (tagsAt s)) (closedAt s bracket (stringAt s))
 
-abbrev pub restOf : ℕ → ℕ → Got (List Tag × List ℕ) → Rest
+abbrev pub restOf : (l : ℕ) (at : Place) (none : Got (List Tag × List ℕ)) → Rest
 restOf l at none = rest.Bad
 restOf l at (got x n) =
     cond (eqb n l) (rest.Is (at + length (tagsText (x .0)) + 2) (length (escape (x .1))) (dSpan (at + 1) (x .0) .at) (dSpan (at + 1) (x .0) .len)) rest.Bad
