@@ -19,7 +19,7 @@ use Rattle.digest.specs.Parts.{length-first}
 use Rattle.digest.specs.Claims.{joined, update-stands, finish-stands}
 use Rattle.digest.specs.Bytes.{stateBytes}
 use Rattle.digest.specs.Back.{length-state, fed-back}
-use Rattle.message.specs.Read.{readOf, rowOf}
+use Rattle.message.specs.Read.{readOf, readNumber}
 use Rattle.message.specs.Parts.{filtersAt}
 use Rattle.message.specs.declared.EventParts.{EventParts}
 use Rattle.message.specs.declared.ReqParts.{ReqParts}
@@ -30,7 +30,7 @@ use Rattle.numbers.specs.Numbers.{messageNumbers, eventNumbers, requestNumbers}
 use Rattle.numbers.specs.Parts.{eventFrom, filtersFrom, filterCount}
 use Rattle.numbers.specs.Claims.{SameFilters}
 use Rattle.numbers.proofs.Rows.{event-back, filters-back}
-use Rattle.query.specs.Answer.{partsAt}
+use Rattle.query.specs.Answer.{filterPartsAt}
 use Rattle.query.proofs.ReadFilters.{read-listing}
 use Rattle.capi.specs.Calls.{lentRow, lentOut, readRow, readOut}
 use Rattle.capi.specs.Digest.{stateLent, startOut, updateRow, updateOut, endRow, endOut}
@@ -45,7 +45,7 @@ written l out e = go (leb (length l) (length out)) refl e
     go true q z = put-over out l (leb-true (length l) (length out) q)
     go false q z = absurd (omega arith)
 
-row-written : (s out : List ℕ) {m : Message} → readOf s ≡ m → rowOf m ≡ 0 → readRow s out ≡ 0 → readOut s out ≡ messageNumbers s m ++ drop (length (messageNumbers s m)) out
+row-written : (s out : List ℕ) {m : Message} → readOf s ≡ m → readNumber m ≡ 0 → readRow s out ≡ 0 → readOut s out ≡ messageNumbers s m ++ drop (length (messageNumbers s m)) out
 row-written s out {m} e z h =
     rw (e, z) (written (messageNumbers s m) out (rw (e, z) at h))
 

@@ -17,8 +17,8 @@ use Rattle.message.specs.declared.Message.{Message}
 use Rattle.message.specs.declared.Message.the-variants as message
 use Rattle.message.specs.declared.Filters.{Filters}
 use Rattle.message.specs.Parts.{filtersAt}
-use Rattle.message.specs.Read.{readOf, rowOf}
-use Rattle.event.specs.Answer.{numberOf, serialised, serialisedOut}
+use Rattle.message.specs.Read.{readOf, readNumber}
+use Rattle.event.specs.Answer.{writtenNumber, serialised, serialisedOut}
 use Rattle.event.specs.declared.Written.{Written}
 use Rattle.numbers.specs.Numbers.{partsNumbers, messageNumbers}
 use Rattle.numbers.specs.Parts.{eventFrom}
@@ -63,8 +63,8 @@ module _ (b : List ℕ) (p : Body) (out : List ℕ) {x : Body} {w : Written} {o 
 
   -- what is answered and left, with m in the lent number
   pub said-length : {v : Written} (m : ℕ) → w ≡ v →
-      (numberOf v ≡ numberOf (serialised b p out)) × ((o ≡ serialisedOut b p out) × (lengthOr v m ≡ lengthOr (serialised b p out) m))
-  said-length m h = (ap numberOf (written-as h), (bytes-as, ap (λ z. lengthOr z m) (written-as h)))
+      (writtenNumber v ≡ writtenNumber (serialised b p out)) × ((o ≡ serialisedOut b p out) × (lengthOr v m ≡ lengthOr (serialised b p out) m))
+  said-length m h = (ap writtenNumber (written-as h), (bytes-as, ap (λ z. lengthOr z m) (written-as h)))
 
 -- the filters of a REQ stand in four places
 pub four-parts : (s : List ℕ) (at : ℕ) {f : Filters} → f ≡ filtersAt s at → length (f .parts) ≡ 4
@@ -97,10 +97,10 @@ lent-as out e a b = rw (sym e) (a, b)
 
 -- ---- a message that was read
 module _ (s out : List ℕ) {m : Message} (e : m ≡ readOf s) where
-  pub read-lent : {l o : List ℕ} {x : ℕ} → rowOf m ≡ 0 → l ≡ messageNumbers s m → x ≡ lentRow 0 (length l) out → o ≡ lentOut 0 (length l) l out →
+  pub read-lent : {l o : List ℕ} {x : ℕ} → readNumber m ≡ 0 → l ≡ messageNumbers s m → x ≡ lentRow 0 (length l) out → o ≡ lentOut 0 (length l) l out →
       (x ≡ readRow s out) × (o ≡ readOut s out)
   read-lent z f a b =
-      let y : rowOf (readOf s) ≡ 0 = ap rowOf (sym e) ∙ z in
+      let y : readNumber (readOf s) ≡ 0 = ap readNumber (sym e) ∙ z in
       let g = f ∙ ap (messageNumbers s) e in
       rw (y, sym g) (a, b)
 

@@ -12,7 +12,7 @@ use Rattle.digest.specs.declared.Answer.the-variants.{Done, TooLong}
 use Rattle.digest.specs.declared.Sha256.{Sha256}
 use Rattle.digest.specs.declared.Updated.{Updated}
 use Rattle.digest.specs.declared.Finished.{Finished}
-use Rattle.digest.specs.State.{numberOf, countRow, updated, finished}
+use Rattle.digest.specs.State.{answerNumber, countRow, updated, finished}
 use Rattle.digest.specs.Bytes.{stateBytes, stateIn}
 use Rattle.capi.specs.Calls.{lentRow, lentOut}
 use Rattle.capi.specs.Digest.{stateLent, updateRow, updateOut, endRow, endOut}
@@ -33,35 +33,35 @@ module _ (st d : List ℕ) where
   unfolding updateRow updateOut
   update-short h = rw (lt-leb 104 (length st) h) (refl, refl)
 
-  module _ (long : 104 ≤ length st) {s : Sha256} {u : Updated} (e : s ≡ stateLent st) (f : u ≡ updated s d) (n : numberOf (u .answer) ≡ countRow (s .total + length d)) where
-    count : countRow (stateLent st .total + length d) ≡ numberOf (u .answer)
+  module _ (long : 104 ≤ length st) {s : Sha256} {u : Updated} (e : s ≡ stateLent st) (f : u ≡ updated s d) (n : answerNumber (u .answer) ≡ countRow (s .total + length d)) where
+    count : countRow (stateLent st .total + length d) ≡ answerNumber (u .answer)
     count = sym (n ∙ ap (λ (x : Sha256). countRow (x .total + length d)) e)
 
     pub update-refused : u .answer ≡ TooLong → (8 ≡ updateRow st d) × (st ≡ updateOut st d)
     unfolding updateRow updateOut
-    update-refused a = rw (le-leb 104 (length st) long, count ∙ ap numberOf a) (refl, refl)
+    update-refused a = rw (le-leb 104 (length st) long, count ∙ ap answerNumber a) (refl, refl)
 
     pub update-wrote : {b o : List ℕ} {r : ℕ} → u .answer ≡ Done → b ≡ stateBytes (u .state) → Puts st 0 b r o → (0 ≡ updateRow st d) × (o ≡ updateOut st d)
     unfolding updateRow updateOut
     update-wrote a g p =
         let k : u .state ≡ updated (stateLent st) d .state = ap (λ (x : Updated). x .state) (f ∙ ap (λ (x : Sha256). updated x d) e) in
-        rw (le-leb 104 (length st) long, count ∙ ap numberOf a, sym k, sym g) (refl, p .bytes)
+        rw (le-leb 104 (length st) long, count ∙ ap answerNumber a, sym k, sym g) (refl, p .bytes)
 
 module _ (st out : List ℕ) where
   pub end-short : length st < 104 → (13 ≡ endRow st out) × (out ≡ endOut st out)
   unfolding endRow endOut
   end-short h = rw (lt-leb 104 (length st) h) (refl, refl)
 
-  module _ (long : 104 ≤ length st) {s : Sha256} {u : Finished} (e : s ≡ stateLent st) (f : u ≡ finished s) (n : numberOf (u .answer) ≡ countRow (s .total)) where
-    total : countRow (stateLent st .total) ≡ numberOf (u .answer)
+  module _ (long : 104 ≤ length st) {s : Sha256} {u : Finished} (e : s ≡ stateLent st) (f : u ≡ finished s) (n : answerNumber (u .answer) ≡ countRow (s .total)) where
+    total : countRow (stateLent st .total) ≡ answerNumber (u .answer)
     total = sym (n ∙ ap (λ (x : Sha256). countRow (x .total)) e)
 
     pub end-refused : u .answer ≡ TooLong → (8 ≡ endRow st out) × (out ≡ endOut st out)
     unfolding endRow endOut
-    end-refused a = rw (le-leb 104 (length st) long) (lent-refused _ _ _ _ (sym (total ∙ ap numberOf a)) (λ q. omega (arith, q)))
+    end-refused a = rw (le-leb 104 (length st) long) (lent-refused _ _ _ _ (sym (total ∙ ap answerNumber a)) (λ q. omega (arith, q)))
 
     pub end-wrote : {o : List ℕ} {x : ℕ} → u .answer ≡ Done → x ≡ lentRow 0 32 out → o ≡ lentOut 0 32 (u .bytes) out → (x ≡ endRow st out) × (o ≡ endOut st out)
     unfolding endRow endOut
     end-wrote a b c =
         rw (le-leb 104 (length st) long)
-        (lent-on _ _ _ _ _ (total ∙ ap numberOf a) (ap (λ (x : Finished). x .bytes) (f ∙ ap finished e)) b c)
+        (lent-on _ _ _ _ _ (total ∙ ap answerNumber a) (ap (λ (x : Finished). x .bytes) (f ∙ ap finished e)) b c)

@@ -5,7 +5,7 @@ use Prim.Native.Nat.{ℕ}
 use Rattle.message.specs.declared.EventParts.{EventParts}
 use Rattle.message.specs.declared.FilterParts.{FilterParts}
 use Rattle.numbers.specs.Parts.{eventFrom, filtersFrom, filterCount}
-use Rattle.query.specs.Answer.{matched, listed, listedRow, numberOf}
+use Rattle.query.specs.Answer.{matched, listed, listedRow, listingNumber}
 use Rattle.query.specs.declared.Matched.{Matched}
 use Rattle.query.specs.declared.Listing.{Listing}
 use Rattle.capi.specs.Query.{matchOf, matchedNumber, listOf, listOut, countOr}
@@ -17,7 +17,7 @@ said-match b e m l f g h a q = ap matchedNumber (sym q ∙ (rw (f, g, h) at a))
 -- with k in the lent number
 pub said-list : (t m l row : List ℕ) {fs : List FilterParts} {n : ℕ} {x v : Listing} {o : List ℕ} (k : ℕ) → fs ≡ filtersFrom l → n ≡ filterCount l →
     x ≡ listed t m fs n row → o ≡ listedRow t m fs n row → x ≡ v →
-    (numberOf v ≡ numberOf (listOf t m l row)) × ((o ≡ listOut t m l row) × (countOr v k ≡ countOr (listOf t m l row) k))
+    (listingNumber v ≡ listingNumber (listOf t m l row)) × ((o ≡ listOut t m l row) × (countOr v k ≡ countOr (listOf t m l row) k))
 said-list t m l row {v = v} k f g a b q =
     let z : v ≡ listOf t m l row = sym q ∙ (rw (f, g) at a) in
-    (ap numberOf z, (rw (f, g) at b, ap (λ (y : Listing). countOr y k) z))
+    (ap listingNumber z, (rw (f, g) at b, ap (λ (y : Listing). countOr y k) z))

@@ -8,7 +8,7 @@ use Rattle.table.specs.Sound.{sound}
 use Rattle.table.specs.Format.{shownRow}
 use Rattle.table.specs.Offer.{asParts, answer, next}
 use Rattle.table.specs.declared.Offered.{Offered}
-use Rattle.slots.specs.Shown.{shownAt, numberOf}
+use Rattle.slots.specs.Shown.{shownAt, shownNumber}
 use Rattle.slots.specs.declared.Shown.{Shown}
 use Rattle.capi.specs.Table.{soundRow, offeredNumber, shownPlace, shownLength}
 
@@ -26,7 +26,7 @@ offered-as t b e f g h =
     (f ∙ ap offeredNumber (g ∙ ap (λ (y : EventParts). answer t (asParts b y)) e), h ∙ ap (λ (y : EventParts). next t (asParts b y)) e)
 
 -- what is answered and left, with m and n in the lent numbers
-pub said-place : (t : List ℕ) (k : ℕ) {x v : Shown} (m n : ℕ) → x ≡ shownAt t k → numberOf x ≡ shownRow t k → x ≡ v →
-    (numberOf v ≡ shownRow t k) × ((shownPlace v m ≡ shownPlace (shownAt t k) m) × (shownLength v n ≡ shownLength (shownAt t k) n))
+pub said-place : (t : List ℕ) (k : ℕ) {x v : Shown} (m n : ℕ) → x ≡ shownAt t k → shownNumber x ≡ shownRow t k → x ≡ v →
+    (shownNumber v ≡ shownRow t k) × ((shownPlace v m ≡ shownPlace (shownAt t k) m) × (shownLength v n ≡ shownLength (shownAt t k) n))
 said-place t k m n e f h =
-    (sym (ap numberOf h) ∙ f, (ap (λ (z : Shown). shownPlace z m) (sym h ∙ e), ap (λ (z : Shown). shownLength z n) (sym h ∙ e)))
+    (sym (ap shownNumber h) ∙ f, (ap (λ (z : Shown). shownPlace z m) (sym h ∙ e), ap (λ (z : Shown). shownLength z n) (sym h ∙ e)))

@@ -5,9 +5,9 @@ use mathlib.Core.Bool.{cond}
 use lib.Dec.{eqb, leb}
 use lib.ListN.{length}
 use Rattle.wire.specs.Put.{put}
-use Rattle.message.specs.Read.{readOf, rowOf}
+use Rattle.message.specs.Read.{readOf, readNumber}
 use Rattle.text.specs.Read.{readText}
-use Rattle.text.specs.Answer.{answerOf, numberOf}
+use Rattle.text.specs.Answer.{textAnswerOf, textNumber}
 use Rattle.event.specs.Answer.{identified, serialised, serialisedOut}
 use Rattle.event.specs.Answer as written
 use Rattle.event.specs.declared.Written.{Written}
@@ -25,22 +25,22 @@ lentOut r k l out = cond (eqb r 0) (cond (leb k (length out)) (put out 0 l) out)
 
 -- ---- a message read: rows 1 to 8, then its parts, which need no more room than they take
 abbrev pub readRow : List ℕ → List ℕ → Row
-readRow s out = lentRow (rowOf (readOf s)) (length (messageNumbers s (readOf s))) out
+readRow s out = lentRow (readNumber (readOf s)) (length (messageNumbers s (readOf s))) out
 
 abbrev pub readOut : List ℕ → List ℕ → List ℕ
-readOut s out = lentOut (rowOf (readOf s)) (length (messageNumbers s (readOf s))) (messageNumbers s (readOf s)) out
+readOut s out = lentOut (readNumber (readOf s)) (length (messageNumbers s (readOf s))) (messageNumbers s (readOf s)) out
 
 -- ---- a text read back: rows 9 and 5, then its parts
 abbrev pub readTextRow : List ℕ → List ℕ → Row
-readTextRow t out = lentRow (numberOf (answerOf (readText t))) 7 out
+readTextRow t out = lentRow (textNumber (textAnswerOf (readText t))) 7 out
 
 abbrev pub readTextOut : List ℕ → List ℕ → List ℕ
-readTextOut t out = lentOut (numberOf (answerOf (readText t))) 7 (answerNumbers (answerOf (readText t))) out
+readTextOut t out = lentOut (textNumber (textAnswerOf (readText t))) 7 (answerNumbers (textAnswerOf (readText t))) out
 
 -- ---- an event's text, of the parts that a row of numbers e gives: rows 2 and 4 to 9, then 13. Its length goes to a number of its own, which stays
 -- on a refusal
 abbrev pub serialiseRow : (b e out : List ℕ) → Row
-serialiseRow b e out = written.numberOf (serialised b (eventFrom e .body) out)
+serialiseRow b e out = written.writtenNumber (serialised b (eventFrom e .body) out)
 
 abbrev pub serialiseOut : (b e out : List ℕ) → List ℕ
 serialiseOut b e out = serialisedOut b (eventFrom e .body) out

@@ -14,7 +14,7 @@ use Rattle.message.specs.declared.ReqParts.{ReqParts}
 use Rattle.message.specs.declared.Message.the-variants.{Event, Req}
 use Rattle.numbers.specs.Parts.{eventFrom, filtersFrom, filterCount}
 use Rattle.table.specs.Sound.{sound}
-use Rattle.query.specs.Answer.{filtersAt, answerList, answerTo, listingRow}
+use Rattle.query.specs.Answer.{filtersMeant, answerList, answerTo, listingRow}
 use Rattle.capi.specs.Calls.{readRow, readOut}
 use Rattle.capi.specs.Digest.{startOut, updateOut, endOut}
 
@@ -25,9 +25,9 @@ ReadOffered = (s out : List ℕ) (p : EventParts) → readOf s ≡ Event p → r
 
 -- a REQ: what is listed is the message's own answer, and no row but 11 and 13 refuses it
 pub record Answered (t s : List ℕ) (r : ReqParts) (l row : List ℕ) : Type 0 where
-  pub slots : answerTo t s (filtersFrom l) (filterCount l) ≡ answerList t (filtersAt s (r .filters))
+  pub slots : answerTo t s (filtersFrom l) (filterCount l) ≡ answerList t (filtersMeant s (r .filters))
   pub number : listingRow t s (filtersFrom l) (filterCount l) row
-      ≡ cond (sound t) (cond (ltb (length row) (length (answerList t (filtersAt s (r .filters))))) 13 0) 11
+      ≡ cond (sound t) (cond (ltb (length row) (length (answerList t (filtersMeant s (r .filters))))) 13 0) 11
 
 abbrev pub ReadListed : Type 0
 ReadListed = (t s out row : List ℕ) (r : ReqParts) → readOf s ≡ Req r → readRow s out ≡ 0 → Answered t s r (readOut s out) row

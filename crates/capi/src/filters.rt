@@ -1,6 +1,6 @@
 // Filters, as the numbers of a REQ, and events, as those of an EVENT, that plavdrosa_read writes.
 ghost use mathlib.Core.Path.{_≡_};
-ghost use Rattle.query.specs.Answer.{numberOf};
+ghost use Rattle.query.specs.Answer.{listingNumber};
 ghost use Rattle.capi.specs.Query.{matchOf, matchedNumber, listOf, listOut, countOr};
 
 // Whether an event over `bytes` matches some of the filters over `message`: 0 if it does, 103 if it does not, or the row that refuses the parts.
@@ -33,7 +33,7 @@ pub extern "C" fn plavdrosa_list(
     row: &mut [u16],
     count: &mut usize,
 ) -> u8
-    ensures { λ r. ⌜ r ≡ numberOf (listOf (now (table .entry)) (now (message .entry)) (now (request .entry)) (now (row .entry))) ⌝ }
+    ensures { λ r. ⌜ r ≡ listingNumber (listOf (now (table .entry)) (now (message .entry)) (now (request .entry)) (now (row .entry))) ⌝ }
     ensures { λ _. ⌜ now (row .exit) ≡ listOut (now (table .entry)) (now (message .entry)) (now (request .entry)) (now (row .entry)) ⌝ }
     ensures { λ _. ⌜ now (count .exit) ≡ countOr (listOf (now (table .entry)) (now (message .entry)) (now (request .entry)) (now (row .entry))) (now (count .entry)) ⌝ }
 {

@@ -6,7 +6,7 @@ use Prim.Native.Nat.{ℕ, _≤_, _<_}
 use native.Mathlib.Omega.{arith}
 use borrow.Author.Tests.{le-leb, lt-leb, eq-eqb, ne-eqb}
 use Rattle.message.specs.declared.Span.{Span}
-use Rattle.event.specs.Answer.{numberOf}
+use Rattle.event.specs.Answer.{writtenNumber}
 use Rattle.event.specs.declared.Written.{Written}
 use Rattle.reply.specs.Feed.{turned, turnRow, turnedNumber}
 use Rattle.reply.specs.Respond.{sentEvents, eventsRow, sentNumber}
@@ -16,7 +16,7 @@ use Rattle.reply.specs.declared.Sent.{Sent}
 use Rattle.reply.specs.declared.ReplyParts.{ReplyParts}
 use Rattle.capi.specs.Calls.{lengthOr}
 use Rattle.capi_relay.specs.Counts.{usedOr, keptOr, writtenOr, bytesOr, slotsOr}
-use Rattle.capi_relay.specs.Reply.{formOf, isForm, replyFrom, writtenReply, writtenReplyOut}
+use Rattle.capi_relay.specs.Reply.{replyForm, isForm, replyFrom, writtenReply, writtenReplyOut}
 
 -- with m in the lent number
 pub length-as : {x y : Written} {l : ℕ} (m : ℕ) → l ≡ lengthOr x m → x ≡ y → l ≡ lengthOr y m
@@ -44,34 +44,34 @@ said-sent b ks m s out {v = v} w n e f h =
     (sym (ap sentNumber h) ∙ f, (ap (λ (y : Sent). bytesOr y w) z, ap (λ (y : Sent). slotsOr y n) z))
 
 -- ---- a reply of numbers, of which the first is f
-module _ (l : List ℕ) {f : ℕ} (e : f ≡ formOf l) where
-  pub form-zero : f ≡ 0 → isForm (formOf l) ≡ false
-  form-zero h = rw (eq-eqb (formOf l) 0 (sym e ∙ h)) refl
+module _ (l : List ℕ) {f : ℕ} (e : f ≡ replyForm l) where
+  pub form-zero : f ≡ 0 → isForm (replyForm l) ≡ false
+  form-zero h = rw (eq-eqb (replyForm l) 0 (sym e ∙ h)) refl
 
-  pub form-over : 5 < f → isForm (formOf l) ≡ false
+  pub form-over : 5 < f → isForm (replyForm l) ≡ false
   form-over h =
-      let k : 5 < formOf l = rw (sym e) h in
-      rw (ne-eqb (formOf l) 0 (λ q. omega arith), lt-leb (formOf l) 5 k) refl
+      let k : 5 < replyForm l = rw (sym e) h in
+      rw (ne-eqb (replyForm l) 0 (λ q. omega arith), lt-leb (replyForm l) 5 k) refl
 
-  pub form-in : (f ≡ 0 → ⊥) → f ≤ 5 → isForm (formOf l) ≡ true
+  pub form-in : (f ≡ 0 → ⊥) → f ≤ 5 → isForm (replyForm l) ≡ true
   form-in n h =
-      let k : formOf l ≤ 5 = rw (sym e) h in
-      rw (ne-eqb (formOf l) 0 (λ q. n (e ∙ q)), le-leb (formOf l) 5 k) refl
+      let k : replyForm l ≤ 5 = rw (sym e) h in
+      rw (ne-eqb (replyForm l) 0 (λ q. n (e ∙ q)), le-leb (replyForm l) 5 k) refl
 
 module _ (b l out : List ℕ) where
-  pub no-form : (m : ℕ) → isForm (formOf l) ≡ false →
-      (5 ≡ numberOf (writtenReply b l out)) × ((out ≡ writtenReplyOut b l out) × (m ≡ lengthOr (writtenReply b l out) m))
+  pub no-form : (m : ℕ) → isForm (replyForm l) ≡ false →
+      (5 ≡ writtenNumber (writtenReply b l out)) × ((out ≡ writtenReplyOut b l out) × (m ≡ lengthOr (writtenReply b l out) m))
   unfolding writtenReply writtenReplyOut
   no-form m h = rw h (refl, (refl, refl))
 
-  some-form : {p : ReplyParts} {x : Written} {o : List ℕ} → isForm (formOf l) ≡ true → p ≡ replyFrom (formOf l) l → x ≡ replied b p out →
+  some-form : {p : ReplyParts} {x : Written} {o : List ℕ} → isForm (replyForm l) ≡ true → p ≡ replyFrom (replyForm l) l → x ≡ replied b p out →
       o ≡ repliedOut b p out → (x ≡ writtenReply b l out) × (o ≡ writtenReplyOut b l out)
   unfolding writtenReply writtenReplyOut
   some-form h e a c = rw (h, sym e) (a, c)
 
-  pub said-form : {f : ℕ} {p : ReplyParts} {x : Written} {o : List ℕ} {r n : ℕ} (m : ℕ) → f ≡ formOf l → isForm (formOf l) ≡ true →
-      p ≡ replyFrom f l → x ≡ replied b p out → o ≡ repliedOut b p out → r ≡ numberOf x → n ≡ lengthOr x m →
-      (r ≡ numberOf (writtenReply b l out)) × ((o ≡ writtenReplyOut b l out) × (n ≡ lengthOr (writtenReply b l out) m))
+  pub said-form : {f : ℕ} {p : ReplyParts} {x : Written} {o : List ℕ} {r n : ℕ} (m : ℕ) → f ≡ replyForm l → isForm (replyForm l) ≡ true →
+      p ≡ replyFrom f l → x ≡ replied b p out → o ≡ repliedOut b p out → r ≡ writtenNumber x → n ≡ lengthOr x m →
+      (r ≡ writtenNumber (writtenReply b l out)) × ((o ≡ writtenReplyOut b l out) × (n ≡ lengthOr (writtenReply b l out) m))
   said-form m g h e a c r n =
       let z = some-form h (e ∙ ap (λ y. replyFrom y l) g) a c in
-      (r ∙ ap numberOf (z .0), (z .1, length-as m n (z .0)))
+      (r ∙ ap writtenNumber (z .0), (z .1, length-as m n (z .0)))

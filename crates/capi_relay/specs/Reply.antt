@@ -14,8 +14,8 @@ use Rattle.reply.specs.declared.ReplyParts.the-variants as parts
 use Rattle.numbers.specs.Parts.{numberFrom, rowFrom, spanFrom, eventFrom}
 
 -- a string part lent as two numbers
-abbrev pub spanOf : ℕ → ℕ → Span
-spanOf a n = record { start = a; len = n }
+abbrev pub spanOfNumbers : ℕ → ℕ → Span
+spanOfNumbers a n = record { start = a; len = n }
 
 abbrev pub nameFrom : List ℕ → Span
 nameFrom l = spanFrom (rowFrom l 1) 0
@@ -26,8 +26,8 @@ reasonFrom l = spanFrom (rowFrom l 3) 0
 abbrev pub acceptedIn : List ℕ → Bool
 acceptedIn l = cond (eqb (numberFrom l 5) 0) false true
 
-abbrev pub formOf : List ℕ → ℕ
-formOf l = numberFrom l 0
+abbrev pub replyForm : List ℕ → ℕ
+replyForm l = numberFrom l 0
 
 abbrev pub isForm : ℕ → Bool
 isForm f = cond (eqb f 0) false (leb f 5)
@@ -42,7 +42,7 @@ replyFrom f l =
 
 -- the reply written; a row of no form is refused by 5, "wrong shape", before all else
 unfoldable pub writtenReply : (b l out : List ℕ) → Written
-writtenReply b l out = cond (isForm (formOf l)) (replied b (replyFrom (formOf l) l) out) (sent.Refused 5)
+writtenReply b l out = cond (isForm (replyForm l)) (replied b (replyFrom (replyForm l) l) out) (sent.Refused 5)
 
 unfoldable pub writtenReplyOut : (b l out : List ℕ) → List ℕ
-writtenReplyOut b l out = cond (isForm (formOf l)) (repliedOut b (replyFrom (formOf l) l) out) out
+writtenReplyOut b l out = cond (isForm (replyForm l)) (repliedOut b (replyFrom (replyForm l) l) out) out

@@ -1,15 +1,15 @@
 // The calls that answer messages and write replies, for Rust or C to link (`rt staticlib capi_relay`), in the manner of crate capi: a count or a
 // length goes to a lent number, and on a refusal every lent number stays as found.
 ghost use mathlib.Core.Path.{_≡_};
-ghost use Rattle.event.specs.Answer.{numberOf};
+ghost use Rattle.event.specs.Answer.{writtenNumber};
 ghost use Rattle.text.specs.Kinds.{classOf};
 ghost use Rattle.reply.specs.Respond.{responded, respondRow, respondedOut, respondedTable, slotEvent, slotEventRow, slotEventOut, sentEvents, eventsRow, sentEventsOut};
 ghost use Rattle.reply.specs.Feed.{turned, turnRow, turnTable, turnLine, turnOut};
-ghost use Rattle.feed.specs.Finish.{finished, finishRow, finishTable, finishOut};
+ghost use Rattle.feed.specs.Finish.{feedFinished, finishRow, finishTable, finishOut};
 ghost use Rattle.responses.specs.Refused.{refusedReply, refusedRow, refusedOut};
 ghost use Rattle.capi.specs.Calls.{lengthOr};
 ghost use Rattle.capi_relay.specs.Counts.{usedOr, keptOr, writtenOr, bytesOr, slotsOr, classNumber};
-ghost use Rattle.capi_relay.specs.Reply.{spanOf, writtenReply, writtenReplyOut};
+ghost use Rattle.capi_relay.specs.Reply.{spanOfNumbers, writtenReply, writtenReplyOut};
 
 mod given;
 
@@ -21,7 +21,7 @@ use text::Class;
 
 // The number of what was answered; how many bytes were written goes to `written`.
 fn told(x: Written, written: &mut usize) -> u8
-    ensures { λ r. ⌜ r ≡ numberOf x ⌝ }
+    ensures { λ r. ⌜ r ≡ writtenNumber x ⌝ }
     ensures { λ _. ⌜ now (written .exit) ≡ lengthOr x (now (written .entry)) ⌝ }
 {
     match x {
@@ -94,7 +94,7 @@ pub extern "C" fn plavdrosa_finish(
     ensures { λ r. ⌜ r ≡ finishRow (now (table .entry)) (now (line .entry)) kept (now (out .entry)) ⌝ }
     ensures { λ _. ⌜ now (table .exit) ≡ finishTable (now (table .entry)) (now (line .entry)) kept (now (out .entry)) ⌝ }
     ensures { λ _. ⌜ now (out .exit) ≡ finishOut (now (table .entry)) (now (line .entry)) kept (now (out .entry)) ⌝ }
-    ensures { λ _. ⌜ now (written .exit) ≡ lengthOr (finished (now (table .entry)) (now (line .entry)) kept (now (out .entry))) (now (written .entry)) ⌝ }
+    ensures { λ _. ⌜ now (written .exit) ≡ lengthOr (feedFinished (now (table .entry)) (now (line .entry)) kept (now (out .entry))) (now (written .entry)) ⌝ }
 {
     let x = feed::finish(table, line, kept, out);
     told(x, written)
@@ -128,9 +128,9 @@ pub extern "C" fn plavdrosa_slot_event(
     out: &mut [u8],
     written: &mut usize,
 ) -> u8
-    ensures { λ r. ⌜ r ≡ slotEventRow (now (table .entry)) slot (now (message .entry)) (spanOf subscription «subscription_len») (now (out .entry)) ⌝ }
-    ensures { λ _. ⌜ now (out .exit) ≡ slotEventOut (now (table .entry)) slot (now (message .entry)) (spanOf subscription «subscription_len») (now (out .entry)) ⌝ }
-    ensures { λ _. ⌜ now (written .exit) ≡ lengthOr (slotEvent (now (table .entry)) slot (now (message .entry)) (spanOf subscription «subscription_len») (now (out .entry))) (now (written .entry)) ⌝ }
+    ensures { λ r. ⌜ r ≡ slotEventRow (now (table .entry)) slot (now (message .entry)) (spanOfNumbers subscription «subscription_len») (now (out .entry)) ⌝ }
+    ensures { λ _. ⌜ now (out .exit) ≡ slotEventOut (now (table .entry)) slot (now (message .entry)) (spanOfNumbers subscription «subscription_len») (now (out .entry)) ⌝ }
+    ensures { λ _. ⌜ now (written .exit) ≡ lengthOr (slotEvent (now (table .entry)) slot (now (message .entry)) (spanOfNumbers subscription «subscription_len») (now (out .entry))) (now (written .entry)) ⌝ }
 {
     let sub = Span {
         start: subscription,
@@ -152,10 +152,10 @@ pub extern "C" fn plavdrosa_events(
     written: &mut usize,
     sent: &mut usize,
 ) -> u8
-    ensures { λ r. ⌜ r ≡ eventsRow (now (table .entry)) (now (slots .entry)) (now (message .entry)) (spanOf subscription «subscription_len») (now (out .entry)) ⌝ }
-    ensures { λ _. ⌜ now (out .exit) ≡ sentEventsOut (now (table .entry)) (now (slots .entry)) (now (message .entry)) (spanOf subscription «subscription_len») (now (out .entry)) ⌝ }
-    ensures { λ _. ⌜ now (written .exit) ≡ bytesOr (sentEvents (now (table .entry)) (now (slots .entry)) (now (message .entry)) (spanOf subscription «subscription_len») (now (out .entry))) (now (written .entry)) ⌝ }
-    ensures { λ _. ⌜ now (sent .exit) ≡ slotsOr (sentEvents (now (table .entry)) (now (slots .entry)) (now (message .entry)) (spanOf subscription «subscription_len») (now (out .entry))) (now (sent .entry)) ⌝ }
+    ensures { λ r. ⌜ r ≡ eventsRow (now (table .entry)) (now (slots .entry)) (now (message .entry)) (spanOfNumbers subscription «subscription_len») (now (out .entry)) ⌝ }
+    ensures { λ _. ⌜ now (out .exit) ≡ sentEventsOut (now (table .entry)) (now (slots .entry)) (now (message .entry)) (spanOfNumbers subscription «subscription_len») (now (out .entry)) ⌝ }
+    ensures { λ _. ⌜ now (written .exit) ≡ bytesOr (sentEvents (now (table .entry)) (now (slots .entry)) (now (message .entry)) (spanOfNumbers subscription «subscription_len») (now (out .entry))) (now (written .entry)) ⌝ }
+    ensures { λ _. ⌜ now (sent .exit) ≡ slotsOr (sentEvents (now (table .entry)) (now (slots .entry)) (now (message .entry)) (spanOfNumbers subscription «subscription_len») (now (out .entry))) (now (sent .entry)) ⌝ }
 {
     let sub = Span {
         start: subscription,
@@ -179,7 +179,7 @@ pub extern "C" fn plavdrosa_reply(
     out: &mut [u8],
     written: &mut usize,
 ) -> u8
-    ensures { λ r. ⌜ r ≡ numberOf (writtenReply (now (bytes .entry)) (now (reply .entry)) (now (out .entry))) ⌝ }
+    ensures { λ r. ⌜ r ≡ writtenNumber (writtenReply (now (bytes .entry)) (now (reply .entry)) (now (out .entry))) ⌝ }
     ensures { λ _. ⌜ now (out .exit) ≡ writtenReplyOut (now (bytes .entry)) (now (reply .entry)) (now (out .entry)) ⌝ }
     ensures { λ _. ⌜ now (written .exit) ≡ lengthOr (writtenReply (now (bytes .entry)) (now (reply .entry)) (now (out .entry))) (now (written .entry)) ⌝ }
 {

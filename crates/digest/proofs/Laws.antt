@@ -9,8 +9,8 @@ use Rattle.digest.specs.declared.Sha256.{Sha256}
 use Rattle.digest.specs.declared.Updated.{Updated}
 use Rattle.digest.specs.declared.Finished.{Finished}
 use Rattle.digest.specs.declared.Digest.{Digest}
-use Rattle.digest.specs.Block.{at, wordAt, next}
-use Rattle.digest.specs.State.{numberOf, countRow, updated, finished, digested}
+use Rattle.digest.specs.Block.{at, blockWord, nextWord}
+use Rattle.digest.specs.State.{answerNumber, countRow, updated, finished, digested}
 use Rattle.digest.specs.Claims.{update-number, finish-number, digest-number}
 
 -- the first n elements, one more of them
@@ -18,7 +18,7 @@ pub filled : (w : List ℕ) (n m v : ℕ) {f : List ℕ} → take n w ≡ f → 
 filled w n m v {f} e em h = rw (em, take-suc-set w n v, e)
 
 -- the next word of the schedule reads only the first k + 16
-pub next-take : (w : List ℕ) (k : ℕ) → next w k ≡ next (take (k + 16) w) k
+pub next-take : (w : List ℕ) (k : ℕ) → nextWord w k ≡ nextWord (take (k + 16) w) k
 next-take w k =
     rw (
       getD-take (k + 16) w (k + 14) 0 (omega arith),
@@ -31,7 +31,7 @@ next-take w k =
 at-part : (l : List ℕ) (n j k : ℕ) → j < 64 → k ≡ n + j → at (take 64 (drop n l)) j ≡ at l k
 at-part l n j k h e = rw (getD-take 64 (drop n l) j 0, getD-drop, e)
 
-pub word-part : (l : List ℕ) (n i : ℕ) → i < 16 → wordAt (take 64 (drop n l)) (4 * i) ≡ wordAt l (n + 4 * i)
+pub word-part : (l : List ℕ) (n i : ℕ) → i < 16 → blockWord (take 64 (drop n l)) (4 * i) ≡ blockWord l (n + 4 * i)
 word-part l n i h =
     rw (
       at-part l n (4 * i) (n + 4 * i) (omega arith) (omega arith),
@@ -71,11 +71,11 @@ pub begun : (z m : ℕ) → m ≡ suc z → z ≤ 71 → take {A = ℕ} m (0x80 
 begun z m e h = rw (e, append-nil, take-zeros z 71)
 
 -- an answer that is the definition's has its number
-pub updates : {u : Updated} (s : Sha256) (d : List ℕ) → u ≡ updated s d → (u ≡ updated s d) × (numberOf (u .answer) ≡ countRow (s .total + length d))
-updates s d e = (e, ap (λ (u : Updated). numberOf (u .answer)) e ∙ update-number s d)
+pub updates : {u : Updated} (s : Sha256) (d : List ℕ) → u ≡ updated s d → (u ≡ updated s d) × (answerNumber (u .answer) ≡ countRow (s .total + length d))
+updates s d e = (e, ap (λ (u : Updated). answerNumber (u .answer)) e ∙ update-number s d)
 
-pub finishes : {f : Finished} (s : Sha256) → f ≡ finished s → (f ≡ finished s) × (numberOf (f .answer) ≡ countRow (s .total))
-finishes s e = (e, ap (λ (f : Finished). numberOf (f .answer)) e ∙ finish-number s)
+pub finishes : {f : Finished} (s : Sha256) → f ≡ finished s → (f ≡ finished s) × (answerNumber (f .answer) ≡ countRow (s .total))
+finishes s e = (e, ap (λ (f : Finished). answerNumber (f .answer)) e ∙ finish-number s)
 
-pub digests : {r : Digest} (l : List ℕ) → r ≡ digested l → (r ≡ digested l) × (numberOf (r .answer) ≡ countRow (length l))
-digests l e = (e, ap (λ (r : Digest). numberOf (r .answer)) e ∙ digest-number l)
+pub digests : {r : Digest} (l : List ℕ) → r ≡ digested l → (r ≡ digested l) × (answerNumber (r .answer) ≡ countRow (length l))
+digests l e = (e, ap (λ (r : Digest). answerNumber (r .answer)) e ∙ digest-number l)

@@ -8,11 +8,11 @@ use native.Mathlib.Omega.{arith}
 use lib.ListN.{length, take, drop, length-append, List·getD-append}
 use lib.Seq.{take-suc, take-all, take-at, drop-at, getD-at, getD-append-add}
 use Rattle.digest.specs.declared.Sha256.{Sha256}
-use Rattle.digest.specs.Block.{H0, at, wordAt, words, chained, compress}
+use Rattle.digest.specs.Block.{H0, at, blockWord, words, chained, compress}
 use Rattle.digest.specs.State.{firstBytes, stateAfter, stateOf}
 use Rattle.digest.specs.Parts.{first-take, length-first}
 use Rattle.digest.specs.Bytes.{stateBytes, totalIn, stateIn}
-use Rattle.digest.specs.Digest.{byteOf, bytesOf, hashAfter, blocks, rest, digestByte, digestBytes}
+use Rattle.digest.specs.Digest.{byteOf, bigEndian, hashAfter, blocks, rest, digestByte, digestBytes}
 
 -- a list that is made of an element more at each step
 module _ (f : ℕ → List ℕ) (g : ℕ → ℕ) (none : f 0 ≡ []) (more : (i : ℕ) → f (suc i) ≡ f i ++ (g i ∷ [])) where
@@ -28,13 +28,13 @@ module _ (f : ℕ → List ℕ) (g : ℕ → ℕ) (none : f 0 ≡ []) (more : (i
       go (yes k) e = List·getD-append (f n) (g n ∷ []) 0 i (omega (arith, grown-length n)) ∙ e k
       go (no k) e = let q : i ≡ n = omega arith in rw q (getD-at (f n) (g n) [] 0 n (grown-length n))
 
-pub length-bytes : (x n : ℕ) → length (bytesOf x n) ≡ n
-unfolding bytesOf
-length-bytes x n = grown-length (bytesOf x) (byteOf x) refl (λ i. refl) n
+pub length-bytes : (x n : ℕ) → length (bigEndian x n) ≡ n
+unfolding bigEndian
+length-bytes x n = grown-length (bigEndian x) (byteOf x) refl (λ i. refl) n
 
-pub at-bytes : (x n i : ℕ) → i < n → at (bytesOf x n) i ≡ byteOf x i
-unfolding bytesOf
-at-bytes x n i h = grown-at (bytesOf x) (byteOf x) refl (λ i. refl) n i h
+pub at-bytes : (x n i : ℕ) → i < n → at (bigEndian x n) i ≡ byteOf x i
+unfolding bigEndian
+at-bytes x n i h = grown-at (bigEndian x) (byteOf x) refl (λ i. refl) n i h
 
 pub length-hash : (w : List ℕ) (n : ℕ) → length (digestBytes w n) ≡ n
 unfolding digestBytes
@@ -86,7 +86,7 @@ module _ (w x : List ℕ) (h : HashValue w) where
       let f : (4 * t + j) % 4 ≡ j = omega arith in
       at-front (4 * t + j) (omega arith) ∙ rw (e, f) refl
 
-  word-back : (t : ℕ) → t < 8 → wordAt written (4 * t) ≡ at w t
+  word-back : (t : ℕ) → t < 8 → blockWord written (4 * t) ≡ at w t
   word-back t k =
       let a = at-word t 1 k (omega arith) in
       let b = at-word t 2 k (omega arith) in
@@ -104,29 +104,29 @@ module _ (w x : List ℕ) (h : HashValue w) where
 
 -- ---- the count
 module _ (a : List ℕ) (x : ℕ) (long : length a ≡ 96) where
-  at-count : (i : ℕ) → i < 8 → at (a ++ bytesOf x 8) (96 + i) ≡ byteOf x i
+  at-count : (i : ℕ) → i < 8 → at (a ++ bigEndian x 8) (96 + i) ≡ byteOf x i
   at-count i k =
       let e : 96 + i ≡ length a + i = omega arith in
-      ap (at (a ++ bytesOf x 8)) e ∙ getD-append-add a (bytesOf x 8) i 0 ∙ at-bytes x 8 i k
+      ap (at (a ++ bigEndian x 8)) e ∙ getD-append-add a (bigEndian x 8) i 0 ∙ at-bytes x 8 i k
 
-  low : wordAt (a ++ bytesOf x 8) 100 ≡ x % 2 ^ 32
+  low : blockWord (a ++ bigEndian x 8) 100 ≡ x % 2 ^ 32
   low = rw (at-count 4 (omega arith), at-count 5 (omega arith), at-count 6 (omega arith), at-count 7 (omega arith)) (four x (x / 2 ^ 0) (omega arith))
 
-  high : wordAt (a ++ bytesOf x 8) 96 ≡ x / 2 ^ 32 % 2 ^ 32
+  high : blockWord (a ++ bigEndian x 8) 96 ≡ x / 2 ^ 32 % 2 ^ 32
   high =
       rw (at-count 0 (omega arith), at-count 1 (omega arith), at-count 2 (omega arith), at-count 3 (omega arith), above-5 x, above-4 x, above-3 x)
       (four (x / 2 ^ 32) (x / 2 ^ 32) refl)
 
-  total-back : x < 2 ^ 64 → totalIn (a ++ bytesOf x 8) ≡ x
+  total-back : x < 2 ^ 64 → totalIn (a ++ bigEndian x 8) ≡ x
   total-back h = rw (low, high) (omega arith)
 
 -- ---- a state whose fields have the widths of the struct's
 pub state-back : (s : Sha256) → HashValue (s .words) → length (s .block) ≡ 64 → s .total < 2 ^ 64 → stateIn (stateBytes s) ≡ s
 unfolding stateBytes stateIn
 state-back s w b t =
-    let x : List ℕ = s .block ++ bytesOf (s .total) 8 in
+    let x : List ℕ = s .block ++ bigEndian (s .total) 8 in
     let d : drop 32 (digestBytes (s .words) 32 ++ x) ≡ x = drop-at (digestBytes (s .words) 32) x 32 (length-hash (s .words) 32) in
-    let f : firstBytes x 64 ≡ s .block = first-take x 64 (simp length-append (omega (arith, length-bytes (s .total) 8))) ∙ take-at (s .block) (bytesOf (s .total) 8) 64 b in
+    let f : firstBytes x 64 ≡ s .block = first-take x 64 (simp length-append (omega (arith, length-bytes (s .total) 8))) ∙ take-at (s .block) (bigEndian (s .total) 8) 64 b in
     let l : length (digestBytes (s .words) 32 ++ s .block) ≡ 96 = simp (length-append, length-hash, b) in
     let e : totalIn (digestBytes (s .words) 32 ++ x) ≡ s .total =
     rw (← append-assoc) (total-back (digestBytes (s .words) 32 ++ s .block) (s .total) l t) in

@@ -27,22 +27,22 @@ H0 =
     0x6a09e667 ∷ 0xbb67ae85 ∷ 0x3c6ef372 ∷ 0xa54ff53a ∷ 0x510e527f ∷ 0x9b05688c ∷ 0x1f83d9ab ∷ 0x5be0cd19 ∷ []
 
 -- section 3.1: the word in the four bytes from i on, the first byte the most significant
-abbrev pub wordAt : List ℕ → ℕ → ℕ
-wordAt b i = at b i * 0x1000000 + at b (i + 1) * 0x10000 + at b (i + 2) * 0x100 + at b (i + 3)
+abbrev pub blockWord : List ℕ → ℕ → ℕ
+blockWord b i = at b i * 0x1000000 + at b (i + 1) * 0x10000 + at b (i + 2) * 0x100 + at b (i + 3)
 
 -- section 5.2.1: the first t words of a block
 unfoldable pub words : List ℕ → ℕ → List ℕ
 words b zero = []
-words b (suc t) = words b t ++ (wordAt b (4 * t) ∷ [])
+words b (suc t) = words b t ++ (blockWord b (4 * t) ∷ [])
 
 -- section 6.2.2, step 1: the word W_t of the schedule at t = k + 16, from the words before it
-abbrev pub next : List ℕ → ℕ → ℕ
-next W k = plus (plus (plus (σ1 (at W (k + 14))) (at W (k + 9))) (σ0 (at W (k + 1)))) (at W k)
+abbrev pub nextWord : List ℕ → ℕ → ℕ
+nextWord W k = plus (plus (plus (σ1 (at W (k + 14))) (at W (k + 9))) (σ0 (at W (k + 1)))) (at W k)
 
 -- the first k + 16 words of the schedule of a block's words M
 unfoldable pub schedule : List ℕ → ℕ → List ℕ
 schedule M zero = M
-schedule M (suc k) = schedule M k ++ (next (schedule M k) k ∷ [])
+schedule M (suc k) = schedule M k ++ (nextWord (schedule M k) k ∷ [])
 
 -- step 3: T1, T2 and a round, at the constant k and the schedule's word w. The working variables a to h are the list s
 abbrev pub T1 : (k w : ℕ) (s : List ℕ) → ℕ

@@ -5,7 +5,7 @@ use mathlib.Core.List.{List, _++_}
 use lib.ListN.{drop}
 use Rattle.digest.specs.declared.Sha256.{Sha256}
 use Rattle.digest.specs.Block as block
-use Rattle.digest.specs.Digest.{bytesOf, digestBytes}
+use Rattle.digest.specs.Digest.{bigEndian, digestBytes}
 use Rattle.digest.specs.State.{firstBytes}
 
 -- how many bytes that is
@@ -13,11 +13,11 @@ abbrev pub stateSize : ℕ
 stateSize = 104
 
 unfoldable pub stateBytes : Sha256 → List ℕ
-stateBytes s = digestBytes (s .words) 32 ++ (s .block ++ bytesOf (s .total) 8)
+stateBytes s = digestBytes (s .words) 32 ++ (s .block ++ bigEndian (s .total) 8)
 
 -- the number in the eight bytes from 96 on
 abbrev pub totalIn : List ℕ → ℕ
-totalIn l = block.wordAt l 96 * 2 ^ 32 + block.wordAt l 100
+totalIn l = block.blockWord l 96 * 2 ^ 32 + block.blockWord l 100
 
 unfoldable pub stateIn : List ℕ → Sha256
 stateIn l = record { words = block.words l 8; block = firstBytes (drop 32 l) 64; total = totalIn l }

@@ -16,7 +16,7 @@ use Rattle.digest.specs.declared.Finished.{Finished}
 use Rattle.digest.specs.declared.Digest.{Digest}
 use Rattle.digest.specs.Block.{H0}
 use Rattle.digest.specs.Digest.{padding, padded, hashed, rest, digestBytes, digest}
-use Rattle.digest.specs.State.{numberOf, most, pick, countRow, waiting, stateAfter, stateOf, updated, finished, digested}
+use Rattle.digest.specs.State.{answerNumber, most, pick, countRow, waiting, stateAfter, stateOf, updated, finished, digested}
 use Rattle.digest.specs.Parts.{waits, hashed-more, state-more}
 
 -- what the calls answer within the limit, for any state
@@ -62,33 +62,33 @@ unfolding stateAfter digest padded
 finish-stands l h = finish-done (stateOf l) h ∙ rw (still l, hashed-more H0 l (padding (length l)))
 
 -- the number of 01: 8 over the most bytes, else 0
-pub update-number : (s : Sha256) (d : List ℕ) → numberOf (updated s d .answer) ≡ countRow (s .total + length d)
+pub update-number : (s : Sha256) (d : List ℕ) → answerNumber (updated s d .answer) ≡ countRow (s .total + length d)
 unfolding updated
 update-number s d = go (leb (s .total + length d) most)
   where
     go : (t : Bool) →
-        numberOf (pick {A = Updated} t (record { answer = Done; state = stateAfter (s .words) (waiting s ++ d) (s .total + length d) }) (record { answer = TooLong; state = s }) .answer)
+        answerNumber (pick {A = Updated} t (record { answer = Done; state = stateAfter (s .words) (waiting s ++ d) (s .total + length d) }) (record { answer = TooLong; state = s }) .answer)
         ≡ pick t 0 8
     go true = refl
     go false = refl
 
-pub finish-number : (s : Sha256) → numberOf (finished s .answer) ≡ countRow (s .total)
+pub finish-number : (s : Sha256) → answerNumber (finished s .answer) ≡ countRow (s .total)
 unfolding finished
 finish-number s = go (leb (s .total) most)
   where
     go : (t : Bool) →
-        numberOf
+        answerNumber
         (pick {A = Finished} t (record { answer = Done; state = s; bytes = digestBytes (hashed (s .words) (waiting s ++ padding (s .total))) 32 })
         (record { answer = TooLong; state = s; bytes = replicate 32 0 }) .answer)
         ≡ pick t 0 8
     go true = refl
     go false = refl
 
-pub digest-number : (l : List ℕ) → numberOf (digested l .answer) ≡ countRow (length l)
+pub digest-number : (l : List ℕ) → answerNumber (digested l .answer) ≡ countRow (length l)
 unfolding digested
 digest-number l = go (leb (length l) most)
   where
-    go : (t : Bool) → numberOf (pick {A = Digest} t (record { answer = Done; bytes = digest l }) (record { answer = TooLong; bytes = replicate 32 0 }) .answer) ≡ pick t 0 8
+    go : (t : Bool) → answerNumber (pick {A = Digest} t (record { answer = Done; bytes = digest l }) (record { answer = TooLong; bytes = replicate 32 0 }) .answer) ≡ pick t 0 8
     go true = refl
     go false = refl
 

@@ -13,13 +13,13 @@ abbrev pub byteOf : ℕ → ℕ → ℕ
 byteOf x i = x / 2 ^ (8 * (7 - i)) % 256
 
 -- the first i of those bytes
-unfoldable pub bytesOf : ℕ → ℕ → List ℕ
-bytesOf x zero = []
-bytesOf x (suc i) = bytesOf x i ++ (byteOf x i ∷ [])
+unfoldable pub bigEndian : ℕ → ℕ → List ℕ
+bigEndian x zero = []
+bigEndian x (suc i) = bigEndian x i ++ (byteOf x i ∷ [])
 
 -- section 5.1.1: what is appended to a message of n bytes: the bit 1, zeros, and the length in bits
 unfoldable pub padding : ℕ → List ℕ
-padding n = ((0x80 ∷ []) ++ replicate (zeros n) 0) ++ bytesOf (n * 8) 8
+padding n = ((0x80 ∷ []) ++ replicate (zeros n) 0) ++ bigEndian (n * 8) 8
 
 unfoldable pub padded : List ℕ → List ℕ
 padded l = l ++ padding (length l)

@@ -14,9 +14,9 @@ use Rattle.digest.specs.Block.{H0}
 use Rattle.digest.specs.Digest.{padding, hashed, rest, digestBytes, digest}
 
 -- 01's number for each answer
-abbrev pub numberOf : Answer → ℕ
-numberOf Done = 0
-numberOf TooLong = 8
+abbrev pub answerNumber : Answer → ℕ
+answerNumber Done = 0
+answerNumber TooLong = 8
 
 -- the most bytes that a digest takes: a length in bits is below 2 ^ 64
 abbrev pub most : ℕ

@@ -3,7 +3,7 @@ ghost use mathlib.Core.Path.{_≡_};
 ghost use Prim.Native.Nat.{_+_, _<_, _≤_};
 ghost use lib.ListN.{length, take, drop};
 ghost use Rattle.digest.specs.Words.{Ch, Maj, Σ0, Σ1, σ0, σ1};
-ghost use Rattle.digest.specs.Block.{wordAt, round, rounds, words, schedule, compress};
+ghost use Rattle.digest.specs.Block.{blockWord, round, rounds, words, schedule, compress};
 
 const K: [u32; 64] = [
     0x428a2f98,
@@ -159,7 +159,7 @@ fn wide(x: u8) -> u32
 // The word in the four bytes from i on.
 pub(crate) fn word_at(s: &[u8], i: usize) -> u32
     requires { ⌜ i + 4 ≤ length (now s) ⌝ }
-    ensures { λ r. ⌜ r ≡ wordAt (now (s .entry)) i ⌝ }
+    ensures { λ r. ⌜ r ≡ blockWord (now (s .entry)) i ⌝ }
 {
     wide(s[i]) * 0x1000000 + wide(s[i + 1]) * 0x10000 + wide(s[i + 2]) * 0x100 + wide(s[i + 3])
 }

@@ -4,7 +4,7 @@ ghost use Prim.Native.Nat.{_<_, _^_};
 ghost use lib.ListN.{getD};
 ghost use mathlib.Core.List.{_++_};
 ghost use Rattle.digest.specs.Block.{words};
-ghost use Rattle.digest.specs.Digest.{bytesOf};
+ghost use Rattle.digest.specs.Digest.{bigEndian};
 ghost use Rattle.digest.specs.Bytes.{stateBytes, stateIn, totalIn};
 use crate::Sha256;
 use crate::block;
@@ -15,7 +15,7 @@ const STATE_SIZE: usize = 104;
 // Byte i of a state: of the bytes of its hash value, of its block, or of its count.
 fn state_byte(h: [u8; 32], block: [u8; 64], total: u64, i: usize) -> u8
     requires { ⌜ i < 104 ⌝ }
-    ensures { λ r. ⌜ r ≡ getD (h ++ (block ++ bytesOf total 8)) i 0 ⌝ }
+    ensures { λ r. ⌜ r ≡ getD (h ++ (block ++ bigEndian total 8)) i 0 ⌝ }
 {
     if i < 32 {
         return h[i];

@@ -7,7 +7,7 @@ ghost use mathlib.Core.List.{[], _++_};
 ghost use lib.ListN.{length, take, drop, getD};
 ghost use Rattle.digest.specs.Block.{compress};
 ghost use Rattle.digest.specs.Digest.{zeros, padding, hashed, digestBytes};
-ghost use Rattle.digest.specs.State.{numberOf, most, countRow, firstBytes, stateOf, updated, finished, digested};
+ghost use Rattle.digest.specs.State.{answerNumber, most, countRow, firstBytes, stateOf, updated, finished, digested};
 
 mod block;
 mod bytes;
@@ -161,7 +161,7 @@ impl Sha256 {
 
     pub fn update(mut self, bytes: &[u8]) -> Updated
         ensures { λ r. ⌜ r ≡ updated self (now (bytes .entry)) ⌝ }
-        ensures { λ r. ⌜ numberOf (r .answer) ≡ countRow (self .total + length (now (bytes .entry))) ⌝ }
+        ensures { λ r. ⌜ answerNumber (r .answer) ≡ countRow (self .total + length (now (bytes .entry))) ⌝ }
     {
         let total = self.total;
         let n = bytes.len() as u64;
@@ -194,7 +194,7 @@ impl Sha256 {
 
     pub fn finish(self) -> Finished
         ensures { λ r. ⌜ r ≡ finished self ⌝ }
-        ensures { λ r. ⌜ numberOf (r .answer) ≡ countRow (self .total) ⌝ }
+        ensures { λ r. ⌜ answerNumber (r .answer) ≡ countRow (self .total) ⌝ }
     {
         let total = self.total;
         if total > MOST {
@@ -221,7 +221,7 @@ impl Sha256 {
 // The digest of a whole slice.
 pub fn digest_of(bytes: &[u8]) -> Digest
     ensures { λ r. ⌜ r ≡ digested (now (bytes .entry)) ⌝ }
-    ensures { λ r. ⌜ numberOf (r .answer) ≡ countRow (length (now (bytes .entry))) ⌝ }
+    ensures { λ r. ⌜ answerNumber (r .answer) ≡ countRow (length (now (bytes .entry))) ⌝ }
 {
     let u = Sha256::new().update(bytes);
     let a = u.answer;

@@ -27,7 +27,7 @@ use Rattle.event.specs.declared.Written.{Written}
 use Rattle.event.specs.declared.Written.the-variants.{Wrote, Refused}
 use Rattle.event.specs.declared.Identified.{Identified}
 use Rattle.event.specs.Lent.{said, textOf}
-use Rattle.event.specs.Answer.{orElse, isLarge, textRow, shortRow, serialisedRow, answered, serialised, numberOf, outputAfter, serialisedOut, hashedOf, identified, hexDigit, hexOf, hasId, offeredRow}
+use Rattle.event.specs.Answer.{orElse, isLarge, bodyTextRow, shortRow, serialisedRow, answered, serialised, writtenNumber, outputAfter, serialisedOut, hashedOf, identified, hexDigit, hexOf, hasId, offeredRow}
 use Rattle.event.specs.Answer.{offeredTextRow, offered, offeredOut}
 use Rattle.event.specs.Inner.{Tested}
 
@@ -115,15 +115,15 @@ id-spelled e f g = rw (e, f) at g
 
 -- ---- an answer and an output by a row and a text
 abbrev pub Outcome : ℕ → List ℕ → List ℕ → Written → List ℕ → Type 0
-Outcome r t out w o = (w ≡ answered r (length t)) × ((numberOf w ≡ r) × (o ≡ outputAfter r t out))
+Outcome r t out w o = (w ≡ answered r (length t)) × ((writtenNumber w ≡ r) × (o ≡ outputAfter r t out))
 
-pub number-is : (r n : ℕ) → numberOf (answered r n) ≡ r
+pub number-is : (r n : ℕ) → writtenNumber (answered r n) ≡ r
 number-is zero n = refl
 number-is (suc r) n = rw (ne-eqb (suc r) 0 (λ q. omega arith))
 
 module _ (t out : List ℕ) where
   pub outcome : {r : ℕ} {w : Written} {o : List ℕ} → w ≡ answered r (length t) → o ≡ outputAfter r t out → Outcome r t out w o
-  outcome {r} e f = (e, (ap numberOf e ∙ number-is r (length t), f))
+  outcome {r} e f = (e, (ap writtenNumber e ∙ number-is r (length t), f))
 
   -- a row that holds refuses, one that does not lets the next decide
   pub refused : (r s : ℕ) {x : ℕ} → x ≡ r → (x ≡ 0 → ⊥) → Outcome (orElse r s) t out (Refused x) out
@@ -157,38 +157,38 @@ refused-is (suc r) n {x} e =
 
 -- ---- the ways out of serialising
 abbrev pub AsSerialised : List ℕ → Body → List ℕ → Written → List ℕ → Type 0
-AsSerialised b p out w o = (w ≡ serialised b p out) × ((numberOf w ≡ serialisedRow b p out) × (o ≡ serialisedOut b p out))
+AsSerialised b p out w o = (w ≡ serialised b p out) × ((writtenNumber w ≡ serialisedRow b p out) × (o ≡ serialisedOut b p out))
 
 module _ (b : List ℕ) (p : Body) (out : List ℕ) {r : ℕ} (e : r ≡ bodyRow b p) where
   pub body-refused : (r ≡ 0 → ⊥) → AsSerialised b p out (Refused r) out
-  unfolding serialised serialisedOut serialisedRow textRow
-  body-refused n = refused (textOf b p) out (textRow b p) (shortRow (textOf b p) out) (e ∙ rw (ne-eqb (bodyRow b p) 0 (λ q. n (e ∙ q)))) n
+  unfolding serialised serialisedOut serialisedRow bodyTextRow
+  body-refused n = refused (textOf b p) out (bodyTextRow b p) (shortRow (textOf b p) out) (e ∙ rw (ne-eqb (bodyRow b p) 0 (λ q. n (e ∙ q)))) n
 
   module _ (z : r ≡ 0) {d t : List ℕ} {n : ℕ} (room : length t ≡ 4097) (l : Puts d 0 (textOf b p) n t) where
     pub large-refused : 4096 < n → AsSerialised b p out (Refused 9) out
-    unfolding serialised serialisedOut serialisedRow textRow isLarge
+    unfolding serialised serialisedOut serialisedRow bodyTextRow isLarge
     large-refused h =
         let s = same room l in
         let q = eq-eqb (bodyRow b p) 0 (sym e ∙ z) in
         let k = lt-ltb 4096 (length (textOf b p)) (omega (arith, l .next)) in
-        refused (textOf b p) out (textRow b p) (shortRow (textOf b p) out) (rw (q, k)) (λ q. omega arith)
+        refused (textOf b p) out (bodyTextRow b p) (shortRow (textOf b p) out) (rw (q, k)) (λ q. omega arith)
 
     pub text-given : n ≤ 4096 → {w : Written} {o : List ℕ} → w ≡ answered (shortRow (take n t) out) (length (take n t)) → o ≡ outputAfter (shortRow (take n t) out) (take n t) out
         → AsSerialised b p out w o
-    unfolding serialised serialisedOut serialisedRow textRow isLarge
+    unfolding serialised serialisedOut serialisedRow bodyTextRow isLarge
     text-given h f g =
         let q = eq-eqb (bodyRow b p) 0 (sym e ∙ z) in
         let k = le-ltb 4096 (length (textOf b p)) (small room l h) in
         let i = prefix-is room l h in
-        passed (textOf b p) out (textRow b p) (shortRow (textOf b p) out) (rw (q, k)) (rw i at f) (rw i at g)
+        passed (textOf b p) out (bodyTextRow b p) (shortRow (textOf b p) out) (rw (q, k)) (rw i at f) (rw i at g)
 
 module _ (b : List ℕ) (p : Body) {r : ℕ} (e : r ≡ bodyRow b p) where
   pub id-refused : (r ≡ 0 → ⊥) → record { row = r; id = replicate 32 0 } ≡ identified b p
-  unfolding identified textRow
+  unfolding identified bodyTextRow
   id-refused n = simp (ne-eqb (bodyRow b p) 0 (λ q. n (e ∙ q)), e)
 
   pub id-hashed : r ≡ 0 → {d t : List ℕ} {n : ℕ} → length t ≡ 4097 → Puts d 0 (textOf b p) n t → {x : Identified} → x ≡ hashedOf (take n t) → x ≡ identified b p
-  unfolding identified textRow hashedOf isLarge
+  unfolding identified bodyTextRow hashedOf isLarge
   id-hashed z room l f = prefix-hashed room l f ∙ rw (eq-eqb (bodyRow b p) 0 (sym e ∙ z))
 
 -- ---- the rows of an offer
@@ -238,7 +238,7 @@ module _ (b : List ℕ) (p : EventParts) (z : eventRow b p ≡ 0) where
 
 -- ---- an event offered: its row, and its text
 abbrev pub AsOffered : List ℕ → EventParts → List ℕ → Written → List ℕ → Type 0
-AsOffered b p out w o = (w ≡ offered b p out) × ((numberOf w ≡ offeredTextRow b p out) × (o ≡ offeredOut b p out))
+AsOffered b p out w o = (w ≡ offered b p out) × ((writtenNumber w ≡ offeredTextRow b p out) × (o ≡ offeredOut b p out))
 
 module _ (b : List ℕ) (p : EventParts) {r : ℕ} (e : r ≡ eventRow b p) (n : r ≡ 0 → ⊥) where
   pub early-row : r ≡ offeredRow b p

@@ -13,19 +13,19 @@ use lib.ListN.{length, getD, drop}
 use lib.Seq.{drop-cons, drop-length}
 use Rattle.wire.specs.Bytes.{isControl}
 use Rattle.wire.proofs.Escapes.{control-high}
-use Rattle.utf8.specs.Utf8.{next, utf8From, isUtf8}
+use Rattle.utf8.specs.Utf8.{nextWant, utf8From, isUtf8}
 use Rattle.utf8.specs.declared.Want.{Want}
 use Rattle.utf8.specs.declared.Want.the-variants.{Lead}
 use Rattle.utf8.specs.Abnf.{Octets, utf8-1, utf8-2, utf8-3-e0, utf8-3-e1, utf8-3-ed, utf8-3-ee, utf8-4-f0, utf8-4-f1, utf8-4-f4}
 use Rattle.utf8.proofs.Abnf.{as-in-abnf}
 use Rattle.utf8.proofs.States.{Reached, lead-reached, next-reached, lead-low, low-lead}
-use Rattle.json.specs.Grammar.{within, classOf, charsAt, isSpelling}
+use Rattle.json.specs.Grammar.{isBetween, inClass, charsAt, isSpelling}
 use Rattle.json.proofs.Ends.{one-is, one-ends, byte-is}
 use Rattle.json.proofs.Spelled.{Char, Chars, chars-sound}
 use Rattle.json.proofs.Spelled as json
 use Rattle.spell.specs.declared.Char as spell
-use Rattle.spell.specs.Spell.{hexVal, four, fourAt, shortOf, isPair, pairOf, unicodeOf, charOf, chars, charsFrom, utf8Of, bytesOf, joined, decode, isSurrogate, isRefused, any, refuses}
-use Rattle.text.specs.Event.{all, isPlainByte, isString}
+use Rattle.spell.specs.Spell.{hexVal, four, fourAt, shortOf, isPair, pairOf, unicodeOf, charOf, chars, charsFrom, utf8Of, charBytes, charsBytes, decode, isSurrogate, isRefused, any, refuses}
+use Rattle.text.specs.Event.{all, isPlainByte, isStringBytes}
 
 -- ---- Bools
 pub and-both : (a b : Bool) → (a && b) ≡ true → (a ≡ true) × (b ≡ true)
@@ -40,20 +40,20 @@ pub or-neither : (a b : Bool) → (a || b) ≡ false → (a ≡ false) × (b ≡
 or-neither true b e = absurd (let z : _≡_ {A = ℕ} 0 1 = cc in omega arith)
 or-neither false b e = (refl, e)
 
-within-bounds : (low high x : ℕ) → within low high x ≡ true → (low ≤ x) × (x ≤ high)
+within-bounds : (low high x : ℕ) → isBetween low high x ≡ true → (low ≤ x) × (x ≤ high)
 within-bounds low high x e = let (p, q) = and-both (leb low x) (leb x high) e in (leb-true low x p, leb-true x high q)
 
 -- ---- bytes of a spelling, by RFC 8259's classes
-plain-byte : (x : ℕ) → (within 0x20 0x21 x || (within 0x23 0x5B x || leb 0x5D x)) ≡ true → (0x20 ≤ x) × (x ≡ 0x5c → ⊥)
+plain-byte : (x : ℕ) → (isBetween 0x20 0x21 x || (isBetween 0x23 0x5B x || leb 0x5D x)) ≡ true → (0x20 ≤ x) × (x ≡ 0x5c → ⊥)
 plain-byte x e =
-    or-either (within 0x20 0x21 x) _ (λ p. let h = within-bounds 0x20 0x21 x p in (h .0, λ q. omega arith))
-    (λ e. or-either (within 0x23 0x5B x) _ (λ p. let h = within-bounds 0x23 0x5B x p in (omega arith, λ q. omega arith))
+    or-either (isBetween 0x20 0x21 x) _ (λ p. let h = within-bounds 0x20 0x21 x p in (h .0, λ q. omega arith))
+    (λ e. or-either (isBetween 0x23 0x5B x) _ (λ p. let h = within-bounds 0x23 0x5B x p in (omega arith, λ q. omega arith))
     (λ p. let h = leb-true 0x5D x p in (omega arith, λ q. omega arith)) e) e
 
-hex-byte : (x : ℕ) → (within 0x30 0x39 x || (within 0x41 0x46 x || within 0x61 0x66 x)) ≡ true → x < 128
+hex-byte : (x : ℕ) → (isBetween 0x30 0x39 x || (isBetween 0x41 0x46 x || isBetween 0x61 0x66 x)) ≡ true → x < 128
 hex-byte x e =
-    or-either (within 0x30 0x39 x) _ (λ p. omega (arith, within-bounds 0x30 0x39 x p .1))
-    (λ e. or-either (within 0x41 0x46 x) _ (λ p. omega (arith, within-bounds 0x41 0x46 x p .1)) (λ p. omega (arith, within-bounds 0x61 0x66 x p .1)) e) e
+    or-either (isBetween 0x30 0x39 x) _ (λ p. omega (arith, within-bounds 0x30 0x39 x p .1))
+    (λ e. or-either (isBetween 0x41 0x46 x) _ (λ p. omega (arith, within-bounds 0x41 0x46 x p .1)) (λ p. omega (arith, within-bounds 0x61 0x66 x p .1)) e) e
 
 -- what stands after a backslash, and what it stands for
 pub record Short (y : ℕ) : Type 0 where
@@ -88,7 +88,7 @@ module _ (s : List ℕ) where
   here at n e h = drop-cons s at 0 (omega arith) ∙ ap (λ (k : ℕ). getD s at 0 ∷ drop k s) (sym (add-one at) ∙ e)
 
   spelling : (at n : ℕ) → Chars s at n → n ≡ length s → Spelling (drop at s)
-  unfolding classOf
+  unfolding inClass
   spelling at n json.stop z = rw (z, drop-length s) end
   spelling at n (json.more {m = m} (json.plain e) r) z =
       let q = one-is s _ at e in
@@ -142,8 +142,8 @@ module _ (a b c d : ℕ) where
 
 -- what a first character says of the rest
 module _ (l m : List ℕ) {c : spell.Char} (e : chars l ≡ c ∷ chars m) where
-  pub decode-more : decode l ≡ bytesOf c ++ decode m
-  unfolding decode joined
+  pub decode-more : decode l ≡ charBytes c ++ decode m
+  unfolding decode charsBytes
   decode-more = rw e
 
   refuses-more : refuses l ≡ false → (isSurrogate (c .code) ≡ false) × (isControl (c .code) ≡ false) × (refuses m ≡ false)
@@ -183,7 +183,7 @@ pub record Paired (u x y v : ℕ) : Type 0 where
 pub paired : (u x y v : ℕ) → isPair u x y v ≡ true → Paired u x y v
 unfolding isPair
 paired u x y v e =
-    let (p, q) = and-both (within 0xd800 0xdbff u) _ e in
+    let (p, q) = and-both (isBetween 0xd800 0xdbff u) _ e in
     let (r, s) = and-both (eqb x 0x5c) _ q in
     let (t, w) = and-both (eqb y 0x75) _ s in
     record { slash = eqb-true x 0x5c r; letter = eqb-true y 0x75 t; high = within-bounds 0xd800 0xdbff u p; low = within-bounds 0xdc00 0xdfff v w }
@@ -277,8 +277,8 @@ abbrev Good : Want → List ℕ → Type 0
 Good w t = (utf8From w t ≡ true) × (all isPlainByte t ≡ true)
 
 step-plain : (x : ℕ) (l : List ℕ) → 0x20 ≤ x → (x ≡ 0x5c → ⊥) → (w : Want) → refuses (x ∷ l) ≡ false → utf8From w (x ∷ l) ≡ true
-    → (refuses l ≡ false → utf8From (next w x) l ≡ true → Good (next w x) (decode l)) → Good w (decode (x ∷ l))
-unfolding utf8From all bytesOf
+    → (refuses l ≡ false → utf8From (nextWant w x) l ≡ true → Good (nextWant w x) (decode l)) → Good w (decode (x ∷ l))
+unfolding utf8From all charBytes
 step-plain x l h n w r u ih =
     let e = chars-plain x l n in
     let g = ih (refuses-more (x ∷ l) l e r .2) u in
@@ -286,7 +286,7 @@ step-plain x l h n w r u ih =
 
 step-short : (y : ℕ) (l : List ℕ) → Short y → (w : Want) → Reached w → refuses (0x5c ∷ y ∷ l) ≡ false → utf8From w (0x5c ∷ y ∷ l) ≡ true
     → (refuses l ≡ false → utf8From Lead l ≡ true → Good Lead (decode l)) → Good w (decode (0x5c ∷ y ∷ l))
-unfolding all bytesOf
+unfolding all charBytes
 step-short y l s w v r u ih =
     let (z, u₁) = low-lead w 0x5c (y ∷ l) v (omega arith) u in
     let u₂ = low-lead Lead y l lead-reached (s .low) u₁ .1 in
@@ -308,7 +308,7 @@ module _ {a b c d : ℕ} (ha : a < 128) (hb : b < 128) (hc : c < 128) (hd : d < 
 -- a character of an escape, of a code point n, before m
 step-code : (l m : List ℕ) (n k : ℕ) (w : Want) → w ≡ Lead → n ≤ 0x10ffff → chars l ≡ record { code = n; raw = false; width = k } ∷ chars m → refuses l ≡ false
     → (refuses m ≡ false → Good Lead (decode m)) → Good w (decode l)
-unfolding bytesOf
+unfolding charBytes
 step-code l m n k w z h e r ih =
     let q = refuses-more l m e r in
     let g = ih (q .2) in
@@ -344,12 +344,12 @@ abbrev Upto : ℕ → Type 0
 Upto k = (l : List ℕ) → length l ≤ k → Spelling l → (w : Want) → Reached w → refuses l ≡ false → utf8From w l ≡ true → Good w (decode l)
 
 none-decoded : (w : Want) → utf8From w [] ≡ true → Good w (decode [])
-unfolding decode joined charsFrom all
+unfolding decode charsBytes charsFrom all
 none-decoded w u = (u, refl)
 
 longer : (k : ℕ) → Upto k → Upto (suc k)
 longer k ih l h end w v r u = none-decoded w u
-longer k ih l h (plain {x = x} {l = m} y n s) w v r u = step-plain x m y n w r u (λ e f. ih m (omega arith) s (next w x) (next-reached w x v) e f)
+longer k ih l h (plain {x = x} {l = m} y n s) w v r u = step-plain x m y n w r u (λ e f. ih m (omega arith) s (nextWant w x) (next-reached w x v) e f)
 longer k ih l h (short {y = y} {l = m} t s) w v r u = step-short y m t w v r u (λ e f. ih m (omega arith) s Lead lead-reached e f)
 longer k ih l h (code {a = a} {b = b} {c = c} {d = d} {l = m} ha hb hc hd s) w v r u =
     step-escape a b c d ha hb hc hd w v s (λ i g t e f. ih i (omega arith) t Lead lead-reached e f) r u
@@ -363,6 +363,6 @@ decoded zero = shortest
 decoded (suc k) = longer k (decoded k)
 
 -- the theorem
-pub decoded-string : (l : List ℕ) → isUtf8 l ≡ true → isSpelling l ≡ true → refuses l ≡ false → isString (decode l) ≡ true
-unfolding isUtf8 isString
+pub decoded-string : (l : List ℕ) → isUtf8 l ≡ true → isSpelling l ≡ true → refuses l ≡ false → isStringBytes (decode l) ≡ true
+unfolding isUtf8 isStringBytes
 decoded-string l u s r = let g = decoded (length l) l (omega arith) (is-spelling l s) Lead lead-reached r u in rw (g .1) (g .0)

@@ -36,7 +36,7 @@ use Rattle.spell.proofs.Laws.{hex-length, hex-all}
 use Rattle.shape.specs.Shape.{anyItem, allItems, countItems, count, isArrayOf}
 use Rattle.shape.specs.Shape as shape
 use Rattle.shape.specs.Rows.{outside, wrongTag, wrongTags}
-use Rattle.text.specs.Event.{all, isPubkey, isTime, isKind, isString, isTag, isTags, isFit}
+use Rattle.text.specs.Event.{all, isPubkey, isTime, isKind, isStringBytes, isTag, isTags, isFit}
 use Rattle.text.specs.Read.{read, readText}
 use Rattle.text.proofs.RoundTrip.{read-back, serialise-once}
 use Rattle.message.specs.declared.Span.{Span}
@@ -44,8 +44,8 @@ use Rattle.message.specs.declared.Body.{Body}
 use Rattle.message.specs.Lent.{lowest, isInside, isSpelled, string2, string4, string5, string7, wrongNumber, value2, value4, value5, onValue, ownText, body2, body4, body5, body6, body7, body8, bodyRow}
 use Rattle.message.specs.Lent as lent
 use Rattle.message.proofs.Walks.{never, bind-got}
-use Rattle.event.specs.Lent.{said, stringOf, stringsOf, tagOf, tagsOf, tagsIn, tagsAt, natural, eventOf, textOf}
-use Rattle.event.specs.Answer.{isLarge, textRow, identified}
+use Rattle.event.specs.Lent.{said, stringOf, stringsOf, tagOf, tagsOf, tagsIn, lentTagsAt, natural, eventOf, textOf}
+use Rattle.event.specs.Answer.{isLarge, bodyTextRow, identified}
 use Rattle.event.proofs.Strings.{string-tree, string-out}
 use Rattle.event.proofs.Walks.{Walk, last, more, walk-of}
 use Rattle.event.proofs.Decoded.{and-both, or-neither, decoded-string}
@@ -245,7 +245,7 @@ module _ (b : List ℕ) where
 
 -- from lo to hi the buffer is UTF-8
 module _ (b : List ℕ) (lo hi : ℕ) (clear : isUtf8 (part b lo (hi - lo)) ≡ true) where
-  string-fits : (v : ℕ) (t : Json) (m : ℕ) → treeAt b 6 v ≡ got t m → lo ≤ v → m ≤ hi → shape.isString t ≡ true → refusedIn b t ≡ false → isString (stringOf b t) ≡ true
+  string-fits : (v : ℕ) (t : Json) (m : ℕ) → treeAt b 6 v ≡ got t m → lo ≤ v → m ≤ hi → shape.isString t ≡ true → refusedIn b t ≡ false → isStringBytes (stringOf b t) ≡ true
   unfolding refusedIn
   string-fits v t m w l h s r =
       let q = quoted b 5 v t m w s in
@@ -254,7 +254,7 @@ module _ (b : List ℕ) (lo hi : ℕ) (clear : isUtf8 (part b lo (hi - lo)) ≡ 
       rw (q .is) (decoded-string (part b (v + 1) (q .end - v - 2)) u (string-spelled b v (q .end) (q .string)) f)
 
   strings-fit : {k i n : ℕ} {us : Items} → Walk (treeAt b 6) b k i us n → lo ≤ i → n ≤ hi → allItems (λ p t. shape.isString t) us ≡ true → refusedItems b false us ≡ false
-      → all isString (stringsOf b us) ≡ true
+      → all isStringBytes (stringsOf b us) ≡ true
   unfolding allItems refusedItems stringsOf all
   strings-fit (last {i = i} {m = m} {n = n} {t = t} w q) l h s r =
       let a = and-both (shape.isString t) _ s in
@@ -272,7 +272,7 @@ module _ (b : List ℕ) (lo hi : ℕ) (clear : isUtf8 (part b lo (hi - lo)) ≡ 
   unfolding isTag wrongTag refusedIn stringsOf all
   tag-fits v t m w l h s r c = go (array b shape.isString 6 v t m w s) s r c
     where
-      counted : (us : Items) → outside 1 16 (count us) ≡ false → all isString (stringsOf b us) ≡ true → isTag (stringsOf b us) ≡ true
+      counted : (us : Items) → outside 1 16 (count us) ≡ false → all isStringBytes (stringsOf b us) ≡ true → isTag (stringsOf b us) ≡ true
       counted us c e =
           let (p, q) = bounded 1 16 (count us) c in
           let n = strings-count b us in
@@ -300,8 +300,8 @@ module _ (b : List ℕ) (lo hi : ℕ) (clear : isUtf8 (part b lo (hi - lo)) ≡ 
       both-true _ _ (tag-fits i t m w l (omega arith) (a .0) (c .0) (d .0)) (tags-fit y (omega arith) h (a .1) (c .1) (d .1))
 
 -- the array of the tags
-value-fits : (b : List ℕ) (at : ℕ) → value2 b at ≡ false → value4 b at ≡ false → value5 lent.isTags b at ≡ false → onValue wrongTags (treeAt b depth at) ≡ false → isTags (tagsAt b at) ≡ true
-unfolding value2 value4 value5 tagsAt isTags refusedIn tagsOf all countItems
+value-fits : (b : List ℕ) (at : ℕ) → value2 b at ≡ false → value4 b at ≡ false → value5 lent.isTagsShape b at ≡ false → onValue wrongTags (treeAt b depth at) ≡ false → isTags (lentTagsAt b at) ≡ true
+unfolding value2 value4 value5 lentTagsAt isTags refusedIn tagsOf all countItems
 value-fits b at r2 r4 r5 r8 = go (treeAt b depth at) refl r2 r4 r5 r8
   where
     counted : (ts : Items) → outside 0 64 (count ts) ≡ false → all isTag (tagsOf b ts) ≡ true → isTags (tagsOf b ts) ≡ true
@@ -310,16 +310,16 @@ value-fits b at r2 r4 r5 r8 = go (treeAt b depth at) refl r2 r4 r5 r8
         let n = tags-count b ts in
         rw (le-leb (length (tagsOf b ts)) 64 (omega arith)) e
 
-    on : {t : Json} {n : ℕ} → Array b 7 at t n → isUtf8 (part b at (n - at)) ≡ true → refusedIn b t ≡ false → lent.isTags t ≡ true → wrongTags t ≡ false → isTags (tagsIn b (got t n)) ≡ true
+    on : {t : Json} {n : ℕ} → Array b 7 at t n → isUtf8 (part b at (n - at)) ≡ true → refusedIn b t ≡ false → lent.isTagsShape t ≡ true → wrongTags t ≡ false → isTags (tagsIn b (got t n)) ≡ true
     on (bare h) u r s c = counted nil (or-neither (outside 0 64 0) _ c .0) refl
     on {n = n} (full {us = us} h y) u r s c =
         let (c₁, c₂) = or-neither (outside 0 64 (count us)) _ c in
         counted us c₁ (tags-fit b at n u y h (omega arith) s r c₂)
 
-    go : (g : Got Json) → treeAt b depth at ≡ g → ownText b at g ≡ false → onValue (refusedIn b) g ≡ false → not (onValue lent.isTags g) ≡ false → onValue wrongTags g ≡ false → isTags (tagsIn b g) ≡ true
+    go : (g : Got Json) → treeAt b depth at ≡ g → ownText b at g ≡ false → onValue (refusedIn b) g ≡ false → not (onValue lent.isTagsShape g) ≡ false → onValue wrongTags g ≡ false → isTags (tagsIn b g) ≡ true
     go none w r2 r4 r5 r8 = absurd (let z : _≡_ {A = ℕ} 0 1 = cc in omega arith)
     go (got t n) w r2 r4 r5 r8 =
-        let s = not-false (lent.isTags t) r5 in
+        let s = not-false (lent.isTagsShape t) r5 in
         on (array b (isArrayOf shape.isString) 7 at t n w s) (not-false (isUtf8 (part b at (n - at))) r2) r4 s r8
 
 pub hex-same : (l : List ℕ) → all isHex l ≡ spell.all isHex l
@@ -333,7 +333,7 @@ module _ (b : List ℕ) (p : Span) (r5 : string5 b p ≡ false) where
   unfolding string5
   spelled = not-false (isSpelled b p) r5
 
-  span-fits : string2 b p ≡ false → string4 b p ≡ false → isString (said b p) ≡ true
+  span-fits : string2 b p ≡ false → string4 b p ≡ false → isStringBytes (said b p) ≡ true
   unfolding string2 string4 isSpelled
   span-fits r2 r4 =
       let s = part b (p .start) (p .len) in
@@ -388,7 +388,7 @@ lent-fit b p e =
     let (k4, x4) = or-neither (string4 b (p .pubkey)) _ (r .row4) in
     let (t4, c4) = or-neither (value4 b (p .tags)) _ x4 in
     let (k5, x5) = or-neither (string5 b (p .pubkey)) _ (r .row5) in
-    let (t5, c5) = or-neither (value5 lent.isTags b (p .tags)) _ x5 in
+    let (t5, c5) = or-neither (value5 lent.isTagsShape b (p .tags)) _ x5 in
     let (t6, k6) = or-neither (lent.time6 (p .«created_at»)) _ (r .row6) in
     both-true _ _ (hex-fits b (p .pubkey) k5 (r .row7))
     (both-true _ _ (not-false (isWithin (Value (p .«created_at»)) (negℤ (pos widest)) (pos widest)) t6)
@@ -409,7 +409,7 @@ pub record Alike (b : List ℕ) (p : Body) (c : List ℕ) (q : Body) : Type 0 wh
   pub pubkey : said b (p .pubkey) ≡ said c (q .pubkey)
   pub time : p .«created_at» ≡ q .«created_at»
   pub kind : p .kind ≡ q .kind
-  pub tags : tagsAt b (p .tags) ≡ tagsAt c (q .tags)
+  pub tags : lentTagsAt b (p .tags) ≡ lentTagsAt c (q .tags)
   pub content : said b (p .content) ≡ said c (q .content)
 
 module _ {b : List ℕ} {p : Body} {c : List ℕ} {q : Body} (a : Alike b p c q) where
@@ -418,5 +418,5 @@ module _ {b : List ℕ} {p : Body} {c : List ℕ} {q : Body} (a : Alike b p c q)
   text-alike = rw (a .pubkey, a .time, a .kind, a .tags, a .content)
 
   pub id-alike : bodyRow b p ≡ bodyRow c q → identified b p ≡ identified c q
-  unfolding identified textRow isLarge
+  unfolding identified bodyTextRow isLarge
   id-alike e = rw (text-alike, e)

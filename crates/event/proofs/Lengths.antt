@@ -15,7 +15,7 @@ use Rattle.rows.specs.Strings.{part}
 use Rattle.text.specs.Event.{quoted, tagsText, serialise}
 use Rattle.text.proofs.RoundTrip.{serialise-length}
 use Rattle.message.specs.declared.Body.{Body}
-use Rattle.event.specs.Lent.{natural, tagsAt, eventOf, textOf}
+use Rattle.event.specs.Lent.{natural, lentTagsAt, eventOf, textOf}
 use Rattle.event.specs.Inner.{mostLength, lengthOf, Counts}
 
 -- a string between quotes
@@ -40,7 +40,7 @@ cut-both x y k a c e f g = omega arith
 module _ (b : List ℕ) (p : Body) {key text : List ℕ} {a c d e k₁ k₂ k₃ k₄ k₅ n r : ℕ} where
   pub text-count : mag (p .«created_at») < 2 ^ 63 → mag (p .kind) < 2 ^ 63 → key ≡ part b (p .pubkey .start) (p .pubkey .len) → text ≡ part b (p .content .start) (p .content .len)
       → k₁ ≡ length (decode key) → a ≡ min (12 + k₁) mostLength → k₂ ≡ length (decimal (toZ w64 (ofZ w64 (p .«created_at»)))) → c ≡ min (a + k₂) mostLength
-      → n ≡ natural (toZ w64 (ofZ w64 (p .kind))) → k₃ ≡ length (digits n) → d ≡ min (c + k₃) mostLength → k₄ ≡ lengthOf (tagsText (tagsAt b (p .tags))) → e ≡ min (d + k₄) mostLength
+      → n ≡ natural (toZ w64 (ofZ w64 (p .kind))) → k₃ ≡ length (digits n) → d ≡ min (c + k₃) mostLength → k₄ ≡ lengthOf (tagsText (lentTagsAt b (p .tags))) → e ≡ min (d + k₄) mostLength
       → k₅ ≡ length (escape (decode text)) → r ≡ min (e + k₅) mostLength → r ≡ lengthOf (textOf b p)
   unfolding textOf eventOf
   text-count ft fk eq eq₁ l₁ m₁ l₂ m₂ en l₃ m₃ l₄ m₄ l₅ m₅ =
@@ -50,7 +50,7 @@ module _ (b : List ℕ) (p : Body) {key text : List ℕ} {a c d e k₁ k₂ k₃
       let x₅ : k₅ ≡ length (escape (decode (part b (p .content .start) (p .content .len)))) = l₅ ∙ rw eq₁ in
       let y₂ = cut (12 + k₁) k₂ a c m₁ m₂ in
       let y₃ = cut (12 + k₁ + k₂) k₃ c d y₂ m₃ in
-      let y₄ = cut-both (12 + k₁ + k₂ + k₃) (length (tagsText (tagsAt b (p .tags)))) k₄ d e y₃ l₄ m₄ in
-      let y₅ = cut (12 + k₁ + k₂ + k₃ + length (tagsText (tagsAt b (p .tags)))) k₅ e r y₄ m₅ in
-      let z : 12 + k₁ + k₂ + k₃ + length (tagsText (tagsAt b (p .tags))) + k₅ ≡ length (serialise (eventOf b p)) = rw (x₁, x₂, x₃, x₅) (sym (serialise-length (eventOf b p))) in
+      let y₄ = cut-both (12 + k₁ + k₂ + k₃) (length (tagsText (lentTagsAt b (p .tags)))) k₄ d e y₃ l₄ m₄ in
+      let y₅ = cut (12 + k₁ + k₂ + k₃ + length (tagsText (lentTagsAt b (p .tags)))) k₅ e r y₄ m₅ in
+      let z : 12 + k₁ + k₂ + k₃ + length (tagsText (lentTagsAt b (p .tags))) + k₅ ≡ length (serialise (eventOf b p)) = rw (x₁, x₂, x₃, x₅) (sym (serialise-length (eventOf b p))) in
       y₅ ∙ ap (λ (l : ℕ). min l mostLength) z

@@ -11,7 +11,7 @@ use Rattle.json.specs.Tree.{Json, Got, none, got, root}
 use Rattle.shape.specs.Shape.{Word, event, req, close, other, opened}
 use Rattle.shape.specs.Rows.{messageRow}
 use Rattle.message.specs.Lent.{eventRow}
-use Rattle.message.specs.Read.{isEvent, partsOf, inRoot, readOf}
+use Rattle.message.specs.Read.{isEvent, messageParts, inRoot, readOf}
 use Rattle.message.specs.declared.Span.{Span}
 use Rattle.message.specs.declared.EventParts.{EventParts}
 use Rattle.message.specs.declared.ReqParts.{ReqParts}
@@ -98,7 +98,7 @@ module _ (m : List ℕ) where
       tree none f = let y : _≡_ {A = ℕ} 3 r = cc in omega arith
       tree (got t k) f = word (opened m t .first) f
         where
-          word : (w : Word) → partsOf m w (opened m t .rest) ≡ message.Refused r → ⊥
+          word : (w : Word) → messageParts m w (opened m t .rest) ≡ message.Refused r → ⊥
           word event f = let y : _≡_ {A = ℕ} 0 1 = cc in omega arith
           word req f = let y : _≡_ {A = ℕ} 0 1 = cc in omega arith
           word close f = let y : _≡_ {A = ℕ} 0 1 = cc in omega arith

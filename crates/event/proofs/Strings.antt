@@ -15,8 +15,8 @@ use Rattle.wire.specs.Put.{Puts}
 use Rattle.wire.specs.Escape.{escape}
 use Rattle.wire.specs.Field.{unsigned}
 use Rattle.wire.proofs.Laws.{puts-then}
-use Rattle.spell.specs.Spell.{charsFrom, joined, decode}
-use Rattle.json.specs.Grammar.{case, classOf, oneAt, tokenAt, stringAt, numberAt, literalAt, scalarAt, startAt, wsAt}
+use Rattle.spell.specs.Spell.{charsFrom, charsBytes, decode}
+use Rattle.json.specs.Grammar.{case, inClass, oneAt, tokenAt, stringAt, numberAt, literalAt, scalarAt, startAt, wsAt}
 use Rattle.json.specs.Tree.{Json, word, num, str, arr, obj, Items, nil, Got, none, got, endOf, bind, onLeaf, node, itemsAt, groupAt, treeAt}
 use Rattle.json.specs.declared.Out.{Out}
 use Rattle.json.specs.declared.Out.the-variants.{End, Bad}
@@ -71,7 +71,7 @@ string-ends s v {n} e = let p = string-parts s v n e in (p .3, p .4)
 
 module _ (s : List ℕ) (v : ℕ) where
   string-leaf : (n : ℕ) → stringAt s v ≡ End n → startAt s v ≡ Leaf
-  unfolding tokenAt oneAt classOf
+  unfolding tokenAt oneAt inClass
   string-leaf n e = simp (byte-is s 0x22 v (string-parts s v n e .0))
 
   pub string-tree : (d n : ℕ) → stringAt s v ≡ End n → treeAt s (suc d) v ≡ got (str (v + 1) (n - v - 2)) (wsAt s n)
@@ -108,7 +108,7 @@ module _ (s : List ℕ) (v : ℕ) where
 -- the string that is spelled at the place of a value says what the value says: nothing where it is none
 module _ (b : List ℕ) (v : ℕ) (t : Json) (m : ℕ) (w : treeAt b 7 v ≡ got t m) where
   pub spelled-says : decode (spelledAt b v) ≡ stringOf b t
-  unfolding spelledAt decode charsFrom joined
+  unfolding spelledAt decode charsFrom charsBytes
   spelled-says = go (stringAt b v) refl
     where
       said : (n : ℕ) (u : Json) (k : ℕ) → got (str (v + 1) (n - v - 2)) k ≡ got u m → decode (part b (v + 1) (n - v - 2)) ≡ stringOf b u

@@ -16,8 +16,8 @@ use Rattle.json.specs.declared.Start.the-variants.{Leaf, Empty, Many}
 use Rattle.json.proofs.Trees.{tree-open}
 use Rattle.text.specs.Event.{membersText, tagText, tagsText}
 use Rattle.message.proofs.Walks.{never, bind-got}
-use Rattle.event.specs.Lent.{stringsOf, tagOf, tagsOf, tagsIn, tagsAt}
-use Rattle.event.specs.Inner.{Does, stringText, stringsText, oneTagText, allTagsText, firstOf, firstTag}
+use Rattle.event.specs.Lent.{stringsOf, tagOf, tagsOf, tagsIn, lentTagsAt}
+use Rattle.event.specs.Inner.{Does, stringText, stringsText, oneTagText, allTagsText, firstOut, firstTag}
 use Rattle.event.proofs.Walks.{Printer, Chains}
 
 -- ---- the two printers
@@ -88,15 +88,15 @@ module _ {S : Type 0} {does : S → List ℕ → S → Type 0} (b : List ℕ) (v
 
 -- ---- the tags
 module _ (b : List ℕ) (at : ℕ) where
-  opened : tagsAt b at ≡ tagsIn b (groupAt (treeAt b 7) b at (startAt b at))
-  unfolding tagsAt
+  opened : lentTagsAt b at ≡ tagsIn b (groupAt (treeAt b 7) b at (startAt b at))
+  unfolding lentTagsAt
   opened = ap (tagsIn b) (tree-open b 7 at (startAt b at) refl)
 
-  first-opened : firstTag b at ≡ case (endOf (groupAt (treeAt b 7) b at (startAt b at))) (λ n. firstOf (startAt b at)) Bad
+  first-opened : firstTag b at ≡ case (endOf (groupAt (treeAt b 7) b at (startAt b at))) (λ n. firstOut (startAt b at)) Bad
   unfolding firstTag
-  first-opened = ap (λ (g : Got Json). case (endOf g) (λ n. firstOf (startAt b at)) Bad) (tree-open b 7 at (startAt b at) refl)
+  first-opened = ap (λ (g : Got Json). case (endOf g) (λ n. firstOut (startAt b at)) Bad) (tree-open b 7 at (startAt b at) refl)
 
-  pub tags-none : firstTag b at ≡ Bad → tagsAt b at ≡ []
+  pub tags-none : firstTag b at ≡ Bad → lentTagsAt b at ≡ []
   unfolding tagsOf
   tags-none e = opened ∙ on (startAt b at) (sym first-opened ∙ e)
     where
@@ -114,7 +114,7 @@ module _ (b : List ℕ) (at : ℕ) where
       array i none q = refl
       array i (got us k) q = absurd (let z : _≡_ {A = ℕ} 0 1 = cc in omega arith)
 
-      on : (r : Start) → case (endOf (groupAt (treeAt b 7) b at r)) (λ n. firstOf r) Bad ≡ Bad → tagsIn b (groupAt (treeAt b 7) b at r) ≡ []
+      on : (r : Start) → case (endOf (groupAt (treeAt b 7) b at r)) (λ n. firstOut r) Bad ≡ Bad → tagsIn b (groupAt (treeAt b 7) b at r) ≡ []
       on Leaf q = leaf (scalarAt b at)
       on (Empty m true) q = refl
       on (Empty m false) q = refl
@@ -126,7 +126,7 @@ module _ (b : List ℕ) (at : ℕ) where
     pub items : Items
     pub end : ℕ
     pub there : itemsAt (treeAt b 7) b false (length b) first ≡ got items end
-    pub are : tagsAt b at ≡ tagsOf b items
+    pub are : lentTagsAt b at ≡ tagsOf b items
 
   pub tags-some : {first : ℕ} → firstTag b at ≡ End first → Tagged first
   tags-some {first} e = on (startAt b at) opened (sym first-opened ∙ e)
@@ -135,12 +135,12 @@ module _ (b : List ℕ) (at : ℕ) where
       leaf (End n) q = absurd (let z : _≡_ {A = ℕ} 0 1 = cc in omega arith)
       leaf Bad q = absurd (let z : _≡_ {A = ℕ} 0 1 = cc in omega arith)
 
-      array : (i : ℕ) (g : Got Items) → itemsAt (treeAt b 7) b false (length b) i ≡ g → tagsAt b at ≡ tagsIn b (bind g λ us k. got (arr us) k)
+      array : (i : ℕ) (g : Got Items) → itemsAt (treeAt b 7) b false (length b) i ≡ g → lentTagsAt b at ≡ tagsIn b (bind g λ us k. got (arr us) k)
           → case (endOf (bind g λ us k. got (arr us) k)) (λ n. End i) Bad ≡ End first → Tagged first
       array i none w a q = absurd (let z : _≡_ {A = ℕ} 0 1 = cc in omega arith)
       array i (got us k) w a q = let z : i ≡ first = cc in record { items = us; end = k; there = rw z at w; are = a }
 
-      on : (r : Start) → tagsAt b at ≡ tagsIn b (groupAt (treeAt b 7) b at r) → case (endOf (groupAt (treeAt b 7) b at r)) (λ n. firstOf r) Bad ≡ End first → Tagged first
+      on : (r : Start) → lentTagsAt b at ≡ tagsIn b (groupAt (treeAt b 7) b at r) → case (endOf (groupAt (treeAt b 7) b at r)) (λ n. firstOut r) Bad ≡ End first → Tagged first
       on Leaf a q = leaf (endOf (onLeaf b at (scalarAt b at))) q
       on (Empty m true) a q = absurd (let z : _≡_ {A = ℕ} 0 1 = cc in omega arith)
       on (Empty m false) a q = absurd (let z : _≡_ {A = ℕ} 0 1 = cc in omega arith)
@@ -148,11 +148,11 @@ module _ (b : List ℕ) (at : ℕ) where
       on (Many i false) a q = array i (itemsAt (treeAt b 7) b false (length b) i) refl a q
 
 module _ {S : Type 0} (does : S → List ℕ → S → Type 0) (b : List ℕ) (v : ℕ) {x y : S} where
-  pub no-tags : firstTag b v ≡ Bad → does x (91 ∷ 93 ∷ []) y → does x (tagsText (tagsAt b v)) y
+  pub no-tags : firstTag b v ≡ Bad → does x (91 ∷ 93 ∷ []) y → does x (tagsText (lentTagsAt b v)) y
   unfolding tagsText membersText
   no-tags e p = rw (tags-none b v e) p
 
   pub some-tags : {first next : ℕ} {x₁ : S} → Chains does → firstTag b v ≡ End first → does x (91 ∷ []) x₁
-      → Does does (itemsAt (treeAt b 7) b false (length b) first) (allTagsText b) x₁ y next → does x (tagsText (tagsAt b v)) y
+      → Does does (itemsAt (treeAt b 7) b false (length b) first) (allTagsText b) x₁ y next → does x (tagsText (lentTagsAt b v)) y
   unfolding tagsText allTagsText
   some-tags chain e p w = let g = tags-some b v e in rw (g .are) (chain .then p (w .done (g .items) (g .end) (g .there)))

@@ -13,7 +13,7 @@ use Rattle.spell.specs.Spell.{decode}
 use Rattle.rows.specs.Strings.{part}
 use Rattle.text.specs.Event.{opening, closing, comma, bracket, quoted, tagsText, serialise}
 use Rattle.message.specs.declared.Body.{Body}
-use Rattle.event.specs.Lent.{natural, tagsAt, eventOf, textOf}
+use Rattle.event.specs.Lent.{natural, lentTagsAt, eventOf, textOf}
 use Rattle.event.specs.Inner.{frontText, backText}
 
 regroup : (a b c d e f g h : List ℕ) → a ++ (b ++ (c ++ (d ++ (e ++ (f ++ (g ++ h)))))) ≡ (a ++ (b ++ (c ++ (d ++ (e ++ (f ++ g)))))) ++ h
@@ -37,6 +37,6 @@ module _ (b : List ℕ) (p : Body) {d o₁ o₂ o₃ o₄ o₅ o₆ o₇ : List 
 
 module _ (b : List ℕ) (p : Body) {d o₁ o₂ o₃ o₄ : List ℕ} {i a₁ a₂ a₃ r : ℕ} where
   pub back-put : {text : List ℕ} → text ≡ part b (p .content .start) (p .content .len)
-      → Puts d i (tagsText (tagsAt b (p .tags))) a₁ o₁ → Puts o₁ a₁ comma a₂ o₂ → Puts o₂ a₂ (quoted (decode text)) a₃ o₃ → Puts o₃ a₃ bracket r o₄ → Puts d i (backText b p) r o₄
+      → Puts d i (tagsText (lentTagsAt b (p .tags))) a₁ o₁ → Puts o₁ a₁ comma a₂ o₂ → Puts o₂ a₂ (quoted (decode text)) a₃ o₃ → Puts o₃ a₃ bracket r o₄ → Puts d i (backText b p) r o₄
   unfolding backText
   back-put e x₁ x₂ x₃ x₄ = puts-then x₁ (puts-then x₂ (puts-then (rw e at x₃) x₄))

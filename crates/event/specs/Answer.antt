@@ -25,11 +25,11 @@ abbrev pub orElse : ℕ → ℕ → ℕ
 orElse r s = cond (eqb r 0) s r
 
 -- ---- serialising: rows 2 and 4 to 9; then 13, "lent output too short"
-unfoldable pub textRow : Bytes → Body → Row
-textRow b p = orElse (bodyRow b p) (cond (isLarge b p) 9 0)
+unfoldable pub bodyTextRow : Bytes → Body → Row
+bodyTextRow b p = orElse (bodyRow b p) (cond (isLarge b p) 9 0)
 
 unfoldable pub serialisedRow : (b : Bytes) (p : Body) (out : Bytes) → Row
-serialisedRow b p out = orElse (textRow b p) (shortRow (textOf b p) out)
+serialisedRow b p out = orElse (bodyTextRow b p) (shortRow (textOf b p) out)
 
 abbrev pub answered : ℕ → ℕ → Written
 answered r n = cond (eqb r 0) (Wrote n) (Refused r)
@@ -41,13 +41,13 @@ unfoldable pub serialisedOut : (b : Bytes) (p : Body) (out : Bytes) → Bytes
 serialisedOut b p out = outputAfter (serialisedRow b p out) (textOf b p) out
 
 -- the number of 01, and the value
-abbrev pub numberOf : Written → ℕ
-numberOf (Wrote n) = 0
-numberOf (Refused r) = r
+abbrev pub writtenNumber : Written → ℕ
+writtenNumber (Wrote n) = 0
+writtenNumber (Refused r) = r
 
-abbrev pub valueOf : Written → ℕ
-valueOf (Wrote n) = n
-valueOf (Refused r) = 0
+abbrev pub writtenLength : Written → ℕ
+writtenLength (Wrote n) = n
+writtenLength (Refused r) = 0
 
 -- ---- the id: SHA-256 of the text; zeros on a refusal
 abbrev pub identifiedBy : ℕ → Bytes → Identified
@@ -58,7 +58,7 @@ unfoldable pub hashedOf : Bytes → Identified
 hashedOf t = identifiedBy (cond (ltb mostText (length t)) 9 0) t
 
 unfoldable pub identified : Bytes → Body → Identified
-identified b p = identifiedBy (textRow b p) (textOf b p)
+identified b p = identifiedBy (bodyTextRow b p) (textOf b p)
 
 -- ---- offering: row 10, "id is not the SHA-256 of the text"; the id is its hex, in lower case
 abbrev pub hexDigit : ℕ → ℕ

@@ -5,14 +5,14 @@ use mathlib.Core.Path.{_≡_, refl}
 use mathlib.Core.List.{List, [], _∷_}
 use lib.IntN.{pos, negsuc}
 use lib.ListN.{length}
-use Rattle.json.specs.Grammar.{classOf, run, past, oneAt, tokenAt, wordAt, literalAt, digitsAt, intAt, fracAt, expAt, numberAt, hexAt}
+use Rattle.json.specs.Grammar.{inClass, run, past, oneAt, tokenAt, wordAt, literalAt, digitsAt, intAt, fracAt, expAt, numberAt, hexAt}
 use Rattle.json.specs.Grammar.{escapedAt, charAt, charsUpTo, charsAt, stringAt, scalarAt}
 use Rattle.json.specs.Tree.{itemsAt, treeAt}
-use Rattle.spell.specs.Spell.{hexVal, four, fourAt, shortOf, isPair, pairOf, unicodeOf, charOf, charsFrom, utf8Of, bytesOf, joined, decode}
+use Rattle.spell.specs.Spell.{hexVal, four, fourAt, shortOf, isPair, pairOf, unicodeOf, charOf, charsFrom, utf8Of, charBytes, charsBytes, decode}
 use Rattle.message.specs.declared.Body.{Body}
 use Rattle.message.specs.declared.EventParts.{EventParts}
 use Rattle.message.specs.Lent.{eventRow}
-use Rattle.event.specs.Lent.{stringsOf, tagsOf, tagsAt, textOf}
+use Rattle.event.specs.Lent.{stringsOf, tagsOf, lentTagsAt, textOf}
 use Rattle.event.specs.declared.Written.the-variants.{Wrote, Refused}
 use Rattle.event.specs.Order.{isLower, isNewer}
 use Rattle.event.specs.Answer.{hexOf, orElse, isLarge, offeredRow, answered, hashedOf}
@@ -55,8 +55,8 @@ answers = (refl, refl)
 
 -- [ ["\u0064","\/"],[]]: what the strings say, not how they are spelled. [1,[7]]: what is no tag, and no string of a tag, is empty
 tags :
-    (tagsAt (91 ∷ 32 ∷ 91 ∷ 34 ∷ 92 ∷ 117 ∷ 48 ∷ 48 ∷ 54 ∷ 52 ∷ 34 ∷ 44 ∷ 34 ∷ 92 ∷ 47 ∷ 34 ∷ 93 ∷ 44 ∷ 91 ∷ 93 ∷ 93 ∷ []) 0
+    (lentTagsAt (91 ∷ 32 ∷ 91 ∷ 34 ∷ 92 ∷ 117 ∷ 48 ∷ 48 ∷ 54 ∷ 52 ∷ 34 ∷ 44 ∷ 34 ∷ 92 ∷ 47 ∷ 34 ∷ 93 ∷ 44 ∷ 91 ∷ 93 ∷ 93 ∷ []) 0
     ≡ ((100 ∷ []) ∷ (47 ∷ []) ∷ []) ∷ [] ∷ [])
-    × (tagsAt (91 ∷ 49 ∷ 44 ∷ 91 ∷ 55 ∷ 93 ∷ 93 ∷ []) 0 ≡ [] ∷ ([] ∷ []) ∷ [])
-unfolding tagsAt tagsOf stringsOf classOf run past oneAt tokenAt wordAt literalAt digitsAt intAt fracAt expAt numberAt hexAt escapedAt charAt charsUpTo charsAt stringAt scalarAt itemsAt treeAt hexVal four fourAt shortOf isPair pairOf unicodeOf charOf charsFrom utf8Of bytesOf joined decode
+    × (lentTagsAt (91 ∷ 49 ∷ 44 ∷ 91 ∷ 55 ∷ 93 ∷ 93 ∷ []) 0 ≡ [] ∷ ([] ∷ []) ∷ [])
+unfolding lentTagsAt tagsOf stringsOf inClass run past oneAt tokenAt wordAt literalAt digitsAt intAt fracAt expAt numberAt hexAt escapedAt charAt charsUpTo charsAt stringAt scalarAt itemsAt treeAt hexVal four fourAt shortOf isPair pairOf unicodeOf charOf charsFrom utf8Of charBytes charsBytes decode
 tags = (refl, refl)

@@ -16,7 +16,7 @@ use Rattle.text.specs.Event.{opening, closing, comma, bracket, quoted, membersT
 use Rattle.message.specs.declared.Body.{Body}
 use Rattle.message.specs.declared.EventParts.{EventParts}
 use Rattle.event.specs.declared.Written.{Written}
-use Rattle.event.specs.Lent.{said, natural, stringOf, stringsOf, tagOf, tagsOf, tagsAt, textOf}
+use Rattle.event.specs.Lent.{said, natural, stringOf, stringsOf, tagOf, tagsOf, lentTagsAt, textOf}
 use Rattle.event.specs.Answer.{answered, offeredRow}
 use Rattle.wire.specs.Bytes.{Bytes, Place}
 
@@ -60,14 +60,14 @@ unfoldable pub allTagsText : Bytes → Items → Bytes
 allTagsText b ts = membersText tagText (tagsOf b ts)
 
 -- the first item of the array at a place that holds some, if the whole of it stands there
-abbrev pub firstOf : Start → Out
-firstOf Leaf = Bad
-firstOf (Empty n named) = Bad
-firstOf (Many first true) = Bad
-firstOf (Many first false) = End first
+abbrev pub firstOut : Start → Out
+firstOut Leaf = Bad
+firstOut (Empty n named) = Bad
+firstOut (Many first true) = Bad
+firstOut (Many first false) = End first
 
 unfoldable pub firstTag : Bytes → Place → Out
-firstTag b at = case (endOf (treeAt b depth at)) (λ n. firstOf (startAt b at)) Bad
+firstTag b at = case (endOf (treeAt b depth at)) (λ n. firstOut (startAt b at)) Bad
 
 -- the rows of an offer are tested: what that answers, and where none holds, the text at the start of a buffer
 pub record Tested (b : List ℕ) (p : EventParts) (r : Written) (t : List ℕ) : Type 0 where
@@ -79,4 +79,4 @@ unfoldable pub frontText : Bytes → Body → Bytes
 frontText b p = opening ++ (said b (p .pubkey) ++ (closing ++ (decimal (p .«created_at») ++ (comma ++ (digits (natural (p .kind)) ++ comma)))))
 
 unfoldable pub backText : Bytes → Body → Bytes
-backText b p = tagsText (tagsAt b (p .tags)) ++ (comma ++ (quoted (said b (p .content)) ++ bracket))
+backText b p = tagsText (lentTagsAt b (p .tags)) ++ (comma ++ (quoted (said b (p .content)) ++ bracket))

@@ -45,8 +45,8 @@ tagsIn b (got (str a n) m) = []
 tagsIn b (got (arr ts) m) = tagsOf b ts
 tagsIn b (got (obj ts) m) = []
 
-unfoldable pub tagsAt : Bytes → Place → List Tag
-tagsAt b at = tagsIn b (treeAt b depth at)
+unfoldable pub lentTagsAt : Bytes → Place → List Tag
+lentTagsAt b at = tagsIn b (treeAt b depth at)
 
 -- a kind is not negative
 abbrev pub natural : ℤ → ℕ
@@ -58,7 +58,7 @@ eventOf b p = record {
   pubkey = said b (p .pubkey);
   time = p .«created_at»;
   kind = natural (p .kind);
-  tags = tagsAt b (p .tags);
+  tags = lentTagsAt b (p .tags);
   content = said b (p .content);
 }
 

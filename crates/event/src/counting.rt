@@ -5,7 +5,7 @@ ghost use Prim.Native.Nat.{_+_, min};
 ghost use lib.ListN.{length};
 ghost use Rattle.json.specs.Tree.{treeAt, itemsAt};
 ghost use Rattle.text.specs.Event.{tagsText};
-ghost use Rattle.event.specs.Lent.{tagsAt};
+ghost use Rattle.event.specs.Lent.{lentTagsAt};
 ghost use Rattle.event.specs.Inner.{tagDepth, stringDepth, Counts, mostLength, lengthOf, Does, stringText, stringsText, oneTagText, allTagsText};
 use crate::Reached;
 use crate::writing;
@@ -127,7 +127,7 @@ pub(crate) fn count_all(n: usize, b: &[u8], first: usize) -> Reached
 
 // How long the text of the tags is, up to the most that a number holds.
 pub(crate) fn tags_len(b: &[u8], tags: usize) -> usize
-    ensures { λ r. ⌜ r ≡ lengthOf (tagsText (tagsAt (now (b .entry)) tags)) ⌝ }
+    ensures { λ r. ⌜ r ≡ lengthOf (tagsText (lentTagsAt (now (b .entry)) tags)) ⌝ }
 {
     match writing::first_tag(b, tags) {
         json::Out::End(first) => {

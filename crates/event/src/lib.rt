@@ -5,9 +5,9 @@ ghost use Rattle.wire.specs.Put.{Puts};
 ghost use Rattle.wire.specs.Escape.{escape};
 ghost use Rattle.spell.specs.Spell.{decode};
 ghost use Rattle.text.specs.Event.{quoted, tagsText};
-ghost use Rattle.event.specs.Lent.{said, natural, tagsAt, textOf};
+ghost use Rattle.event.specs.Lent.{said, natural, lentTagsAt, textOf};
 ghost use Rattle.event.specs.Inner.{lengthOf};
-ghost use Rattle.event.specs.Answer.{hexOf, numberOf, serialisedRow, serialised, serialisedOut, identified};
+ghost use Rattle.event.specs.Answer.{hexOf, writtenNumber, serialisedRow, serialised, serialisedOut, identified};
 ghost use Rattle.event.specs.Answer.{offeredRow, offeredTextRow, offered, offeredOut};
 ghost use Rattle.event.specs.Sent.{sentRow, sentText, sentOut, sentTextNumber};
 ghost use Rattle.event.specs.Order.{isLower, isNewer};
@@ -67,7 +67,7 @@ pub fn part_len(b: &[u8], s: message::Span) -> usize
 
 // The tags of the array at `tags`; [] where there is none.
 pub fn put_tags(out: &mut [u8], at: usize, b: &[u8], tags: usize) -> usize
-    ensures { λ r. ⌜ Puts (now (out .entry)) at (tagsText (tagsAt (now (b .entry)) tags)) r (now (out .exit)) ⌝ }
+    ensures { λ r. ⌜ Puts (now (out .entry)) at (tagsText (lentTagsAt (now (b .entry)) tags)) r (now (out .exit)) ⌝ }
 {
     let known = writing::first_tag(b, tags);
     writing::put_tags_from(out, at, b, tags, known)
@@ -145,7 +145,7 @@ pub fn id_of(b: &[u8], p: message::Body) -> Identified
 // written to `out` before every row is tested.
 pub fn serialise(b: &[u8], p: message::Body, out: &mut [u8]) -> Written
     ensures { λ r. ⌜ r ≡ serialised (now (b .entry)) p (now (out .entry)) ⌝ }
-    ensures { λ r. ⌜ numberOf r ≡ serialisedRow (now (b .entry)) p (now (out .entry)) ⌝ }
+    ensures { λ r. ⌜ writtenNumber r ≡ serialisedRow (now (b .entry)) p (now (out .entry)) ⌝ }
     ensures { λ _. ⌜ now (out .exit) ≡ serialisedOut (now (b .entry)) p (now (out .entry)) ⌝ }
 {
     let row = message::body_row(b, p);
@@ -179,7 +179,7 @@ pub fn offered_row(b: &[u8], p: message::EventParts) -> u8
 // Rows 2 and 4 to 10 of an event that is offered as parts, then 13; where none holds, its text from the start of `out`.
 pub fn offered_text(b: &[u8], p: message::EventParts, out: &mut [u8]) -> Written
     ensures { λ r. ⌜ r ≡ offered (now (b .entry)) p (now (out .entry)) ⌝ }
-    ensures { λ r. ⌜ numberOf r ≡ offeredTextRow (now (b .entry)) p (now (out .entry)) ⌝ }
+    ensures { λ r. ⌜ writtenNumber r ≡ offeredTextRow (now (b .entry)) p (now (out .entry)) ⌝ }
     ensures { λ _. ⌜ now (out .exit) ≡ offeredOut (now (b .entry)) p (now (out .entry)) ⌝ }
 {
     let row = message::event_row(b, p);

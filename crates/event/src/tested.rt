@@ -6,7 +6,7 @@ ghost use Rattle.message.specs.Lent.{eventRow};
 ghost use Rattle.message.specs.declared.Message.the-variants.{Event};
 ghost use Rattle.event.specs.Lent.{said};
 ghost use Rattle.event.specs.Inner.{Tested};
-ghost use Rattle.event.specs.Answer.{hexOf, hashedOf, shortRow, answered, outputAfter, numberOf};
+ghost use Rattle.event.specs.Answer.{hexOf, hashedOf, shortRow, answered, outputAfter, writtenNumber};
 ghost use Rattle.event.specs.Answer.{offeredTextRow, offered, offeredOut};
 ghost use Rattle.event.specs.Sent.{unreadRow, sentRowOf, sentTextOf, sentOutOf, sentTextNumber};
 use crate::Identified;
@@ -75,7 +75,7 @@ pub(crate) fn rest(b: &[u8], p: message::EventParts, t: &mut [u8]) -> Written
 pub(crate) fn rest_text(b: &[u8], p: message::EventParts, out: &mut [u8]) -> Written
     requires { ⌜ eventRow (now b) p ≡ 0 ⌝ }
     ensures { λ r. ⌜ r ≡ offered (now (b .entry)) p (now (out .entry)) ⌝ }
-    ensures { λ r. ⌜ numberOf r ≡ offeredTextRow (now (b .entry)) p (now (out .entry)) ⌝ }
+    ensures { λ r. ⌜ writtenNumber r ≡ offeredTextRow (now (b .entry)) p (now (out .entry)) ⌝ }
     ensures { λ _. ⌜ now (out .exit) ≡ offeredOut (now (b .entry)) p (now (out .entry)) ⌝ }
 {
     let mut t = [0u8; 4097];

@@ -7,8 +7,8 @@ ghost use Rattle.wire.specs.Put.{Puts};
 ghost use Rattle.json.specs.Grammar.{case, startAt};
 ghost use Rattle.json.specs.Tree.{endOf, treeAt, itemsAt};
 ghost use Rattle.text.specs.Event.{tagsText};
-ghost use Rattle.event.specs.Lent.{tagsAt, textOf};
-ghost use Rattle.event.specs.Inner.{tagDepth, stringDepth, puts, Does, firstOf, firstTag, frontText, backText, stringText, stringsText, oneTagText, allTagsText};
+ghost use Rattle.event.specs.Lent.{lentTagsAt, textOf};
+ghost use Rattle.event.specs.Inner.{tagDepth, stringDepth, puts, Does, firstOut, firstTag, frontText, backText, stringText, stringsText, oneTagText, allTagsText};
 ghost use Rattle.event.specs.Answer.{hexDigit};
 use crate::Reached;
 use json::Out;
@@ -139,7 +139,7 @@ pub(crate) fn put_all(out: &mut [u8], at: usize, b: &[u8], first: usize) -> Reac
 
 // The first item of an array that holds some, by what begins there.
 pub(crate) fn begun(b: &[u8], tags: usize) -> Out
-    ensures { λ r. ⌜ r ≡ firstOf (startAt (now (b .entry)) tags) ⌝ }
+    ensures { λ r. ⌜ r ≡ firstOut (startAt (now (b .entry)) tags) ⌝ }
 {
     match json::begin(b, tags) {
         json::Start::Many(first, named) => {
@@ -166,7 +166,7 @@ pub(crate) fn first_tag(b: &[u8], tags: usize) -> Out
 // The tags of the array at `tags`, the first of which is known; [] where there is none.
 pub(crate) fn put_tags_from(out: &mut [u8], at: usize, b: &[u8], tags: usize, known: Out) -> usize
     requires { ⌜ known ≡ firstTag (now b) tags ⌝ }
-    ensures { λ r. ⌜ Puts (now (out .entry)) at (tagsText (tagsAt (now (b .entry)) tags)) r (now (out .exit)) ⌝ }
+    ensures { λ r. ⌜ Puts (now (out .entry)) at (tagsText (lentTagsAt (now (b .entry)) tags)) r (now (out .exit)) ⌝ }
 {
     match known {
         Out::End(first) => {

@@ -18,7 +18,7 @@ use Rattle.law.specs.Lists.{any}
 use Rattle.reply.specs.Program.{tableAfter}
 use Rattle.reply.specs.Feed.{State, mostLine, kept, isEnd, afterByte, afterBytes, before, usedOf, turnState}
 use Rattle.reply.proofs.Feed.{in-pieces}
-use Rattle.feed.specs.Inner.{NoEnd, EndFrom, grown, Keeps, Joins}
+use Rattle.feed.specs.Inner.{NoEndFrom, EndFrom, grown, Keeps, Joins}
 
 -- ---- a turn of the search for a line's end: x is the whole answer
 module _ (p : List ℕ) (x i : ℕ) where
@@ -42,15 +42,15 @@ module _ (p : List ℕ) (x i : ℕ) where
 
 -- ---- a block of bytes that end no line
 -- one byte more
-pub none-first : (p : List ℕ) (i : ℕ) → NoEnd p i 0
+pub none-first : (p : List ℕ) (i : ℕ) → NoEndFrom p i 0
 none-first p i j h e = omega arith
 
 both : (a b : Bool) → (a && b) ≡ true → (a ≡ true) × (b ≡ true)
 both true b r = (refl, r)
 both false b r = absurd (false≢true r)
 
-pub none-turn : (p : List ℕ) (i k : ℕ) (t : Bool) → (t ≡ true → NoEnd p i k)
-    → (t && not (eqb (getD p (i + k) 0) 0x0a)) ≡ true → NoEnd p i (k + 1)
+pub none-turn : (p : List ℕ) (i k : ℕ) (t : Bool) → (t ≡ true → NoEndFrom p i k)
+    → (t && not (eqb (getD p (i + k) 0) 0x0a)) ≡ true → NoEndFrom p i (k + 1)
 none-turn p i k t f e j h q = go (decLe k j) (both t (not (eqb (getD p (i + k) 0) 0x0a)) e)
   where
     go : Dec (k ≤ j) → (t ≡ true) × (not (eqb (getD p (i + k) 0) 0x0a) ≡ true) → ⊥
@@ -58,13 +58,13 @@ none-turn p i k t f e j h q = go (decLe k j) (both t (not (eqb (getD p (i + k) 0
     go (no g) z = f (z .0) j (omega arith) q
 
 -- the search goes on behind the block
-pub end-block : (p : List ℕ) (x i n : ℕ) → i + n ≤ length p → NoEnd p i n → x ≡ i + length (before (drop i p)) → x ≡ i + n + length (before (drop (i + n) p))
+pub end-block : (p : List ℕ) (x i n : ℕ) → i + n ≤ length p → NoEndFrom p i n → x ≡ i + length (before (drop i p)) → x ≡ i + n + length (before (drop (i + n) p))
 end-block p x i zero h f e = rw (add-zero i) e
 end-block p x i (suc n) h f e =
     rw (add-suc i n, sym (add-one (i + n)))
     (end-turn p x (i + n) (omega arith) (f n (omega arith)) (end-block p x i n (omega arith) (λ j g. f j (omega arith)) e))
 
-pub block-passed : (p : List ℕ) (i : ℕ) (t : Bool) → EndFrom p i → 32 ≤ length p - i → (t ≡ true → NoEnd p i 32) → not t ≡ false → EndFrom p (i + 32)
+pub block-passed : (p : List ℕ) (i : ℕ) (t : Bool) → EndFrom p i → 32 ≤ length p - i → (t ≡ true → NoEndFrom p i 32) → not t ≡ false → EndFrom p (i + 32)
 block-passed p i true f h g e = record { inside = omega arith; rest = end-block p (length (before p)) i 32 (omega arith) (g refl) (f .rest) }
 block-passed p i false f h g e = absurd (false≢true (sym e))
 

@@ -4,12 +4,12 @@ use mathlib.Core.List.{List, _++_}
 use Prim.Native.Nat.{ℕ}
 use native.Mathlib.Omega.{arith}
 use lib.ListN.{length, take}
-use Rattle.event.specs.Answer.{numberOf, valueOf}
-use Rattle.reply.specs.Feed.{afterBytes, saidBy, saidLast, stateOf, usedOf, turnText, turnState, turnTable, turnLine, turnOut, turnedNumber, turnedUsed, turnedLine, turnedBytes}
+use Rattle.event.specs.Answer.{writtenNumber, writtenLength}
+use Rattle.reply.specs.Feed.{afterBytes, saidBy, saidLast, feedState, usedOf, turnText, turnState, turnTable, turnLine, turnOut, turnedNumber, turnedUsed, turnedLine, turnedBytes}
 use Rattle.reply.proofs.Lent.{writes-or}
 use Rattle.reply.proofs.Respond.{short-if, fits-if}
 use Rattle.reply.proofs.Feed.{in-pieces, says-output, turned-means}
-use Rattle.feed.specs.Finish.{finishText, finishRow, finished, finishTable, finishOut}
+use Rattle.feed.specs.Finish.{finishText, finishRow, feedFinished, finishTable, finishOut}
 use Rattle.feed.specs.Claims.{FinishRowIs, FinishedMeans, Turns, none, more, WritesOutput}
 use borrow.Author.Tests.{eq-eqb, ne-eqb}
 
@@ -18,13 +18,13 @@ unfolding finishRow
 finish-row-is b line n out = (short-if (finishText b line n) out, λ (e, h) z. omega arith)
 
 pub finished-means : FinishedMeans
-unfolding finishRow finished finishOut finishTable
+unfolding finishRow feedFinished finishOut finishTable
 finished-means b line n out = let r = finishRow b line n out in
     (writes-or r (finishText b line n) out (fits-if (finishText b line n) out), λ e. rw (eq-eqb r 0 e), λ ne. rw (ne-eqb r 0 ne))
 
 -- the state that a run of calls leaves in the buffers, and what it has written
 turns-state : {b line : List ℕ} {n : ℕ} {input said b′ line′ : List ℕ} {n′ : ℕ} → Turns b line n input said b′ line′ n′
-    → (stateOf b′ line′ n′ ≡ afterBytes (stateOf b line n) input) × (said ≡ saidBy (stateOf b line n) input)
+    → (feedState b′ line′ n′ ≡ afterBytes (feedState b line n) input) × (said ≡ saidBy (feedState b line n) input)
 unfolding afterBytes saidBy turnText turnState
 turns-state none = (refl, refl)
 turns-state {b} {line} {n} (more {input} {said} {b′} {line′} {n′} t piece out {u} {k} {w} e) =
@@ -36,8 +36,8 @@ turns-state {b} {line} {n} (more {input} {said} {b′} {line′} {n′} t piece 
     let z = sym (m .number) ∙ ap turnedNumber e in
     let used : usedOf piece ≡ u = sym (m .used z) ∙ ap turnedUsed e in
     let bytes : length (turnText b′ line′ n′ piece) ≡ w = sym (m .bytes z) ∙ ap turnedBytes e in
-    let (x, y) = in-pieces (stateOf b line n) input (take u piece) in
-    let state = ap (stateOf table buffer) (sym (ap turnedLine e)) ∙ m .is-state z ∙ ap₂ (λ v i. afterBytes v (take i piece)) p used in
+    let (x, y) = in-pieces (feedState b line n) input (take u piece) in
+    let state = ap (feedState table buffer) (sym (ap turnedLine e)) ∙ m .is-state z ∙ ap₂ (λ v i. afterBytes v (take i piece)) p used in
     let says = ap (λ i. take i o) (sym bytes) ∙ m .begins z ∙ ap₂ (λ v i. saidBy v (take i piece)) p used in
     (state ∙ sym x, ap₂ _++_ q says ∙ sym y)
 
@@ -46,6 +46,6 @@ unfolding finishText
 writes-output line input said b line′ n t out w e =
     let (p, q) = turns-state t in
     let m = finished-means b line′ n out .0 in
-    let z = sym (m .number) ∙ ap numberOf e in
-    let bytes : length (finishText b line′ n) ≡ w = sym (m .value z) ∙ ap valueOf e in
+    let z = sym (m .number) ∙ ap writtenNumber e in
+    let bytes : length (finishText b line′ n) ≡ w = sym (m .value z) ∙ ap writtenLength e in
     ap₂ _++_ q (ap (λ i. take i (finishOut b line′ n out)) (sym bytes) ∙ m .begins z ∙ ap saidLast p) ∙ says-output input

@@ -10,7 +10,7 @@ use lib.ListN.{length, take, drop}
 use Rattle.wire.specs.Bytes.{part}
 use Rattle.wire.specs.Put.{put}
 use Rattle.law.specs.Lists.{any}
-use Rattle.event.specs.Answer.{numberOf, valueOf}
+use Rattle.event.specs.Answer.{writtenNumber, writtenLength}
 use Rattle.event.specs.declared.Written.{Written}
 use Rattle.event.specs.declared.Written.the-variants as sent
 use Rattle.reply.specs.Program.{tableAfter}
@@ -20,7 +20,7 @@ use Rattle.reply.specs.declared.Turned.{Turned}
 use Rattle.reply.specs.declared.Turned.the-variants as turning
 use Rattle.reply.proofs.Respond.{fits-if, responded-means}
 use Rattle.reply.proofs.Feed.{kept-same, turn-means, turn-row-is}
-use Rattle.feed.specs.Finish.{finishText, finishRow, finished, finishTable, finishOut, lastTable}
+use Rattle.feed.specs.Finish.{finishText, finishRow, feedFinished, finishTable, finishOut, lastTable}
 use Rattle.feed.specs.Inner.{grown, Keeps, Answers}
 use Rattle.feed.proofs.Lines.{within, whole, so-far, state-unended, state-ended}
 
@@ -28,7 +28,7 @@ use Rattle.feed.proofs.Lines.{within, whole, so-far, state-unended, sta
 -- four promises in a row, as `respond` gives them
 abbrev Responds : (b m out : List ℕ) → Written → (b′ o : List ℕ) → Type 0
 Responds b m out r b′ o =
-    (r ≡ responded b m out) × ((numberOf r ≡ respondRow b m out) × ((o ≡ respondedOut b m out) × (b′ ≡ respondedTable b m out)))
+    (r ≡ responded b m out) × ((writtenNumber r ≡ respondRow b m out) × ((o ≡ respondedOut b m out) × (b′ ≡ respondedTable b m out)))
 
 -- what is kept of a message is answered as the message is
 pub answers-kept : (m l : List ℕ) {b out : List ℕ} {r : Written} {b′ o : List ℕ} → l ≡ kept m → Responds b m out r b′ o → Answers b l out r b′ o
@@ -41,14 +41,14 @@ pub answers-line : (m l : List ℕ) {b out : List ℕ} {r : Written} {b′ o : L
 answers-line m l e (p, (q, (s, t))) = record { answer = rw e at p; table = rw e at t; output = rw e at s }
 
 module _ (b m out : List ℕ) where
-  number : numberOf (responded b m out) ≡ respondRow b m out
+  number : writtenNumber (responded b m out) ≡ respondRow b m out
   number = responded-means b m out .0 .number
 
   wrote-row : {w : ℕ} → sent.Wrote w ≡ responded b m out → (respondRow b m out ≡ 0) × (w ≡ length (response b m))
-  wrote-row e = let z = sym number ∙ sym (ap numberOf e) in (z, ap valueOf e ∙ responded-means b m out .0 .value z)
+  wrote-row e = let z = sym number ∙ sym (ap writtenNumber e) in (z, ap writtenLength e ∙ responded-means b m out .0 .value z)
 
   refused-row : {k : ℕ} → sent.Refused k ≡ responded b m out → (respondRow b m out ≢ 0) × (k ≡ respondRow b m out)
-  refused-row {k} e = (λ z. let w = e ∙ responded-means b m out .0 .wrote z in let y : _≡_ {A = ℕ} 0 1 = cc in omega arith, ap numberOf e ∙ number)
+  refused-row {k} e = (λ z. let w = e ∙ responded-means b m out .0 .wrote z in let y : _≡_ {A = ℕ} 0 1 = cc in omega arith, ap writtenNumber e ∙ number)
 
   out-written : respondRow b m out ≡ 0 → respondedOut b m out ≡ response b m ++ drop (length (response b m)) out
   unfolding respondedOut
@@ -146,8 +146,8 @@ module _ (b line : List ℕ) (n : ℕ) (piece out : List ℕ) where
 module _ (b line : List ℕ) (n : ℕ) (out : List ℕ) where
   abbrev Finishes : Written → (b′ o : List ℕ) → Type 0
   Finishes r b′ o =
-      (r ≡ finished b line n out)
-      × ((numberOf r ≡ finishRow b line n out) × ((b′ ≡ finishTable b line n out) × (o ≡ finishOut b line n out)))
+      (r ≡ feedFinished b line n out)
+      × ((writtenNumber r ≡ finishRow b line n out) × ((b′ ≡ finishTable b line n out) × (o ≡ finishOut b line n out)))
 
   abbrev lineSoFar : List ℕ
   lineSoFar = take n (kept line)
@@ -157,7 +157,7 @@ module _ (b line : List ℕ) (n : ℕ) (out : List ℕ) where
     line-is = i ∙ ap (λ v. take v line) e ∙ sym (so-far n line)
 
     pub no-line : length m ≡ 0 → Finishes (sent.Wrote 0) b out
-    unfolding finished finishRow finishTable finishOut finishText saidLast
+    unfolding feedFinished finishRow finishTable finishOut finishText saidLast
     no-line z =
         let y : lineSoFar ≡ [] = sym line-is ∙ none m z in
         let r = le-ltb (length out) 0 (omega arith) in
@@ -168,7 +168,7 @@ module _ (b line : List ℕ) (n : ℕ) (out : List ℕ) where
         none (x ∷ l) h = absurd (omega arith)
 
     pub last-line : {r : Written} {b′ o : List ℕ} → (length m ≡ 0 → ⊥) → Responds b m out r b′ o → Finishes r b′ o
-    unfolding finished finishRow finishTable finishOut finishText saidLast responded respondRow respondedOut respondedTable
+    unfolding feedFinished finishRow finishTable finishOut finishText saidLast responded respondRow respondedOut respondedTable
     last-line ne (p, (q, (s, t))) =
         let (x, y) = some lineSoFar (λ z. ne (ap length line-is ∙ z)) in
         (rw (line-is, ← x) at p, (rw (line-is, ← x) at q, (rw (line-is, ← x, ← y) at t, rw (line-is, ← x) at s)))

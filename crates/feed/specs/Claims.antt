@@ -10,9 +10,9 @@ use Rattle.table.specs.Layout.{capacityOf}
 use Rattle.reply.specs.declared.Turned.the-variants as turning
 use Rattle.reply.specs.Claims.Replies.{WritesOr}
 use Rattle.reply.specs.Program.{freshTable, output}
-use Rattle.reply.specs.Feed.{mostLine, stateOf, turnRow, turned, turnTable, turnLine, turnOut}
+use Rattle.reply.specs.Feed.{mostLine, feedState, turnRow, turned, turnTable, turnLine, turnOut}
 use Rattle.reply.specs.Claims.Respond.{enoughFor}
-use Rattle.feed.specs.Finish.{finishText, finishRow, finished, finishOut, finishTable, lastTable}
+use Rattle.feed.specs.Finish.{finishText, finishRow, feedFinished, finishOut, finishTable, lastTable}
 
 -- ---- the end of the input
 -- row 13, "lent output .. too short", and no other
@@ -23,8 +23,8 @@ FinishRowIs = (b line : List ℕ) (n : ℕ) (out : List ℕ) →
 -- "every lent buffer stays as found": neither output nor table changes where the output is too short
 abbrev pub FinishedMeans : Type 0
 FinishedMeans = (b line : List ℕ) (n : ℕ) (out : List ℕ) →
-    WritesOr (finishRow b line n out) (finishText b line n) out (finished b line n out) (finishOut b line n out)
-    × (finishRow b line n out ≡ 0 → finishTable b line n out ≡ lastTable b (stateOf b line n .line))
+    WritesOr (finishRow b line n out) (finishText b line n) out (feedFinished b line n out) (finishOut b line n out)
+    × (finishRow b line n out ≡ 0 → finishTable b line n out ≡ lastTable b (feedState b line n .line))
     × (finishRow b line n out ≢ 0 → finishTable b line n out ≡ b)
 
 -- ---- an output that is never too short, over a table of so many slots (reply/specs/Claims/Respond, `enoughFor`): with it, and with a line buffer
@@ -53,5 +53,5 @@ pub data Turns (b line : List ℕ) (n : ℕ) : (input said b′ line′ : List �
 -- standard input, one a line, over a fresh table of 8 slots"
 abbrev pub WritesOutput : Type 0
 WritesOutput = (line input said b line′ : List ℕ) (n : ℕ) → Turns freshTable line 0 input said b line′ n
-    → (out : List ℕ) (w : ℕ) → finished b line′ n out ≡ sent.Wrote w
+    → (out : List ℕ) (w : ℕ) → feedFinished b line′ n out ≡ sent.Wrote w
     → said ++ take w (finishOut b line′ n out) ≡ output input

@@ -9,18 +9,18 @@ use Rattle.event.specs.Answer.{answered}
 use Rattle.event.specs.declared.Written.{Written}
 use Rattle.reply.specs.Lent.{shortRow, outputAfter}
 use Rattle.reply.specs.Program.{tableAfter}
-use Rattle.reply.specs.Feed.{saidLast, stateOf}
+use Rattle.reply.specs.Feed.{saidLast, feedState}
 use Rattle.wire.specs.Bytes.{Bytes, Row}
 
 unfoldable pub finishText : (b line : Bytes) (n : ℕ) → Bytes
-finishText b line n = saidLast (stateOf b line n)
+finishText b line n = saidLast (feedState b line n)
 
 -- row 13, "lent output .. too short", and no other
 unfoldable pub finishRow : (b line : Bytes) (n : ℕ) (out : Bytes) → Row
 finishRow b line n out = shortRow (finishText b line n) out
 
-unfoldable pub finished : (b line : Bytes) (n : ℕ) (out : Bytes) → Written
-finished b line n out = answered (finishRow b line n out) (length (finishText b line n))
+unfoldable pub feedFinished : (b line : Bytes) (n : ℕ) (out : Bytes) → Written
+feedFinished b line n out = answered (finishRow b line n out) (length (finishText b line n))
 
 unfoldable pub finishOut : (b line : Bytes) (n : ℕ) (out : Bytes) → Bytes
 finishOut b line n out = outputAfter (finishRow b line n out) (finishText b line n) out
@@ -32,4 +32,4 @@ lastTable b (x ∷ m) = tableAfter b (x ∷ m)
 
 -- "every lent buffer stays as found": the table too
 unfoldable pub finishTable : (b line : Bytes) (n : ℕ) (out : Bytes) → Bytes
-finishTable b line n out = cond (eqb (finishRow b line n out) 0) (lastTable b (stateOf b line n .line)) b
+finishTable b line n out = cond (eqb (finishRow b line n out) 0) (lastTable b (feedState b line n .line)) b

@@ -11,8 +11,8 @@ use Rattle.wire.specs.Bytes.{Bytes}
 
 -- ---- the search for a line's end
 -- none of the n bytes at i ends a line
-abbrev pub NoEnd : (p : Bytes) (i n : ℕ) → Type 0
-NoEnd p i n = (j : ℕ) → j < n → getD p (i + j) 0 ≡ 0x0a → ⊥
+abbrev pub NoEndFrom : (p : Bytes) (i n : ℕ) → Type 0
+NoEndFrom p i n = (j : ℕ) → j < n → getD p (i + j) 0 ≡ 0x0a → ⊥
 
 -- no byte before i does: the line's end is looked for from there on
 pub record EndFrom (p : List ℕ) (i : ℕ) : Type 0 where

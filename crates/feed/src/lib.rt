@@ -4,10 +4,10 @@ ghost use mathlib.Core.Path.{_≡_};
 ghost use mathlib.Core.Bool.{true};
 ghost use Prim.Native.Nat.{_+_, _≤_, min};
 ghost use lib.ListN.{length};
-ghost use Rattle.event.specs.Answer.{numberOf};
+ghost use Rattle.event.specs.Answer.{writtenNumber};
 ghost use Rattle.reply.specs.Feed.{mostLine, before, turned, turnRow, turnTable, turnLine, turnOut, turnedNumber};
-ghost use Rattle.feed.specs.Finish.{finished, finishRow, finishTable, finishOut};
-ghost use Rattle.feed.specs.Inner.{NoEnd, EndFrom, grown, Keeps, Joins, Answers};
+ghost use Rattle.feed.specs.Finish.{feedFinished, finishRow, finishTable, finishOut};
+ghost use Rattle.feed.specs.Inner.{NoEndFrom, EndFrom, grown, Keeps, Joins, Answers};
 use event::Written;
 use reply::Turned;
 
@@ -17,7 +17,7 @@ const MOST_LINE: usize = wire::MOST_MESSAGE + 1;
 // Whether none of the 32 bytes at i ends a line. All are looked at, with no way out of the loop, so that it is compiled to vector code.
 fn none_ends(piece: &[u8], i: usize) -> bool
     requires { ⌜ i + 32 ≤ length (now piece) ⌝ }
-    ensures { λ r. ⌜ (r ≡ true → NoEnd (now (piece .entry)) i 32) ⌝ }
+    ensures { λ r. ⌜ (r ≡ true → NoEndFrom (now (piece .entry)) i 32) ⌝ }
 {
     let mut none = true;
     let mut k = 0;
@@ -125,8 +125,8 @@ pub fn turn(table: &mut [u8], line: &mut [u8], n: usize, piece: &[u8], out: &mut
 // The end of the input: a last line without 0A is answered if it is not empty. Row 13 for an output too short; table and output then stay
 // as found.
 pub fn finish(table: &mut [u8], line: &[u8], n: usize, out: &mut [u8]) -> Written
-    ensures { λ r. ⌜ r ≡ finished (now (table .entry)) (now (line .entry)) n (now (out .entry)) ⌝ }
-    ensures { λ r. ⌜ numberOf r ≡ finishRow (now (table .entry)) (now (line .entry)) n (now (out .entry)) ⌝ }
+    ensures { λ r. ⌜ r ≡ feedFinished (now (table .entry)) (now (line .entry)) n (now (out .entry)) ⌝ }
+    ensures { λ r. ⌜ writtenNumber r ≡ finishRow (now (table .entry)) (now (line .entry)) n (now (out .entry)) ⌝ }
     ensures { λ _. ⌜ now (table .exit) ≡ finishTable (now (table .entry)) (now (line .entry)) n (now (out .entry)) ⌝ }
     ensures { λ _. ⌜ now (out .exit) ≡ finishOut (now (table .entry)) (now (line .entry)) n (now (out .entry)) ⌝ }
 {

@@ -8,7 +8,7 @@ use native.Mathlib.Nat.{sub-zero}
 use native.Mathlib.Omega.{arith}
 use lib.ListN.{length, getD, List·getD-eq-default}
 use borrow.Author.Tests.{eq-eqb}
-use Rattle.json.specs.Grammar.{classOf, wsAt, oneAt, tokenAt, closeOf, openedAt, startAt, headAt, nextAt}
+use Rattle.json.specs.Grammar.{inClass, wsAt, oneAt, tokenAt, closeOf, openedAt, startAt, headAt, nextAt}
 use Rattle.json.specs.Tree.{depth, endOf, node, itemsAt, treeAt, isText}
 use Rattle.json.specs.declared.Class.the-variants.{Space, Byte}
 use Rattle.json.specs.declared.Out.{Out}
@@ -25,18 +25,18 @@ use Rattle.grammar.proofs.Numbers.{Stops}
 use Rattle.grammar.proofs.Firsts.{Quiet, ws-quiet, lead, plain-place, plain-taken, string-from, plain-from, token-from}
 
 -- ---- structural characters are no white space, and no number goes on with one
-open-solid : (named : Bool) → classOf Space (openOf named) ≡ false
-unfolding classOf
+open-solid : (named : Bool) → inClass Space (openOf named) ≡ false
+unfolding inClass
 open-solid true = refl
 open-solid false = refl
 
-close-solid : (named : Bool) → classOf Space (closeOf named) ≡ false
-unfolding classOf
+close-solid : (named : Bool) → inClass Space (closeOf named) ≡ false
+unfolding inClass
 close-solid true = refl
 close-solid false = refl
 
 close-quiet : (named : Bool) → Quiet (closeOf named)
-unfolding classOf
+unfolding inClass
 close-quiet true = (refl, refl, refl)
 close-quiet false = (refl, refl, refl)
 
@@ -61,7 +61,7 @@ module _ (s : List ℕ) where
   start-open true at a e = let r = token-is 0x7B at a e in rw (token-bad 0x5B at (λ q. omega arith), e)
 
   start-leaf : (at n : ℕ) → (literal s ∣ number s ∣ string s) at n → startAt s at ≡ Leaf
-  unfolding classOf
+  unfolding inClass
   start-leaf at n e =
       let p = token-bad 0x5B at (λ q. lead s at n e (rw q (refl, refl, refl, refl, refl, refl, refl))) in
       let r = token-bad 0x7B at (λ q. lead s at n e (rw q (refl, refl, refl, refl, refl, refl, refl))) in
@@ -80,7 +80,7 @@ module _ (s : List ℕ) where
   open-first false at a t q = let e = token-is 0x5B (wsAt s at) (wsAt s a) (token-taken s 0x5B at a (open-solid false) t) in omega arith
 
   item-first : (d : ℕ) (named : Bool) (at n : ℕ) → Item s d named at n → getD s (wsAt s at) 0 ≡ closeOf named → ⊥
-  unfolding classOf
+  unfolding inClass
   item-first d named at n (value (plain e)) q = lead s at n e (rw (sym (plain-place s at n e), q) (refl, refl, refl, refl, refl, refl, refl))
   item-first d named at n (value (empty {a = a} inner t r)) q = open-first inner at a t q
   item-first d named at n (value (group {a = a} inner t is r)) q = open-first inner at a t q
@@ -102,11 +102,11 @@ module _ (s : List ℕ) where
       rw (token-bad 0x2C (wsAt s at) (λ q. omega arith), e)
 
   next : (named : Bool) (at n : ℕ) → token s 0x2C at n → nextAt s (wsAt s at) named ≡ More (wsAt s n)
-  unfolding classOf
+  unfolding inClass
   next named at n t = rw (token-taken s 0x2C at n refl t)
 
   name-taken : (at a v : ℕ) → string s at a → token s 0x3A a v → headAt s (wsAt s at) true ≡ End (wsAt s v)
-  unfolding classOf
+  unfolding inClass
   name-taken at a v e t = rw (plain-place s at a (inr (inr e)), string-taken s at a e) (token-taken s 0x3A a v refl t)
 
 -- ---- no rule goes back
@@ -138,7 +138,7 @@ mutual
 
 -- ---- the definition takes what the rules take
 mutual
-  unfolding classOf
+  unfolding inClass
 
   pub value-taken : (s : List ℕ) (d at n : ℕ) → Value s d at n → Stops s n → endOf (treeAt s d (wsAt s at)) ≡ End (wsAt s n)
   value-taken s d at n (plain e) t = leaf-taken s d at n t e
@@ -174,7 +174,7 @@ mutual
   item-taken s d named at n (member {a = a} {b = b} e c v) t = (wsAt s b, name-taken s at a b e c, value-taken s d b n v t)
 
 pub text-taken : (s : List ℕ) → Text s → isText s ≡ true
-unfolding classOf
+unfolding inClass
 text-taken s (a, w, (b, v, x)) = rw (star-past s Space 0 a w, value-taken s depth a b v (ws-quiet s b (length s) x (rw after (refl, refl, refl))), ended) (eq-eqb (length s) (length s) refl)
   where
     after : getD s (length s) 0 ≡ 0

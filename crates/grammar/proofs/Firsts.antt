@@ -8,7 +8,7 @@ use native.Mathlib.Omega.{arith}
 use lib.Dec.{eqb}
 use lib.ListN.{length, getD}
 use borrow.Author.Tests.{eqb-true}
-use Rattle.json.specs.Grammar.{classOf, falseName, nullName, trueName, wsAt, wordAt, literalAt, digitsAt, intAt, numberAt, stringAt, scalarAt}
+use Rattle.json.specs.Grammar.{inClass, falseName, nullName, trueName, wsAt, wordAt, literalAt, digitsAt, intAt, numberAt, stringAt, scalarAt}
 use Rattle.json.specs.Tree.{endOf, onLeaf}
 use Rattle.json.specs.declared.Class.{Class}
 use Rattle.json.specs.declared.Class.the-variants.{Space, Digit, Exponent, Sign, Byte}
@@ -27,10 +27,10 @@ use Rattle.grammar.proofs.Strings.{string-taken}
 -- ---- white space: no value begins with it, and no number goes on with it
 -- a byte with which no number goes on
 abbrev pub Quiet : ℕ → Type 0
-Quiet x = (classOf Digit x ≡ false) × (classOf (Byte 0x2E) x ≡ false) × (classOf Exponent x ≡ false)
+Quiet x = (inClass Digit x ≡ false) × (inClass (Byte 0x2E) x ≡ false) × (inClass Exponent x ≡ false)
 
-space-is : (P : ℕ → Type 0) → P 0x20 → P 0x09 → P 0x0A → P 0x0D → (x : ℕ) → classOf Space x ≡ true → P x
-unfolding classOf
+space-is : (P : ℕ → Type 0) → P 0x20 → P 0x09 → P 0x0A → P 0x0D → (x : ℕ) → inClass Space x ≡ true → P x
+unfolding inClass
 space-is P a b c d x e = go₁ (eqb x 0x20) refl e
   where
     go₃ : (t : Bool) → eqb x 0x0A ≡ t → (t || eqb x 0x0D) ≡ true → P x
@@ -45,13 +45,13 @@ space-is P a b c d x e = go₁ (eqb x 0x20) refl e
     go₁ true p q = rw (eqb-true x 0x20 p) a
     go₁ false p q = go₂ (eqb x 0x09) refl q
 
-space-lacks : (x : ℕ) → classOf Space x ≡ true → Lacks x
-unfolding classOf
+space-lacks : (x : ℕ) → inClass Space x ≡ true → Lacks x
+unfolding inClass
 space-lacks =
     space-is Lacks (refl, refl, refl, refl, refl, refl, refl) (refl, refl, refl, refl, refl, refl, refl) (refl, refl, refl, refl, refl, refl, refl) (refl, refl, refl, refl, refl, refl, refl)
 
-space-quiet : (x : ℕ) → classOf Space x ≡ true → Quiet x
-unfolding classOf
+space-quiet : (x : ℕ) → inClass Space x ≡ true → Quiet x
+unfolding inClass
 space-quiet = space-is Quiet (refl, refl, refl) (refl, refl, refl) (refl, refl, refl) (refl, refl, refl)
 
 module _ (s : List ℕ) where
@@ -60,7 +60,7 @@ module _ (s : List ℕ) where
   ws-quiet at n (step o r) q = let h = space-quiet (getD s at 0) (o .1) in (one-not s Digit at (h .0), one-not s (Byte 0x2E) at (h .1), one-not s Exponent at (h .2))
 
   -- ---- the first byte of a literal name, a number or a string
-  differ : (class : Class) (at n : ℕ) → one s class at n → classOf class (getD s at 0) ≡ false → ⊥
+  differ : (class : Class) (at n : ℕ) → one s class at n → inClass class (getD s at 0) ≡ false → ⊥
   differ class at n o e = false≢true (sym e ∙ o .1)
 
   number-lead : (at n : ℕ) → number s at n → Lacks (getD s at 0) → ⊥
@@ -77,33 +77,33 @@ module _ (s : List ℕ) where
 
   -- so there is no white space before it
   pub plain-place : (at n : ℕ) → (literal s ∣ number s ∣ string s) at n → wsAt s at ≡ at
-  plain-place at n e = past-none Space s at (go (classOf Space (getD s at 0)) refl)
+  plain-place at n e = past-none Space s at (go (inClass Space (getD s at 0)) refl)
     where
-      go : (b : Bool) → classOf Space (getD s at 0) ≡ b → b ≡ false
+      go : (b : Bool) → inClass Space (getD s at 0) ≡ b → b ≡ false
       go true q = absurd (lead at n e (space-lacks (getD s at 0) q))
       go false q = refl
 
   -- ---- which picks the rule
-  no-string : (x at n : ℕ) → classOf (Byte 0x22) x ≡ false → one s (Byte x) at n → stringAt s at ≡ Bad
+  no-string : (x at n : ℕ) → inClass (Byte 0x22) x ≡ false → one s (Byte x) at n → stringAt s at ≡ Bad
   unfolding stringAt
   no-string x at n z o = rw (byte-not s x (Byte 0x22) at z (one-taken s (Byte x) at n o))
 
-  no-number : (x at n : ℕ) → (classOf (Byte 0x2D) x ≡ false) × (classOf (Byte 0x30) x ≡ false) × (classOf Digit x ≡ false) → one s (Byte x) at n → numberAt s at ≡ Bad
+  no-number : (x at n : ℕ) → (inClass (Byte 0x2D) x ≡ false) × (inClass (Byte 0x30) x ≡ false) × (inClass Digit x ≡ false) → one s (Byte x) at n → numberAt s at ≡ Bad
   unfolding numberAt intAt digitsAt
   no-number x at n z o = let p = one-taken s (Byte x) at n o in simp (byte-not s x (Byte 0x2D) at (z .0) p, byte-not s x (Byte 0x30) at (z .1) p, byte-not s x Digit at (z .2) p)
 
-  no-word : (x y at n : ℕ) (w : List ℕ) → classOf (Byte y) x ≡ false → one s (Byte x) at n → wordAt s (y ∷ w) at ≡ Bad
+  no-word : (x y at n : ℕ) (w : List ℕ) → inClass (Byte y) x ≡ false → one s (Byte x) at n → wordAt s (y ∷ w) at ≡ Bad
   unfolding wordAt
   no-word x y at n w z o = rw (byte-not s x (Byte y) at z (one-taken s (Byte x) at n o))
 
   number-no-string : (at n : ℕ) → number s at n → stringAt s at ≡ Bad
-  unfolding stringAt classOf
+  unfolding stringAt inClass
   number-no-string at n (a, inr o, r) = rw (byte-not s 0x2D (Byte 0x22) at refl (one-taken s (Byte 0x2D) at a o))
   number-no-string at n (a, inl e, (b, inl o, r)) = rw (byte-not s 0x30 (Byte 0x22) at refl (one-taken s (Byte 0x30) at b (rw e o)))
   number-no-string at n (a, inl e, (b, inr (c, o, q), r)) = rw (not-byte s 0x22 Digit at refl (one-taken s Digit at c (rw e (first-digit s a c o .0))))
 
   pub plain-taken : (at n : ℕ) → Stops s n → (literal s ∣ number s ∣ string s) at n → (k : Kind) × (scalarAt s at ≡ k) × (endOf (onLeaf s at k) ≡ End (wsAt s n))
-  unfolding scalarAt literalAt classOf
+  unfolding scalarAt literalAt inClass
   plain-taken at n t (inl (inl e)) =
       (Word n, rw (no-string 0x66 at (e .0) refl (e .1), no-number 0x66 at (e .0) (refl, refl, refl) (e .1), name-taken s falseName at n e), refl)
   plain-taken at n t (inl (inr (inl e))) =

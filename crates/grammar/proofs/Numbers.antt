@@ -9,7 +9,7 @@ use native.Mathlib.Omega.{arith}
 use borrow.Author.Tests.{leb-true, eqb-true, eqb-false, le-leb, ne-eqb}
 use lib.Dec.{leb, eqb}
 use lib.ListN.{getD}
-use Rattle.json.specs.Grammar.{case, within, classOf, oneAt, optAt, digitsAt, intAt, fracAt, expAt, numberAt}
+use Rattle.json.specs.Grammar.{case, isBetween, inClass, oneAt, optAt, digitsAt, intAt, fracAt, expAt, numberAt}
 use Rattle.json.specs.declared.Class.{Class}
 use Rattle.json.specs.declared.Class.the-variants.{Digit, Exponent, Sign, Byte}
 use Rattle.json.specs.declared.Out.{Out}
@@ -20,8 +20,8 @@ use Rattle.grammar.specs.Rfc.{opt, byte, one, digits, int, frac, exp, nu
 use Rattle.grammar.proofs.Terms.{same-end, one-sound, one-taken, one-bad, star-sound, star-past}
 
 -- a digit that is not zero
-nonzero : (x : ℕ) → classOf Digit x ≡ true → classOf (Byte 0x30) x ≡ false → within 0x31 0x39 x ≡ true
-unfolding classOf
+nonzero : (x : ℕ) → inClass Digit x ≡ true → inClass (Byte 0x30) x ≡ false → isBetween 0x31 0x39 x ≡ true
+unfolding inClass
 nonzero x d z =
     let (l, h) = both (leb 0x30 x) (leb x 0x39) d in
     let l′ = leb-true 0x30 x l in
@@ -29,30 +29,30 @@ nonzero x d z =
     rw (le-leb 0x31 x (omega arith)) h
 
 -- classes that share no byte
-digit-no-sign : (x : ℕ) → classOf Digit x ≡ true → classOf Sign x ≡ false
-unfolding classOf
+digit-no-sign : (x : ℕ) → inClass Digit x ≡ true → inClass Sign x ≡ false
+unfolding inClass
 digit-no-sign x d =
     let l = leb-true 0x30 x (both (leb 0x30 x) (leb x 0x39) d .0) in
     simp (ne-eqb x 0x2D (λ e. omega arith), ne-eqb x 0x2B (λ e. omega arith))
 
-exponent-no-digit : (x : ℕ) → classOf Exponent x ≡ true → classOf Digit x ≡ false
-unfolding classOf
+exponent-no-digit : (x : ℕ) → inClass Exponent x ≡ true → inClass Digit x ≡ false
+unfolding inClass
 exponent-no-digit x e = go (eqb x 0x65) refl e
   where
-    go : (b : Bool) → eqb x 0x65 ≡ b → (b || eqb x 0x45) ≡ true → within 0x30 0x39 x ≡ false
+    go : (b : Bool) → eqb x 0x65 ≡ b → (b || eqb x 0x45) ≡ true → isBetween 0x30 0x39 x ≡ false
     go true p q = rw (eqb-true x 0x65 p)
     go false p q = rw (eqb-true x 0x45 q)
 
 module _ (s : List ℕ) where
   -- ---- what the functions take is a number
   digits-sound : (at n : ℕ) → digitsAt s at ≡ End n → digits s at n
-  unfolding digitsAt classOf
+  unfolding digitsAt inClass
   digits-sound at n e =
       let (m, p, q) = then-end (oneAt s Digit at) _ e in
       (m, one-sound s Digit at m refl p, star-sound s Digit refl m n (same-end q))
 
   int-sound : (at n : ℕ) → intAt s at ≡ End n → int s at n
-  unfolding intAt digitsAt classOf
+  unfolding intAt digitsAt inClass
   int-sound at n e = go (oneAt s (Byte 0x30) at) refl e
     where
       go : (o : Out) → oneAt s (Byte 0x30) at ≡ o → case o End (digitsAt s at) ≡ End n → int s at n
@@ -62,14 +62,14 @@ module _ (s : List ℕ) where
           inr (m, (o .0, nonzero (getD s at 0) (o .1) (one-bad s (Byte 0x30) at p), o .2), r)
 
   frac-sound : (at n : ℕ) → fracAt s at ≡ End n → opt (frac s) at n
-  unfolding fracAt classOf
+  unfolding fracAt inClass
   frac-sound at n e = go (oneAt s (Byte 0x2E) at) refl e
     where
       go : (o : Out) → oneAt s (Byte 0x2E) at ≡ o → case o (digitsAt s) (End at) ≡ End n → opt (frac s) at n
       go (End m) p q = inr (m, one-sound s (Byte 0x2E) at m refl p, digits-sound m n q)
       go Bad p q = inl (same-end q)
 
-  opt-sound : (class : Class) (at : ℕ) → classOf class 0 ≡ false → opt (one s class) at (optAt s class at)
+  opt-sound : (class : Class) (at : ℕ) → inClass class 0 ≡ false → opt (one s class) at (optAt s class at)
   opt-sound class at z = go (oneAt s class at) refl
     where
       go : (o : Out) → oneAt s class at ≡ o → opt (one s class) at (case o (λ n. n) at)
@@ -77,7 +77,7 @@ module _ (s : List ℕ) where
       go Bad p = inl refl
 
   exp-sound : (at n : ℕ) → expAt s at ≡ End n → opt (exp s) at n
-  unfolding expAt classOf
+  unfolding expAt inClass
   exp-sound at n e = go (oneAt s Exponent at) refl e
     where
       go : (o : Out) → oneAt s Exponent at ≡ o → case o (λ m. digitsAt s (optAt s Sign m)) (End at) ≡ End n → opt (exp s) at n
@@ -85,7 +85,7 @@ module _ (s : List ℕ) where
       go Bad p q = inl (same-end q)
 
   pub number-sound : (at n : ℕ) → numberAt s at ≡ End n → number s at n
-  unfolding numberAt classOf
+  unfolding numberAt inClass
   number-sound at n e =
       let a = optAt s (Byte 0x2D) at in
       let (b, p, q) = then-end (intAt s a) _ e in
@@ -112,7 +112,7 @@ module _ (s : List ℕ) where
       rw (one-taken s Exponent at m o, opt-taken Sign m k b g) (digits-taken k n (t .0) r)
 
   exp-first : (at n : ℕ) → Stops n → opt (exp s) at n → (oneAt s Digit at ≡ Bad) × (oneAt s (Byte 0x2E) at ≡ Bad)
-  unfolding classOf
+  unfolding inClass
   exp-first at n t (inl e) = rw e (t .0, t .1)
   exp-first at n t (inr (m, o, r)) =
       (one-not s Digit at (exponent-no-digit (getD s at 0) (o .1)), not-byte s 0x2E Exponent at refl (one-taken s Exponent at m o))
@@ -123,13 +123,13 @@ module _ (s : List ℕ) where
   frac-taken at n t (inr (m, o, r)) = rw (one-taken s (Byte 0x2E) at m o) (digits-taken m n (t .0) r)
 
   frac-first : (at n : ℕ) → oneAt s Digit n ≡ Bad → opt (frac s) at n → oneAt s Digit at ≡ Bad
-  unfolding classOf
+  unfolding inClass
   frac-first at n t (inl e) = rw e t
   frac-first at n t (inr (m, o, r)) = byte-not s 0x2E Digit at refl (one-taken s (Byte 0x2E) at m o)
 
   -- a digit from 1 on is a digit, and not zero
-  pub first-digit : (at n : ℕ) → byte s (within 0x31 0x39) at n → one s Digit at n × (oneAt s (Byte 0x30) at ≡ Bad)
-  unfolding classOf
+  pub first-digit : (at n : ℕ) → byte s (isBetween 0x31 0x39) at n → one s Digit at n × (oneAt s (Byte 0x30) at ≡ Bad)
+  unfolding inClass
   first-digit at n (h, o, e) =
       let x = getD s at 0 in
       let (l, r) = both (leb 0x31 x) (leb x 0x39) o in
@@ -142,7 +142,7 @@ module _ (s : List ℕ) where
   int-taken at n t (inr (m, o, r)) = let (d, z) = first-digit at m o in rw z (digits-taken at n t (m, d, r))
 
   int-no-minus : (at n : ℕ) → int s at n → oneAt s (Byte 0x2D) at ≡ Bad
-  unfolding classOf
+  unfolding inClass
   int-no-minus at n (inl o) = byte-not s 0x30 (Byte 0x2D) at refl (one-taken s (Byte 0x30) at n o)
   int-no-minus at n (inr (m, o, r)) = not-byte s 0x2D Digit at refl (one-taken s Digit at m (first-digit at m o .0))
 

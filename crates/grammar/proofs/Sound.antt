@@ -8,7 +8,7 @@ use native.Mathlib.Omega.{arith}
 use lib.Dec.{lit<}
 use lib.ListN.{length}
 use borrow.Author.Tests.{eqb-true}
-use Rattle.json.specs.Grammar.{case, classOf, falseName, nullName, trueName, wsAt, tokenAt, wordAt, literalAt, numberAt, stringAt, scalarAt, closeOf, openedAt, startAt, headAt, nextAt}
+use Rattle.json.specs.Grammar.{case, inClass, falseName, nullName, trueName, wsAt, tokenAt, wordAt, literalAt, numberAt, stringAt, scalarAt, closeOf, openedAt, startAt, headAt, nextAt}
 use Rattle.json.specs.Tree.{depth, Json, Items as Trees, item, Got, none, got, endOf, bind, onLeaf, node, follow, itemsAt, groupAt, treeAt, endsAt, root, isText}
 use Rattle.json.specs.declared.Class.the-variants.{Space}
 use Rattle.json.specs.declared.Out.{Out}
@@ -29,7 +29,7 @@ end-made f (got t m) e = e
 
 module _ (s : List ℕ) where
   space-sound : (m n : ℕ) → wsAt s m ≡ n → ws s m n
-  unfolding classOf
+  unfolding inClass
   space-sound m n e = star-sound s Space refl m n e
 
   -- ---- values that hold no value

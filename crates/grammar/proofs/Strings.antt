@@ -3,7 +3,7 @@ use mathlib.Core.Path.{_≡_, refl, sym, _∙_}
 use mathlib.Core.Logic.{inl, inr}
 use mathlib.Core.List.{List}
 use Prim.Native.Nat.{ℕ, _+_}
-use Rattle.json.specs.Grammar.{classOf, oneAt, escapedAt, charAt, charsAt, stringAt}
+use Rattle.json.specs.Grammar.{inClass, oneAt, escapedAt, charAt, charsAt, stringAt}
 use Rattle.json.specs.declared.Class.the-variants.{Plain, Hex, Short, Byte}
 use Rattle.json.specs.declared.Out.the-variants.{End, Bad}
 use Rattle.json.proofs.Ends.{byte-not, chars-none}
@@ -13,7 +13,7 @@ use Rattle.grammar.proofs.Terms.{one-sound, one-taken}
 
 module _ (s : List ℕ) where
   char-rule : (at n : ℕ) → Char s at n → char s at n
-  unfolding classOf
+  unfolding inClass
   char-rule at n (plain e) = inl (one-sound s Plain at n refl e)
   char-rule at n (short {a = a} e f) = inr (a, one-sound s (Byte 0x5C) at a refl e, inl (one-sound s Short a n refl f))
   char-rule at n (code {a = a} {b = b} {c = c} {d = d} {e = e} i j k l m o) =
@@ -32,7 +32,7 @@ module _ (s : List ℕ) where
   chars-rule at n (more {m = m} c r) = step (char-rule at m c) (chars-rule m n r)
 
   pub string-sound : (at n : ℕ) → stringAt s at ≡ End n → string s at n
-  unfolding classOf
+  unfolding inClass
   string-sound at n e =
       let (p, l, q, h, k) = string-parts s at n e in
       let m = charsAt s (at + 1) in
@@ -52,7 +52,7 @@ module _ (s : List ℕ) where
   rule-chars at n (step {m = m} c r) = more (rule-char at m c) (rule-chars m n r)
 
   pub string-taken : (at n : ℕ) → string s at n → stringAt s at ≡ End n
-  unfolding stringAt charAt escapedAt classOf
+  unfolding stringAt charAt escapedAt inClass
   string-taken at n e =
       let a = e .0 in
       let r = e .2 in

@@ -8,7 +8,7 @@ use native.Mathlib.Omega.{arith}
 use lib.ListN.{length, getD}
 use lib.Dec.{ltb}
 use borrow.Author.Tests.{ltb-true}
-use Rattle.json.specs.Grammar.{noZero, classOf, past, wsAt, oneAt, tokenAt, wordAt}
+use Rattle.json.specs.Grammar.{noZero, inClass, past, wsAt, oneAt, tokenAt, wordAt}
 use Rattle.json.specs.declared.Class.{Class}
 use Rattle.json.specs.declared.Class.the-variants.{Space, Byte}
 use Rattle.json.specs.declared.Out.the-variants.{End, Bad}
@@ -20,7 +20,7 @@ pub same-end : {m n : ℕ} → End m ≡ End n → m ≡ n
 same-end e = cc
 
 module _ (s : List ℕ) where
-  pub one-sound : (class : Class) (at n : ℕ) → classOf class 0 ≡ false → oneAt s class at ≡ End n → one s class at n
+  pub one-sound : (class : Class) (at n : ℕ) → inClass class 0 ≡ false → oneAt s class at ≡ End n → one s class at n
   one-sound class at n z e =
       let (p, q) = one-is s class at e in
       (class-within class s at z p, p, q)
@@ -28,25 +28,25 @@ module _ (s : List ℕ) where
   pub one-taken : (class : Class) (at n : ℕ) → one s class at n → oneAt s class at ≡ End n
   one-taken class at n o = one-of s class at (o .1) ∙ ap End (o .2)
 
-  pub one-bad : (class : Class) (at : ℕ) → oneAt s class at ≡ Bad → classOf class (getD s at 0) ≡ false
+  pub one-bad : (class : Class) (at : ℕ) → oneAt s class at ≡ Bad → inClass class (getD s at 0) ≡ false
   unfolding oneAt
-  one-bad class at e = go (classOf class (getD s at 0)) e
+  one-bad class at e = go (inClass class (getD s at 0)) e
     where
       go : (b : Bool) → cond b (End (at + 1)) Bad ≡ Bad → b ≡ false
       go true q = cc
       go false q = refl
 
   -- ---- *class
-  module _ (class : Class) (z : classOf class 0 ≡ false) where
-    step-sound : (at : ℕ) (b : Bool) → classOf class (getD s at 0) ≡ b → (at < length s → Star (one s class) (at + 1) (past class s (at + 1))) → Star (one s class) at (past class s at)
+  module _ (class : Class) (z : inClass class 0 ≡ false) where
+    step-sound : (at : ℕ) (b : Bool) → inClass class (getD s at 0) ≡ b → (at < length s → Star (one s class) (at + 1) (past class s (at + 1))) → Star (one s class) at (past class s at)
     step-sound at true q rest =
         let h = class-within class s at z q in
         step (h, q, refl) (rw (past-more class s at h q) at (rest h))
     step-sound at false q rest = rw (past-none class s at q) stop
 
     run-sound : (k at : ℕ) → length s ≤ k + at → Star (one s class) at (past class s at)
-    run-sound zero at h = step-sound at (classOf class (getD s at 0)) refl (λ l. absurd (omega arith))
-    run-sound (suc k) at h = step-sound at (classOf class (getD s at 0)) refl (λ l. run-sound k (at + 1) (omega arith))
+    run-sound zero at h = step-sound at (inClass class (getD s at 0)) refl (λ l. absurd (omega arith))
+    run-sound (suc k) at h = step-sound at (inClass class (getD s at 0)) refl (λ l. run-sound k (at + 1) (omega arith))
 
     pub star-sound : (at n : ℕ) → past class s at ≡ n → Star (one s class) at n
     star-sound at n e = rw (← e) (run-sound (length s) at (omega arith))
@@ -61,7 +61,7 @@ module _ (s : List ℕ) where
 
   -- ---- structural characters, the ws before which may be known already
   pub token-sound : (b m at n : ℕ) → 0 < b → ws s m at → tokenAt s b at ≡ End n → token s b m n
-  unfolding tokenAt classOf
+  unfolding tokenAt inClass
   token-sound b m at n h w e =
       let (a, p, q) = then-end (oneAt s (Byte b) at) _ e in
       (at, w, (a, one-sound (Byte b) at a (byte-not-zero b h) p, star-sound Space refl a n (same-end q)))
@@ -70,10 +70,10 @@ module _ (s : List ℕ) where
   token-byte b at n t = let r = t .2 in byte-is s b (t .0) (one-taken (Byte b) (t .0) (r .0) (r .1))
 
   -- b is the first byte that is no white space
-  pub token-place : (b at n : ℕ) → classOf Space b ≡ false → (t : token s b at n) → wsAt s at ≡ t .0
-  token-place b at n z t = star-past Space at (t .0) (t .1) ∙ past-none Space s (t .0) (ap (classOf Space) (token-byte b at n t) ∙ z)
+  pub token-place : (b at n : ℕ) → inClass Space b ≡ false → (t : token s b at n) → wsAt s at ≡ t .0
+  token-place b at n z t = star-past Space at (t .0) (t .1) ∙ past-none Space s (t .0) (ap (inClass Space) (token-byte b at n t) ∙ z)
 
-  pub token-taken : (b at n : ℕ) → classOf Space b ≡ false → token s b at n → tokenAt s b (wsAt s at) ≡ End (wsAt s n)
+  pub token-taken : (b at n : ℕ) → inClass Space b ≡ false → token s b at n → tokenAt s b (wsAt s at) ≡ End (wsAt s n)
   unfolding tokenAt
   token-taken b at n z t =
       let r = t .2 in

@@ -7,7 +7,7 @@ use mathlib.Core.Logic.{_⊎_}
 use mathlib.Core.List.{List, [], _∷_}
 use mathlib.Core.Bool.{Bool, true, false}
 use lib.ListN.{length, getD}
-use Rattle.json.specs.Grammar.{within, classOf, falseName, nullName, trueName, closeOf}
+use Rattle.json.specs.Grammar.{isBetween, inClass, falseName, nullName, trueName, closeOf}
 use Rattle.json.specs.Tree.{depth}
 use Rattle.json.specs.declared.Class.{Class}
 use Rattle.json.specs.declared.Class.the-variants.{Space, Digit, Plain, Hex, Short, Exponent, Sign, Byte}
@@ -38,7 +38,7 @@ module _ (s : List ℕ) where
   byte p at n = (at < length s) × (p (getD s at 0) ≡ true) × (at + 1 ≡ n)
 
   abbrev pub one : Class → Rule
-  one class = byte (classOf class)
+  one class = byte (inClass class)
 
   -- ---- section 2: ws, and the six structural characters
   abbrev pub ws : Rule
@@ -62,7 +62,7 @@ module _ (s : List ℕ) where
 
   -- int = zero / ( digit1-9 *DIGIT )
   abbrev pub int : Rule
-  int = one (Byte 0x30) ∣ byte (within 0x31 0x39) ⨾ Star (one Digit)
+  int = one (Byte 0x30) ∣ byte (isBetween 0x31 0x39) ⨾ Star (one Digit)
 
   -- frac = decimal-point 1*DIGIT
   abbrev pub frac : Rule

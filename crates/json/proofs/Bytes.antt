@@ -11,7 +11,7 @@ use lib.ListN.{length, getD, drop, List·getD-eq-default, drop-of-length-le}
 use lib.Dec.{ltb}
 use lib.Seq.{drop-cons}
 use borrow.Author.Tests.{lt-ltb, le-ltb, le-leb, lt-leb, eq-eqb, ne-eqb, ltb-true}
-use Rattle.json.specs.Grammar.{case, noZero, classOf, run, past, oneAt, wordAt, digitsAt}
+use Rattle.json.specs.Grammar.{case, noZero, inClass, run, past, oneAt, wordAt, digitsAt}
 use Rattle.json.specs.declared.Class.{Class}
 use Rattle.json.specs.declared.Class.the-variants.{Digit, Hex, Short, Byte}
 use Rattle.json.specs.declared.Out.the-variants.{End, Bad}
@@ -19,22 +19,22 @@ use Rattle.json.specs.declared.Out.the-variants.{End, Bad}
 pub ruleset tests = (lt-ltb, le-ltb, le-leb, lt-leb, eq-eqb, ne-eqb)
 
 module _ (class : Class) (s : List ℕ) (at : ℕ) where
-  pub class-within : classOf class 0 ≡ false → classOf class (getD s at 0) ≡ true → at < length s
+  pub class-within : inClass class 0 ≡ false → inClass class (getD s at 0) ≡ true → at < length s
   class-within z e = elim (decLt at (length s)) [
     | yes h ↦ h
     | no h ↦
         let l : length s ≤ at = omega arith in
-        absurd (false≢true (sym z ∙ sym (ap (classOf class) (List·getD-eq-default s 0 l)) ∙ e))
+        absurd (false≢true (sym z ∙ sym (ap (inClass class) (List·getD-eq-default s 0 l)) ∙ e))
   ]
 
-  pub past-more : at < length s → classOf class (getD s at 0) ≡ true → past class s (at + 1) ≡ past class s at
+  pub past-more : at < length s → inClass class (getD s at 0) ≡ true → past class s (at + 1) ≡ past class s at
   unfolding past run
   past-more h e =
       let q : drop at s ≡ getD s at 0 ∷ drop (at + 1) s = rw (add-one, drop-cons s at 0) in
       let r : run class (drop at s) ≡ suc (run class (drop (at + 1) s)) = rw (q, e) in
       omega arith
 
-  pub past-none : classOf class (getD s at 0) ≡ false → past class s at ≡ at
+  pub past-none : inClass class (getD s at 0) ≡ false → past class s at ≡ at
   unfolding past run
   past-none e = elim (decLt at (length s)) [
     | yes h ↦ rw (drop-cons s at 0, e, add-zero)
@@ -43,23 +43,23 @@ module _ (class : Class) (s : List ℕ) (at : ℕ) where
         rw (drop-of-length-le s l, add-zero)
   ]
 
-pub byte-not-zero : (b : ℕ) → 0 < b → classOf (Byte b) 0 ≡ false
-unfolding classOf
+pub byte-not-zero : (b : ℕ) → 0 < b → inClass (Byte b) 0 ≡ false
+unfolding inClass
 byte-not-zero b h = ne-eqb 0 b (λ e. omega arith)
 
-digit-not-zero : classOf Digit 0 ≡ false
-unfolding classOf
+digit-not-zero : inClass Digit 0 ≡ false
+unfolding inClass
 digit-not-zero = refl
 
-pub hex-not-zero : classOf Hex 0 ≡ false
-unfolding classOf
+pub hex-not-zero : inClass Hex 0 ≡ false
+unfolding inClass
 hex-not-zero = refl
 
-pub short-not-zero : classOf Short 0 ≡ false
-unfolding classOf
+pub short-not-zero : inClass Short 0 ≡ false
+unfolding inClass
 short-not-zero = refl
 
-pub digits-are : (s : List ℕ) (at : ℕ) → classOf Digit (getD s at 0) ≡ true → digitsAt s at ≡ End (past Digit s at)
+pub digits-are : (s : List ℕ) (at : ℕ) → inClass Digit (getD s at 0) ≡ true → digitsAt s at ≡ End (past Digit s at)
 unfolding digitsAt oneAt
 digits-are s at e =
     let h = class-within Digit s at digit-not-zero e in

@@ -6,7 +6,7 @@ use Prim.Native.Nat.{ℕ, zero, suc, _+_}
 use native.Mathlib.Nat.{zero-add, suc-add}
 use native.Mathlib.Omega.{arith}
 use lib.ListN.{length}
-use Rattle.json.specs.Grammar.{case, classOf, oneAt, tokenAt, wordAt, literalAt, digitsAt, intAt, numberAt, stringAt, scalarAt, startAt, headAt, nextAt}
+use Rattle.json.specs.Grammar.{case, inClass, oneAt, tokenAt, wordAt, literalAt, digitsAt, intAt, numberAt, stringAt, scalarAt, startAt, headAt, nextAt}
 use Rattle.json.specs.Tree.{Json, Items, item, Got, none, got, bind, onLeaf, follow, node, itemsAt, groupAt, treeAt}
 use Rattle.json.specs.declared.Class.the-variants.{Digit, Byte}
 use Rattle.json.specs.declared.Out.{Out}
@@ -23,7 +23,7 @@ got-none e = absurd (let z : _≡_ {A = ℕ} 0 1 = cc in omega arith)
 
 -- a byte with which no literal name, number or string begins
 abbrev pub Lacks : ℕ → Type 0
-Lacks b = (classOf (Byte 0x22) b ≡ false) × (classOf (Byte 0x2D) b ≡ false) × (classOf (Byte 0x30) b ≡ false) × (classOf Digit b ≡ false) × (classOf (Byte 0x66) b ≡ false) × (classOf (Byte 0x6E) b ≡ false) × (classOf (Byte 0x74) b ≡ false)
+Lacks b = (inClass (Byte 0x22) b ≡ false) × (inClass (Byte 0x2D) b ≡ false) × (inClass (Byte 0x30) b ≡ false) × (inClass Digit b ≡ false) × (inClass (Byte 0x66) b ≡ false) × (inClass (Byte 0x6E) b ≡ false) × (inClass (Byte 0x74) b ≡ false)
 
 module _ (s : List ℕ) where
   no-scalar : (b at : ℕ) {m : ℕ} → oneAt s (Byte b) at ≡ End m → Lacks b → scalarAt s at ≡ None
@@ -40,7 +40,7 @@ module _ (s : List ℕ) where
       )
 
   leaf-starts : (at : ℕ) {t : Json} {n : ℕ} → onLeaf s at (scalarAt s at) ≡ got t n → startAt s at ≡ Leaf
-  unfolding tokenAt classOf
+  unfolding tokenAt inClass
   leaf-starts at {t} {n} e = rw (bad 0x5B (refl, refl, refl, refl, refl, refl, refl), bad 0x7B (refl, refl, refl, refl, refl, refl, refl))
     where
       bad : (b : ℕ) → Lacks b → oneAt s (Byte b) at ≡ Bad

@@ -7,7 +7,7 @@ use Prim.Native.Nat.{ℕ, zero, suc, _+_, _<_, _≤_}
 use native.Mathlib.Omega.{arith}
 use lib.ListN.{length, getD}
 use borrow.Author.Tests.{eqb-true}
-use Rattle.json.specs.Grammar.{case, classOf, oneAt, hexAt, escapedAt, charAt, charsUpTo, charsAt}
+use Rattle.json.specs.Grammar.{case, inClass, oneAt, hexAt, escapedAt, charAt, charsUpTo, charsAt}
 use Rattle.json.specs.declared.Class.{Class}
 use Rattle.json.specs.declared.Class.the-variants.{Plain, Hex, Short, Byte}
 use Rattle.json.specs.declared.Out.{Out}
@@ -47,55 +47,55 @@ module _ (at size : ℕ) where
   ends-if Bad f z a b c n e = c n e
 
 module _ (s : List ℕ) where
-  pub one-ends : (class : Class) (at : ℕ) → classOf class 0 ≡ false → Ends at (length s) (oneAt s class at)
+  pub one-ends : (class : Class) (at : ℕ) → inClass class 0 ≡ false → Ends at (length s) (oneAt s class at)
   unfolding oneAt
-  one-ends class at z = go (classOf class (getD s at 0)) refl
+  one-ends class at z = go (inClass class (getD s at 0)) refl
     where
-      go : (b : Bool) → classOf class (getD s at 0) ≡ b → Ends at (length s) (cond b (End (at + 1)) Bad)
+      go : (b : Bool) → inClass class (getD s at 0) ≡ b → Ends at (length s) (cond b (End (at + 1)) Bad)
       go true q n e = let h = class-within class s at z q in let w : at + 1 ≡ n = cc in omega arith
       go false q n e = ends-bad e
 
-  pub one-is : (class : Class) (at : ℕ) {n : ℕ} → oneAt s class at ≡ End n → (classOf class (getD s at 0) ≡ true) × (at + 1 ≡ n)
+  pub one-is : (class : Class) (at : ℕ) {n : ℕ} → oneAt s class at ≡ End n → (inClass class (getD s at 0) ≡ true) × (at + 1 ≡ n)
   unfolding oneAt
-  one-is class at {n} e = go (classOf class (getD s at 0)) e
+  one-is class at {n} e = go (inClass class (getD s at 0)) e
     where
       go : (b : Bool) → cond b (End (at + 1)) Bad ≡ End n → (b ≡ true) × (at + 1 ≡ n)
       go true q = (refl, cc)
       go false q = ends-bad q
 
-  pub one-of : (class : Class) (at : ℕ) → classOf class (getD s at 0) ≡ true → oneAt s class at ≡ End (at + 1)
+  pub one-of : (class : Class) (at : ℕ) → inClass class (getD s at 0) ≡ true → oneAt s class at ≡ End (at + 1)
   unfolding oneAt
   one-of class at e = rw e
 
-  pub one-not : (class : Class) (at : ℕ) → classOf class (getD s at 0) ≡ false → oneAt s class at ≡ Bad
+  pub one-not : (class : Class) (at : ℕ) → inClass class (getD s at 0) ≡ false → oneAt s class at ≡ Bad
   unfolding oneAt
   one-not class at e = rw e
 
   pub byte-is : (b at : ℕ) {n : ℕ} → oneAt s (Byte b) at ≡ End n → getD s at 0 ≡ b
-  unfolding classOf
+  unfolding inClass
   byte-is b at e = eqb-true _ _ (one-is (Byte b) at e .0)
 
   -- the byte b is of no class that lacks it, and a byte of such a class is not b
-  pub byte-not : (b : ℕ) (class : Class) (at : ℕ) {n : ℕ} → classOf class b ≡ false → oneAt s (Byte b) at ≡ End n → oneAt s class at ≡ Bad
-  byte-not b class at z e = one-not class at (ap (classOf class) (byte-is b at e) ∙ z)
+  pub byte-not : (b : ℕ) (class : Class) (at : ℕ) {n : ℕ} → inClass class b ≡ false → oneAt s (Byte b) at ≡ End n → oneAt s class at ≡ Bad
+  byte-not b class at z e = one-not class at (ap (inClass class) (byte-is b at e) ∙ z)
 
-  pub not-byte : (b : ℕ) (class : Class) (at : ℕ) {n : ℕ} → classOf class b ≡ false → oneAt s class at ≡ End n → oneAt s (Byte b) at ≡ Bad
+  pub not-byte : (b : ℕ) (class : Class) (at : ℕ) {n : ℕ} → inClass class b ≡ false → oneAt s class at ≡ End n → oneAt s (Byte b) at ≡ Bad
   not-byte b class at z e = go (oneAt s (Byte b) at) refl
     where
       go : (o : Out) → oneAt s (Byte b) at ≡ o → o ≡ Bad
-      go (End m) q = absurd (false≢true (sym z ∙ sym (ap (classOf class) (byte-is b at q)) ∙ one-is class at e .0))
+      go (End m) q = absurd (false≢true (sym z ∙ sym (ap (inClass class) (byte-is b at q)) ∙ one-is class at e .0))
       go Bad q = refl
 
   pub hex-ends : (at : ℕ) → Ends at (length s) (hexAt s at)
-  unfolding hexAt classOf
+  unfolding hexAt inClass
   hex-ends at = ends-then at _ _ _ (one-ends Hex at refl) λ a. ends-then a _ _ _ (one-ends Hex a refl) λ b. ends-then b _ _ _ (one-ends Hex b refl) λ c. one-ends Hex c refl
 
   pub escaped-ends : (at : ℕ) → Ends at (length s) (escapedAt s at)
-  unfolding escapedAt classOf
+  unfolding escapedAt inClass
   escaped-ends at = ends-then at _ _ _ (one-ends (Byte 0x5C) at refl) λ n. ends-if n _ _ _ _ (one-ends (Byte 0x75) n refl) hex-ends (one-ends Short n refl)
 
   pub char-ends : (at : ℕ) → Ends at (length s) (charAt s at)
-  unfolding charAt classOf
+  unfolding charAt inClass
   char-ends at = ends-or at _ _ _ (one-ends Plain at refl) (escaped-ends at)
 
   -- ---- *char: where there is a character it goes on, and else it stops; the fuel is enough
@@ -130,17 +130,17 @@ module _ (s : List ℕ) where
 
   -- ---- the same by the byte that stands there
   module _ (at : ℕ) where
-    pub char-plain : classOf Plain (getD s at 0) ≡ true → charAt s at ≡ End (at + 1)
+    pub char-plain : inClass Plain (getD s at 0) ≡ true → charAt s at ≡ End (at + 1)
     unfolding charAt oneAt
     char-plain e = rw e
 
-    pub char-escaped : classOf Plain (getD s at 0) ≡ false → charAt s at ≡ escapedAt s at
+    pub char-escaped : inClass Plain (getD s at 0) ≡ false → charAt s at ≡ escapedAt s at
     unfolding charAt oneAt
     char-escaped e = rw e
 
     -- four characters that are bytes which stand for themselves
-    pub chars-four : classOf Plain (getD s at 0) ≡ true → classOf Plain (getD s (at + 1) 0) ≡ true → classOf Plain (getD s (at + 2) 0) ≡ true
-        → classOf Plain (getD s (at + 3) 0) ≡ true → charsAt s (at + 4) ≡ charsAt s at
+    pub chars-four : inClass Plain (getD s at 0) ≡ true → inClass Plain (getD s (at + 1) 0) ≡ true → inClass Plain (getD s (at + 2) 0) ≡ true
+        → inClass Plain (getD s (at + 3) 0) ≡ true → charsAt s (at + 4) ≡ charsAt s at
     unfolding charAt oneAt
     chars-four a b c d =
         let y : at + 1 + 1 ≡ at + 2 = omega arith in

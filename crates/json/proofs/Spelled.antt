@@ -7,7 +7,7 @@ use native.Mathlib.Omega.{arith}
 use lib.ListN.{length, getD, take, drop, length-take, length-drop}
 use lib.Seq.{getD-take, getD-drop}
 use borrow.Author.Tests.{eq-eqb}
-use Rattle.json.specs.Grammar.{case, classOf, oneAt, hexAt, escapedAt, charAt, charsUpTo, charsAt, isSpelling, stringAt}
+use Rattle.json.specs.Grammar.{case, inClass, oneAt, hexAt, escapedAt, charAt, charsUpTo, charsAt, isSpelling, stringAt}
 use Rattle.json.specs.declared.Class.{Class}
 use Rattle.json.specs.declared.Class.the-variants.{Plain, Hex, Short, Byte}
 use Rattle.json.specs.declared.Out.{Out}
@@ -43,7 +43,7 @@ module _ (s : List ℕ) where
       unescaped Bad p z = let (a, q, y) = then-end (oneAt s (Byte 0x5C) at) _ z in letter a (oneAt s (Byte 0x75) a) q refl y
 
   pub char-taken : (at n : ℕ) → Char s at n → charAt s at ≡ End n
-  unfolding charAt escapedAt hexAt classOf
+  unfolding charAt escapedAt hexAt inClass
   char-taken at n (plain e) = simp e
   char-taken at n (short {a = a} e f) = simp (byte-not s 0x5C Plain at refl e, e, not-byte s 0x75 Short a refl f, f)
   char-taken at n (code e f g h i j) = simp (byte-not s 0x5C Plain at refl e, e, f, g, h, i, j)
@@ -72,15 +72,15 @@ module _ (s : List ℕ) where
 -- ---- the bytes of s from lo to hi stand in t, each at its place by g
 module _ (s t : List ℕ) (g : ℕ → ℕ) (lo hi : ℕ)
     (same : (x : ℕ) → lo ≤ x → x < hi → getD t (g x) 0 ≡ getD s x 0) (step : (x : ℕ) → lo ≤ x → g x + 1 ≡ g (x + 1)) where
-  one-moved : (class : Class) (x m : ℕ) → classOf class 0 ≡ false → lo ≤ x → m ≤ hi → oneAt s class x ≡ End m → (oneAt t class (g x) ≡ End (g m)) × (lo ≤ m)
+  one-moved : (class : Class) (x m : ℕ) → inClass class 0 ≡ false → lo ≤ x → m ≤ hi → oneAt s class x ≡ End m → (oneAt t class (g x) ≡ End (g m)) × (lo ≤ m)
   one-moved class x m z l h e =
       let (q, w) = one-is s class x e in
       let k : x < hi = omega arith in
-      let p : classOf class (getD t (g x) 0) ≡ true = rw (same x l k) q in
+      let p : inClass class (getD t (g x) 0) ≡ true = rw (same x l k) q in
       (one-of t class (g x) p ∙ ap End (step x l ∙ ap g w), omega arith)
 
   char-moved : (x m : ℕ) → lo ≤ x → m ≤ hi → Char s x m → Char t (g x) (g m)
-  unfolding classOf
+  unfolding inClass
   char-moved x m l h (plain e) = plain (one-moved Plain x m refl l h e .0)
   char-moved x m l h (short {a = a} e f) =
       let q = one-ends s Short a refl m f in
@@ -110,7 +110,7 @@ module _ (s t : List ℕ) (g : ℕ → ℕ) (lo hi : ℕ)
 -- a string is a quotation mark, characters, and a quotation mark
 pub string-parts : (s : List ℕ) (at n : ℕ) → stringAt s at ≡ End n
     → (oneAt s (Byte 0x22) at ≡ End (at + 1)) × (charsAt s (at + 1) + 1 ≡ n) × (oneAt s (Byte 0x22) (charsAt s (at + 1)) ≡ End n) × (at + 2 ≤ n) × (n ≤ length s)
-unfolding stringAt classOf
+unfolding stringAt inClass
 string-parts s at n e =
     let (m, p, q) = then-end (oneAt s (Byte 0x22) at) _ e in
     let w = one-is s (Byte 0x22) at p .1 in

@@ -25,30 +25,30 @@ case Bad f z = z
 
 -- ---- bytes
 -- %xlow-high
-abbrev pub within : (low high b : ℕ) → Bool
-within low high b = leb low b && leb b high
+abbrev pub isBetween : (low high b : ℕ) → Bool
+isBetween low high b = leb low b && leb b high
 
-unfoldable pub classOf : Class → ℕ → Bool
+unfoldable pub inClass : Class → ℕ → Bool
 -- ws: %x20 / %x09 / %x0A / %x0D
-classOf Space b = eqb b 0x20 || (eqb b 0x09 || (eqb b 0x0A || eqb b 0x0D))
+inClass Space b = eqb b 0x20 || (eqb b 0x09 || (eqb b 0x0A || eqb b 0x0D))
 -- DIGIT = %x30-39
-classOf Digit b = within 0x30 0x39 b
+inClass Digit b = isBetween 0x30 0x39 b
 -- unescaped = %x20-21 / %x23-5B / %x5D-10FFFF, of which from %x80 on each byte of the UTF-8 is taken
-classOf Plain b = within 0x20 0x21 b || (within 0x23 0x5B b || leb 0x5D b)
+inClass Plain b = isBetween 0x20 0x21 b || (isBetween 0x23 0x5B b || leb 0x5D b)
 -- HEXDIG = DIGIT / "A" / "B" / "C" / "D" / "E" / "F", in either case
-classOf Hex b = within 0x30 0x39 b || (within 0x41 0x46 b || within 0x61 0x66 b)
+inClass Hex b = isBetween 0x30 0x39 b || (isBetween 0x41 0x46 b || isBetween 0x61 0x66 b)
 -- after escape: %x22 / %x5C / %x2F / %x62 / %x66 / %x6E / %x72 / %x74
-classOf Short b = eqb b 0x22 || (eqb b 0x5C || (eqb b 0x2F || (eqb b 0x62 || (eqb b 0x66 || (eqb b 0x6E || (eqb b 0x72 || eqb b 0x74))))))
+inClass Short b = eqb b 0x22 || (eqb b 0x5C || (eqb b 0x2F || (eqb b 0x62 || (eqb b 0x66 || (eqb b 0x6E || (eqb b 0x72 || eqb b 0x74))))))
 -- e = %x65 / %x45
-classOf Exponent b = eqb b 0x65 || eqb b 0x45
+inClass Exponent b = eqb b 0x65 || eqb b 0x45
 -- minus / plus
-classOf Sign b = eqb b 0x2D || eqb b 0x2B
-classOf (Byte c) b = eqb b c
+inClass Sign b = eqb b 0x2D || eqb b 0x2B
+inClass (Byte c) b = eqb b c
 
 -- *class: how many bytes of the class the list begins with
 unfoldable pub run : Class → Bytes → ℕ
 run class [] = 0
-run class (b ∷ l) = cond (classOf class b) (suc (run class l)) 0
+run class (b ∷ l) = cond (inClass class b) (suc (run class l)) 0
 
 -- *class: the place after the bytes of the class
 unfoldable pub past : (class : Class) (s : Bytes) (at : Place) → ℕ
@@ -56,7 +56,7 @@ past class s at = at + run class (drop at s)
 
 -- class
 unfoldable pub oneAt : (s : Bytes) (class : Class) (at : Place) → Out
-oneAt s class at = cond (classOf class (getD s at 0)) (End (at + 1)) Bad
+oneAt s class at = cond (inClass class (getD s at 0)) (End (at + 1)) Bad
 
 -- [ class ]
 abbrev pub optAt : (s : Bytes) (class : Class) (at : Place) → ℕ

@@ -3,20 +3,20 @@ ghost use mathlib.Core.Path.{_≡_};
 ghost use Prim.Native.Nat.{_+_, _<_, _≤_};
 ghost use mathlib.Core.Bool.{true, false};
 ghost use lib.ListN.{length};
-ghost use Rattle.json.specs.Grammar.{case, classOf, past, oneAt, tokenAt, noZero, wordAt, Skips, Owned};
+ghost use Rattle.json.specs.Grammar.{case, inClass, past, oneAt, tokenAt, noZero, wordAt, Skips, Owned};
 use crate::Class;
 use crate::Out;
 
 // A byte of a string that stands for itself.
 pub(crate) fn plain(b: u8) -> bool
-    ensures { λ r. ⌜ r ≡ classOf Class.Plain b ⌝ }
+    ensures { λ r. ⌜ r ≡ inClass Class.Plain b ⌝ }
 {
     0x5d <= b || (crate::between(0x23, 0x5b, b) || crate::between(0x20, 0x21, b))
 }
 
 // Whether a byte stands for itself, with no branch.
 pub(crate) fn own(b: u8) -> bool
-    ensures { λ r. ⌜ r ≡ classOf Class.Plain b ⌝ }
+    ensures { λ r. ⌜ r ≡ inClass Class.Plain b ⌝ }
 {
     (0x20 <= b) & (b != 0x22) & (b != 0x5c)
 }
@@ -45,7 +45,7 @@ pub(crate) fn past8(s: &[u8], i: usize) -> usize
 
 // What a backslash may stand before, but for u.
 pub(crate) fn short(b: u8) -> bool
-    ensures { λ r. ⌜ r ≡ classOf Class.Short b ⌝ }
+    ensures { λ r. ⌜ r ≡ inClass Class.Short b ⌝ }
 {
     b == 0x22
         || (b == 0x5c
@@ -54,7 +54,7 @@ pub(crate) fn short(b: u8) -> bool
 
 // A hexadecimal digit, in either case.
 pub(crate) fn hex_digit(b: u8) -> bool
-    ensures { λ r. ⌜ r ≡ classOf Class.Hex b ⌝ }
+    ensures { λ r. ⌜ r ≡ inClass Class.Hex b ⌝ }
 {
     crate::between(0x30, 0x39, b)
         || (crate::between(0x41, 0x46, b) || crate::between(0x61, 0x66, b))
@@ -62,7 +62,7 @@ pub(crate) fn hex_digit(b: u8) -> bool
 
 // Whether a byte is of a class.
 pub(crate) fn is(class: Class, b: u8) -> bool
-    ensures { λ r. ⌜ r ≡ classOf class b ⌝ }
+    ensures { λ r. ⌜ r ≡ inClass class b ⌝ }
 {
     match class {
         Class::Space => b == 0x20 || (b == 0x09 || (b == 0x0a || b == 0x0d)),
@@ -78,7 +78,7 @@ pub(crate) fn is(class: Class, b: u8) -> bool
 
 // The place after the bytes of a class.
 pub(crate) fn skip(s: &[u8], at: usize, class: Class) -> usize
-    requires { ⌜ classOf class 0 ≡ false ⌝ }
+    requires { ⌜ inClass class 0 ≡ false ⌝ }
     ensures { λ r. ⌜ r ≡ past class (now (s .entry)) at ⌝ }
 {
     let mut i = at;
@@ -90,7 +90,7 @@ pub(crate) fn skip(s: &[u8], at: usize, class: Class) -> usize
 
 // One byte of a class.
 pub(crate) fn one(s: &[u8], at: usize, class: Class) -> Out
-    requires { ⌜ classOf class 0 ≡ false ⌝ }
+    requires { ⌜ inClass class 0 ≡ false ⌝ }
     ensures { λ r. ⌜ r ≡ oneAt (now (s .entry)) class at ⌝ }
 {
     if is(class, wire::byte(s, at)) {

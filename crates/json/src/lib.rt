@@ -2,7 +2,7 @@
 // text is walked. A place may be any number: past the end stands 0, which no rule takes.
 ghost use mathlib.Core.Path.{_≡_};
 ghost use Prim.Native.Nat.{_<_};
-ghost use Rattle.json.specs.Grammar.{within, wsAt, stringAt, isSpelling, scalarAt, closeOf, openedAt, startAt, headAt, nextAt};
+ghost use Rattle.json.specs.Grammar.{isBetween, wsAt, stringAt, isSpelling, scalarAt, closeOf, openedAt, startAt, headAt, nextAt};
 ghost use Rattle.json.specs.Tree.{endOf, onLeaf, treeAt};
 
 mod classes;
@@ -31,7 +31,7 @@ pub enum Out {
 
 // %xlow-high
 pub fn between(low: u8, high: u8, b: u8) -> bool
-    ensures { λ r. ⌜ r ≡ within low high b ⌝ }
+    ensures { λ r. ⌜ r ≡ isBetween low high b ⌝ }
 {
     low <= b && b <= high
 }

@@ -8,7 +8,7 @@ use Prim.Native.Nat.{ℕ}
 use native.Mathlib.Omega.{arith}
 use lib.Dec.{T, T-not}
 use Rattle.law.specs.Lists.{_∈_, any, store, Once}
-use Rattle.law.specs.Table.{Class, ephemeral, regular, keyed, Events, Laws, isEphemeral, shareKey, isStored, firstOf}
+use Rattle.law.specs.Table.{Class, ephemeral, regular, keyed, Events, Laws, isEphemeral, shareKey, isStored, firstVerdict}
 use Rattle.law.specs.Table.{Table, Offer, hasId, hasKey, hasKeyNewer, Valid, IdPremise, WinsAs, Wins}
 use Rattle.law.proofs.Lists.{either, and-both, and-left, and-right, any-yes, any-no, once-same}
 use Rattle.law.proofs.Lists.{store-in, store-keeps, store-from, store-pairwise}
@@ -120,7 +120,7 @@ module _ (E : Events) (L : Laws E) where
   abbrev pub put : Table E → Offer E → Table E
   put t none = t
   put t (some e) =
-      cond (isStored (firstOf (isEphemeral (classOf e)) (any (hasId E e) t) (any (hasKeyNewer E e) t) false)) (store (hasKey E e) e t) t
+      cond (isStored (firstVerdict (isEphemeral (classOf e)) (any (hasId E e) t) (any (hasKeyNewer E e) t) false)) (store (hasKey E e) e t) t
 
   abbrev pub puts : Table E → List (Offer E) → Table E
   puts t [] = t
@@ -153,7 +153,7 @@ module _ (E : Events) (L : Laws E) where
     step e rest t se r = go (isEphemeral (classOf e)) (any (hasId E e) t) (any (hasKeyNewer E e) t) refl refl refl
       where
         go : (a b c : Bool) → isEphemeral (classOf e) ≡ a → any (hasId E e) t ≡ b → any (hasKeyNewer E e) t ≡ c
-            → Right S rest (cond (isStored (firstOf a b c false)) (store (hasKey E e) e t) t)
+            → Right S rest (cond (isStored (firstVerdict a b c false)) (store (hasKey E e) e t) t)
         go true b c p q n = keep e rest t r (λ st. absurd (rw p at st))
         go false true c p q n =
             let (u, m, h) = any-yes (hasId E e) t (rw q tt) in

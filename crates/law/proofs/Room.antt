@@ -9,7 +9,7 @@ use native.Mathlib.Omega.{arith}
 use lib.Dec.{T, T-not, leb, leb→le, nleb→lt}
 use lib.ListN.{length}
 use Rattle.law.specs.Lists.{_∈_, any, store, different}
-use Rattle.law.specs.Table.{Class, ephemeral, regular, keyed, Events, Laws, isEphemeral, isNoRoom, isStored, firstOf}
+use Rattle.law.specs.Table.{Class, ephemeral, regular, keyed, Events, Laws, isEphemeral, isNoRoom, isStored, firstVerdict}
 use Rattle.law.specs.Table.{Table, Offer, hasId, hasKey, hasKeyNewer, verdict, after}
 use Rattle.law.specs.Table.{Valid, IdPremise, idIfRegular, keyIfKeyed, regularIds, keys, slotsNeeded}
 use Rattle.law.proofs.Run.{run, verdicts, lacks, NoneLacks}
@@ -26,7 +26,7 @@ module _ (E : Events) (L : Laws E) where
   put-grows : (t : Table E) (o : Offer E) → length t ≤ length (put E L t o)
   put-grows t none = omega arith
   put-grows t (some e) =
-      go (isStored (firstOf (isEphemeral (classOf e)) (any (hasId E e) t) (any (hasKeyNewer E e) t) false)) (any (hasKey E e) t) (store-length (hasKey E e) e t)
+      go (isStored (firstVerdict (isEphemeral (classOf e)) (any (hasId E e) t) (any (hasKeyNewer E e) t) false)) (any (hasKey E e) t) (store-length (hasKey E e) e t)
     where
       go : (s k : Bool) → length (store (hasKey E e) e t) ≡ cond k (length t) (suc (length t))
           → length t ≤ length (cond s (store (hasKey E e) e t) t)
@@ -57,8 +57,8 @@ module _ (E : Events) (L : Laws E) where
         u = store (hasKey E e) e t
 
         go : (a b c k f : Bool) → leb N (length t) ≡ f → length u ≡ cond k (length t) (suc (length t))
-            → Outcome (isNoRoom (firstOf a b c (not k && f)))
-            (cond (isStored (firstOf a b c (not k && f))) u t) (cond (isStored (firstOf a b c false)) u t)
+            → Outcome (isNoRoom (firstVerdict a b c (not k && f)))
+            (cond (isStored (firstVerdict a b c (not k && f))) u t) (cond (isStored (firstVerdict a b c false)) u t)
         go true b c k f p q = inr (tt, refl, h)
         go false true c k f p q = inr (tt, refl, h)
         go false false true k f p q = inr (tt, refl, h)

@@ -7,7 +7,7 @@ use mathlib.Core.List.{List, [], _∷_, _++_, List·Memᴰ·not-nil}
 use Prim.Native.Nat.{ℕ}
 use lib.Dec.{T}
 use Rattle.law.specs.Lists.{_∈_, any, store, Pairwise, Once}
-use Rattle.law.specs.Table.{Class, ephemeral, regular, keyed, Events, Laws, Verdict, refused, wasEphemeral, duplicate, older, stored, noRoom, isEphemeral, shareKey, isStored, firstOf}
+use Rattle.law.specs.Table.{Class, ephemeral, regular, keyed, Events, Laws, Verdict, refused, wasEphemeral, duplicate, older, stored, noRoom, isEphemeral, shareKey, isStored, firstVerdict}
 use Rattle.law.specs.Table.{Table, Offer, hasId, hasKey, hasKeyNewer, lacksSlot, verdict, after}
 use Rattle.law.proofs.Run.{run}
 use Rattle.law.proofs.Lists.{store-from, store-pairwise, once-same}
@@ -74,7 +74,7 @@ module _ (E : Events) (L : Laws E) where
   stored-or-not P N t e p s = go (isEphemeral (classOf e)) (any (hasId E e) t) (any (hasKeyNewer E e) t) (lacksSlot E N t e) s
     where
       go : (a b c l : Bool) → (T (not a) → T (not b) → T (not c) → P (store (hasKey E e) e t))
-          → P (cond (isStored (firstOf a b c l)) (store (hasKey E e) e t) t)
+          → P (cond (isStored (firstVerdict a b c l)) (store (hasKey E e) e t) t)
       go true b c l s = p
       go false true c l s = p
       go false false true l s = p

@@ -9,7 +9,7 @@ use native.Mathlib.Omega.{arith}
 use lib.Dec.{T, not-T, leb, leb→le}
 use lib.ListN.{length, length-map}
 use Rattle.law.specs.Lists.{_∈_}
-use Rattle.law.specs.Table.{regular, Events, Laws, stored, duplicate, firstOf}
+use Rattle.law.specs.Table.{regular, Events, Laws, stored, duplicate, firstVerdict}
 use Rattle.law.specs.Table.{Offer, verdict, after, Valid, IdPremise, Held, Settled, slotsNeeded}
 use Rattle.law.specs.Signature.{Slot, withSignature, event, withoutSignature}
 use Rattle.law.specs.Demand3.{Machine, view, judged, runOn, lacksOn, HeldSetOn, RoomLawOn, SignatureStoredOn}
@@ -72,7 +72,7 @@ module _ (E : Events) where
   unfolding verdict
   fresh-stored N e le c = rw c (go (leb N 0) refl)
     where
-      go : (r : Bool) → leb N 0 ≡ r → firstOf false false false r ≡ stored
+      go : (r : Bool) → leb N 0 ≡ r → firstVerdict false false false r ≡ stored
       go true p = absurd (omega (arith, leb→le N 0 (rw p tt)))
       go false p = refl
 
@@ -84,7 +84,7 @@ module _ (E : Events) where
   unfolding verdict
   again-duplicate L N e c = rw c (go (sameId (idOf e) (idOf e)) (L .id-eq (idOf e) (idOf e) .1 refl))
     where
-      go : (b : Bool) → T b → firstOf false (b || false) (false || false) (not (false || false) && leb N 1) ≡ duplicate
+      go : (b : Bool) → T b → firstVerdict false (b || false) (false || false) (not (false || false) && leb N 1) ≡ duplicate
       go true t = refl
       go false t = absurd t
 

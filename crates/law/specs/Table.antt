@@ -74,12 +74,12 @@ pub data Verdict : Type 0 where
 
 -- "first that applies: ephemeral (nothing stored); duplicate, id held; older, a newer event with its key is held; stored",
 -- and where it would be stored but no slot is left, row 12
-abbrev pub firstOf : (isEphemeral idHeld newerHeld lacksSlot : Bool) → Verdict
-firstOf true i n l = wasEphemeral
-firstOf false true n l = duplicate
-firstOf false false true l = older
-firstOf false false false true = noRoom
-firstOf false false false false = stored
+abbrev pub firstVerdict : (isEphemeral idHeld newerHeld lacksSlot : Bool) → Verdict
+firstVerdict true i n l = wasEphemeral
+firstVerdict false true n l = duplicate
+firstVerdict false false true l = older
+firstVerdict false false false true = noRoom
+firstVerdict false false false false = stored
 
 abbrev pub isStored : Verdict → Bool
 isStored refused = false
@@ -116,7 +116,7 @@ module _ (E : Events) where
   -- the verdict of an offer to a table of capacity N
   unfoldable pub verdict : ℕ → Table E → Offer → Verdict
   verdict N t none = refused
-  verdict N t (some e) = firstOf (isEphemeral (classOf e)) (any (hasId E e) t) (any (hasKeyNewer e) t) (lacksSlot N t e)
+  verdict N t (some e) = firstVerdict (isEphemeral (classOf e)) (any (hasId E e) t) (any (hasKeyNewer e) t) (lacksSlot N t e)
 
   -- the table after it: "stored, over the slot with its key, else in slot C"; with any other verdict as it was
   unfoldable pub after : ℕ → Table E → Offer → Table E

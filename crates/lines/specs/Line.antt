@@ -6,8 +6,8 @@ use lib.ListN.{length, getD}
 use Rattle.lines.specs.declared.Line.{Line}
 
 -- before a byte was read
-abbrev pub nothing : Line
-nothing = record { left = 0x1000000000000; n = 0; at = 0; end = 0 }
+abbrev pub noLine : Line
+noLine = record { left = 0x1000000000000; n = 0; at = 0; end = 0 }
 
 -- 01: "0A ends a line and is no part of the message". None of the first n bytes is 0A
 pub record NoEnd (l : List ℕ) (n : ℕ) : Type 0 where

@@ -8,7 +8,7 @@ ghost use mathlib.Core.List.{_∷_, []};
 ghost use Prim.Native.Nat.{_≤_, _<_};
 ghost use lib.ListN.{length};
 ghost use Rattle.wire.specs.Put.{put};
-ghost use Rattle.lines.specs.Line.{nothing, NoEnd, IsLine};
+ghost use Rattle.lines.specs.Line.{noLine, NoEnd, IsLine};
 use libc::STDIN_FILENO;
 use libc::STDOUT_FILENO;
 
@@ -73,7 +73,7 @@ fn take(line: &mut [u8], n: usize, chunk: &[u8], at: usize, end: usize) -> Taken
 
 // Before the first line. No more than 2^48 - 1 lines are read: a loop over them needs a number that falls.
 pub fn none() -> Line
-    ensures { λ r. ⌜ r ≡ nothing ⌝ }
+    ensures { λ r. ⌜ r ≡ noLine ⌝ }
 {
     Line {
         left: 0x1_0000_0000_0000,

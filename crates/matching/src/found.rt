@@ -14,7 +14,7 @@ ghost use Rattle.message.specs.declared.Listed.the-variants.{At};
 ghost use Rattle.message.specs.Lent.{value5, onValue, valueAt, someSmall, inList, filterRow};
 ghost use Rattle.query.specs.Filter.{stringsIn, numbersIn, ifListed, filterOf};
 ghost use Rattle.matching.specs.Inner.Found.{spelledBy, numbersBy, filterBy};
-ghost use Rattle.matching.specs.Inner.Finds.{stringsRoom, kindsRoom, rowRoom, smallFrom, smallAt, letterOf, firstNamed, nextNamed, valuePlace, Finds, FindsMembers, FindsConditions};
+ghost use Rattle.matching.specs.Inner.Finds.{stringsRoom, kindsRoom, rowRoom, smallFrom, smallAt, conditionLetter, firstNamed, nextNamed, valuePlace, Finds, FindsMembers, FindsConditions};
 use crate::AUTHORS_PLACE;
 use crate::CONDITIONS_PLACE;
 use crate::Conditions;
@@ -130,7 +130,7 @@ fn is_letter(x: u8) -> bool
 
 // The letter of a condition's name, which is spelled in any way; 0 of another name.
 fn letter(name: &[u8]) -> u8
-    ensures { λ r. ⌜ r ≡ letterOf (decode (now (name .entry))) ⌝ }
+    ensures { λ r. ⌜ r ≡ conditionLetter (decode (now (name .entry))) ⌝ }
 {
     if spell::decoded_len(name) != 2 {
         return 0;

@@ -8,8 +8,8 @@ ghost use lib.ListN.{length, take};
 ghost use Rattle.wire.specs.Limits.{mostSlots, mostFilters};
 ghost use Rattle.numeral.specs.Decimal.{digits, decimal};
 ghost use Rattle.text.specs.Event.{all};
-ghost use Rattle.message.specs.Lent.{isTags, value5};
-ghost use Rattle.event.specs.Lent.{tagsAt};
+ghost use Rattle.message.specs.Lent.{isTagsShape, value5};
+ghost use Rattle.event.specs.Lent.{lentTagsAt};
 ghost use Rattle.event.specs.Answer.{hexOf};
 ghost use Rattle.table.specs.Layout.{idSize, countOf, idIn};
 ghost use Rattle.table.specs.Sound.{sound};
@@ -38,8 +38,8 @@ fn id_listed(s: &[u8], ids: Members, m: &[u8], row: &[usize]) -> bool
 
 // Whether the conditions hold of the tags in the text t, which stand after [0,"PUBKEY",TIME,KIND, .
 fn tags_hold(t: &[u8], time: i64, kind: u64, m: &[u8], row: &[usize], f: Known) -> bool
-    requires { ⌜ value5 isTags (now t) (72 + length (decimal time) + length (digits kind)) ≡ false ⌝ }
-    ensures { λ r. ⌜ r ≡ all (conditionHolds (tagsAt (now (t .entry)) (72 + length (decimal time) + length (digits kind)))) (map (conditionBy (now (m .entry)) (now (row .entry))) (take (f .n) (f .conditions))) ⌝ }
+    requires { ⌜ value5 isTagsShape (now t) (72 + length (decimal time) + length (digits kind)) ≡ false ⌝ }
+    ensures { λ r. ⌜ r ≡ all (conditionHolds (lentTagsAt (now (t .entry)) (72 + length (decimal time) + length (digits kind)))) (map (conditionBy (now (m .entry)) (now (row .entry))) (take (f .n) (f .conditions))) ⌝ }
 {
     if f.n == 0 {
         return true;

@@ -1,7 +1,7 @@
 // Matching: whether an event matches a filter, and the answer of a REQ, in code. The definitions stand in query/specs and, for the steps of
 // the code, in specs/.
 ghost use mathlib.Core.Path.{_≡_};
-ghost use Rattle.query.specs.Answer.{matchedRow, matched, matchNumber, listingRow, listed, listedRow, numberOf};
+ghost use Rattle.query.specs.Answer.{matchedRow, matched, matchNumber, listingRow, listed, listedRow, listingNumber};
 
 mod answers;
 mod found;
@@ -74,7 +74,7 @@ pub fn answer(
     row: &mut [u16],
 ) -> query::Listing
     ensures { λ r. ⌜ r ≡ listed (now (table .entry)) (now (m .entry)) fs n (now (row .entry)) ⌝ }
-    ensures { λ r. ⌜ numberOf r ≡ listingRow (now (table .entry)) (now (m .entry)) fs n (now (row .entry)) ⌝ }
+    ensures { λ r. ⌜ listingNumber r ≡ listingRow (now (table .entry)) (now (m .entry)) fs n (now (row .entry)) ⌝ }
     ensures { λ _. ⌜ now (row .exit) ≡ listedRow (now (table .entry)) (now (m .entry)) fs n (now (row .entry)) ⌝ }
 {
     let r = lent::filters_row(m, fs, n);

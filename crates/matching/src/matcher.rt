@@ -8,9 +8,9 @@ ghost use Rattle.wire.specs.Bytes.{part, sameBytes};
 ghost use Rattle.spell.specs.Spell.{decode};
 ghost use Rattle.json.specs.Grammar.{startAt};
 ghost use Rattle.text.specs.Event.{all};
-ghost use Rattle.message.specs.Lists.{firstOf, nextOf};
-ghost use Rattle.message.specs.Lent.{isTags, value5};
-ghost use Rattle.event.specs.Lent.{said, tagsAt, eventOf};
+ghost use Rattle.message.specs.Lists.{startElement, nextOf};
+ghost use Rattle.message.specs.Lent.{isTagsShape, value5};
+ghost use Rattle.event.specs.Lent.{said, lentTagsAt, eventOf};
 ghost use Rattle.query.specs.Match.{isMember, isListed, kindListed, sinceHolds, untilHolds, conditionHolds, matches};
 ghost use Rattle.matching.specs.Inner.Found.{spelledBy, numbersBy, given, conditionBy, filterBy};
 ghost use Rattle.matching.specs.Inner.Steps.{placed, asked, secondOf, fieldsHold};
@@ -50,7 +50,7 @@ fn place(x: Element) -> Listed
 
 // The first element of the array at a place, if there is one.
 pub(crate) fn first(b: &[u8], at: usize) -> Listed
-    ensures { λ r. ⌜ r ≡ placed (firstOf (startAt (now (b .entry)) at)) ⌝ }
+    ensures { λ r. ⌜ r ≡ placed (startElement (startAt (now (b .entry)) at)) ⌝ }
 {
     place(message::first(b, at))
 }
@@ -84,8 +84,8 @@ fn second_string(b: &[u8], v: usize, letter: u8) -> Second
 
 // A # condition, whose members are the strings of m that the spans tell, holds of the tags of the array in b.
 fn holds(b: &[u8], tags: usize, letter: u8, m: &[u8], spans: &[usize]) -> bool
-    requires { ⌜ value5 isTags (now b) tags ≡ false ⌝ }
-    ensures { λ r. ⌜ r ≡ conditionHolds (tagsAt (now (b .entry)) tags) (asked letter (spelledBy (now (m .entry)) (now (spans .entry)))) ⌝ }
+    requires { ⌜ value5 isTagsShape (now b) tags ≡ false ⌝ }
+    ensures { λ r. ⌜ r ≡ conditionHolds (lentTagsAt (now (b .entry)) tags) (asked letter (spelledBy (now (m .entry)) (now (spans .entry)))) ⌝ }
 {
     let mut x = first(b, tags);
     let mut k: usize = 0;
@@ -212,8 +212,8 @@ pub(crate) fn all_hold(
     cs: [Needed; 4],
     n: usize,
 ) -> bool
-    requires { ⌜ value5 isTags (now b) tags ≡ false ⌝ }
-    ensures { λ r. ⌜ r ≡ all (conditionHolds (tagsAt (now (b .entry)) tags)) (map (conditionBy (now (m .entry)) (now (row .entry))) (take n cs)) ⌝ }
+    requires { ⌜ value5 isTagsShape (now b) tags ≡ false ⌝ }
+    ensures { λ r. ⌜ r ≡ all (conditionHolds (lentTagsAt (now (b .entry)) tags)) (map (conditionBy (now (m .entry)) (now (row .entry))) (take n cs)) ⌝ }
 {
     let mut i: usize = 0;
     while i < 4 {
@@ -264,7 +264,7 @@ pub(crate) fn event_matched(
     row: &[usize],
     f: Known,
 ) -> bool
-    requires { ⌜ value5 isTags (now b) (p .body .tags) ≡ false ⌝ }
+    requires { ⌜ value5 isTagsShape (now b) (p .body .tags) ≡ false ⌝ }
     ensures { λ r. ⌜ r ≡ matches (filterBy (now (m .entry)) (now (row .entry)) f) (said (now (b .entry)) (p .id)) (eventOf (now (b .entry)) (p .body)) ⌝ }
 {
     let ids = f.ids;

@@ -1,7 +1,7 @@
 // Whether an event matches some of several filters.
 ghost use mathlib.Core.Path.{_≡_};
 ghost use mathlib.Core.Bool.{false};
-ghost use Rattle.message.specs.Lent.{isTags, value5, filterRow};
+ghost use Rattle.message.specs.Lent.{isTagsShape, value5, filterRow};
 ghost use Rattle.event.specs.Lent.{said, eventOf};
 ghost use Rattle.query.specs.Filter.{filterOf};
 ghost use Rattle.query.specs.Match.{matches, matchesSome};
@@ -12,7 +12,7 @@ use crate::matcher;
 
 // Whether the event of the parts p over b matches a filter, whose members are found first.
 fn one_match(b: &[u8], p: message::EventParts, m: &[u8], f: message::FilterParts) -> bool
-    requires { ⌜ value5 isTags (now b) (p .body .tags) ≡ false ⌝ }
+    requires { ⌜ value5 isTagsShape (now b) (p .body .tags) ≡ false ⌝ }
     requires { ⌜ filterRow (now m) f ≡ 0 ⌝ }
     ensures { λ r. ⌜ r ≡ matches (filterOf (now (m .entry)) f) (said (now (b .entry)) (p .id)) (eventOf (now (b .entry)) (p .body)) ⌝ }
 {
@@ -29,7 +29,7 @@ pub(crate) fn some_match(
     fs: [message::FilterParts; 4],
     n: usize,
 ) -> bool
-    requires { ⌜ value5 isTags (now b) (p .body .tags) ≡ false ⌝ }
+    requires { ⌜ value5 isTagsShape (now b) (p .body .tags) ≡ false ⌝ }
     requires { ⌜ filtersRow (now m) fs n ≡ 0 ⌝ }
     ensures { λ r. ⌜ r ≡ matchesSome (meant (now (m .entry)) fs n) (said (now (b .entry)) (p .id)) (eventOf (now (b .entry)) (p .body)) ⌝ }
 {

@@ -11,12 +11,12 @@ use Rattle.wire.proofs.Bytes.{same-equal}
 use Rattle.wire.specs.Limits.{hexLength}
 use Rattle.json.specs.Tree.{Json, word, num, str, arr, obj, Items, nil, item, onArray, onObject}
 use Rattle.shape.specs.Shape.{anyItem, allItems, count, nameAt, isString, isNumber, isArrayOf, isCondition, filterMember, isFilter, idsName, authorsName, kindsName, sinceName, untilName, limitName}
-use Rattle.shape.specs.Rows.{wrongSmall, wrongHex, wrongList, filterNumber, filterHex, filterCount, filterCounts}
+use Rattle.shape.specs.Rows.{wrongSmall, wrongHex, wrongList, filterNumber, filterHex, wrongFilter, filterCounts}
 use Rattle.message.specs.declared.EventParts.{EventParts}
 use Rattle.message.specs.declared.FilterParts.{FilterParts}
 use Rattle.message.specs.declared.Listed.{Listed}
 use Rattle.message.specs.declared.Listed.the-variants.{At}
-use Rattle.message.specs.Lent.{lowest, onValue, valueAt, isTags, string5, value2, value4, value5, time6, small6, someHex, someSmall, body5, body6, body8, event2, event4, event5, event7, eventRow, inList, inBound, filter2, filter4, filter5, filter6, filter7, filter8, filterRow}
+use Rattle.message.specs.Lent.{lowest, onValue, valueAt, isTagsShape, string5, value2, value4, value5, time6, small6, someHex, someSmall, body5, body6, body8, event2, event4, event5, event7, eventRow, inList, inBound, filter2, filter4, filter5, filter6, filter7, filter8, filterRow}
 use Rattle.message.proofs.Facts.{or-not, In, all-in, any-in}
 
 pub none-holds : (r2 r4 r5 r6 r7 r8 : Bool) → lowest r2 r4 r5 r6 r7 r8 ≡ 0 → (r2 ≡ false) × (r4 ≡ false) × (r5 ≡ false) × (r6 ≡ false) × (r7 ≡ false) × (r8 ≡ false)
@@ -29,13 +29,13 @@ none-holds false false false false false true e = absurd (omega arith)
 none-holds false false false false false false e = (refl, refl, refl, refl, refl, refl)
 
 -- ---- an event's tags are an array of tags
-pub event-tags : (b : List ℕ) (p : EventParts) → eventRow b p ≡ 0 → value5 isTags b (p .body .tags) ≡ false
+pub event-tags : (b : List ℕ) (p : EventParts) → eventRow b p ≡ 0 → value5 isTagsShape b (p .body .tags) ≡ false
 unfolding eventRow event5 body5
 event-tags b p e =
     let z = none-holds (event2 b p) (event4 b p) (event5 b p) (body6 (p .body)) (event7 b p) (body8 b (p .body)) e .2 in
     let x = or-not (string5 b (p .id)) _ z .1 in
     let y = or-not (body5 b (p .body)) _ x .0 in
-    or-not (value5 isTags b (p .body .tags)) _ (or-not (string5 b (p .body .pubkey)) _ y .1) .0
+    or-not (value5 isTagsShape b (p .body .tags)) _ (or-not (string5 b (p .body .pubkey)) _ y .1) .0
 
 -- ---- the value at v breaks no row as a list of members of which f holds, and g must not
 pub record ListIs (f g : Json → Bool) (b : List ℕ) (v : ℕ) : Type 0 where
@@ -192,11 +192,11 @@ any-list (obj ts) = refl
 -- so its value is an array of 1 to 16 strings
 pub condition-is : (b : List ℕ) {q w : ℕ} {t : Json} {ts : Items} → allItems (filterMember b) ts ≡ true → filterCounts b ts ≡ false → In q w t ts → isCondition (nameAt b q) ≡ true
     → ListOf isString (λ u. false) t
-unfolding filterMember filterCount filterCounts isCondition
+unfolding filterMember wrongFilter filterCounts isCondition
 condition-is b {q} {w} {t} {ts} all c i h =
     let no : (n : List ℕ) → isCondition n ≡ false → sameBytes (nameAt b q) n ≡ false = λ n. other-name (nameAt b q) n h in
     let m : isArrayOf isString t ≡ true =
     rw (no idsName refl, no authorsName refl, no kindsName refl, no sinceName refl, no untilName refl, no limitName refl, h) at (all-in (filterMember b) all i) in
     let l : wrongList t ≡ false =
-    rw (no idsName refl, no authorsName refl, no kindsName refl, h) at (any-in (filterCount b) (or-not (anyItem (filterCount b) ts) _ c .0) i) in
+    rw (no idsName refl, no authorsName refl, no kindsName refl, h) at (any-in (wrongFilter b) (or-not (anyItem (wrongFilter b) ts) _ c .0) i) in
     list-of isString (λ u. false) t m (any-list t) l

@@ -15,9 +15,9 @@ use lib.ListN.{length, getD, take, drop, take-append-drop, List·getD-eq-default
 use lib.Seq.{take-suc, take-nil, drop-cons, take-add}
 use Rattle.utf8.specs.declared.Want.{Want}
 use Rattle.utf8.specs.declared.Want.the-variants.{Lead, Bad}
-use Rattle.utf8.specs.Utf8.{next, ends, utf8From, isUtf8}
+use Rattle.utf8.specs.Utf8.{nextWant, ends, utf8From, isUtf8}
 use Rattle.utf8.proofs.States.{Reached, lead-reached, next-reached, low-next, low-turn}
-use Rattle.json.specs.Grammar.{case, classOf, run, past, wsAt, tokenAt, closeOf, openedAt, startAt, charsAt, stringAt}
+use Rattle.json.specs.Grammar.{case, inClass, run, past, wsAt, tokenAt, closeOf, openedAt, startAt, charsAt, stringAt}
 use Rattle.json.specs.Tree.{Json, Items, Got}
 use Rattle.json.specs.declared.Out.{Out}
 use Rattle.json.specs.declared.Out.the-variants as out
@@ -32,16 +32,16 @@ use Rattle.message.proofs.Elements.{Group, hollow, filled}
 -- ---- the state after some bytes
 abbrev state : Want → List ℕ → Want
 state w [] = w
-state w (x ∷ s) = state (next w x) s
+state w (x ∷ s) = state (nextWant w x) s
 
 from-state : (w : Want) (s : List ℕ) → utf8From w s ≡ ends (state w s)
 unfolding utf8From
 from-state w [] = refl
-from-state w (x ∷ s) = from-state (next w x) s
+from-state w (x ∷ s) = from-state (nextWant w x) s
 
 state-append : (w : Want) (s t : List ℕ) → state w (s ++ t) ≡ state (state w s) t
 state-append w [] t = refl
-state-append w (x ∷ s) t = state-append (next w x) s t
+state-append w (x ∷ s) t = state-append (nextWant w x) s t
 
 state-bad : (s : List ℕ) → state Bad s ≡ Bad
 state-bad [] = refl
@@ -49,7 +49,7 @@ state-bad (x ∷ s) = state-bad s
 
 state-reached : (w : Want) (s : List ℕ) → Reached w → Reached (state w s)
 state-reached w [] r = r
-state-reached w (x ∷ s) r = state-reached (next w x) s (next-reached w x r)
+state-reached w (x ∷ s) r = state-reached (nextWant w x) s (next-reached w x r)
 
 -- ---- edges
 abbrev pub Edge : List ℕ → ℕ → Type 0
@@ -60,13 +60,13 @@ module _ (s : List ℕ) (u : isUtf8 s ≡ true) where
   unfolding isUtf8
   low-edges x h l = ⊎-elim here (λ q. absurd (false≢true (sym (stuck q) ∙ u))) (low-turn (getD s x 0) l (state-reached Lead (take x s) lead-reached))
     where
-      after : state Lead (take (x + 1) s) ≡ next (state Lead (take x s)) (getD s x 0)
+      after : state Lead (take (x + 1) s) ≡ nextWant (state Lead (take x s)) (getD s x 0)
       after = rw (add-one, take-suc s x 0 h) (state-append Lead (take x s) (getD s x 0 ∷ []))
 
-      here : (state Lead (take x s) ≡ Lead) × (next (state Lead (take x s)) (getD s x 0) ≡ Lead) → (state Lead (take x s) ≡ Lead) × (state Lead (take (x + 1) s) ≡ Lead)
+      here : (state Lead (take x s) ≡ Lead) × (nextWant (state Lead (take x s)) (getD s x 0) ≡ Lead) → (state Lead (take x s) ≡ Lead) × (state Lead (take (x + 1) s) ≡ Lead)
       here (p, q) = (p, after ∙ q)
 
-      stuck : next (state Lead (take x s)) (getD s x 0) ≡ Bad → utf8From Lead s ≡ false
+      stuck : nextWant (state Lead (take x s)) (getD s x 0) ≡ Bad → utf8From Lead s ≡ false
       stuck q =
           from-state Lead s
           ∙ ap ends (ap (state Lead) (sym (take-append-drop x s)) ∙ state-append Lead (take x s) (drop x s) ∙ ap (state (state Lead (take x s))) (drop-cons s x 0 h)
@@ -105,7 +105,7 @@ one-more true r = omega arith
 one-more false r = refl
 
 ws-cons : (b : ℕ) (l : List ℕ) → wsAt (b ∷ l) 0 ≡ cond (isSpace b) (suc (wsAt l 0)) 0
-unfolding past run classOf
+unfolding past run inClass
 ws-cons b l = one-more (isSpace b) _
 
 spaces : (l : List ℕ) → state Lead (take (wsAt l 0) l) ≡ Lead

@@ -17,9 +17,9 @@ use Rattle.shape.specs.Shape.{nameAt, named, idName, pubkeyName, createdAtName,
 use Rattle.message.specs.declared.Listed.{Listed}
 use Rattle.message.specs.declared.Listed.the-variants.{Absent, At}
 use Rattle.message.specs.declared.Members.{Members}
-use Rattle.message.specs.Lists.{within}
-use Rattle.message.specs.Parts.{Member, missing, member, memberOf, nowhere, spanOf, numberOf, spanIn, numberIn, placeIn, boundIn, listedIn, bodyOf, eventOf, filterOf, membersGot, membersAt, eventAt, filterAt}
-use Rattle.message.specs.Inner.{kept, stepOf, noMembers, foundIn, onStart, leafAt, gotOr, spanAt, numberAt, spanFound, numberFound, boundFound, filterFound, placeFound, bodyFound}
+use Rattle.message.specs.Lists.{openWithin}
+use Rattle.message.specs.Parts.{Member, missing, member, memberOf, nowhere, spanOf, numberSpelled, spanIn, numberIn, placeIn, boundIn, listedIn, bodyOf, eventPartsOf, filterPartsOf, membersGot, membersAt, eventAt, filterAt}
+use Rattle.message.specs.Inner.{keptPlace, stepOf, noMembers, foundIn, onStart, leafAt, gotOr, spanAt, numberLeaf, spanFound, numberFound, boundFound, filterFound, placeFound, bodyFound}
 use Rattle.message.proofs.Walks.{Walk, last, more, walk-of}
 
 -- ---- a fold over the members of the object at a place, where a value begins
@@ -27,12 +27,12 @@ module _ {A : Type 0} (f : A → ℕ → ℕ → Json → A) (z : A) (s : List �
   abbrev pub foldStart : Start → A
   foldStart Leaf = z
   foldStart (Empty n named) = z
-  foldStart (Many i true) = foldGot f z z (itemsAt (treeAt s within) s true (length s) i)
+  foldStart (Many i true) = foldGot f z z (itemsAt (treeAt s openWithin) s true (length s) i)
   foldStart (Many i false) = z
 
   pub fold-open : (at : ℕ) (r : Start) → r ≡ startAt s at → foldStart r ≡ foldItems f z (membersAt s at)
   unfolding membersAt
-  fold-open at r e = rw (tree-open s within at r e) (on r)
+  fold-open at r e = rw (tree-open s openWithin at r e) (on r)
     where
       leaf : (k : Kind) → z ≡ foldItems f z (membersGot (onLeaf s at k))
       leaf (Str n) = refl
@@ -48,12 +48,12 @@ module _ {A : Type 0} (f : A → ℕ → ℕ → Json → A) (z : A) (s : List �
       object none = refl
       object (got ts n) = refl
 
-      on : (r : Start) → foldStart r ≡ foldItems f z (membersGot (groupAt (treeAt s within) s at r))
+      on : (r : Start) → foldStart r ≡ foldItems f z (membersGot (groupAt (treeAt s openWithin) s at r))
       on Leaf = leaf (scalarAt s at)
       on (Empty n true) = refl
       on (Empty n false) = refl
-      on (Many i true) = object (itemsAt (treeAt s within) s true (length s) i)
-      on (Many i false) = array (itemsAt (treeAt s within) s false (length s) i)
+      on (Many i true) = object (itemsAt (treeAt s openWithin) s true (length s) i)
+      on (Many i false) = array (itemsAt (treeAt s openWithin) s false (length s) i)
 
 -- ---- the first of a name
 abbrev pub by : List ℕ → Bool → Members → ℕ → ℕ → Json → Members
@@ -68,8 +68,8 @@ or-missing (At u) = refl
 or-missing Absent = refl
 
 module _ (s w : List ℕ) where
-  or-kept : (x : Listed) (p v : ℕ) (t : Json) (ts : Items) → orElse (kept (spelledAt s p) w x v) (memberOf s w ts) ≡ orElse x (memberOf s w (item p v t ts))
-  unfolding kept memberOf nameAt
+  or-kept : (x : Listed) (p v : ℕ) (t : Json) (ts : Items) → orElse (keptPlace (spelledAt s p) w x v) (memberOf s w ts) ≡ orElse x (memberOf s w (item p v t ts))
+  unfolding keptPlace memberOf nameAt
   or-kept (At u) p v t ts = refl
   or-kept Absent p v t ts = go (named s w p)
     where
@@ -78,7 +78,7 @@ module _ (s w : List ℕ) where
       go false = refl
 
   fold-first : (f : Members → ℕ → ℕ → Json → Members) (part : Members → Listed)
-      → ((a : Members) (p v : ℕ) (t : Json) → part (f a p v t) ≡ kept (spelledAt s p) w (part a) v)
+      → ((a : Members) (p v : ℕ) (t : Json) → part (f a p v t) ≡ keptPlace (spelledAt s p) w (part a) v)
       → (a : Members) (ts : Items) → part (foldItems f a ts) ≡ orElse (part a) (memberOf s w ts)
   unfolding memberOf
   fold-first f part step a nil = or-missing (part a)
@@ -104,14 +104,14 @@ module _ (s : List ℕ) (v : ℕ) {A : Type 0} (f : Json → A) (z : A) (onArr :
       on (Empty n named) = group named nil
       on (Many i named) = many named (itemsAt (treeAt s d) s named (length s) i)
 
-module _ (s : List ℕ) (v : ℕ) {n : ℕ} {t : Json} (e : treeAt s within v ≡ got t n) where
+module _ (s : List ℕ) (v : ℕ) {n : ℕ} {t : Json} (e : treeAt s openWithin v ≡ got t n) where
   pub span-is : spanAt s v ≡ spanOf t
   unfolding spanAt
   span-is = leaf-is s v spanOf nowhere (λ ts. refl) (λ ts. refl) 6 ∙ ap (gotOr spanOf nowhere) e
 
-  pub number-is : numberAt s v ≡ numberOf s t
-  unfolding numberAt
-  number-is = leaf-is s v (numberOf s) (pos 0) (λ ts. refl) (λ ts. refl) 6 ∙ ap (gotOr (numberOf s) (pos 0)) e
+  pub number-is : numberLeaf s v ≡ numberSpelled s t
+  unfolding numberLeaf
+  number-is = leaf-is s v (numberSpelled s) (pos 0) (λ ts. refl) (λ ts. refl) 6 ∙ ap (gotOr (numberSpelled s) (pos 0)) e
 
 -- ---- the members of the object at a place are read there
 pub data Reads (value : ℕ → Got Json) : Items → Type 0 where
@@ -137,15 +137,15 @@ member-seen {value} s w (one {p = p} {v = v} {t = t} {ts = ts} e r) = go (named 
     go false h = h
 
 module _ (s : List ℕ) where
-  span-in : {m : Member} → Seen (treeAt s within) m → spanFound s (listedIn m) ≡ spanIn m
+  span-in : {m : Member} → Seen (treeAt s openWithin) m → spanFound s (listedIn m) ≡ spanIn m
   span-in gone = refl
   span-in (there {v = v} e) = span-is s v e
 
-  number-in : {m : Member} → Seen (treeAt s within) m → numberFound s (listedIn m) ≡ numberIn s m
+  number-in : {m : Member} → Seen (treeAt s openWithin) m → numberFound s (listedIn m) ≡ numberIn s m
   number-in gone = refl
   number-in (there {v = v} e) = number-is s v e
 
-  bound-in : {m : Member} → Seen (treeAt s within) m → boundFound s (listedIn m) ≡ boundIn s m
+  bound-in : {m : Member} → Seen (treeAt s openWithin) m → boundFound s (listedIn m) ≡ boundIn s m
   bound-in gone = refl
   bound-in (there {v = v} e) = rw (number-is s v e)
 
@@ -154,39 +154,39 @@ place-in missing = refl
 place-in (member v t) = refl
 
 -- ---- the members of the object at a place are read there
-pub members-read : (s : List ℕ) (at : ℕ) → Reads (treeAt s within) (membersAt s at)
+pub members-read : (s : List ℕ) (at : ℕ) → Reads (treeAt s openWithin) (membersAt s at)
 unfolding membersAt
-members-read s at = rw (tree-open s within at (startAt s at) refl) (on (startAt s at))
+members-read s at = rw (tree-open s openWithin at (startAt s at) refl) (on (startAt s at))
   where
-    leaf : (k : Kind) → Reads (treeAt s within) (membersGot (onLeaf s at k))
+    leaf : (k : Kind) → Reads (treeAt s openWithin) (membersGot (onLeaf s at k))
     leaf (Str n) = end
     leaf (Num n) = end
     leaf (Word n) = end
     leaf None = end
 
-    many : (named : Bool) (i : ℕ) (g : Got Items) → itemsAt (treeAt s within) s named (length s) i ≡ g → Reads (treeAt s within) (membersGot (bind g λ ts n. got (node named ts) n))
+    many : (named : Bool) (i : ℕ) (g : Got Items) → itemsAt (treeAt s openWithin) s named (length s) i ≡ g → Reads (treeAt s openWithin) (membersGot (bind g λ ts n. got (node named ts) n))
     many named i none q = end
-    many true i (got ts n) q = walk-reads (walk-of (treeAt s within) s true (length s) i ts n q)
+    many true i (got ts n) q = walk-reads (walk-of (treeAt s openWithin) s true (length s) i ts n q)
     many false i (got ts n) q = end
 
-    on : (r : Start) → Reads (treeAt s within) (membersGot (groupAt (treeAt s within) s at r))
+    on : (r : Start) → Reads (treeAt s openWithin) (membersGot (groupAt (treeAt s openWithin) s at r))
     on Leaf = leaf (scalarAt s at)
     on (Empty n true) = end
     on (Empty n false) = end
-    on (Many i named) = many named i (itemsAt (treeAt s within) s named (length s) i) refl
+    on (Many i named) = many named i (itemsAt (treeAt s openWithin) s named (length s) i) refl
 
 -- ---- the parts from the places that were found
 module _ (s : List ℕ) (at : ℕ) (m : Members) where
-  seen : (w : List ℕ) → Seen (treeAt s within) (memberOf s w (membersAt s at))
+  seen : (w : List ℕ) → Seen (treeAt s openWithin) (memberOf s w (membersAt s at))
   seen w = member-seen s w (members-read s at)
 
   module _ (event : Bool) (e : m ≡ foundIn s event (membersAt s at)) where
-    found : (w : List ℕ) (part : Members → Listed) → ((a : Members) (p v : ℕ) (t : Json) → part (stepOf s event a p v) ≡ kept (spelledAt s p) w (part a) v)
+    found : (w : List ℕ) (part : Members → Listed) → ((a : Members) (p v : ℕ) (t : Json) → part (stepOf s event a p v) ≡ keptPlace (spelledAt s p) w (part a) v)
         → part noMembers ≡ Absent → part m ≡ listedIn (memberOf s w (membersAt s at))
     found w part step z = ap part e ∙ fold-first s w (by s event) part step noMembers (membersAt s at) ∙ ap (λ x. orElse x (memberOf s w (membersAt s at))) z
 
   pub event-is : m ≡ foundIn s true (membersAt s at) → record { id = spanFound s (m .m1); body = bodyFound s m; sig = spanFound s (m .m7) } ≡ eventAt s at
-  unfolding eventAt eventOf bodyOf bodyFound stepOf
+  unfolding eventAt eventPartsOf bodyOf bodyFound stepOf
   event-is e =
       simp (
         found true e idName (λ a. a .m1) (λ a p v t. refl) refl,
@@ -206,7 +206,7 @@ module _ (s : List ℕ) (at : ℕ) (m : Members) where
       )
 
   pub filter-is : m ≡ foundIn s false (membersAt s at) → filterFound s m (At at) ≡ filterAt s at
-  unfolding filterAt filterOf stepOf
+  unfolding filterAt filterPartsOf stepOf
   filter-is e =
       let ids = found false e idsName (λ a. a .m1) (λ a p v t. refl) refl in
       let authors = found false e authorsName (λ a. a .m2) (λ a p v t. refl) refl in

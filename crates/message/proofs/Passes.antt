@@ -16,16 +16,16 @@ use Rattle.json.specs.Grammar.{wsAt}
 use Rattle.rows.specs.Strings.{part, refusedIn, refusedItems}
 use Rattle.rows.specs.Rows.{row1, row2, row3}
 use Rattle.shape.specs.Shape.{anyItem, allItems, countItems, count, nameAt, idName, pubkeyName, createdAtName, kindName, tagsName, contentName, sigName, idsName, authorsName, kindsName, sinceName, untilName, limitName, isString, isNumber, isArrayOf, eventMember, once, isEvent, filterMember, isFilter, Word, event, req, close, other, wordOf, opened, hasShape}
-use Rattle.shape.specs.Rows.{row4, row5, row6, row7, row8, treeRow, rootRow, messageRow, inMessage, wrongTime, wrongSmall, wrongHex, eventNumber, eventHex, eventCount, wrongList, filterNumber, filterHex, filterCount, filterCounts, wrongRequest, wrongSubscription, outside, wrongTags}
+use Rattle.shape.specs.Rows.{row4, row5, row6, row7, row8, treeRow, rootRow, messageRow, inMessage, wrongTime, wrongSmall, wrongHex, eventNumber, eventHex, eventCount, wrongList, filterNumber, filterHex, wrongFilter, filterCounts, wrongRequest, wrongSubscription, outside, wrongTags}
 use Rattle.message.specs.declared.EventParts.{EventParts}
 use Rattle.message.specs.declared.ReqParts.{ReqParts}
 use Rattle.message.specs.declared.Message.{Message}
 use Rattle.message.specs.declared.Message.the-variants as message
-use Rattle.message.specs.Parts.{Member, missing, member, memberOf, spanIn, numberIn, boundIn, placeIn, listedIn, bodyOf, eventOf, filterOf, membersOf, membersGot, membersAt, filterAt}
-use Rattle.message.specs.Lists.{within, elementsFrom, placesOf}
-use Rattle.message.specs.Read.{partsOf, inRoot, readOf}
-use Rattle.message.specs.Lent.{string7, time6, small6, onValue, valueAt, value2, value4, value5, isTags, body2, body4, body5, body6, body7, body8, event2, event4, event5, event7, eventRow, inList, inBound, someHex, someSmall, filter2, filter4, filter5, filter6, filter7, filter8, filterRow}
-use Rattle.message.specs.Claims.{EventPasses, filtersOf, FiltersPass, FiltersCounted}
+use Rattle.message.specs.Parts.{Member, missing, member, memberOf, spanIn, numberIn, boundIn, placeIn, listedIn, bodyOf, eventPartsOf, filterPartsOf, membersOf, membersGot, membersAt, filterAt}
+use Rattle.message.specs.Lists.{openWithin, elementsFrom, placesOf}
+use Rattle.message.specs.Read.{messageParts, inRoot, readOf}
+use Rattle.message.specs.Lent.{string7, time6, small6, onValue, valueAt, value2, value4, value5, isTagsShape, body2, body4, body5, body6, body7, body8, event2, event4, event5, event7, eventRow, inList, inBound, someHex, someSmall, filter2, filter4, filter5, filter6, filter7, filter8, filterRow}
+use Rattle.message.specs.Claims.{EventPasses, requestFilters, FiltersPass, FiltersCounted}
 use Rattle.message.proofs.Walks.{Walk, more, deeper}
 use Rattle.message.proofs.Elements.{Group, filled, group-of, walk-places, walk-first}
 use Rattle.message.proofs.Found.{Reads, walk-reads, members-read}
@@ -34,11 +34,11 @@ use Rattle.message.proofs.Facts.{and-true, or-not, In, here, later, all
 use Rattle.message.proofs.Clean.{StringClean, string-clean, hex-clean, time-clean, small-clean, object, array-grouped, value-false, ValueClean, value-clean}
 
 -- ---- an event's members
-module _ (s : List ℕ) (u : isUtf8 s ≡ true) (ts : Items) (reads : Reads (treeAt s within) ts) (a4 : refusedItems s true ts ≡ false)
+module _ (s : List ℕ) (u : isUtf8 s ≡ true) (ts : Items) (reads : Reads (treeAt s openWithin) ts) (a4 : refusedItems s true ts ≡ false)
     (all : allItems (eventMember s) ts ≡ true) (a6 : anyItem (eventNumber s) ts ≡ false) (a7 : anyItem (eventHex s) ts ≡ false) (a8 : anyItem (eventCount s) ts ≡ false) where
   -- the member of a name that is there once
   data Field (w : List ℕ) : Member → Type 0 where
-    field : {p v n : ℕ} {t : Json} → In p v t ts → nameAt s p ≡ w → treeAt s within v ≡ got t n → Field w (member v t)
+    field : {p v n : ℕ} {t : Json} → In p v t ts → nameAt s p ≡ w → treeAt s openWithin v ≡ got t n → Field w (member v t)
 
   field-of : (w : List ℕ) → once s w ts ≡ true → Field w (memberOf s w ts)
   field-of w o = go (memberOf s w ts) refl (member-holds s w ts)
@@ -75,20 +75,20 @@ module _ (s : List ℕ) (u : isUtf8 s ≡ true) (ts : Items) (reads : Reads (tre
         go : {m : Member} → Field w m → small6 (numberIn s m) ≡ false
         go (field {p = p} {t = t} i q e) = small-clean s t (k p t q (all-in (eventMember s) all i)) (j p t q (any-in (eventNumber s) a6 i))
 
-  tags-field : once s tagsName ts ≡ true → ValueClean isTags s (placeIn (memberOf s tagsName ts)) × (onValue wrongTags (valueAt s (placeIn (memberOf s tagsName ts))) ≡ false)
+  tags-field : once s tagsName ts ≡ true → ValueClean isTagsShape s (placeIn (memberOf s tagsName ts)) × (onValue wrongTags (valueAt s (placeIn (memberOf s tagsName ts))) ≡ false)
   unfolding eventMember eventCount sameBytes
   tags-field o = go (field-of tagsName o)
     where
-      go : {m : Member} → Field tagsName m → ValueClean isTags s (placeIn m) × (onValue wrongTags (valueAt s (placeIn m)) ≡ false)
+      go : {m : Member} → Field tagsName m → ValueClean isTagsShape s (placeIn m) × (onValue wrongTags (valueAt s (placeIn m)) ≡ false)
       go (field {p = p} {v = v} {t = t} i q e) =
-          let h : isTags t ≡ true = rw q at (all-in (eventMember s) all i) in
+          let h : isTagsShape t ≡ true = rw q at (all-in (eventMember s) all i) in
           let c : wrongTags t ≡ false = rw q at (any-in (eventCount s) a8 i) in
-          (value-clean isTags s u v e (array-grouped (isArrayOf isString) t h) h (refused-in s true a4 i), value-false s v wrongTags e c)
+          (value-clean isTagsShape s u v e (array-grouped (isArrayOf isString) t h) h (refused-in s true a4 i), value-false s v wrongTags e c)
 
   -- id, pubkey, created_at, kind, tags, content, sig
   event-clean : once s idName ts ≡ true → once s pubkeyName ts ≡ true → once s createdAtName ts ≡ true → once s kindName ts ≡ true → once s tagsName ts ≡ true
-      → once s contentName ts ≡ true → once s sigName ts ≡ true → eventRow s (eventOf s ts) ≡ 0
-  unfolding eventMember eventNumber eventHex sameBytes eventRow event2 event4 event5 event7 body2 body4 body5 body6 body7 body8 eventOf bodyOf
+      → once s contentName ts ≡ true → once s sigName ts ≡ true → eventRow s (eventPartsOf s ts) ≡ 0
+  unfolding eventMember eventNumber eventHex sameBytes eventRow event2 event4 event5 event7 body2 body4 body5 body6 body7 body8 eventPartsOf bodyOf
   event-clean o₁ o₂ o₃ o₄ o₅ o₆ o₇ =
       let i = string-field idName o₁ (λ p t q e. rw q at e) in
       let k = string-field pubkeyName o₂ (λ p t q e. rw q at e) in
@@ -120,8 +120,8 @@ module _ (s : List ℕ) (u : isUtf8 s ≡ true) (ts : Items) (reads : Reads (tre
       )
 
 -- ---- a filter's members, of which its object stands at x
-module _ (s : List ℕ) (u : isUtf8 s ≡ true) (ts : Items) (reads : Reads (treeAt s within) ts) (a4 : refusedItems s true ts ≡ false)
-    (all : allItems (filterMember s) ts ≡ true) (a6 : anyItem (filterNumber s) ts ≡ false) (a7 : anyItem (filterHex s) ts ≡ false) (a8 : anyItem (filterCount s) ts ≡ false) where
+module _ (s : List ℕ) (u : isUtf8 s ≡ true) (ts : Items) (reads : Reads (treeAt s openWithin) ts) (a4 : refusedItems s true ts ≡ false)
+    (all : allItems (filterMember s) ts ≡ true) (a6 : anyItem (filterNumber s) ts ≡ false) (a7 : anyItem (filterHex s) ts ≡ false) (a8 : anyItem (wrongFilter s) ts ≡ false) where
   -- a list that is absent or clean
   record ListClean (f g₆ g₇ g₈ : Json → Bool) (w : List ℕ) : Type 0 where
     l2 : inList (value2 s) (listedIn (memberOf s w ts)) ≡ false
@@ -133,7 +133,7 @@ module _ (s : List ℕ) (u : isUtf8 s ≡ true) (ts : Items) (reads : Reads (tre
 
   list-field : (f g₆ g₇ g₈ : Json → Bool) (w : List ℕ)
       → ((p : ℕ) (t : Json) → nameAt s p ≡ w → filterMember s p t ≡ true → isArrayOf f t ≡ true) → ((p : ℕ) (t : Json) → nameAt s p ≡ w → filterNumber s p t ≡ false → g₆ t ≡ false)
-      → ((p : ℕ) (t : Json) → nameAt s p ≡ w → filterHex s p t ≡ false → g₇ t ≡ false) → ((p : ℕ) (t : Json) → nameAt s p ≡ w → filterCount s p t ≡ false → g₈ t ≡ false)
+      → ((p : ℕ) (t : Json) → nameAt s p ≡ w → filterHex s p t ≡ false → g₇ t ≡ false) → ((p : ℕ) (t : Json) → nameAt s p ≡ w → wrongFilter s p t ≡ false → g₈ t ≡ false)
       → ListClean (isArrayOf f) g₆ g₇ g₈ w
   list-field f g₆ g₇ g₈ w k₅ k₆ k₇ k₈ = record {
     l2 = go₂ (member-holds s w ts);
@@ -141,7 +141,7 @@ module _ (s : List ℕ) (u : isUtf8 s ≡ true) (ts : Items) (reads : Reads (tre
     l5 = go₅ (member-holds s w ts);
     l6 = some g₆ (λ p t v i q. k₆ p t q (any-in (filterNumber s) a6 i)) (member-holds s w ts);
     l7 = some g₇ (λ p t v i q. k₇ p t q (any-in (filterHex s) a7 i)) (member-holds s w ts);
-    l8 = some g₈ (λ p t v i q. k₈ p t q (any-in (filterCount s) a8 i)) (member-holds s w ts);
+    l8 = some g₈ (λ p t v i q. k₈ p t q (any-in (wrongFilter s) a8 i)) (member-holds s w ts);
   }
     where
       there : {p v : ℕ} {t : Json} → In p v t ts → nameAt s p ≡ w → ValueClean (isArrayOf f) s v
@@ -181,8 +181,8 @@ module _ (s : List ℕ) (u : isUtf8 s ≡ true) (ts : Items) (reads : Reads (tre
       go absent = refl
       go (present {p = p} {t = t} i q) = small-clean s t (rw q at (all-in (filterMember s) all i)) (rw q at (any-in (filterNumber s) a6 i))
 
-  filter-clean : (x n : ℕ) → treeAt s within x ≡ got (obj ts) n → isFilter s (obj ts) ≡ true → filterCounts s ts ≡ false → filterRow s (filterOf s x ts) ≡ 0
-  unfolding filterMember filterNumber filterHex filterCount sameBytes filterRow filter2 filter4 filter5 filter6 filter7 filter8 filterOf refusedIn
+  filter-clean : (x n : ℕ) → treeAt s openWithin x ≡ got (obj ts) n → isFilter s (obj ts) ≡ true → filterCounts s ts ≡ false → filterRow s (filterPartsOf s x ts) ≡ 0
+  unfolding filterMember filterNumber filterHex wrongFilter sameBytes filterRow filter2 filter4 filter5 filter6 filter7 filter8 filterPartsOf refusedIn
   filter-clean x n e h c =
       let i = list-field isString (λ t. false) (someHex s) wrongList idsName (λ p t q e. rw q at e) (λ p t q e. refl) (λ p t q e. rw q at e) (λ p t q e. rw q at e) in
       let a = list-field isString (λ t. false) (someHex s) wrongList authorsName (λ p t q e. rw q at e) (λ p t q e. refl) (λ p t q e. rw q at e) (λ p t q e. rw q at e) in
@@ -242,21 +242,21 @@ rest-walk : {value : ℕ → Got Json} {s : List ℕ} {f i p v q w n : ℕ} {t u
 rest-walk (more {f = f} h y z r) = (f, _, omega arith, r)
 
 tail-walk : {s : List ℕ} {at p v q w n : ℕ} {t u : Json} {us : Items} → Group s at false (item p v t (item q w u us)) n
-    → (f : ℕ) × (j : ℕ) × (f ≤ length s) × Walk (treeAt s within) s false f j (item q w u us) n
+    → (f : ℕ) × (j : ℕ) × (f ≤ length s) × Walk (treeAt s openWithin) s false f j (item q w u us) n
 tail-walk (filled x w) = rest-walk w
 
 -- the members of an object that was read are those at its place
-members-of : (s : List ℕ) (w n : ℕ) (ts : Items) → treeAt s within w ≡ got (obj ts) n → membersAt s w ≡ ts
+members-of : (s : List ℕ) (w n : ℕ) (ts : Items) → treeAt s openWithin w ≡ got (obj ts) n → membersAt s w ≡ ts
 unfolding membersAt
-members-of s w n ts e = ap membersGot (deeper s within w (obj ts) n e)
+members-of s w n ts e = ap membersGot (deeper s openWithin w (obj ts) n e)
 
-members-reads : (s : List ℕ) (w n : ℕ) (ts : Items) → treeAt s within w ≡ got (obj ts) n → Reads (treeAt s within) ts
+members-reads : (s : List ℕ) (w n : ℕ) (ts : Items) → treeAt s openWithin w ≡ got (obj ts) n → Reads (treeAt s openWithin) ts
 members-reads s w n ts e = rw (members-of s w n ts e) at (members-read s w)
 
 -- ---- EVENT
 module _ (s : List ℕ) (u : isUtf8 s ≡ true) (p : EventParts) where
-  event-tree : (w n : ℕ) (t : Json) → treeAt s within w ≡ got t n → isEvent s t ≡ true → refusedIn s t ≡ false → onObject (anyItem (eventNumber s)) t ≡ false
-      → onObject (anyItem (eventHex s)) t ≡ false → onObject (anyItem (eventCount s)) t ≡ false → eventOf s (membersOf t) ≡ p → eventRow s p ≡ 0
+  event-tree : (w n : ℕ) (t : Json) → treeAt s openWithin w ≡ got t n → isEvent s t ≡ true → refusedIn s t ≡ false → onObject (anyItem (eventNumber s)) t ≡ false
+      → onObject (anyItem (eventHex s)) t ≡ false → onObject (anyItem (eventCount s)) t ≡ false → eventPartsOf s (membersOf t) ≡ p → eventRow s p ≡ 0
   unfolding isEvent refusedIn
   event-tree w n (word a m) e h a4 a6 a7 a8 q = absurd (false≢true h)
   event-tree w n (num a m) e h a4 a6 a7 a8 q = absurd (false≢true h)
@@ -272,14 +272,14 @@ module _ (s : List ℕ) (u : isUtf8 s ≡ true) (p : EventParts) where
       let (o₆, o₇) = and-true (once s contentName ts) _ h₆ in
       rw q at (event-clean s u ts (members-reads s w n ts e) a4 all a6 a7 a8 o₁ o₂ o₃ o₄ o₅ o₆ o₇)
 
-  event-word : (x : Word) (rest : Items) → Reads (treeAt s within) rest → refusedItems s false rest ≡ false → partsOf s x rest ≡ message.Event p → hasShape s x rest ≡ true
+  event-word : (x : Word) (rest : Items) → Reads (treeAt s openWithin) rest → refusedItems s false rest ≡ false → messageParts s x rest ≡ message.Event p → hasShape s x rest ≡ true
       → inMessage (onObject (anyItem (eventNumber s))) (onObject (anyItem (filterNumber s))) x rest ≡ false
       → inMessage (onObject (anyItem (eventHex s))) (onObject (anyItem (filterHex s))) x rest ≡ false
       → inMessage (onObject (anyItem (eventCount s))) (onObject (filterCounts s)) x rest ≡ false → eventRow s p ≡ 0
   event-word event nil r a4 q h a6 a7 a8 = absurd (false≢true h)
   event-word event (item i w t nil) r a4 q h a6 a7 a8 =
       let (n, e) = reads-in r here in
-      let z : eventOf s (membersOf t) ≡ p = cc in
+      let z : eventPartsOf s (membersOf t) ≡ p = cc in
       event-tree w n t e h (refused-in s false a4 here) (any-in (λ j v. onObject (anyItem (eventNumber s)) v) a6 here) (any-in (λ j v. onObject (anyItem (eventHex s)) v) a7 here)
       (any-in (λ j v. onObject (anyItem (eventCount s)) v) a8 here) z
   event-word event (item i w t (item j v y ys)) r a4 q h a6 a7 a8 = absurd (false≢true h)
@@ -303,7 +303,7 @@ event-passes s p e =
         (or-not (wrongRequest s x rest) _ (a .a8) .1)
 
 -- ---- REQ
-filter-tree : (s : List ℕ) → isUtf8 s ≡ true → (w n : ℕ) (t : Json) → treeAt s within w ≡ got t n → isFilter s t ≡ true → refusedIn s t ≡ false
+filter-tree : (s : List ℕ) → isUtf8 s ≡ true → (w n : ℕ) (t : Json) → treeAt s openWithin w ≡ got t n → isFilter s t ≡ true → refusedIn s t ≡ false
     → onObject (anyItem (filterNumber s)) t ≡ false → onObject (anyItem (filterHex s)) t ≡ false → onObject (filterCounts s) t ≡ false → filterRow s (filterAt s w) ≡ 0
 unfolding isFilter refusedIn filterCounts filterAt
 filter-tree s u w n (word a m) e h a4 a6 a7 a8 = absurd (false≢true h)
@@ -312,7 +312,7 @@ filter-tree s u w n (str a m) e h a4 a6 a7 a8 = absurd (false≢true h)
 filter-tree s u w n (arr ts) e h a4 a6 a7 a8 = absurd (false≢true h)
 filter-tree s u w n (obj ts) e h a4 a6 a7 a8 =
     rw (members-of s w n ts e)
-    (filter-clean s u ts (members-reads s w n ts e) a4 (and-true (allItems (filterMember s) ts) _ h .0) a6 a7 (or-not (anyItem (filterCount s) ts) _ a8 .0) w n e h a8)
+    (filter-clean s u ts (members-reads s w n ts e) a4 (and-true (allItems (filterMember s) ts) _ h .0) a6 a7 (or-not (anyItem (wrongFilter s) ts) _ a8 .0) w n e h a8)
 
 place-in : {v : ℕ} (ts : Items) → List·Memᴰ v (placesOf ts) → (p : ℕ) × (t : Json) × In p v t ts
 place-in nil m = absurd (List·Memᴰ·not-nil m)
@@ -325,12 +325,12 @@ length-places (item p v t ts) = ap suc (length-places ts)
 
 -- a REQ's filters are its elements from the third on
 pub data Request (s : List ℕ) (r : ReqParts) : Type 0 where
-  request : (us : Items) → filtersOf s r ≡ placesOf us → isUtf8 s ≡ true → Reads (treeAt s within) us → refusedItems s false us ≡ false → allItems (λ q t. isFilter s t) us ≡ true
+  request : (us : Items) → requestFilters s r ≡ placesOf us → isUtf8 s ≡ true → Reads (treeAt s openWithin) us → refusedItems s false us ≡ false → allItems (λ q t. isFilter s t) us ≡ true
       → anyItem (λ q t. onObject (anyItem (filterNumber s)) t) us ≡ false → anyItem (λ q t. onObject (anyItem (filterHex s)) t) us ≡ false
       → anyItem (λ q t. onObject (filterCounts s) t) us ≡ false → outside 1 4 (count us) ≡ false → Request s r
 
 module _ (s : List ℕ) (u : isUtf8 s ≡ true) (r : ReqParts) where
-  request-word : (x : Word) (rest : Items) {f i n : ℕ} → f ≤ length s → Walk (treeAt s within) s false f i rest n → refusedItems s false rest ≡ false → partsOf s x rest ≡ message.Req r
+  request-word : (x : Word) (rest : Items) {f i n : ℕ} → f ≤ length s → Walk (treeAt s openWithin) s false f i rest n → refusedItems s false rest ≡ false → messageParts s x rest ≡ message.Req r
       → hasShape s x rest ≡ true → inMessage (onObject (anyItem (eventNumber s))) (onObject (anyItem (filterNumber s))) x rest ≡ false
       → inMessage (onObject (anyItem (eventHex s))) (onObject (anyItem (filterHex s))) x rest ≡ false
       → (wrongRequest s x rest || inMessage (onObject (anyItem (eventCount s))) (onObject (filterCounts s)) x rest) ≡ false → Request s r
@@ -374,7 +374,7 @@ filters-pass s r e v m = go (request-of s r e)
 pub filters-counted : FiltersCounted
 filters-counted s r e = go (request-of s r e)
   where
-    go : Request s r → (1 ≤ length (filtersOf s r)) × (length (filtersOf s r) ≤ 4)
+    go : Request s r → (1 ≤ length (requestFilters s r)) × (length (requestFilters s r) ≤ 4)
     go (request us q u d a4 h a6 a7 a8 c) =
         let (x, y) = or-not (ltb (count us) 1) (ltb 4 (count us)) c in
         let n = ap length q ∙ length-places us in

@@ -30,9 +30,9 @@ use Rattle.message.specs.declared.Listed.{Listed}
 use Rattle.message.specs.declared.Listed.the-variants as listed
 use Rattle.shape.specs.declared.Sort.{Sort}
 use Rattle.shape.specs.declared.Sort.the-variants.{Tags, Hexes, Smalls, Filter}
-use Rattle.message.specs.Lent.{lowest, lowerRow, bytesOf, isInside, isSpelled, string2, string4, string5, string7, subscription8, onValue, valueAt, value2, value4, value5, wrongNumber, time6, small6, inList, inBound, body2, body4, body5, body6, body7, body8, event2, event4, event5, event7, eventRow, filter2, filter4, filter5, filter6, filter7, filter8, filterRow}
+use Rattle.message.specs.Lent.{lowest, lowerRow, spanBytes, isInside, isSpelled, string2, string4, string5, string7, subscription8, onValue, valueAt, value2, value4, value5, wrongNumber, time6, small6, inList, inBound, body2, body4, body5, body6, body7, body8, event2, event4, event5, event7, eventRow, filter2, filter4, filter5, filter6, filter7, filter8, filterRow}
 use Rattle.shape.specs.Values.{ownText, fits, sort6, sort7, sort8, sortRow, gotRow, valueRow}
-use Rattle.message.specs.Inner.{rank, toldOf, rankOf, Lowest, ValueRank, ListRank}
+use Rattle.message.specs.Inner.{rank, rowTold, rankOf, LowestRank, ValueRank, ListRank}
 
 -- ---- joined by the least: row 2 here, the others as in a message
 first : (a b : Bool) (x y : ℕ) → 2 ≤ x → 2 ≤ y → min (cond a 2 x) (cond b 2 y) ≡ cond (a || b) 2 (min x y)
@@ -50,7 +50,7 @@ above b c d e f = or b (omega arith) (or c (omega arith) (or d (omega arith) (or
     or false p q = q
 
 module _ {a b c d e f a′ b′ c′ d′ e′ f′ : Bool} where
-  join : {x y : ℕ} → Lowest x a b c d e f → Lowest y a′ b′ c′ d′ e′ f′ → Lowest (min x y) (a || a′) (b || b′) (c || c′) (d || d′) (e || e′) (f || f′)
+  join : {x y : ℕ} → LowestRank x a b c d e f → LowestRank y a′ b′ c′ d′ e′ f′ → LowestRank (min x y) (a || a′) (b || b′) (c || c′) (d || d′) (e || e′) (f || f′)
   unfolding rank low
   join p q =
       let v : Lower (low b c d e f) b c d e f = record { is = refl } in
@@ -62,12 +62,12 @@ module _ {a b c d e f a′ b′ c′ d′ e′ f′ : Bool} where
       }
 
 -- a number that is the least of two
-pub both : {x y z : ℕ} {a b c d e f a′ b′ c′ d′ e′ f′ : Bool} → z ≡ min x y → Lowest x a b c d e f → Lowest y a′ b′ c′ d′ e′ f′
-    → Lowest z (a || a′) (b || b′) (c || c′) (d || d′) (e || e′) (f || f′)
+pub both : {x y z : ℕ} {a b c d e f a′ b′ c′ d′ e′ f′ : Bool} → z ≡ min x y → LowestRank x a b c d e f → LowestRank y a′ b′ c′ d′ e′ f′
+    → LowestRank z (a || a′) (b || b′) (c || c′) (d || d′) (e || e′) (f || f′)
 both q v w = rw q (join v w)
 
 -- the same rows said otherwise
-pub said : {x : ℕ} {a b c d e f a′ b′ c′ d′ e′ f′ : Bool} → a ≡ a′ → b ≡ b′ → c ≡ c′ → d ≡ d′ → e ≡ e′ → f ≡ f′ → Lowest x a b c d e f → Lowest x a′ b′ c′ d′ e′ f′
+pub said : {x : ℕ} {a b c d e f a′ b′ c′ d′ e′ f′ : Bool} → a ≡ a′ → b ≡ b′ → c ≡ c′ → d ≡ d′ → e ≡ e′ → f ≡ f′ → LowestRank x a b c d e f → LowestRank x a′ b′ c′ d′ e′ f′
 said p q r s t u w = rw (p, q, r, s, t, u) at w
 
 -- a rank and the lowest row go in step: seven pairs
@@ -81,20 +81,20 @@ in-step P p₂ p₄ p₅ p₆ p₇ p₈ p₉ false false false false true f = p�
 in-step P p₂ p₄ p₅ p₆ p₇ p₈ p₉ false false false false false true = p₈
 in-step P p₂ p₄ p₅ p₆ p₇ p₈ p₉ false false false false false false = p₉
 
-told-rank : (a b c d e f : Bool) → toldOf (rank a b c d e f) ≡ lowest a b c d e f
-told-rank = in-step (λ x y. toldOf x ≡ y) refl refl refl refl refl refl refl
+told-rank : (a b c d e f : Bool) → rowTold (rank a b c d e f) ≡ lowest a b c d e f
+told-rank = in-step (λ x y. rowTold x ≡ y) refl refl refl refl refl refl refl
 
-pub told-is : {x : ℕ} {a b c d e f : Bool} → Lowest x a b c d e f → toldOf x ≡ lowest a b c d e f
-told-is {x} {a} {b} {c} {d} {e} {f} w = ap toldOf (w .is) ∙ told-rank a b c d e f
+pub told-is : {x : ℕ} {a b c d e f : Bool} → LowestRank x a b c d e f → rowTold x ≡ lowest a b c d e f
+told-is {x} {a} {b} {c} {d} {e} {f} w = ap rowTold (w .is) ∙ told-rank a b c d e f
 
 -- ---- the lowest of rows that hold on either side is the lower of the two lowest
 rank-between : (a b c d e f : Bool) → (0 < rank a b c d e f) × (rank a b c d e f ≤ 9)
 rank-between = in-step (λ x y. (0 < x) × (x ≤ 9)) (omega arith, omega arith) (omega arith, omega arith) (omega arith, omega arith) (omega arith, omega arith) (omega arith, omega arith) (omega arith, omega arith) (omega arith, omega arith)
 
-lower-told : (m n : ℕ) → (0 < m) × (m ≤ 9) → (0 < n) × (n ≤ 9) → toldOf (min m n) ≡ lowerRow (toldOf m) (toldOf n)
+lower-told : (m n : ℕ) → (0 < m) × (m ≤ 9) → (0 < n) × (n ≤ 9) → rowTold (min m n) ≡ lowerRow (rowTold m) (rowTold n)
 lower-told m n (m₁, m₉) (n₁, n₉) = go (eqb m 9) (eqb n 9) refl refl
   where
-    go : (p q : Bool) → eqb m 9 ≡ p → eqb n 9 ≡ q → toldOf (min m n) ≡ lowerRow (cond p 0 m) (cond q 0 n)
+    go : (p q : Bool) → eqb m 9 ≡ p → eqb n 9 ≡ q → rowTold (min m n) ≡ lowerRow (cond p 0 m) (cond q 0 n)
     go true q e f =
         let z = eqb-true m 9 e in
         let y : min m n ≡ n = omega arith in
@@ -112,10 +112,10 @@ lower-told m n (m₁, m₉) (n₁, n₉) = go (eqb m 9) (eqb n 9) refl refl
 pub lowest-lower : (a b c d e f a′ b′ c′ d′ e′ f′ : Bool)
     → lowest (a || a′) (b || b′) (c || c′) (d || d′) (e || e′) (f || f′) ≡ lowerRow (lowest a b c d e f) (lowest a′ b′ c′ d′ e′ f′)
 lowest-lower a b c d e f a′ b′ c′ d′ e′ f′ =
-    let v : Lowest (rank a b c d e f) a b c d e f = record { is = refl } in
-    let w : Lowest (rank a′ b′ c′ d′ e′ f′) a′ b′ c′ d′ e′ f′ = record { is = refl } in
+    let v : LowestRank (rank a b c d e f) a b c d e f = record { is = refl } in
+    let w : LowestRank (rank a′ b′ c′ d′ e′ f′) a′ b′ c′ d′ e′ f′ = record { is = refl } in
     sym (told-is (join v w)) ∙ lower-told (rank a b c d e f) (rank a′ b′ c′ d′ e′ f′) (rank-between a b c d e f) (rank-between a′ b′ c′ d′ e′ f′)
-    ∙ ap (λ (x : ℕ). lowerRow x (toldOf (rank a′ b′ c′ d′ e′ f′))) (told-rank a b c d e f) ∙ ap (lowerRow (lowest a b c d e f)) (told-rank a′ b′ c′ d′ e′ f′)
+    ∙ ap (λ (x : ℕ). lowerRow x (rowTold (rank a′ b′ c′ d′ e′ f′))) (told-rank a b c d e f) ∙ ap (lowerRow (lowest a b c d e f)) (told-rank a′ b′ c′ d′ e′ f′)
 
 -- ---- a string part
 module _ (b : List ℕ) (p : Span) where
@@ -132,14 +132,14 @@ module _ (b : List ℕ) (p : Span) where
 
 module _ (b : List ℕ) (p : Span) where
   abbrev StringRank : ℕ → Type 0
-  StringRank x = Lowest x (string2 b p) (string4 b p) (string5 b p) false false false
+  StringRank x = LowestRank x (string2 b p) (string4 b p) (string5 b p) false false false
 
   pub string-outside : isInside b p ≡ false → StringRank 5
   unfolding rank string2 string4 string5 isSpelled
   string-outside i = record { is = simp i }
 
   -- w are its bytes
-  module _ (i : isInside b p ≡ true) (w : List ℕ) (e : w ≡ bytesOf b p) where
+  module _ (i : isInside b p ≡ true) (w : List ℕ) (e : w ≡ spanBytes b p) where
     pub string-bytes : isUtf8 w ≡ false → StringRank 2
     unfolding rank string2
     string-bytes u = record { is = simp (i, rw e at u) }
@@ -168,7 +168,7 @@ module _ (b : List ℕ) (p : Span) where
       go false false true q = (refl, refl, refl)
       go false false false q = absurd (omega arith)
 
-  pub string-early : (row7 row8 : Bool) {x : ℕ} → StringRank x → (x ≡ 9 → ⊥) → Lowest x (string2 b p) (string4 b p) (string5 b p) false row7 row8
+  pub string-early : (row7 row8 : Bool) {x : ℕ} → StringRank x → (x ≡ 9 → ⊥) → LowestRank x (string2 b p) (string4 b p) (string5 b p) false row7 row8
   unfolding rank
   string-early row7 row8 {x} w n = record { is = go (string2 b p) (string4 b p) (string5 b p) (w .is) }
     where
@@ -181,9 +181,9 @@ module _ (b : List ℕ) (p : Span) where
   -- hex of k characters
   module _ (k : ℕ) where
     abbrev HexRank : ℕ → Type 0
-    HexRank x = Lowest x (string2 b p) (string4 b p) (string5 b p) false (string7 k b p) false
+    HexRank x = LowestRank x (string2 b p) (string4 b p) (string5 b p) false (string7 k b p) false
 
-    pub hex-late : {x : ℕ} (w : List ℕ) (h : Bool) → StringRank x → x ≡ 9 → w ≡ bytesOf b p → isHexOf k w ≡ h → HexRank (cond h 9 7)
+    pub hex-late : {x : ℕ} (w : List ℕ) (h : Bool) → StringRank x → x ≡ 9 → w ≡ spanBytes b p → isHexOf k w ≡ h → HexRank (cond h 9 7)
     unfolding rank string5 string7
     hex-late v h w n q e = let (c, d, i) = string-clean w n in record { is = rw (c, d, i, rw q at e) (go h) }
       where
@@ -192,8 +192,8 @@ module _ (b : List ℕ) (p : Span) where
         go false = refl
 
   -- a subscription id
-  pub subscription-late : {x : ℕ} (h : Bool) → StringRank x → x ≡ 9 → outside 1 mostCharacters (characterCount (bytesOf b p)) ≡ h
-      → Lowest (cond h 8 9) (string2 b p) (string4 b p) (string5 b p) false false (subscription8 b p)
+  pub subscription-late : {x : ℕ} (h : Bool) → StringRank x → x ≡ 9 → outside 1 mostCharacters (characterCount (spanBytes b p)) ≡ h
+      → LowestRank (cond h 8 9) (string2 b p) (string4 b p) (string5 b p) false false (subscription8 b p)
   unfolding rank string5 subscription8
   subscription-late h w n e = let (c, d, i) = string-clean w n in record { is = rw (c, d, i, e) }
 
@@ -225,24 +225,24 @@ list-absent b l k e = rw e record { is = refl }
 
 -- ---- numbers
 module _ (z low high : ℤ) where
-  pub number-fine : isWithin (Value z) low high ≡ true → Lowest 9 false false false (wrongNumber low high z) false false
+  pub number-fine : isWithin (Value z) low high ≡ true → LowestRank 9 false false false (wrongNumber low high z) false false
   unfolding rank wrongNumber
   number-fine e = record { is = simp e }
 
-  pub number-wrong : isWithin (Value z) low high ≡ false → Lowest 6 false false false (wrongNumber low high z) false false
+  pub number-wrong : isWithin (Value z) low high ≡ false → LowestRank 6 false false false (wrongNumber low high z) false false
   unfolding rank wrongNumber
   number-wrong e = record { is = simp e }
 
-pub bound-absent : (x : Bound) (low high : ℤ) → x ≡ bound.Absent → Lowest 9 false false false (inBound (wrongNumber low high) x) false false
+pub bound-absent : (x : Bound) (low high : ℤ) → x ≡ bound.Absent → LowestRank 9 false false false (inBound (wrongNumber low high) x) false false
 unfolding rank
 bound-absent x low high e = rw e record { is = refl }
 
 -- ---- an event's fields, an event, a filter: their parts in the order of the code
 abbrev pub BodyRank : List ℕ → Body → ℕ → Type 0
-BodyRank b p x = Lowest x (body2 b p) (body4 b p) (body5 b p) (body6 p) (body7 b p) (body8 b p)
+BodyRank b p x = LowestRank x (body2 b p) (body4 b p) (body5 b p) (body6 p) (body7 b p) (body8 b p)
 
 pub body-lowest : (b : List ℕ) (p : Body) {x₁ x₂ x₃ x₄ t k h v c : ℕ} → x₁ ≡ min t x₂ → x₂ ≡ min k x₃ → x₃ ≡ min h x₄ → x₄ ≡ min v c
-    → Lowest t false false false (time6 (p .«created_at»)) false false → Lowest k false false false (small6 (p .kind)) false false
+    → LowestRank t false false false (time6 (p .«created_at»)) false false → LowestRank k false false false (small6 (p .kind)) false false
     → HexRank b (p .pubkey) 64 h → ValueRank b (p .tags) Tags v → StringRank b (p .content) c → BodyRank b p x₁
 unfolding body2 body4 body5 body6 body7 body8
 body-lowest b p e₁ e₂ e₃ e₄ t k h v c =
@@ -250,18 +250,18 @@ body-lowest b p e₁ e₂ e₃ e₄ t k h v c =
     (both e₁ t (both e₂ k (both e₃ h (both e₄ v c))))
 
 pub event-lowest : (b : List ℕ) (p : EventParts) {x₁ x₂ h d g : ℕ} → x₁ ≡ min h x₂ → x₂ ≡ min d g
-    → HexRank b (p .id) 64 h → BodyRank b (p .body) d → HexRank b (p .sig) 128 g → toldOf x₁ ≡ eventRow b p
+    → HexRank b (p .id) 64 h → BodyRank b (p .body) d → HexRank b (p .sig) 128 g → rowTold x₁ ≡ eventRow b p
 unfolding eventRow event2 event4 event5 event7
 event-lowest b p e₁ e₂ h d g = told-is (said refl refl refl (or-false (body6 (p .body))) refl (or-false (body8 b (p .body))) (both e₁ h (both e₂ d g)))
 
 pub filter-lowest : (b : List ℕ) (p : FilterParts) {x₁ x₂ x₃ x₄ x₅ x₆ i a k s u l c : ℕ}
     → x₁ ≡ min i x₂ → x₂ ≡ min a x₃ → x₃ ≡ min k x₄ → x₄ ≡ min s x₅ → x₅ ≡ min u x₆ → x₆ ≡ min l c
     → ListRank b (p .ids) Hexes i → ListRank b (p .authors) Hexes a → ListRank b (p .kinds) Smalls k
-    → Lowest s false false false (inBound time6 (p .since)) false false → Lowest u false false false (inBound time6 (p .until)) false false
-    → Lowest l false false false (inBound small6 (p .limit)) false false → ListRank b (p .conditions) Filter c → toldOf x₁ ≡ filterRow b p
+    → LowestRank s false false false (inBound time6 (p .since)) false false → LowestRank u false false false (inBound time6 (p .until)) false false
+    → LowestRank l false false false (inBound small6 (p .limit)) false false → ListRank b (p .conditions) Filter c → rowTold x₁ ≡ filterRow b p
 unfolding filterRow filter2 filter4 filter5 filter6 filter7 filter8
 filter-lowest b p e₁ e₂ e₃ e₄ e₅ e₆ i a k s u l c =
-    let w : Lowest _ (filter2 b p) (filter4 b p) (filter5 b p) (filter6 b p) (filter7 b p) (filter8 b p)
+    let w : LowestRank _ (filter2 b p) (filter4 b p) (filter5 b p) (filter6 b p) (filter7 b p) (filter8 b p)
     = said refl refl refl (rw (none-list b (p .ids), none-list b (p .authors))) (rw (none-list b (p .kinds))) refl
     (both e₁ i (both e₂ a (both e₃ k (both e₄ s (both e₅ u (both e₆ l c)))))) in
     told-is w

@@ -26,10 +26,10 @@ use Rattle.message.specs.declared.Message.{Message}
 use Rattle.message.specs.declared.Message.the-variants as message
 use Rattle.message.specs.declared.Named.{Named}
 use Rattle.message.specs.declared.Named.the-variants as names
-use Rattle.message.specs.Lists.{firstOf, within, nextOf}
-use Rattle.message.specs.Parts.{memberOf, spanOf, spanIn, membersOf, membersGot, membersAt, eventOf, eventAt}
-use Rattle.message.specs.Read.{firstOf as firstElement, secondPlace, partsOf, inRoot, readOf, rowOf, RowRead, idNamed, subscriptionNamed, namedIn, namedRoot, isEarly, namedOf}
-use Rattle.message.specs.Inner.{spanAt, openingOf, openingAt, elementPlace, wordPlace, secondFrom, partsAt, labelNamed, namedAt}
+use Rattle.message.specs.Lists.{startElement, openWithin, nextOf}
+use Rattle.message.specs.Parts.{memberOf, spanOf, spanIn, membersOf, membersGot, membersAt, eventPartsOf, eventAt}
+use Rattle.message.specs.Read.{firstItem as firstElement, secondPlace, messageParts, inRoot, readOf, readNumber, RowRead, idNamed, subscriptionNamed, namedIn, namedRoot, isEarly, namedOf}
+use Rattle.message.specs.Inner.{spanAt, wordOpening, openingAt, elementPlace, wordPlace, stringAfter, partsAt, labelNamed, namedAt}
 use Rattle.message.proofs.Walks.{never, bind-got, deeper}
 use Rattle.message.proofs.Scalars.{scalar-string}
 use Rattle.message.proofs.Elements.{group-of, firstPlace, Listing, end, one, array-listing}
@@ -111,7 +111,7 @@ string-tree s d v a n m e = on (startAt s v) (sym (tree-open s d v (startAt s v)
     on (Empty k named) q = group named nil k q
     on (Many i named) q = let (ts, k, w, e₁) = bind-got (itemsAt (treeAt s d) s named (length s) i) _ q in group named ts k e₁
 
-pub string-at : (s : List ℕ) (v a n m : ℕ) → treeAt s within v ≡ got (str a n) m → spelledAt s v ≡ part s a n
+pub string-at : (s : List ℕ) (v a n m : ℕ) → treeAt s openWithin v ≡ got (str a n) m → spelledAt s v ≡ part s a n
 unfolding spelledAt
 string-at s v a n m e = let (k, q, x, y) = string-tree s 6 v a n m e in rw (q, x, y)
 
@@ -121,40 +121,40 @@ third-place q w u nil = refl
 third-place q w u (item p v t ts) = refl
 
 module _ (s : List ℕ) (p v a n q w : ℕ) (u : Json) (us : Items) (m : ℕ) (r : root s ≡ got (arr (item p v (str a n) (item q w u us))) m) where
-  listing : (firstOf (startAt s (wsAt s 0)) ≡ At v) × Listing s (item p v (str a n) (item q w u us))
+  listing : (startElement (startAt s (wsAt s 0)) ≡ At v) × Listing s (item p v (str a n) (item q w u us))
   listing = array-listing (group-of s (wsAt s 0) false _ m r)
 
   -- the word, what follows it, the second element, and what follows that
-  laid : (spelledAt s v ≡ part s a n) × (nextOf s v ≡ At w) × ((k : ℕ) × (treeAt s within w ≡ got u k)) × (nextOf s w ≡ firstPlace us)
+  laid : (spelledAt s v ≡ part s a n) × (nextOf s v ≡ At w) × ((k : ℕ) × (treeAt s openWithin w ≡ got u k)) × (nextOf s w ≡ firstPlace us)
   laid = go (listing .1)
     where
-      go : Listing s (item p v (str a n) (item q w u us)) → (spelledAt s v ≡ part s a n) × (nextOf s v ≡ At w) × ((k : ℕ) × (treeAt s within w ≡ got u k)) × (nextOf s w ≡ firstPlace us)
+      go : Listing s (item p v (str a n) (item q w u us)) → (spelledAt s v ≡ part s a n) × (nextOf s v ≡ At w) × ((k : ℕ) × (treeAt s openWithin w ≡ got u k)) × (nextOf s w ≡ firstPlace us)
       go (one e f (one g h l)) = (string-at s v a n _ e, f, (_, g), h)
 
   word-is : wordPlace s ≡ v
   unfolding wordPlace
   word-is = ap elementPlace (listing .0)
 
-  opening-is : openingAt s v ≡ openingOf (wordOf (decode (part s a n)))
+  opening-is : openingAt s v ≡ wordOpening (wordOf (decode (part s a n)))
   unfolding openingAt nameAt
   opening-is = rw (laid .0)
 
-  second-is : secondFrom s v ≡ w
-  unfolding secondFrom
+  second-is : stringAfter s v ≡ w
+  unfolding stringAfter
   second-is = ap elementPlace (laid .1)
 
-  third-is : secondFrom s w ≡ secondPlace (item q w u us)
-  unfolding secondFrom
+  third-is : stringAfter s w ≡ secondPlace (item q w u us)
+  unfolding stringAfter
   third-is = ap elementPlace (laid .3) ∙ third-place q w u us
 
   span-second : spanAt s w ≡ spanOf u
   span-second = span-is s w (laid .2 .1)
 
-  event-second : eventAt s w ≡ eventOf s (membersOf u)
+  event-second : eventAt s w ≡ eventPartsOf s (membersOf u)
   unfolding eventAt membersAt
-  event-second = ap (λ g. eventOf s (membersGot g)) (deeper s within w u (laid .2 .0) (laid .2 .1))
+  event-second = ap (λ g. eventPartsOf s (membersGot g)) (deeper s openWithin w u (laid .2 .0) (laid .2 .1))
 
-  parts-are : (x : Word) → partsAt s (openingOf x) w ≡ partsOf s x (item q w u us)
+  parts-are : (x : Word) → partsAt s (wordOpening x) w ≡ messageParts s x (item q w u us)
   unfolding partsAt
   parts-are event = ap message.Event event-second
   parts-are req = rw (span-second, third-is)
@@ -169,36 +169,36 @@ module _ (s : List ℕ) (p v a n q w : ℕ) (u : Json) (us : Items) (m : ℕ) (r
   label-is (arr ts) e h = absurd (false≢true h)
   label-is (obj ts) e h = absurd (false≢true h)
 
-  names-are : (x : Word) → hasShape s x (item q w u us) ≡ true → namedAt s (openingOf x) w ≡ namedIn s x (item q w u us)
-  unfolding namedAt eventOf
+  names-are : (x : Word) → hasShape s x (item q w u us) ≡ true → namedAt s (wordOpening x) w ≡ namedIn s x (item q w u us)
+  unfolding namedAt eventPartsOf
   names-are event h = ap (λ e. idNamed s (e .id)) event-second
   names-are req h = label-is u span-second h
   names-are close h = refl
   names-are other h = refl
 
-pub read-is : (s : List ℕ) → messageRow s ≡ 0 → partsAt s (openingAt s (wordPlace s)) (secondFrom s (wordPlace s)) ≡ readOf s
+pub read-is : (s : List ℕ) → messageRow s ≡ 0 → partsAt s (openingAt s (wordPlace s)) (stringAfter s (wordPlace s)) ≡ readOf s
 unfolding readOf
 read-is s z = rw z (go (late-shaped s (ap isEarly z)))
   where
-    on : {t : Json} {m : ℕ} → root s ≡ got t m → Begun t → partsAt s (openingAt s (wordPlace s)) (secondFrom s (wordPlace s)) ≡ inRoot s (root s)
+    on : {t : Json} {m : ℕ} → root s ≡ got t m → Begun t → partsAt s (openingAt s (wordPlace s)) (stringAfter s (wordPlace s)) ≡ inRoot s (root s)
     on {m = m} r (begun {p = p} {v = v} {a = a} {n = n} {q = q} {w = w} {u = u} {us = us}) =
         rw (word-is s p v a n q w u us m r, opening-is s p v a n q w u us m r, second-is s p v a n q w u us m r, r)
         (parts-are s p v a n q w u us m r (wordOf (decode (part s a n))))
 
-    go : Shaped s → partsAt s (openingAt s (wordPlace s)) (secondFrom s (wordPlace s)) ≡ inRoot s (root s)
+    go : Shaped s → partsAt s (openingAt s (wordPlace s)) (stringAfter s (wordPlace s)) ≡ inRoot s (root s)
     go (shaped {t = t} r h) = on r (begun-of s t h)
 
-pub named-is : (s : List ℕ) → isEarly (messageRow s) ≡ false → namedAt s (openingAt s (wordPlace s)) (secondFrom s (wordPlace s)) ≡ namedOf s
+pub named-is : (s : List ℕ) → isEarly (messageRow s) ≡ false → namedAt s (openingAt s (wordPlace s)) (stringAfter s (wordPlace s)) ≡ namedOf s
 unfolding namedOf
 named-is s z = rw z (go (late-shaped s z))
   where
     on : {t : Json} {m : ℕ} → root s ≡ got t m → hasShape s (opened s t .first) (opened s t .rest) ≡ true → Begun t
-        → namedAt s (openingAt s (wordPlace s)) (secondFrom s (wordPlace s)) ≡ namedRoot s (root s)
+        → namedAt s (openingAt s (wordPlace s)) (stringAfter s (wordPlace s)) ≡ namedRoot s (root s)
     on {m = m} r h (begun {p = p} {v = v} {a = a} {n = n} {q = q} {w = w} {u = u} {us = us}) =
         rw (word-is s p v a n q w u us m r, opening-is s p v a n q w u us m r, second-is s p v a n q w u us m r, r)
         (names-are s p v a n q w u us m r (wordOf (decode (part s a n))) h)
 
-    go : Shaped s → namedAt s (openingAt s (wordPlace s)) (secondFrom s (wordPlace s)) ≡ namedRoot s (root s)
+    go : Shaped s → namedAt s (openingAt s (wordPlace s)) (stringAfter s (wordPlace s)) ≡ namedRoot s (root s)
     go (shaped {t = t} r h) = on r h (begun-of s t h)
 
 -- the number of an answer is the message's row: a message that has its shape begins with one of the three words
@@ -206,19 +206,19 @@ pub row-read : RowRead
 unfolding readOf
 row-read s = go (eqb (messageRow s) 0) refl
   where
-    by : (x : Word) (ts : Items) → hasShape s x ts ≡ true → rowOf (partsOf s x ts) ≡ 0
+    by : (x : Word) (ts : Items) → hasShape s x ts ≡ true → readNumber (messageParts s x ts) ≡ 0
     by event ts h = refl
     by req ts h = refl
     by close ts h = refl
     by other ts h = absurd (false≢true h)
 
-    on : messageRow s ≡ 0 → Shaped s → rowOf (inRoot s (root s)) ≡ messageRow s
+    on : messageRow s ≡ 0 → Shaped s → readNumber (inRoot s (root s)) ≡ messageRow s
     on z (shaped {t = t} r h) = rw (r, z) (by (opened s t .first) (opened s t .rest) h)
 
-    go : (b : Bool) → eqb (messageRow s) 0 ≡ b → rowOf (cond b (inRoot s (root s)) (message.Refused (messageRow s))) ≡ messageRow s
+    go : (b : Bool) → eqb (messageRow s) 0 ≡ b → readNumber (cond b (inRoot s (root s)) (message.Refused (messageRow s))) ≡ messageRow s
     go true e = let z = eqb-true (messageRow s) 0 e in on z (late-shaped s (ap isEarly z))
     go false e = refl
 
 -- an answer and its number
-pub with-row : (s : List ℕ) {r : Message} → r ≡ readOf s → (r ≡ readOf s) × (rowOf r ≡ messageRow s)
-with-row s e = (e, ap rowOf e ∙ row-read s)
+pub with-row : (s : List ℕ) {r : Message} → r ≡ readOf s → (r ≡ readOf s) × (readNumber r ≡ messageRow s)
+with-row s e = (e, ap readNumber e ∙ row-read s)

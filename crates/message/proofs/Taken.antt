@@ -15,8 +15,8 @@ use Rattle.message.specs.declared.Element.{Element}
 use Rattle.message.specs.declared.Element.the-variants.{At, Ended, Broken}
 use Rattle.message.specs.Lists.{nextOf, upTo, elementsFrom}
 use Rattle.message.specs.Parts.{filterAt, noFilter, firstFour, filtersAt}
-use Rattle.message.specs.Claims.{filtersOf, FiltersTaken}
-use Rattle.message.specs.Inner.{followingOf, filterIn}
+use Rattle.message.specs.Claims.{requestFilters, FiltersTaken}
+use Rattle.message.specs.Inner.{followingOf, filterAfter}
 use Rattle.message.proofs.Elements.{upTo-ended, upTo-broken}
 use Rattle.message.proofs.Passes.{filters-counted}
 
@@ -56,25 +56,25 @@ module _ (s : List ℕ) where
   after zero x = x
   after (suc k) x = after k (followingOf s x)
 
-  none-there : (k : ℕ) (x : Element) → cond (ltb k 0) (filterIn s x) noFilter ≡ noFilter
+  none-there : (k : ℕ) (x : Element) → cond (ltb k 0) (filterAfter s x) noFilter ≡ noFilter
   none-there k x = rw (le-ltb k 0 (omega arith))
 
-  nth : (f k : ℕ) (x : Element) → cond (ltb k (length (upTo f s x))) (filterIn s (after k x)) noFilter ≡ getD (map (filterAt s) (upTo f s x)) k noFilter
+  nth : (f k : ℕ) (x : Element) → cond (ltb k (length (upTo f s x))) (filterAfter s (after k x)) noFilter ≡ getD (map (filterAt s) (upTo f s x)) k noFilter
   unfolding upTo
   nth zero k x = none-there k (after k x)
   nth (suc f) k Ended = none-there k (after k Ended)
   nth (suc f) k Broken = none-there k (after k Broken)
   nth (suc f) k (At v) = go k (nth f)
     where
-      go : (k : ℕ) → ((k : ℕ) (x : Element) → cond (ltb k (length (upTo f s x))) (filterIn s (after k x)) noFilter ≡ getD (map (filterAt s) (upTo f s x)) k noFilter)
-          → cond (ltb k (suc (length (upTo f s (nextOf s v))))) (filterIn s (after k (At v))) noFilter ≡ getD (filterAt s v ∷ map (filterAt s) (upTo f s (nextOf s v))) k noFilter
+      go : (k : ℕ) → ((k : ℕ) (x : Element) → cond (ltb k (length (upTo f s x))) (filterAfter s (after k x)) noFilter ≡ getD (map (filterAt s) (upTo f s x)) k noFilter)
+          → cond (ltb k (suc (length (upTo f s (nextOf s v))))) (filterAfter s (after k (At v))) noFilter ≡ getD (filterAt s v ∷ map (filterAt s) (upTo f s (nextOf s v))) k noFilter
       go zero ih = rw (lt-ltb 0 (suc (length (upTo f s (nextOf s v)))) (omega arith))
-      go (suc k) ih = ap (λ b. cond b (filterIn s (after k (nextOf s v))) noFilter) (suc-less k (length (upTo f s (nextOf s v)))) ∙ ih k (nextOf s v)
+      go (suc k) ih = ap (λ b. cond b (filterAfter s (after k (nextOf s v))) noFilter) (suc-less k (length (upTo f s (nextOf s v)))) ∙ ih k (nextOf s v)
 
   -- n: how many there are; p, q, r, t: the filters of the first four elements
   pub filters-are : (at : ℕ) {n : ℕ} {x y z : Element} {p q r t : FilterParts} → n ≡ length (elementsFrom s (At at)) → x ≡ nextOf s at → y ≡ followingOf s x → z ≡ followingOf s y
-      → p ≡ cond (ltb 0 n) (filterIn s (At at)) noFilter → q ≡ cond (ltb 1 n) (filterIn s x) noFilter → r ≡ cond (ltb 2 n) (filterIn s y) noFilter
-      → t ≡ cond (ltb 3 n) (filterIn s z) noFilter → _≡_ {A = Filters} (record { parts = p ∷ q ∷ r ∷ t ∷ []; n = n }) (filtersAt s at)
+      → p ≡ cond (ltb 0 n) (filterAfter s (At at)) noFilter → q ≡ cond (ltb 1 n) (filterAfter s x) noFilter → r ≡ cond (ltb 2 n) (filterAfter s y) noFilter
+      → t ≡ cond (ltb 3 n) (filterAfter s z) noFilter → _≡_ {A = Filters} (record { parts = p ∷ q ∷ r ∷ t ∷ []; n = n }) (filtersAt s at)
   unfolding filtersAt elementsFrom
   filters-are at c e f g i j k l =
       rw (i, j, k, l, g, f, e, c) (rw (nth (length s) 0 (At at), nth (length s) 1 (At at), nth (length s) 2 (At at), nth (length s) 3 (At at)) refl)
@@ -92,6 +92,6 @@ pub filters-taken : FiltersTaken
 unfolding filtersAt
 filters-taken s r e =
     let (x, y) = filters-counted s r e in
-    let l = map (filterAt s) (filtersOf s r) in
-    let n : length l ≡ length (filtersOf s r) = length-map (filtersOf s r) (filterAt s) in
+    let l = map (filterAt s) (requestFilters s r) in
+    let n : length l ≡ length (requestFilters s r) = length-map (requestFilters s r) (filterAt s) in
     record { some = x; few = y; all = ap (λ (k : ℕ). take k (firstFour l)) (sym n) ∙ four-all l (omega (arith, n, y)) }

@@ -5,7 +5,7 @@ use mathlib.Core.Bool.{Bool, true, false}
 use Prim.Native.Nat.{ℕ, zero, suc}
 use native.Mathlib.Omega.{arith}
 use lib.ListN.{length}
-use Rattle.json.specs.Grammar.{case, classOf, oneAt, tokenAt, wordAt, literalAt, digitsAt, intAt, numberAt, stringAt, scalarAt, openedAt, startAt, headAt, nextAt}
+use Rattle.json.specs.Grammar.{case, inClass, oneAt, tokenAt, wordAt, literalAt, digitsAt, intAt, numberAt, stringAt, scalarAt, openedAt, startAt, headAt, nextAt}
 use Rattle.json.specs.Tree.{Json, Items, nil, item, Got, none, got, bind, follow, onLeaf, node, itemsAt, groupAt, treeAt}
 use Rattle.json.specs.declared.Out.{Out}
 use Rattle.json.specs.declared.Out.the-variants.{End, Bad}
@@ -66,11 +66,11 @@ walk-taken (more h w q r) = rw (itemsAt, h, w, q, walk-taken r)
 -- ---- a value that holds none begins with no bracket
 module _ (s : List ℕ) (at : ℕ) where
   square : {n : ℕ} → tokenAt s 0x5B at ≡ End n → scalarAt s at ≡ None
-  unfolding tokenAt scalarAt stringAt numberAt intAt digitsAt literalAt wordAt oneAt classOf
+  unfolding tokenAt scalarAt stringAt numberAt intAt digitsAt literalAt wordAt oneAt inClass
   square e = let (m, p, r) = then-end _ _ e in simp (byte-is s 0x5B at p)
 
   curly : {n : ℕ} → tokenAt s 0x7B at ≡ End n → scalarAt s at ≡ None
-  unfolding tokenAt scalarAt stringAt numberAt intAt digitsAt literalAt wordAt oneAt classOf
+  unfolding tokenAt scalarAt stringAt numberAt intAt digitsAt literalAt wordAt oneAt inClass
   curly e = let (m, p, r) = then-end _ _ e in simp (byte-is s 0x7B at p)
 
   pub leaf-start : {t : Json} {n : ℕ} → onLeaf s at (scalarAt s at) ≡ got t n → startAt s at ≡ Leaf

@@ -8,12 +8,12 @@ use Rattle.wire.specs.Bytes.{sameBytes}
 use Rattle.json.specs.Grammar.{wsAt, startAt}
 use Rattle.json.specs.Tree.{Json, word, num, str, arr, obj, Items, nil, item, Got, none, got, endOf, treeAt, root}
 use Rattle.json.specs.declared.Out.the-variants.{End, Bad}
-use Rattle.spell.specs.Spell.{charsFrom, joined, decode}
+use Rattle.spell.specs.Spell.{charsFrom, charsBytes, decode}
 use Rattle.rows.specs.Strings.{part}
 use Rattle.rows.specs.Rows.{onRoot}
 use Rattle.shape.specs.Shape.{event, req, close, other, wordOf, eventWord, reqWord, closeWord, opened}
 use Rattle.message.specs.declared.Element.the-variants.{At}
-use Rattle.message.specs.Lists.{firstOf, within}
+use Rattle.message.specs.Lists.{startElement, openWithin}
 use Rattle.message.specs.Parts.{spanOf}
 use Rattle.message.specs.Read.{isEventWord, isEvent}
 use Rattle.message.specs.Inner.{spanAt, isEventAt}
@@ -32,8 +32,8 @@ is-event-word w = go (sameBytes w eventWord) (sameBytes w reqWord) (sameBytes w 
 
 module _ (s : List ℕ) where
   -- an element that is read at its place
-  event-element : (v : ℕ) (u : Json) (n : ℕ) → treeAt s within v ≡ got u n → (p : ℕ) (ts : Items) → isEventAt s (At v) ≡ isEventWord (opened s (arr (item p v u ts)) .first)
-  unfolding isEventAt decode charsFrom joined sameBytes
+  event-element : (v : ℕ) (u : Json) (n : ℕ) → treeAt s openWithin v ≡ got u n → (p : ℕ) (ts : Items) → isEventAt s (At v) ≡ isEventWord (opened s (arr (item p v u ts)) .first)
+  unfolding isEventAt decode charsFrom charsBytes sameBytes
   event-element v u n e p ts = rw (span-is s v e) (go u)
     where
       go : (u : Json) → sameBytes (decode (part s (spanOf u .start) (spanOf u .len))) eventWord ≡ isEventWord (opened s (arr (item p v u ts)) .first)
@@ -55,13 +55,13 @@ module _ (s : List ℕ) where
       go : Listing s (item p v u ts) → isEventAt s (At v) ≡ isEventWord (opened s (arr (item p v u ts)) .first)
       go (one e f l) = event-element v u _ e p ts
 
-  pub event-first : (n : ℕ) → endOf (root s) ≡ End n → isEventAt s (firstOf (startAt s (wsAt s 0))) ≡ isEvent s
+  pub event-first : (n : ℕ) → endOf (root s) ≡ End n → isEventAt s (startElement (startAt s (wsAt s 0))) ≡ isEvent s
   unfolding isEvent
   event-first n e = go (root s) refl e
     where
-      go : (g : Got Json) → root s ≡ g → endOf g ≡ End n → isEventAt s (firstOf (startAt s (wsAt s 0))) ≡ onRoot (λ t. isEventWord (opened s t .first)) g
+      go : (g : Got Json) → root s ≡ g → endOf g ≡ End n → isEventAt s (startElement (startAt s (wsAt s 0))) ≡ onRoot (λ t. isEventWord (opened s t .first)) g
       go none r q = absurd (let z : _≡_ {A = ℕ} 0 1 = cc in omega arith)
-      go (got t k) r q = ap (isEventAt s) (first-in s within (wsAt s 0) t k r) ∙ event-tree t k r
+      go (got t k) r q = ap (isEventAt s) (first-in s openWithin (wsAt s 0) t k r) ∙ event-tree t k r
 
   pub event-none : endOf (root s) ≡ Bad → false ≡ isEvent s
   unfolding isEvent

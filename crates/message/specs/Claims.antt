@@ -17,20 +17,20 @@ abbrev pub EventPasses : Type 0
 EventPasses = (s : List ℕ) (p : EventParts) → readOf s ≡ Event p → eventRow s p ≡ 0
 
 -- the filters of a REQ, one after the other
-abbrev pub filtersOf : Bytes → ReqParts → List ℕ
-filtersOf s r = elementsFrom s (At (r .filters))
+abbrev pub requestFilters : Bytes → ReqParts → List ℕ
+requestFilters s r = elementsFrom s (At (r .filters))
 
 abbrev pub FiltersPass : Type 0
-FiltersPass = (s : List ℕ) (r : ReqParts) → readOf s ≡ Req r → (v : ℕ) → List·Memᴰ v (filtersOf s r) → filterRow s (filterAt s v) ≡ 0
+FiltersPass = (s : List ℕ) (r : ReqParts) → readOf s ≡ Req r → (v : ℕ) → List·Memᴰ v (requestFilters s r) → filterRow s (filterAt s v) ≡ 0
 
 abbrev pub FiltersCounted : Type 0
-FiltersCounted = (s : List ℕ) (r : ReqParts) → readOf s ≡ Req r → (1 ≤ length (filtersOf s r)) × (length (filtersOf s r) ≤ 4)
+FiltersCounted = (s : List ℕ) (r : ReqParts) → readOf s ≡ Req r → (1 ≤ length (requestFilters s r)) × (length (requestFilters s r) ≤ 4)
 
 -- as values they are all there
 pub record Taken (s : List ℕ) (r : ReqParts) : Type 0 where
   pub some : 1 ≤ filtersAt s (r .filters) .n
   pub few : filtersAt s (r .filters) .n ≤ 4
-  pub all : take (filtersAt s (r .filters) .n) (filtersAt s (r .filters) .parts) ≡ map (filterAt s) (filtersOf s r)
+  pub all : take (filtersAt s (r .filters) .n) (filtersAt s (r .filters) .parts) ≡ map (filterAt s) (requestFilters s r)
 
 abbrev pub FiltersTaken : Type 0
 FiltersTaken = (s : List ℕ) (r : ReqParts) → readOf s ≡ Req r → Taken s r

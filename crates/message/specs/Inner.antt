@@ -33,28 +33,28 @@ use Rattle.message.specs.declared.Named.the-variants as names
 use Rattle.message.specs.declared.Opening.{Opening}
 use Rattle.message.specs.declared.Opening.the-variants as opening
 use Rattle.message.specs.declared.FilterParts.{FilterParts}
-use Rattle.message.specs.Parts.{nowhere, spanOf, numberOf, eventAt, filterAt, noFilter}
-use Rattle.message.specs.Lists.{firstOf, nextOf}
+use Rattle.message.specs.Parts.{nowhere, spanOf, numberSpelled, eventAt, filterAt, noFilter}
+use Rattle.message.specs.Lists.{startElement, nextOf}
 use Rattle.message.specs.Read.{idNamed}
 use Rattle.message.specs.Lent.{valueAt, onValue, value2, value4, value5, inList}
 use Rattle.shape.specs.Values.{fits, sort6, sort7, sort8}
 use Rattle.shape.specs.declared.Sort.{Sort}
 
 -- a member whose name is spelled l and whose value stands at v is the first one named w, or what was found before it stays
-unfoldable pub kept : (l w : Bytes) (x : Listed) (v : ℕ) → Listed
-kept l w (At u) v = At u
-kept l w Absent v = cond (sameBytes (decode l) w) (At v) Absent
+unfoldable pub keptPlace : (l w : Bytes) (x : Listed) (v : ℕ) → Listed
+keptPlace l w (At u) v = At u
+keptPlace l w Absent v = cond (sameBytes (decode l) w) (At v) Absent
 
 -- a member of an event (b) or of a filter: the first of each name, or what was found before it stays
 unfoldable pub stepOf : (s : Bytes) (b : Bool) (a : Members) (p v : ℕ) → Members
 stepOf s b a p v = record {
-  m1 = kept (spelledAt s p) (cond b idName idsName) (a .m1) v;
-  m2 = kept (spelledAt s p) (cond b pubkeyName authorsName) (a .m2) v;
-  m3 = kept (spelledAt s p) (cond b createdAtName kindsName) (a .m3) v;
-  m4 = kept (spelledAt s p) (cond b kindName sinceName) (a .m4) v;
-  m5 = kept (spelledAt s p) (cond b tagsName untilName) (a .m5) v;
-  m6 = kept (spelledAt s p) (cond b contentName limitName) (a .m6) v;
-  m7 = cond b (kept (spelledAt s p) sigName (a .m7) v) (a .m7);
+  m1 = keptPlace (spelledAt s p) (cond b idName idsName) (a .m1) v;
+  m2 = keptPlace (spelledAt s p) (cond b pubkeyName authorsName) (a .m2) v;
+  m3 = keptPlace (spelledAt s p) (cond b createdAtName kindsName) (a .m3) v;
+  m4 = keptPlace (spelledAt s p) (cond b kindName sinceName) (a .m4) v;
+  m5 = keptPlace (spelledAt s p) (cond b tagsName untilName) (a .m5) v;
+  m6 = keptPlace (spelledAt s p) (cond b contentName limitName) (a .m6) v;
+  m7 = cond b (keptPlace (spelledAt s p) sigName (a .m7) v) (a .m7);
 }
 
 abbrev pub noMembers : Members
@@ -80,8 +80,8 @@ gotOr f z (got t n) = f t
 unfoldable pub spanAt : Bytes → ℕ → Span
 spanAt s v = gotOr spanOf nowhere (onLeaf s v (leafAt s v))
 
-unfoldable pub numberAt : Bytes → ℕ → ℤ
-numberAt s v = gotOr (numberOf s) (pos 0) (onLeaf s v (leafAt s v))
+unfoldable pub numberLeaf : Bytes → ℕ → ℤ
+numberLeaf s v = gotOr (numberSpelled s) (pos 0) (onLeaf s v (leafAt s v))
 
 abbrev pub spanFound : Bytes → Listed → Span
 spanFound s Absent = nowhere
@@ -89,11 +89,11 @@ spanFound s (At v) = spanAt s v
 
 abbrev pub numberFound : Bytes → Listed → ℤ
 numberFound s Absent = pos 0
-numberFound s (At v) = numberAt s v
+numberFound s (At v) = numberLeaf s v
 
 abbrev pub boundFound : Bytes → Listed → Bound
 boundFound s Absent = bound.Absent
-boundFound s (At v) = bound.Number (numberAt s v)
+boundFound s (At v) = bound.Number (numberLeaf s v)
 
 -- a filter by its members, and the place of its # conditions
 abbrev pub filterFound : (s : Bytes) (m : Members) (c : Listed) → FilterParts
@@ -121,14 +121,14 @@ bodyFound s m = record {
 }
 
 -- ---- a message by places: its first element, which is a word, and its second at j
-abbrev pub openingOf : Word → Opening
-openingOf event = opening.Event
-openingOf req = opening.Req
-openingOf close = opening.Close
-openingOf other = opening.Other
+abbrev pub wordOpening : Word → Opening
+wordOpening event = opening.Event
+wordOpening req = opening.Req
+wordOpening close = opening.Close
+wordOpening other = opening.Other
 
 unfoldable pub openingAt : Bytes → ℕ → Opening
-openingAt s i = openingOf (wordOf (nameAt s i))
+openingAt s i = wordOpening (wordOf (nameAt s i))
 
 abbrev pub elementPlace : Element → ℕ
 elementPlace (element.At v) = v
@@ -136,10 +136,10 @@ elementPlace element.Ended = 0
 elementPlace element.Broken = 0
 
 unfoldable pub wordPlace : Bytes → ℕ
-wordPlace s = elementPlace (firstOf (startAt s (wsAt s 0)))
+wordPlace s = elementPlace (startElement (startAt s (wsAt s 0)))
 
-unfoldable pub secondFrom : Bytes → ℕ → ℕ
-secondFrom s i = elementPlace (nextOf s i)
+unfoldable pub stringAfter : Bytes → ℕ → ℕ
+stringAfter s i = elementPlace (nextOf s i)
 
 -- whether an element is the string EVENT
 unfoldable pub isEventAt : Bytes → Element → Bool
@@ -149,7 +149,7 @@ isEventAt s element.Broken = false
 
 unfoldable pub partsAt : (s : Bytes) (x : Opening) (j : ℕ) → Message
 partsAt s opening.Event j = message.Event (eventAt s j)
-partsAt s opening.Req j = message.Req (record { subscription = spanAt s j; filters = secondFrom s j })
+partsAt s opening.Req j = message.Req (record { subscription = spanAt s j; filters = stringAfter s j })
 partsAt s opening.Close j = message.Close (spanAt s j)
 partsAt s opening.Other j = message.Refused 5
 
@@ -159,10 +159,10 @@ followingOf s (element.At v) = nextOf s v
 followingOf s element.Ended = element.Ended
 followingOf s element.Broken = element.Broken
 
-abbrev pub filterIn : Bytes → Element → FilterParts
-filterIn s (element.At v) = filterAt s v
-filterIn s element.Ended = noFilter
-filterIn s element.Broken = noFilter
+abbrev pub filterAfter : Bytes → Element → FilterParts
+filterAfter s (element.At v) = filterAt s v
+filterAfter s element.Ended = noFilter
+filterAfter s element.Broken = noFilter
 
 -- ---- what a refusal's reply names
 unfoldable pub labelNamed : Bytes → Span → Named
@@ -175,28 +175,28 @@ namedAt s opening.Close j = names.Nothing
 namedAt s opening.Other j = names.Nothing
 
 -- ---- lent parts: the lowest row that holds, and FINE where none does
-abbrev pub FINE : ℕ
-FINE = 9
+abbrev pub noRow : ℕ
+noRow = 9
 
 unfoldable pub rank : (row2 row4 row5 row6 row7 row8 : Bool) → ℕ
-rank row2 row4 row5 row6 row7 row8 = cond row2 2 (cond row4 4 (cond row5 5 (cond row6 6 (cond row7 7 (cond row8 8 FINE)))))
+rank row2 row4 row5 row6 row7 row8 = cond row2 2 (cond row4 4 (cond row5 5 (cond row6 6 (cond row7 7 (cond row8 8 noRow)))))
 
-abbrev pub toldOf : Row → ℕ
-toldOf row = cond (eqb row FINE) 0 row
+abbrev pub rowTold : Row → ℕ
+rowTold row = cond (eqb row noRow) 0 row
 
 abbrev pub rankOf : Row → ℕ
-rankOf row = cond (eqb row 0) FINE row
+rankOf row = cond (eqb row 0) noRow row
 
 -- x is the lowest of the rows that hold
-pub record Lowest (x : ℕ) (row2 row4 row5 row6 row7 row8 : Bool) : Type 0 where
+pub record LowestRank (x : ℕ) (row2 row4 row5 row6 row7 row8 : Bool) : Type 0 where
   pub is : x ≡ rank row2 row4 row5 row6 row7 row8
 
 -- the rows of the value at a place, where a sort must stand
 abbrev pub ValueRank : (b : Bytes) (at : Place) (k : Sort) (x : ℕ) → Type 0
 ValueRank b at k x =
-    Lowest x (value2 b at) (value4 b at) (value5 (fits b k) b at) (onValue (sort6 b k) (valueAt b at)) (onValue (sort7 b k) (valueAt b at)) (onValue (sort8 b k) (valueAt b at))
+    LowestRank x (value2 b at) (value4 b at) (value5 (fits b k) b at) (onValue (sort6 b k) (valueAt b at)) (onValue (sort7 b k) (valueAt b at)) (onValue (sort8 b k) (valueAt b at))
 
 abbrev pub ListRank : (b : Bytes) (l : Listed) (k : Sort) (x : ℕ) → Type 0
 ListRank b l k x =
-    Lowest x (inList (value2 b) l) (inList (value4 b) l) (inList (value5 (fits b k) b) l) (inList (λ v. onValue (sort6 b k) (valueAt b v)) l)
+    LowestRank x (inList (value2 b) l) (inList (value4 b) l) (inList (value5 (fits b k) b) l) (inList (λ v. onValue (sort6 b k) (valueAt b v)) l)
     (inList (λ v. onValue (sort7 b k) (valueAt b v)) l) (inList (λ v. onValue (sort8 b k) (valueAt b v)) l)

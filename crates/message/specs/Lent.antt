@@ -36,31 +36,31 @@ abbrev pub lowerRow : ℕ → ℕ → Row
 lowerRow r s = cond (eqb r 0) s (cond (eqb s 0) r (min r s))
 
 -- ---- a string part. One that lies outside b adds row 5 only, and so does one that is no spelling, unless it is not UTF-8
-abbrev pub bytesOf : Bytes → Span → Bytes
-bytesOf b p = part b (p .start) (p .len)
+abbrev pub spanBytes : Bytes → Span → Bytes
+spanBytes b p = part b (p .start) (p .len)
 
 unfoldable pub isInside : Bytes → Span → Bool
 isInside b p = leb (p .start + p .len) (length b)
 
 unfoldable pub isSpelled : Bytes → Span → Bool
-isSpelled b p = isInside b p && isSpelling (bytesOf b p)
+isSpelled b p = isInside b p && isSpelling (spanBytes b p)
 
 unfoldable pub string2 : Bytes → Span → Bool
-string2 b p = isInside b p && not (isUtf8 (bytesOf b p))
+string2 b p = isInside b p && not (isUtf8 (spanBytes b p))
 
 unfoldable pub string4 : Bytes → Span → Bool
-string4 b p = isSpelled b p && refuses (bytesOf b p)
+string4 b p = isSpelled b p && refuses (spanBytes b p)
 
 unfoldable pub string5 : Bytes → Span → Bool
 string5 b p = not (isSpelled b p)
 
 -- row 7: k characters of lower-case hex
 unfoldable pub string7 : (k : ℕ) (b : Bytes) (p : Span) → Bool
-string7 k b p = isSpelled b p && not (isHexOf k (bytesOf b p))
+string7 k b p = isSpelled b p && not (isHexOf k (spanBytes b p))
 
 -- row 8 of a subscription id: "1 to 64 characters (code points)"
 unfoldable pub subscription8 : Bytes → Span → Bool
-subscription8 b p = isSpelled b p && outside 1 mostCharacters (characterCount (bytesOf b p))
+subscription8 b p = isSpelled b p && outside 1 mostCharacters (characterCount (spanBytes b p))
 
 -- a part by itself: any string, hex of k characters, a subscription id
 unfoldable pub stringRow : Bytes → Span → Row
@@ -102,8 +102,8 @@ unfoldable pub value5 : (f : Json → Bool) (b : Bytes) (at : Place) → Bool
 value5 f b at = not (onValue f (valueAt b at))
 
 -- tags: an array of arrays of strings; at most 64, each of 1 to 16 strings
-abbrev pub isTags : Json → Bool
-isTags t = isArrayOf (isArrayOf isString) t
+abbrev pub isTagsShape : Json → Bool
+isTagsShape t = isArrayOf (isArrayOf isString) t
 
 -- ---- the fields of an event's text
 unfoldable pub body2 : Bytes → Body → Bool
@@ -113,7 +113,7 @@ unfoldable pub body4 : Bytes → Body → Bool
 body4 b p = string4 b (p .pubkey) || (value4 b (p .tags) || string4 b (p .content))
 
 unfoldable pub body5 : Bytes → Body → Bool
-body5 b p = string5 b (p .pubkey) || (value5 isTags b (p .tags) || string5 b (p .content))
+body5 b p = string5 b (p .pubkey) || (value5 isTagsShape b (p .tags) || string5 b (p .content))
 
 unfoldable pub body6 : Body → Bool
 body6 p = time6 (p .«created_at») || small6 (p .kind)

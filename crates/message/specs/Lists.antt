@@ -15,12 +15,12 @@ use Rattle.message.specs.declared.Element.the-variants.{At, Ended, Broke
 use Rattle.wire.specs.Bytes.{Bytes, Place}
 
 -- the first element of the array that begins so; Broken where no array begins
-abbrev pub firstOf : Start → Element
-firstOf Leaf = Broken
-firstOf (Empty n true) = Broken
-firstOf (Empty n false) = Ended
-firstOf (Many i true) = Broken
-firstOf (Many i false) = At i
+abbrev pub startElement : Start → Element
+startElement Leaf = Broken
+startElement (Empty n true) = Broken
+startElement (Empty n false) = Ended
+startElement (Many i true) = Broken
+startElement (Many i false) = At i
 
 -- what stands after an element: a comma, the closing bracket, neither
 abbrev pub moreOf : Next → Element
@@ -29,12 +29,12 @@ moreOf (Done n) = Ended
 moreOf Wrong = Broken
 
 -- the brackets and braces that may be open at once within an element
-abbrev pub within : ℕ
-within = 7
+abbrev pub openWithin : ℕ
+openWithin = 7
 
 -- the element after the one at v; Broken where no value stands there
 unfoldable pub nextOf : Bytes → ℕ → Element
-nextOf s v = case (endOf (treeAt s within v)) (λ n. moreOf (nextAt s n false)) Broken
+nextOf s v = case (endOf (treeAt s openWithin v)) (λ n. moreOf (nextAt s n false)) Broken
 
 -- an element and those after it, of at most f
 unfoldable pub upTo : (f : ℕ) (s : Bytes) (x : Element) → List ℕ
@@ -49,7 +49,7 @@ elementsFrom s x = upTo (length s) s x
 
 -- the elements of the array at a place
 unfoldable pub elements : Bytes → Place → List ℕ
-elements s at = elementsFrom s (firstOf (startAt s at))
+elements s at = elementsFrom s (startElement (startAt s at))
 
 -- the places of a tree's items
 abbrev pub placesOf : Items → List ℕ

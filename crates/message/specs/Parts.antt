@@ -7,7 +7,7 @@ use lib.IntN.{ℤ, pos}
 use lib.ListN.{length, getD}
 use Rattle.json.specs.Tree.{Json, Items, nil, item, Got, none, got, depth, treeAt, ofString, ofNumber, ofObject}
 use Rattle.rows.specs.Strings.{part}
-use Rattle.numeral.specs.Whole.{wholeOf, answerOf}
+use Rattle.numeral.specs.Whole.{wholeOf, wholeAnswer}
 use Rattle.numeral.specs.declared.Whole.{Whole}
 use Rattle.numeral.specs.declared.Whole.the-variants.{Value, Large, Malformed}
 use Rattle.shape.specs.Shape.{named, idName, pubkeyName, createdAtName, kindName, tagsName, contentName, sigName, idsName, authorsName, kindsName, sinceName, untilName, limitName}
@@ -40,13 +40,13 @@ nowhere = record { start = 0; len = 0 }
 abbrev pub spanOf : Json → Span
 spanOf = ofString nowhere (λ a n. record { start = a; len = n })
 
-abbrev pub valueOf : Whole → ℤ
-valueOf (Value z) = z
-valueOf Large = pos 0
-valueOf Malformed = pos 0
+abbrev pub wholeValue : Whole → ℤ
+wholeValue (Value z) = z
+wholeValue Large = pos 0
+wholeValue Malformed = pos 0
 
-abbrev pub numberOf : Bytes → Json → ℤ
-numberOf s = ofNumber (pos 0) (λ a n. valueOf (answerOf (wholeOf (part s a n))))
+abbrev pub numberSpelled : Bytes → Json → ℤ
+numberSpelled s = ofNumber (pos 0) (λ a n. wholeValue (wholeAnswer (wholeOf (part s a n))))
 
 abbrev pub spanIn : Member → Span
 spanIn missing = nowhere
@@ -54,7 +54,7 @@ spanIn (member v t) = spanOf t
 
 abbrev pub numberIn : Bytes → Member → ℤ
 numberIn s missing = pos 0
-numberIn s (member v t) = numberOf s t
+numberIn s (member v t) = numberSpelled s t
 
 abbrev pub placeIn : Member → ℕ
 placeIn missing = 0
@@ -62,7 +62,7 @@ placeIn (member v t) = v
 
 abbrev pub boundIn : Bytes → Member → Bound
 boundIn s missing = bound.Absent
-boundIn s (member v t) = bound.Number (numberOf s t)
+boundIn s (member v t) = bound.Number (numberSpelled s t)
 
 abbrev pub listedIn : Member → Listed
 listedIn missing = listed.Absent
@@ -78,16 +78,16 @@ bodyOf s ts = record {
   content = spanIn (memberOf s contentName ts);
 }
 
-unfoldable pub eventOf : Bytes → Items → EventParts
-eventOf s ts = record {
+unfoldable pub eventPartsOf : Bytes → Items → EventParts
+eventPartsOf s ts = record {
   id = spanIn (memberOf s idName ts);
   body = bodyOf s ts;
   sig = spanIn (memberOf s sigName ts);
 }
 
 -- the filter whose object stands at v
-unfoldable pub filterOf : (s : Bytes) (v : ℕ) (ts : Items) → FilterParts
-filterOf s v ts = record {
+unfoldable pub filterPartsOf : (s : Bytes) (v : ℕ) (ts : Items) → FilterParts
+filterPartsOf s v ts = record {
   ids = listedIn (memberOf s idsName ts);
   authors = listedIn (memberOf s authorsName ts);
   kinds = listedIn (memberOf s kindsName ts);
@@ -112,10 +112,10 @@ unfoldable pub membersAt : Bytes → Place → Items
 membersAt s at = membersGot (treeAt s depth at)
 
 unfoldable pub eventAt : Bytes → Place → EventParts
-eventAt s at = eventOf s (membersAt s at)
+eventAt s at = eventPartsOf s (membersAt s at)
 
 unfoldable pub filterAt : Bytes → Place → FilterParts
-filterAt s at = filterOf s at (membersAt s at)
+filterAt s at = filterPartsOf s at (membersAt s at)
 
 -- ---- 01: "REQ: a string, then objects"; "1 to 4 filters". The filters from a place on, as values
 -- a filter that has nothing

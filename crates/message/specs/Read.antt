@@ -11,7 +11,7 @@ use Rattle.rows.specs.Rows.{onRoot}
 use Rattle.spell.specs.Spell.{isHexOf}
 use Rattle.shape.specs.Shape.{Word, event, req, close, other, Opened, opened, idName}
 use Rattle.shape.specs.Rows.{messageRow, wrongSubscription}
-use Rattle.message.specs.Parts.{spanOf, eventOf, membersOf, memberOf, spanIn}
+use Rattle.message.specs.Parts.{spanOf, eventPartsOf, membersOf, memberOf, spanIn}
 use Rattle.message.specs.declared.Span.{Span}
 use Rattle.message.specs.declared.Message.{Message}
 use Rattle.message.specs.declared.Message.the-variants as message
@@ -20,9 +20,9 @@ use Rattle.message.specs.declared.Named.the-variants as names
 use Rattle.wire.specs.Bytes.{Bytes}
 
 -- the first of some elements, and the place of the second
-abbrev pub firstOf : Items → Json
-firstOf nil = word 0 0
-firstOf (item p v t ts) = t
+abbrev pub firstItem : Items → Json
+firstItem nil = word 0 0
+firstItem (item p v t ts) = t
 
 abbrev pub secondPlace : Items → ℕ
 secondPlace nil = 0
@@ -30,29 +30,29 @@ secondPlace (item p v t nil) = 0
 secondPlace (item p v t (item q w u us)) = w
 
 -- the elements after the first word
-abbrev pub partsOf : (s : Bytes) (event : Word) (ts : Items) → Message
-partsOf s event ts = message.Event (eventOf s (membersOf (firstOf ts)))
-partsOf s req ts = message.Req (record { subscription = spanOf (firstOf ts); filters = secondPlace ts })
-partsOf s close ts = message.Close (spanOf (firstOf ts))
-partsOf s other ts = message.Refused 5
+abbrev pub messageParts : (s : Bytes) (event : Word) (ts : Items) → Message
+messageParts s event ts = message.Event (eventPartsOf s (membersOf (firstItem ts)))
+messageParts s req ts = message.Req (record { subscription = spanOf (firstItem ts); filters = secondPlace ts })
+messageParts s close ts = message.Close (spanOf (firstItem ts))
+messageParts s other ts = message.Refused 5
 
 abbrev pub inRoot : Bytes → Got Json → Message
 inRoot s none = message.Refused 3
-inRoot s (got t n) = partsOf s (opened s t .first) (opened s t .rest)
+inRoot s (got t n) = messageParts s (opened s t .first) (opened s t .rest)
 
 -- 01: "A read message is an EVENT, a REQ or a CLOSE, each with its own parts"; "A refusal carries its number and no other value"
 unfoldable pub readOf : Bytes → Message
 readOf s = cond (eqb (messageRow s) 0) (inRoot s (root s)) (message.Refused (messageRow s))
 
 -- 01's number of an answer: 0 where none of rows 1 to 8 holds. That it is the message's row is proved in proofs/Reading.antt
-abbrev pub rowOf : Message → ℕ
-rowOf (message.Event p) = 0
-rowOf (message.Req r) = 0
-rowOf (message.Close p) = 0
-rowOf (message.Refused r) = r
+abbrev pub readNumber : Message → ℕ
+readNumber (message.Event p) = 0
+readNumber (message.Req r) = 0
+readNumber (message.Close p) = 0
+readNumber (message.Refused r) = r
 
 abbrev pub RowRead : Type 0
-RowRead = (s : List ℕ) → rowOf (readOf s) ≡ messageRow s
+RowRead = (s : List ℕ) → readNumber (readOf s) ≡ messageRow s
 
 -- ---- 01: "offering one tests 1 to 12 .. and gives 5 also if it isn't an EVENT"; "Names and the first word compare as decoded"
 abbrev pub isEventWord : Word → Bool
@@ -74,8 +74,8 @@ abbrev pub subscriptionNamed : Bytes → Json → Named
 subscriptionNamed s t = cond (wrongSubscription s t) names.Nothing (names.Subscription (spanOf t))
 
 abbrev pub namedIn : (s : Bytes) (event : Word) (ts : Items) → Named
-namedIn s event ts = idNamed s (spanIn (memberOf s idName (membersOf (firstOf ts))))
-namedIn s req ts = subscriptionNamed s (firstOf ts)
+namedIn s event ts = idNamed s (spanIn (memberOf s idName (membersOf (firstItem ts))))
+namedIn s req ts = subscriptionNamed s (firstItem ts)
 namedIn s close ts = names.Nothing
 namedIn s other ts = names.Nothing
 

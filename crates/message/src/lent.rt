@@ -4,8 +4,8 @@ ghost use mathlib.Core.Bool.{false};
 ghost use Rattle.spell.specs.Spell.{characterCount};
 ghost use Rattle.wire.specs.Limits.{mostCharacters};
 ghost use Rattle.shape.specs.Rows.{outside};
-ghost use Rattle.message.specs.Lent.{bytesOf, isInside, string2, string4, string5, string7, subscription8, wrongNumber, inBound, body2, body4, body5, body6, body7, body8};
-ghost use Rattle.message.specs.Inner.{toldOf, rankOf, Lowest, ValueRank, ListRank};
+ghost use Rattle.message.specs.Lent.{spanBytes, isInside, string2, string4, string5, string7, subscription8, wrongNumber, inBound, body2, body4, body5, body6, body7, body8};
+ghost use Rattle.message.specs.Inner.{rowTold, rankOf, LowestRank, ValueRank, ListRank};
 use crate::Body;
 use crate::Bound;
 use crate::Listed;
@@ -18,7 +18,7 @@ pub(crate) const FINE: u8 = 9;
 
 // Whether a subscription id has fewer or more characters than it may.
 pub(crate) fn miscounted(s: &[u8], p: Span) -> bool
-    ensures { λ r. ⌜ r ≡ outside 1 mostCharacters (characterCount (bytesOf (now (s .entry)) p)) ⌝ }
+    ensures { λ r. ⌜ r ≡ outside 1 mostCharacters (characterCount (spanBytes (now (s .entry)) p)) ⌝ }
 {
     let n = spell::characters(wire::piece(s, p.start, p.len));
     n < 1 || wire::MOST_CHARACTERS < n
@@ -26,7 +26,7 @@ pub(crate) fn miscounted(s: &[u8], p: Span) -> bool
 
 // Parts lent by anybody. Every part answers the lowest row that it breaks, and FINE for none; parts are joined by the least.
 pub(crate) fn told(row: u8) -> u8
-    ensures { λ r. ⌜ r ≡ toldOf row ⌝ }
+    ensures { λ r. ⌜ r ≡ rowTold row ⌝ }
 {
     if row == FINE { 0 } else { row }
 }
@@ -50,7 +50,7 @@ pub(crate) fn inside(b: &[u8], p: Span) -> bool
 
 // A string part.
 pub(crate) fn string_rank(b: &[u8], p: Span) -> u8
-    ensures { λ r. ⌜ Lowest r (string2 (now (b .entry)) p) (string4 (now (b .entry)) p) (string5 (now (b .entry)) p) false false false ⌝ }
+    ensures { λ r. ⌜ LowestRank r (string2 (now (b .entry)) p) (string4 (now (b .entry)) p) (string5 (now (b .entry)) p) false false false ⌝ }
 {
     if !inside(b, p) {
         return 5;
@@ -70,7 +70,7 @@ pub(crate) fn string_rank(b: &[u8], p: Span) -> u8
 
 // A string part of k characters of lower-case hex.
 pub(crate) fn hex_rank(b: &[u8], p: Span, k: usize) -> u8
-    ensures { λ r. ⌜ Lowest r (string2 (now (b .entry)) p) (string4 (now (b .entry)) p) (string5 (now (b .entry)) p) false (string7 k (now (b .entry)) p) false ⌝ }
+    ensures { λ r. ⌜ LowestRank r (string2 (now (b .entry)) p) (string4 (now (b .entry)) p) (string5 (now (b .entry)) p) false (string7 k (now (b .entry)) p) false ⌝ }
 {
     let row = string_rank(b, p);
     if row != FINE {
@@ -85,7 +85,7 @@ pub(crate) fn hex_rank(b: &[u8], p: Span, k: usize) -> u8
 
 // A string part that is a subscription id.
 pub(crate) fn subscription_rank(b: &[u8], p: Span) -> u8
-    ensures { λ r. ⌜ Lowest r (string2 (now (b .entry)) p) (string4 (now (b .entry)) p) (string5 (now (b .entry)) p) false false (subscription8 (now (b .entry)) p) ⌝ }
+    ensures { λ r. ⌜ LowestRank r (string2 (now (b .entry)) p) (string4 (now (b .entry)) p) (string5 (now (b .entry)) p) false false (subscription8 (now (b .entry)) p) ⌝ }
 {
     let row = string_rank(b, p);
     if row != FINE {
@@ -95,7 +95,7 @@ pub(crate) fn subscription_rank(b: &[u8], p: Span) -> u8
 }
 
 pub(crate) fn number_rank(z: i64, low: i64, high: i64) -> u8
-    ensures { λ r. ⌜ Lowest r false false false (wrongNumber low high z) false false ⌝ }
+    ensures { λ r. ⌜ LowestRank r false false false (wrongNumber low high z) false false ⌝ }
 {
     if numeral::within(Whole::Value(z), low, high) {
         FINE
@@ -105,7 +105,7 @@ pub(crate) fn number_rank(z: i64, low: i64, high: i64) -> u8
 }
 
 pub(crate) fn bound_rank(x: Bound, low: i64, high: i64) -> u8
-    ensures { λ r. ⌜ Lowest r false false false (inBound (wrongNumber low high) x) false false ⌝ }
+    ensures { λ r. ⌜ LowestRank r false false false (inBound (wrongNumber low high) x) false false ⌝ }
 {
     match x {
         Bound::Absent => FINE,
@@ -130,7 +130,7 @@ pub(crate) fn list_rank(b: &[u8], x: Listed, k: Sort) -> u8
 }
 
 pub(crate) fn body_rank(b: &[u8], p: Body) -> u8
-    ensures { λ r. ⌜ Lowest r (body2 (now (b .entry)) p) (body4 (now (b .entry)) p) (body5 (now (b .entry)) p) (body6 p) (body7 (now (b .entry)) p) (body8 (now (b .entry)) p) ⌝ }
+    ensures { λ r. ⌜ LowestRank r (body2 (now (b .entry)) p) (body4 (now (b .entry)) p) (body5 (now (b .entry)) p) (body6 p) (body7 (now (b .entry)) p) (body8 (now (b .entry)) p) ⌝ }
 {
     let pubkey = p.pubkey;
     let content = p.content;

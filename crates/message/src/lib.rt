@@ -4,8 +4,8 @@ ghost use mathlib.Core.Path.{_≡_};
 ghost use Rattle.json.specs.Grammar.{startAt};
 ghost use Rattle.shape.specs.Rows.{messageRow};
 ghost use Rattle.message.specs.Parts.{filterAt, filtersAt};
-ghost use Rattle.message.specs.Lists.{firstOf, nextOf};
-ghost use Rattle.message.specs.Read.{readOf, rowOf, isEvent, namedOf};
+ghost use Rattle.message.specs.Lists.{startElement, nextOf};
+ghost use Rattle.message.specs.Read.{readOf, readNumber, isEvent, namedOf};
 ghost use Rattle.message.specs.Lent.{lowerRow, stringRow, hexRow, subscriptionRow, bodyRow, eventRow, filterRow};
 
 mod lent;
@@ -128,7 +128,7 @@ pub fn filter_at(s: &[u8], at: usize) -> FilterParts
 
 // The first element of the array at a place. Ended: it has none. Broken: no array begins there.
 pub fn first(s: &[u8], at: usize) -> Element
-    ensures { λ r. ⌜ r ≡ firstOf (startAt (now (s .entry)) at) ⌝ }
+    ensures { λ r. ⌜ r ≡ startElement (startAt (now (s .entry)) at) ⌝ }
 {
     match json::begin(s, at) {
         Start::Leaf => Element::Broken,
@@ -167,7 +167,7 @@ pub fn next(s: &[u8], at: usize) -> Element
 // A message read: its parts, or the lowest of rows 1 to 8 that holds of it.
 pub fn read(s: &[u8]) -> Message
     ensures { λ r. ⌜ r ≡ readOf (now (s .entry)) ⌝ }
-    ensures { λ r. ⌜ rowOf r ≡ messageRow (now (s .entry)) ⌝ }
+    ensures { λ r. ⌜ readNumber r ≡ messageRow (now (s .entry)) ⌝ }
 {
     let row = shape::message_row(s);
     if row != 0 {

@@ -3,7 +3,7 @@ ghost use mathlib.Core.Path.{_≡_};
 ghost use mathlib.Core.Bool.{cond};
 ghost use Rattle.shape.specs.Shape.{sigName};
 ghost use Rattle.message.specs.Parts.{membersAt};
-ghost use Rattle.message.specs.Inner.{kept, stepOf, noMembers, foundIn};
+ghost use Rattle.message.specs.Inner.{keptPlace, stepOf, noMembers, foundIn};
 use crate::Listed;
 use crate::Members;
 use json::Next;
@@ -12,7 +12,7 @@ use json::Start;
 
 // A member whose value stands at v, after what was found before it: its name is spelled `name`, and `word` is looked for.
 pub(crate) fn keep(name: &[u8], word: &[u8], a: Listed, v: usize) -> Listed
-    ensures { λ r. ⌜ r ≡ kept (now (name .entry)) (now (word .entry)) a v ⌝ }
+    ensures { λ r. ⌜ r ≡ keptPlace (now (name .entry)) (now (word .entry)) a v ⌝ }
 {
     match a {
         Listed::At(u) => Listed::At(u),
@@ -35,7 +35,7 @@ pub(crate) fn either<'a>(first: bool, x: &'a [u8], y: &'a [u8]) -> &'a [u8]
 
 // The seventh member of an event; a filter has six.
 pub(crate) fn keep_last(name: &[u8], event: bool, a: Listed, v: usize) -> Listed
-    ensures { λ r. ⌜ r ≡ cond event (kept (now (name .entry)) sigName a v) a ⌝ }
+    ensures { λ r. ⌜ r ≡ cond event (keptPlace (now (name .entry)) sigName a v) a ⌝ }
 {
     if event { keep(name, b"sig", a, v) } else { a }
 }

@@ -1,8 +1,8 @@
 // What stands at a place: a string, a number, the parts of an event.
 ghost use mathlib.Core.Path.{_≡_};
 ghost use Prim.Native.Nat.{_-_};
-ghost use Rattle.message.specs.Parts.{valueOf, eventAt};
-ghost use Rattle.message.specs.Inner.{leafAt, spanAt, numberAt, spanFound, numberFound, boundFound, filterFound, placeFound, bodyFound};
+ghost use Rattle.message.specs.Parts.{wholeValue, eventAt};
+ghost use Rattle.message.specs.Inner.{leafAt, spanAt, numberLeaf, spanFound, numberFound, boundFound, filterFound, placeFound, bodyFound};
 use crate::Body;
 use crate::Bound;
 use crate::EventParts;
@@ -48,7 +48,7 @@ pub(crate) fn span_at(s: &[u8], v: usize) -> Span
 }
 
 pub(crate) fn value_of(w: Whole) -> i64
-    ensures { λ r. ⌜ r ≡ valueOf w ⌝ }
+    ensures { λ r. ⌜ r ≡ wholeValue w ⌝ }
 {
     match w {
         Whole::Value(z) => z,
@@ -59,7 +59,7 @@ pub(crate) fn value_of(w: Whole) -> i64
 
 // The number at a place.
 pub(crate) fn number_at(s: &[u8], v: usize) -> i64
-    ensures { λ r. ⌜ r ≡ numberAt (now (s .entry)) v ⌝ }
+    ensures { λ r. ⌜ r ≡ numberLeaf (now (s .entry)) v ⌝ }
 {
     match leaf(s, v) {
         Kind::Str(_) => 0,

@@ -7,7 +7,7 @@ ghost use Rattle.message.specs.declared.Element.the-variants.{At};
 ghost use Rattle.message.specs.Parts.{noFilter};
 ghost use Rattle.message.specs.Lists.{elementsFrom};
 ghost use Rattle.message.specs.Read.{idNamed, isEarly};
-ghost use Rattle.message.specs.Inner.{openingAt, elementPlace, wordPlace, secondFrom, isEventAt, partsAt, followingOf, filterIn, labelNamed, namedAt};
+ghost use Rattle.message.specs.Inner.{openingAt, elementPlace, wordPlace, stringAfter, isEventAt, partsAt, followingOf, filterAfter, labelNamed, namedAt};
 use crate::Element;
 use crate::FilterParts;
 use crate::Listed;
@@ -54,7 +54,7 @@ pub(crate) fn word_place(s: &[u8]) -> usize
 
 // The place of the element after the one at a place.
 pub(crate) fn second(s: &[u8], at: usize) -> usize
-    ensures { λ r. ⌜ r ≡ secondFrom (now (s .entry)) at ⌝ }
+    ensures { λ r. ⌜ r ≡ stringAfter (now (s .entry)) at ⌝ }
 {
     element_place(crate::next(s, at))
 }
@@ -124,7 +124,7 @@ pub(crate) fn no_filter(s: &[u8]) -> FilterParts
 
 // The filter that is element k of n.
 pub(crate) fn filter_in(s: &[u8], k: usize, n: usize, x: Element) -> FilterParts
-    ensures { λ r. ⌜ r ≡ cond (ltb k n) (filterIn (now (s .entry)) x) noFilter ⌝ }
+    ensures { λ r. ⌜ r ≡ cond (ltb k n) (filterAfter (now (s .entry)) x) noFilter ⌝ }
 {
     if k < n {
         return match x {

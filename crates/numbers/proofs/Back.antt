@@ -12,7 +12,7 @@ use lib.Signed.{mag}
 use Rattle.wire.specs.Field.{signed, unsigned}
 use Rattle.wire.specs.Limits.{widest}
 use Rattle.wire.proofs.Fields.{signed-unsigned}
-use Rattle.numeral.specs.Whole.{Read, wholeOf, isWithin, answerOf}
+use Rattle.numeral.specs.Whole.{Spelled, wholeOf, isWithin, wholeAnswer}
 use Rattle.numeral.specs.declared.Whole.{Whole}
 use Rattle.numeral.specs.declared.Whole.the-variants.{Value, Large, Malformed}
 use Rattle.numeral.proofs.Wholes.{inRange, answer-value}
@@ -29,7 +29,7 @@ use Rattle.message.specs.declared.Bound.the-variants as bound
 use Rattle.message.specs.declared.Listed.{Listed}
 use Rattle.message.specs.declared.Listed.the-variants as listed
 use Rattle.message.specs.declared.FilterParts.{FilterParts}
-use Rattle.message.specs.Parts.{Member, missing, member, memberOf, valueOf, numberOf, numberIn, boundIn, listedIn, membersOf, membersGot, membersAt, filterOf, filterAt, noFilter}
+use Rattle.message.specs.Parts.{Member, missing, member, memberOf, wholeValue, numberSpelled, numberIn, boundIn, listedIn, membersOf, membersGot, membersAt, filterPartsOf, filterAt, noFilter}
 use Rattle.message.proofs.Walks.{Walk, last, more}
 use Rattle.message.proofs.Elements.{Group, hollow, filled, group-of}
 use Rattle.message.proofs.Facts.{and-true, In, here, later, Holds, absent, present, member-holds}
@@ -42,15 +42,15 @@ unfolding isWithin
 range-mag (pos n) h = let k = ltb-false widest n (not-true (ltb widest n) h) in omega arith
 range-mag (negsuc n) h = let k = ltb-false 9007199254740990 n (not-true (ltb 9007199254740990 n) (and-true (not (ltb 9007199254740990 n)) true h .0)) in omega arith
 
-value-mag : (r : Read) → mag (valueOf (answerOf r)) < 2 ^ 63
-value-mag r = go (answerOf r) refl
+value-mag : (r : Spelled) → mag (wholeValue (wholeAnswer r)) < 2 ^ 63
+value-mag r = go (wholeAnswer r) refl
   where
-    go : (w : Whole) → answerOf r ≡ w → mag (valueOf w) < 2 ^ 63
+    go : (w : Whole) → wholeAnswer r ≡ w → mag (wholeValue w) < 2 ^ 63
     go (Value z) e = range-mag z (answer-value r z e .1)
     go Large e = omega arith
     go Malformed e = omega arith
 
-number-mag : (s : List ℕ) (t : Json) → mag (numberOf s t) < 2 ^ 63
+number-mag : (s : List ℕ) (t : Json) → mag (numberSpelled s t) < 2 ^ 63
 number-mag s (word a n) = omega arith
 number-mag s (num a n) = value-mag (wholeOf (part s a n))
 number-mag s (str a n) = omega arith
@@ -59,11 +59,11 @@ number-mag s (obj ts) = omega arith
 
 pub number-back : (s : List ℕ) (m : Member) → signed (unsigned (numberIn s m)) ≡ numberIn s m
 number-back s missing = signed-unsigned (pos 0) (omega arith)
-number-back s (member v t) = signed-unsigned (numberOf s t) (number-mag s t)
+number-back s (member v t) = signed-unsigned (numberSpelled s t) (number-mag s t)
 
 bound-back : (s : List ℕ) (m : Member) → boundFrom (flagOf (boundIn s m)) (bitsOf (boundIn s m)) ≡ boundIn s m
 bound-back s missing = refl
-bound-back s (member v t) = ap bound.Number (signed-unsigned (numberOf s t) (number-mag s t))
+bound-back s (member v t) = ap bound.Number (signed-unsigned (numberSpelled s t) (number-mag s t))
 
 -- ---- places
 pub token-positive : (s : List ℕ) (b at n : ℕ) → tokenAt s b at ≡ End n → 0 < n
@@ -121,7 +121,7 @@ pub record Kept (p : FilterParts) : Type 0 where
   pub conditions : listedFrom (placeOf (p .conditions)) ≡ p .conditions
 
 pub filter-kept : (s : List ℕ) (v : ℕ) → 0 < v → Kept (filterAt s v)
-unfolding filterAt filterOf
+unfolding filterAt filterPartsOf
 filter-kept s v h = record {
   ids = list-back s _ v;
   authors = list-back s _ v;

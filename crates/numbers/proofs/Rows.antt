@@ -8,7 +8,7 @@ use native.Mathlib.Decide.{decLt}
 use native.Mathlib.Omega.{arith}
 use borrow.Author.Tests.{not-false}
 use lib.ListN.{length, take, getD}
-use Rattle.json.specs.Grammar.{case, classOf, closeOf, wsAt, oneAt, tokenAt, nextAt, startAt, openedAt}
+use Rattle.json.specs.Grammar.{case, inClass, closeOf, wsAt, oneAt, tokenAt, nextAt, startAt, openedAt}
 use Rattle.json.specs.Tree.{Json, word, num, str, arr, obj, Items, nil, item, Got, none, got, endOf, depth, treeAt, root}
 use Rattle.json.specs.declared.Class.the-variants.{Space, Byte}
 use Rattle.json.specs.declared.Out.{Out}
@@ -28,11 +28,11 @@ use Rattle.message.specs.declared.Listed.the-variants as listed
 use Rattle.message.specs.declared.Filters.{Filters}
 use Rattle.message.specs.declared.ReqParts.{ReqParts}
 use Rattle.message.specs.declared.Message.the-variants.{Event, Req, Refused}
-use Rattle.message.specs.Lists.{moreOf, within, nextOf, upTo, elementsFrom}
-use Rattle.message.specs.Parts.{memberOf, membersOf, bodyOf, eventOf, filterAt, noFilter, filtersAt, filterOf}
+use Rattle.message.specs.Lists.{moreOf, openWithin, nextOf, upTo, elementsFrom}
+use Rattle.message.specs.Parts.{memberOf, membersOf, bodyOf, eventPartsOf, filterAt, noFilter, filtersAt, filterPartsOf}
 use Rattle.message.specs.Lent.{onValue, valueAt, value5, filterRow}
-use Rattle.message.specs.Claims.{filtersOf}
-use Rattle.message.specs.Read.{firstOf, partsOf, inRoot, readOf, rowOf, isEarly}
+use Rattle.message.specs.Claims.{requestFilters}
+use Rattle.message.specs.Read.{firstItem, messageParts, inRoot, readOf, readNumber, isEarly}
 use Rattle.message.proofs.Elements.{Group, hollow, filled, group-of}
 use Rattle.message.proofs.Reading.{Shaped, shaped, late-shaped, Begun, begun, begun-of, row-read}
 use Rattle.message.proofs.Passes.{filters-pass, filters-counted}
@@ -56,7 +56,7 @@ more-positive s n j e = go (tokenAt s 0x2C n) refl e
 
 next-positive : (s : List ℕ) (v j : ℕ) → nextOf s v ≡ At j → 0 < j
 unfolding nextOf
-next-positive s v j e = go (endOf (treeAt s within v)) e
+next-positive s v j e = go (endOf (treeAt s openWithin v)) e
   where
     go : (o : Out) → case o (λ n. moreOf (nextAt s n false)) Broken ≡ At j → 0 < j
     go (End n) q = more-positive s n j q
@@ -77,7 +77,7 @@ braced (Empty n b) = b
 braced (Many i b) = b
 
 brace-first : (s : List ℕ) (at n : ℕ) → tokenAt s 0x7B at ≡ End n → wsAt s at ≡ at
-unfolding tokenAt classOf
+unfolding tokenAt inClass
 brace-first s at n f =
     let (m, g, h) = then-end (oneAt s (Byte 0x7B) at) _ f in
     past-none Space s at (rw (byte-is s 0x7B at g) refl)
@@ -125,16 +125,16 @@ no-message s ts n e z = go (late-shaped s (ap isEarly z))
 
 -- ---- so the filters of a message do not begin at 0
 module _ (s : List ℕ) (r : ReqParts) (e : readOf s ≡ Req r) where
-  first-in : r .filters ≡ 0 → List·Memᴰ 0 (filtersOf s r)
+  first-in : r .filters ≡ 0 → List·Memᴰ 0 (requestFilters s r)
   unfolding elementsFrom upTo
   first-in z = go (length s) refl
     where
-      go : (k : ℕ) → length s ≡ k → List·Memᴰ 0 (filtersOf s r)
-      go zero q = let c = filters-counted s r e .0 in absurd (let l : length (filtersOf s r) ≡ 0 = rw q refl in omega arith)
+      go : (k : ℕ) → length s ≡ k → List·Memᴰ 0 (requestFilters s r)
+      go zero q = let c = filters-counted s r e .0 in absurd (let l : length (requestFilters s r) ≡ 0 = rw q refl in omega arith)
       go (suc k) q = rw (z, q) (List·Memᴰ·head refl)
 
   at-zero : filterAt s 0 .conditions ≡ listed.At 0
-  unfolding filterAt filterOf
+  unfolding filterAt filterPartsOf
   at-zero = refl
 
   pub filters-behind : 0 < r .filters
@@ -143,7 +143,7 @@ module _ (s : List ℕ) (r : ReqParts) (e : readOf s ≡ Req r) where
     | no h ↦
         let z : r .filters ≡ 0 = omega arith in
         let (ts, n, q) = object-at s 0 (conditions-are s (filterAt s 0) (filters-pass s r e 0 (first-in z)) at-zero .o5) in
-        absurd (no-message s ts n q (sym (row-read s) ∙ ap rowOf e))
+        absurd (no-message s ts n q (sym (row-read s) ∙ ap readNumber e))
   ]
 
 -- ---- the rows
@@ -180,14 +180,14 @@ filters-back s r e x =
 
 -- ---- an EVENT
 pub data Members (s : List ℕ) (p : EventParts) : Type 0 where
-  members : (ts : Items) → eventOf s ts ≡ p → Members s p
+  members : (ts : Items) → eventPartsOf s ts ≡ p → Members s p
 
 read-event : (s : List ℕ) (p : EventParts) → readOf s ≡ Event p → Members s p
 unfolding readOf
 read-event s p e = accepted (eqb (messageRow s) 0) e
   where
-    by-word : (w : Word) (ts : Items) → partsOf s w ts ≡ Event p → Members s p
-    by-word event ts q = members (membersOf (firstOf ts)) cc
+    by-word : (w : Word) (ts : Items) → messageParts s w ts ≡ Event p → Members s p
+    by-word event ts q = members (membersOf (firstItem ts)) cc
     by-word req ts q = absurd (let z : _≡_ {A = ℕ} 0 1 = cc in omega arith)
     by-word close ts q = absurd (let z : _≡_ {A = ℕ} 0 1 = cc in omega arith)
     by-word other ts q = absurd (let z : _≡_ {A = ℕ} 0 1 = cc in omega arith)
@@ -200,8 +200,8 @@ read-event s p e = accepted (eqb (messageRow s) 0) e
     accepted true q = in-root (root s) q
     accepted false q = absurd (let z : _≡_ {A = ℕ} 0 1 = cc in omega arith)
 
-members-back : (s : List ℕ) (ts : Items) (x : List ℕ) → eventFrom (eventNumbers (eventOf s ts) ++ x) ≡ eventOf s ts
-unfolding eventFrom eventOf bodyOf
+members-back : (s : List ℕ) (ts : Items) (x : List ℕ) → eventFrom (eventNumbers (eventPartsOf s ts) ++ x) ≡ eventPartsOf s ts
+unfolding eventFrom eventPartsOf bodyOf
 members-back s ts x = rw (number-back s (memberOf s createdAtName ts), number-back s (memberOf s kindName ts)) refl
 
 pub event-back : EventBack

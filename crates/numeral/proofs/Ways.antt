@@ -21,8 +21,8 @@ use Rattle.wire.specs.Field.{unsigned}
 use Rattle.wire.proofs.Laws.{puts-then}
 use Rattle.numeral.specs.Decimal.{digits, decimal}
 use Rattle.wire.specs.Limits.{widest}
-use Rattle.numeral.specs.Whole.{isDigit, allDigits, valueFrom, valueOf, isNatural, malformed, whole, naturalOf, negativeOf, wholeOf, isWithin, answerOf}
-use Rattle.numeral.specs.Inner.{over, digitsSum, naturalSum, aboveOf, belowOf}
+use Rattle.numeral.specs.Whole.{isDigit, allDigits, valueFrom, valueOf, isNatural, malformed, whole, naturalOf, negativeOf, wholeOf, isWithin, wholeAnswer}
+use Rattle.numeral.specs.Inner.{aboveWidest, digitsSum, naturalSum, aboveOf, belowOf}
 use Rattle.numeral.specs.declared.Whole.{Whole}
 use Rattle.numeral.specs.declared.Whole.the-variants.{Value, Malformed}
 use Rattle.numeral.specs.declared.Natural.{Natural}
@@ -41,7 +41,7 @@ not-high x h = rw (le-leb 48 x (omega arith), lt-leb x 57 h)
 -- b is the answer seen from i on; the digits passed spell a number that v is, but for the cap
 pub record Seen (b : Natural) (s : List ℕ) (i v : ℕ) : Type 0 where
   pub sum : ℕ
-  pub is : v ≡ min sum over
+  pub is : v ≡ min sum aboveWidest
   pub same : b ≡ digitsSum sum (drop i s)
 
 module _ {b : Natural} {s : List ℕ} {i v : ℕ} (p : Seen b s i v) where
@@ -60,7 +60,7 @@ module _ {b : Natural} {s : List ℕ} {i v : ℕ} (p : Seen b s i v) where
     pub seen-high : 57 < getD s i 0 → NotOne ≡ b
     seen-high l = seen-other (not-high (getD s i 0) l)
 
-    pub seen-more : 48 ≤ getD s i 0 → getD s i 0 ≤ 57 → (w : ℕ) → w ≡ min (v * 10 + (getD s i 0 - 48)) over → Seen b s (i + 1) w
+    pub seen-more : 48 ≤ getD s i 0 → getD s i 0 ≤ 57 → (w : ℕ) → w ≡ min (v * 10 + (getD s i 0 - 48)) aboveWidest → Seen b s (i + 1) w
     unfolding digitsSum allDigits valueFrom
     seen-more l r w e = record {
       sum = p .sum * 10 + (getD s i 0 - 48);
@@ -89,63 +89,63 @@ module _ (s : List ℕ) (i : ℕ) where
       natural-zero k = let h′ : length s ≤ suc i = omega arith in rw (drop-cons s i 0 h, drop-of-length-le s {i = suc i} h′, z)
 
 -- ---- the number, by its sign; the cap is above the widest
-answer-pos : (v : ℕ) → aboveOf (Sum (min v over)) ≡ answerOf (whole (pos v))
-unfolding aboveOf answerOf isWithin
+answer-pos : (v : ℕ) → aboveOf (Sum (min v aboveWidest)) ≡ wholeAnswer (whole (pos v))
+unfolding aboveOf wholeAnswer isWithin
 answer-pos v = elim (decLe v widest) [
-  | yes h ↦ let e : min v over ≡ v = omega arith in rw (e, le-ltb widest v h)
+  | yes h ↦ let e : min v aboveWidest ≡ v = omega arith in rw (e, le-ltb widest v h)
   | no h ↦
-      let k : widest < min v over = omega arith in
+      let k : widest < min v aboveWidest = omega arith in
       let l : widest < v = omega arith in
-      rw (lt-ltb widest (min v over) k, lt-ltb widest v l)
+      rw (lt-ltb widest (min v aboveWidest) k, lt-ltb widest v l)
 ]
 
-answer-neg : (n : ℕ) → belowOf (Sum (min (suc n) over)) ≡ answerOf (whole (negsuc n))
-unfolding belowOf answerOf isWithin
+answer-neg : (n : ℕ) → belowOf (Sum (min (suc n) aboveWidest)) ≡ wholeAnswer (whole (negsuc n))
+unfolding belowOf wholeAnswer isWithin
 answer-neg n = elim (decLe (suc n) widest) [
   | yes h ↦
-      let e : min (suc n) over ≡ suc n = omega arith in
+      let e : min (suc n) aboveWidest ≡ suc n = omega arith in
       rw (e, ne-eqb (suc n) 0 (λ q. omega arith), le-ltb widest (suc n) h, le-ltb 9007199254740990 n (omega arith))
   | no h ↦
-      let k : widest < min (suc n) over = omega arith in
-      rw (ne-eqb (min (suc n) over) 0 (λ q. omega arith), lt-ltb widest (min (suc n) over) k, lt-ltb 9007199254740990 n (omega arith))
+      let k : widest < min (suc n) aboveWidest = omega arith in
+      rw (ne-eqb (min (suc n) aboveWidest) 0 (λ q. omega arith), lt-ltb widest (min (suc n) aboveWidest) k, lt-ltb 9007199254740990 n (omega arith))
 ]
 
-above-is : (l : List ℕ) → aboveOf (naturalSum l) ≡ answerOf (naturalOf l)
-unfolding naturalSum naturalOf aboveOf answerOf
+above-is : (l : List ℕ) → aboveOf (naturalSum l) ≡ wholeAnswer (naturalOf l)
+unfolding naturalSum naturalOf aboveOf wholeAnswer
 above-is l = go (isNatural l)
   where
-    go : (t : Bool) → aboveOf (cond t (Sum (min (valueOf l) over)) NotOne) ≡ answerOf (cond t (whole (pos (valueOf l))) malformed)
+    go : (t : Bool) → aboveOf (cond t (Sum (min (valueOf l) aboveWidest)) NotOne) ≡ wholeAnswer (cond t (whole (pos (valueOf l))) malformed)
     go true = answer-pos (valueOf l)
     go false = refl
 
-below-is : (l : List ℕ) → belowOf (naturalSum l) ≡ answerOf (negativeOf l)
-unfolding naturalSum negativeOf belowOf answerOf
+below-is : (l : List ℕ) → belowOf (naturalSum l) ≡ wholeAnswer (negativeOf l)
+unfolding naturalSum negativeOf belowOf wholeAnswer
 below-is l = go (isNatural l) (valueOf l)
   where
-    go : (t : Bool) (v : ℕ) → belowOf (cond t (Sum (min v over)) NotOne) ≡ answerOf (cond t (cond (eqb v 0) malformed (whole (negℤ (pos v)))) malformed)
+    go : (t : Bool) (v : ℕ) → belowOf (cond t (Sum (min v aboveWidest)) NotOne) ≡ wholeAnswer (cond t (cond (eqb v 0) malformed (whole (negℤ (pos v)))) malformed)
     go true zero = refl
     go true (suc n) = answer-neg n ∙ rw (ne-eqb (suc n) 0 (λ q. omega arith))
     go false v = refl
 
-pub whole-none : (p : List ℕ) → length p ≡ 0 → Malformed ≡ answerOf (wholeOf p)
-unfolding wholeOf answerOf
+pub whole-none : (p : List ℕ) → length p ≡ 0 → Malformed ≡ wholeAnswer (wholeOf p)
+unfolding wholeOf wholeAnswer
 whole-none [] h = refl
 whole-none (x ∷ p) h = absurd (omega arith)
 
 module _ (p : List ℕ) (n : Natural) (r : Whole) where
-  pub whole-minus : getD p 0 0 ≡ 45 → n ≡ naturalSum (drop 1 p) → r ≡ belowOf n → r ≡ answerOf (wholeOf p)
+  pub whole-minus : getD p 0 0 ≡ 45 → n ≡ naturalSum (drop 1 p) → r ≡ belowOf n → r ≡ wholeAnswer (wholeOf p)
   unfolding wholeOf
   whole-minus h e f = f ∙ ap belowOf e ∙ go p h
     where
-      go : (p : List ℕ) → getD p 0 0 ≡ 45 → belowOf (naturalSum (drop 1 p)) ≡ answerOf (wholeOf p)
+      go : (p : List ℕ) → getD p 0 0 ≡ 45 → belowOf (naturalSum (drop 1 p)) ≡ wholeAnswer (wholeOf p)
       go [] h = absurd (omega arith)
       go (x ∷ l) h = below-is l ∙ rw (eq-eqb x 45 h)
 
-  pub whole-plain : (length p ≡ 0 → ⊥) → (getD p 0 0 ≡ 45 → ⊥) → n ≡ naturalSum (drop 0 p) → r ≡ aboveOf n → r ≡ answerOf (wholeOf p)
+  pub whole-plain : (length p ≡ 0 → ⊥) → (getD p 0 0 ≡ 45 → ⊥) → n ≡ naturalSum (drop 0 p) → r ≡ aboveOf n → r ≡ wholeAnswer (wholeOf p)
   unfolding wholeOf
   whole-plain s h e f = f ∙ ap aboveOf e ∙ go p s h
     where
-      go : (p : List ℕ) → (length p ≡ 0 → ⊥) → (getD p 0 0 ≡ 45 → ⊥) → aboveOf (naturalSum (drop 0 p)) ≡ answerOf (wholeOf p)
+      go : (p : List ℕ) → (length p ≡ 0 → ⊥) → (getD p 0 0 ≡ 45 → ⊥) → aboveOf (naturalSum (drop 0 p)) ≡ wholeAnswer (wholeOf p)
       go [] s h = absurd (s refl)
       go (x ∷ l) s h = above-is (x ∷ l) ∙ rw (ne-eqb x 45 h)
 

@@ -11,7 +11,7 @@ use lib.Signed.{mag}
 use lib.ListN.{length, getD}
 use Rattle.numeral.specs.Decimal.{digits, decimal}
 use Rattle.wire.specs.Limits.{widest}
-use Rattle.numeral.specs.Whole.{isDigit, allDigits, valueFrom, valueOf, isEmpty, isNatural, Read, malformed, whole, naturalOf, negativeOf, wholeOf, isWithin, answerOf}
+use Rattle.numeral.specs.Whole.{isDigit, allDigits, valueFrom, valueOf, isEmpty, isNatural, Spelled, malformed, whole, naturalOf, negativeOf, wholeOf, isWithin, wholeAnswer}
 use Rattle.numeral.specs.declared.Whole.the-variants.{Value, Large}
 use Rattle.numeral.proofs.Digits.{digits-one, digits-more, digits-all, digits-first, value-digits, digits-few, digits-20}
 
@@ -109,8 +109,8 @@ decimal-once y z e = let a : whole y ≡ whole z = sym (whole-decimal y) ∙ ap 
 abbrev pub inRange : ℤ → Bool
 inRange z = isWithin (Value z) (negℤ (pos widest)) (pos widest)
 
-pub answer-value : (r : Read) (z : ℤ) → answerOf r ≡ Value z → (r ≡ whole z) × (inRange z ≡ true)
-unfolding answerOf
+pub answer-value : (r : Spelled) (z : ℤ) → wholeAnswer r ≡ Value z → (r ≡ whole z) × (inRange z ≡ true)
+unfolding wholeAnswer
 answer-value malformed z e = absurd (let z : _≡_ {A = ℕ} 0 1 = cc in omega arith)
 answer-value (whole y) z e = go (inRange y) refl e
   where
@@ -118,8 +118,8 @@ answer-value (whole y) z e = go (inRange y) refl e
     go true q e = let k : y ≡ z = cc in (ap whole k, sym (ap inRange k) ∙ q)
     go false q e = absurd (let z : _≡_ {A = ℕ} 0 1 = cc in omega arith)
 
-pub decimal-value : (z : ℤ) → inRange z ≡ true → answerOf (wholeOf (decimal z)) ≡ Value z
-unfolding answerOf
+pub decimal-value : (z : ℤ) → inRange z ≡ true → wholeAnswer (wholeOf (decimal z)) ≡ Value z
+unfolding wholeAnswer
 decimal-value z e = rw (whole-decimal z, e)
 
 -- ---- how long

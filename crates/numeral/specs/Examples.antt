@@ -5,7 +5,7 @@ use lib.IntN.{pos, negsuc}
 use Rattle.wire.specs.Ascii.{ascii}
 use Rattle.wire.specs.Bytes.{those}
 use Rattle.numeral.specs.Decimal.{digitsIn, digits, decimal}
-use Rattle.numeral.specs.Whole.{malformed, whole, isDigit, allDigits, valueFrom, isNatural, naturalOf, negativeOf, wholeOf, isWithin, answerOf}
+use Rattle.numeral.specs.Whole.{malformed, whole, isDigit, allDigits, valueFrom, isNatural, naturalOf, negativeOf, wholeOf, isWithin, wholeAnswer}
 use Rattle.numeral.specs.declared.Whole.the-variants.{Value, Large}
 
 -- -7200, 0 and 9007199254740991
@@ -60,18 +60,18 @@ unfolding wholeOf
 whole-none = refl
 
 -- the two ends of the widest range
-answer-least : answerOf (whole (negsuc 9007199254740990)) ≡ Value (negsuc 9007199254740990)
-unfolding answerOf isWithin
+answer-least : wholeAnswer (whole (negsuc 9007199254740990)) ≡ Value (negsuc 9007199254740990)
+unfolding wholeAnswer isWithin
 answer-least = refl
 
-answer-below : answerOf (whole (negsuc 9007199254740991)) ≡ Large
-unfolding answerOf isWithin
+answer-below : wholeAnswer (whole (negsuc 9007199254740991)) ≡ Large
+unfolding wholeAnswer isWithin
 answer-below = refl
 
-answer-most : answerOf (whole (pos 9007199254740991)) ≡ Value (pos 9007199254740991)
-unfolding answerOf isWithin
+answer-most : wholeAnswer (whole (pos 9007199254740991)) ≡ Value (pos 9007199254740991)
+unfolding wholeAnswer isWithin
 answer-most = refl
 
-answer-above : answerOf (whole (pos 9007199254740992)) ≡ Large
-unfolding answerOf isWithin
+answer-above : wholeAnswer (whole (pos 9007199254740992)) ≡ Large
+unfolding wholeAnswer isWithin
 answer-above = refl

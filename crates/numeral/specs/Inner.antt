@@ -13,14 +13,14 @@ use Rattle.numeral.specs.declared.Natural.the-variants.{Sum, NotOne}
 use Rattle.wire.specs.Bytes.{Bytes}
 
 -- the first number that is too large
-abbrev pub over : ℕ
-over = suc widest
+abbrev pub aboveWidest : ℕ
+aboveWidest = suc widest
 
 unfoldable pub digitsSum : ℕ → Bytes → Natural
-digitsSum v l = cond (allDigits l) (Sum (min (valueFrom v l) over)) NotOne
+digitsSum v l = cond (allDigits l) (Sum (min (valueFrom v l) aboveWidest)) NotOne
 
 unfoldable pub naturalSum : Bytes → Natural
-naturalSum l = cond (isNatural l) (Sum (min (valueOf l) over)) NotOne
+naturalSum l = cond (isNatural l) (Sum (min (valueOf l) aboveWidest)) NotOne
 
 unfoldable pub aboveOf : Natural → Whole
 aboveOf (Sum v) = cond (ltb widest v) Large (Value (pos v))

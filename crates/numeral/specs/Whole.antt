@@ -34,18 +34,18 @@ unfoldable pub isNatural : Bytes → Bool
 isNatural [] = false
 isNatural (x ∷ l) = cond (eqb x 48) (isEmpty l) (allDigits (x ∷ l))
 
-pub data Read : Type 0 where
-  malformed : Read
-  whole : ℤ → Read
+pub data Spelled : Type 0 where
+  malformed : Spelled
+  whole : ℤ → Spelled
 
-unfoldable pub naturalOf : Bytes → Read
+unfoldable pub naturalOf : Bytes → Spelled
 naturalOf l = cond (isNatural l) (whole (pos (valueOf l))) malformed
 
 -- what stands after a minus: not 0
-unfoldable pub negativeOf : Bytes → Read
+unfoldable pub negativeOf : Bytes → Spelled
 negativeOf l = cond (isNatural l) (cond (eqb (valueOf l) 0) malformed (whole (negℤ (pos (valueOf l))))) malformed
 
-unfoldable pub wholeOf : Bytes → Read
+unfoldable pub wholeOf : Bytes → Spelled
 wholeOf [] = malformed
 wholeOf (x ∷ l) = cond (eqb x 45) (negativeOf l) (naturalOf (x ∷ l))
 
@@ -54,6 +54,6 @@ isWithin (Value z) lo hi = not (ltZ z lo) && not (ltZ hi z)
 isWithin Large lo hi = false
 isWithin Malformed lo hi = false
 
-unfoldable pub answerOf : Read → Whole
-answerOf malformed = Malformed
-answerOf (whole z) = cond (isWithin (Value z) (negℤ (pos widest)) (pos widest)) (Value z) Large
+unfoldable pub wholeAnswer : Spelled → Whole
+wholeAnswer malformed = Malformed
+wholeAnswer (whole z) = cond (isWithin (Value z) (negℤ (pos widest)) (pos widest)) (Value z) Large

@@ -5,8 +5,8 @@ ghost use lib.IntN.{natAbs};
 ghost use lib.ListN.{length, drop};
 ghost use Rattle.wire.specs.Put.{Puts};
 ghost use Rattle.numeral.specs.Decimal.{digits, decimal};
-ghost use Rattle.numeral.specs.Whole.{wholeOf, answerOf, isWithin};
-ghost use Rattle.numeral.specs.Inner.{over, digitsSum, naturalSum, aboveOf, belowOf};
+ghost use Rattle.numeral.specs.Whole.{wholeOf, wholeAnswer, isWithin};
+ghost use Rattle.numeral.specs.Inner.{aboveWidest, digitsSum, naturalSum, aboveOf, belowOf};
 
 // What a spelling says: a number of 01's widest range, one beyond it on either side, or none.
 pub enum Whole {
@@ -27,8 +27,8 @@ const OVER: u64 = WIDEST + 1;
 
 // One digit more.
 fn grow(v: u64, x: u8) -> u64
-    requires { ⌜ (v ≤ over) × (48 ≤ x) × (x ≤ 57) ⌝ }
-    ensures { λ r. ⌜ r ≡ min (v * 10 + (x - 48)) over ⌝ }
+    requires { ⌜ (v ≤ aboveWidest) × (48 ≤ x) × (x ≤ 57) ⌝ }
+    ensures { λ r. ⌜ r ≡ min (v * 10 + (x - 48)) aboveWidest ⌝ }
 {
     let w = v * 10 + (x - 48) as u64;
     if w < OVER { w } else { OVER }
@@ -104,7 +104,7 @@ fn below(n: Natural) -> Whole
 
 // The number that `p` spells, from its first byte to its last.
 pub fn read_whole(p: &[u8]) -> Whole
-    ensures { λ r. ⌜ r ≡ answerOf (wholeOf (now (p .entry))) ⌝ }
+    ensures { λ r. ⌜ r ≡ wholeAnswer (wholeOf (now (p .entry))) ⌝ }
 {
     if p.len() == 0 {
         return Whole::Malformed;

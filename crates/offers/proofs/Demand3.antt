@@ -13,7 +13,7 @@ use Rattle.law.specs.Table.{IdPremise, isNoRoom, noRoom, refused, isStored as i
 use Rattle.law.specs.Demand3.{RelayOn, StoredBy, runOn, answersOn, lacksOn, NoneLacksOn}
 use Rattle.table.specs.Layout.{capacityOf, countOf}
 use Rattle.table.specs.Events.{Signature, SignedEvent, tableEvents, view}
-use Rattle.table.specs.Offer.{Offering, judge, answer, numberOf, isStored, next}
+use Rattle.table.specs.Offer.{Offering, judge, answer, offerNumber, isStored, next}
 use Rattle.table.specs.Demand3.{relay, verdictOf}
 use Rattle.table.specs.declared.Offered.{Offered}
 use Rattle.table.specs.declared.Offered.the-variants.{Ephemeral, Duplicate, Older, Stored, Refused}
@@ -31,7 +31,7 @@ run b [] t = refl
 run b (c ∷ cs) t = run (c .exit) cs (t .1) ∙ ap (λ x. runOn tableEvents Signature relay x (offersOf cs)) (t .0 .leaves)
 
 -- row 12 is the verdict that lacks room
-twelve : (a : Offered) → eqb (numberOf a) 12 ≡ isNoRoom (verdictOf a)
+twelve : (a : Offered) → eqb (offerNumber a) 12 ≡ isNoRoom (verdictOf a)
 twelve Ephemeral = refl
 twelve Duplicate = refl
 twelve Older = refl
@@ -199,7 +199,7 @@ demand-3-of-calls = record {
 }
 
 -- ---- the wrong relays
-not-stored : (a : Offered) → numberOf a ≢ 0 → isStored a ≡ false
+not-stored : (a : Offered) → offerNumber a ≢ 0 → isStored a ≡ false
 not-stored Ephemeral n = refl
 not-stored Duplicate n = refl
 not-stored Older n = refl
@@ -208,7 +208,7 @@ not-stored (Refused r) n = refl
 
 pub none-of-these : (says : List ℕ → Offering → Offered) (exit : List ℕ → Offering → List ℕ) → Keeps says exit → NoneOfThese says exit
 none-of-these says exit k = record {
-  takes = λ r. takes-something (λ b o. not-stored (answer b o) (λ z. r b o (ap numberOf (k .answers b o) ∙ z)));
+  takes = λ r. takes-something (λ b o. not-stored (answer b o) (λ z. r b o (ap offerNumber (k .answers b o) ∙ z)));
   stores = λ i. stores-something (λ b o. ap view (sym (k .leaves b o)) ∙ i b o);
   verdicts = λ e. answers-differ (λ b c o p. sym (k .answers b o) ∙ e b c o p ∙ k .answers c p);
   own-id = valid-hashed;

@@ -12,7 +12,7 @@ use lib.Seq.{drop-cons}
 use Rattle.wire.specs.Bytes.{isHex}
 use Rattle.wire.specs.Put.{Puts}
 use Rattle.wire.proofs.Laws.{length-put, Rest, puts-one, rest-turn, rest-end}
-use Rattle.spell.specs.Spell.{hexVal, unhex, shortOf, isPair, pairOf, unicodeOf, charOf, chars, charsFrom, utf8Of, bytesOf, joined, decode, all, isHexOf}
+use Rattle.spell.specs.Spell.{hexVal, unhex, shortOf, isPair, pairOf, unicodeOf, charOf, chars, charsFrom, utf8Of, charBytes, charsBytes, decode, all, isHexOf}
 use Rattle.spell.specs.declared.Char.{Char}
 use Rattle.spell.proofs.Laws.{HexDigit, digit, letter, hex-digit, hex-length, hex-all, decode-raw, decode-short, decode-length}
 use Rattle.text.proofs.Pieces.{both}
@@ -35,8 +35,8 @@ many r x l h = record { one = λ e. absurd (go (hex-digit x (both (isHex x) (all
     go (digit a b) = omega arith
     go (letter a b) = omega arith
 
-one-byte : (c : Char) (r : List ℕ) → One r (bytesOf c)
-unfolding bytesOf utf8Of
+one-byte : (c : Char) (r : List ℕ) → One r (charBytes c)
+unfolding charBytes utf8Of
 one-byte c r =
     let n = c .code in
     let t = 0x80 + n % 0x40 in
@@ -57,7 +57,7 @@ wide u x y v = go (isPair u x y v)
     go false = lit≤ tt
 
 lone : all isHex (decode (0x5c ∷ [])) ≡ false
-unfolding decode joined charsFrom charOf bytesOf shortOf all isHex
+unfolding decode charsBytes charsFrom charOf charBytes shortOf all isHex
 lone = refl
 
 skipped : (k : ℕ) (l : List ℕ) → charsFrom k l ≡ chars (drop k l)
@@ -67,16 +67,16 @@ skipped (suc k) [] = refl
 skipped (suc k) (x ∷ l) = skipped k l
 
 unicode-shorter : (l : List ℕ) → all isHex (decode (0x5c ∷ 0x75 ∷ l)) ≡ true → length (decode (0x5c ∷ 0x75 ∷ l)) < length (0x5c ∷ 0x75 ∷ l)
-unfolding decode joined charsFrom charOf
+unfolding decode charsBytes charsFrom charOf
 unicode-shorter l e =
     let c = charOf (0x5c ∷ 0x75 ∷ l) in
     let t = drop (pred (c .width)) (0x75 ∷ l) in
-    let p : decode (0x5c ∷ 0x75 ∷ l) ≡ bytesOf c ++ decode t = ap (λ r. bytesOf c ++ joined r) (skipped (pred (c .width)) (0x75 ∷ l)) in
+    let p : decode (0x5c ∷ 0x75 ∷ l) ≡ charBytes c ++ decode t = ap (λ r. charBytes c ++ charsBytes r) (skipped (pred (c .width)) (0x75 ∷ l)) in
     let w : 6 ≤ c .width = wide _ _ _ _ in
     omega (
       arith,
       ap length p,
-      length-append (bytesOf c) (decode t),
+      length-append (charBytes c) (decode t),
       one-byte c (decode t) .one (sym (ap (all isHex) p) ∙ e),
       decode-length t,
       length-drop (pred (c .width)) (0x75 ∷ l),
@@ -94,7 +94,7 @@ no-escape (y ∷ l) n e = go (eqb y 0x75) refl
         omega (arith, m, unicode-shorter l (rw u at e))
 
 nothing : decode [] ≡ []
-unfolding decode joined charsFrom
+unfolding decode charsBytes charsFrom
 nothing = refl
 
 as-long : (l : List ℕ) → length (decode l) ≡ length l → all isHex (decode l) ≡ true → decode l ≡ l

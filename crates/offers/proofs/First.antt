@@ -13,7 +13,7 @@ use Rattle.law.specs.Lists.{any, find}
 use Rattle.event.proofs.Decoded.{or-neither}
 use Rattle.table.specs.Layout.{slotAt}
 use Rattle.table.specs.Sound.{noneTwice}
-use Rattle.slots.specs.Slots.{from}
+use Rattle.slots.specs.Slots.{slotsFrom}
 use Rattle.slots.proofs.Walk.{from-more, from-none}
 
 module _ {A B : Type 0} (f : A → B) (p : B → Bool) where
@@ -78,14 +78,14 @@ find-most p (x ∷ l) = go (p x) (find-most p l)
     go false h = omega arith
 
 -- ---- the first slot that passes, turn by turn
-module _ (b : List ℕ) (k c : ℕ) (p : List ℕ → Bool) {x : ℕ} (e : x ≡ k + find p (from b k (c - k))) where
-  pub find-more : k < c → p (slotAt b k) ≡ false → x ≡ k + 1 + find p (from b (k + 1) (c - (k + 1)))
+module _ (b : List ℕ) (k c : ℕ) (p : List ℕ → Bool) {x : ℕ} (e : x ≡ k + find p (slotsFrom b k (c - k))) where
+  pub find-more : k < c → p (slotAt b k) ≡ false → x ≡ k + 1 + find p (slotsFrom b (k + 1) (c - (k + 1)))
   find-more h q =
-      e ∙ ap (λ l. k + find p l) (from-more b k c h) ∙ ap (λ t. k + cond t zero (suc (find p (from b (k + 1) (c - (k + 1)))))) q ∙ omega arith
+      e ∙ ap (λ l. k + find p l) (from-more b k c h) ∙ ap (λ t. k + cond t zero (suc (find p (slotsFrom b (k + 1) (c - (k + 1)))))) q ∙ omega arith
 
   pub find-met : k < c → p (slotAt b k) ≡ true → x ≡ k
   find-met h q =
-      e ∙ ap (λ l. k + find p l) (from-more b k c h) ∙ ap (λ t. k + cond t zero (suc (find p (from b (k + 1) (c - (k + 1)))))) q ∙ omega arith
+      e ∙ ap (λ l. k + find p l) (from-more b k c h) ∙ ap (λ t. k + cond t zero (suc (find p (slotsFrom b (k + 1) (c - (k + 1)))))) q ∙ omega arith
 
   pub find-end : c ≤ k → x ≡ k
   find-end h = e ∙ ap (λ l. k + find p l) (from-none b k c h) ∙ omega arith

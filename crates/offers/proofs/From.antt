@@ -13,7 +13,7 @@ use Rattle.wire.specs.Bytes.{part}
 use Rattle.wire.specs.Put.{Puts}
 use Rattle.text.specs.Event.{Event}
 use Rattle.text.specs.Read.{read, readText}
-use Rattle.text.specs.Answer.{textOf}
+use Rattle.text.specs.Answer.{textParts}
 use Rattle.shape.specs.Shape.{Word, event, req, close, other, opened}
 use Rattle.shape.specs.Rows.{messageRow}
 use Rattle.rows.specs.Rows.{row1, row2, row3, row4, onRoot, textRow}
@@ -39,8 +39,8 @@ use Rattle.offers.specs.Taken.{Made, Makes}
 use Rattle.offers.proofs.Makes.{lentPart, given, lent-most, ready, made}
 
 module _ (m : List ℕ) where
-  read-row : {x : Message} → readOf m ≡ x → messageRow m ≡ reader.rowOf x
-  read-row e = sym (row-read m) ∙ ap reader.rowOf e
+  read-row : {x : Message} → readOf m ≡ x → messageRow m ≡ reader.readNumber x
+  read-row e = sym (row-read m) ∙ ap reader.readNumber e
 
   -- a message that was read and is no EVENT
   not-event : (x : Message) → ((p : EventParts) → x ≡ message.Event p → ⊥) → readOf m ≡ x → messageRow m ≡ 0 → isEvent m ≡ false
@@ -51,7 +51,7 @@ module _ (m : List ℕ) where
       go none f = refl
       go (got t k) f = word (opened m t .first) f
         where
-          word : (w : Word) → reader.partsOf m w (opened m t .rest) ≡ x → isEventWord w ≡ false
+          word : (w : Word) → reader.messageParts m w (opened m t .rest) ≡ x → isEventWord w ≡ false
           word event f = absurd (n _ (sym f))
           word req f = refl
           word close f = refl
@@ -116,7 +116,7 @@ module _ (m : List ℕ) where
       from-ready o = let (f, (w, (q, y))) = told in ready m p d zs w q refl (o ∙ y)
 
       pub from-event : {y : List ℕ} → y ≡ sentOut m (lentPart d) → {r : ℕ} {u : List ℕ}
-          → ((v : Event) → readText (part (given d y) textPlace n) ≡ read v → Puts (given d y) 0 (headOf m p n (textOf v)) r u)
+          → ((v : Event) → readText (part (given d y) textPlace n) ≡ read v → Puts (given d y) 0 (headOf m p n (textParts v)) r u)
           → Makes m (sent.Wrote p n) u
       unfolding partsOf
       from-event o g =

@@ -24,7 +24,7 @@ use Rattle.table.specs.Sound.{slotSound, slotsSound, noneTwice, noKeyTwice, sou
 use Rattle.table.proofs.Bytes.{clauses}
 use Rattle.table.proofs.Slots.{sound-signed, sound-event}
 use Rattle.table.proofs.Stored.{length-view}
-use Rattle.slots.specs.Slots.{hasKeyIn, pubkeyIn, dBytesIn, sameIdIn, sameKeyIn, from}
+use Rattle.slots.specs.Slots.{hasKeyIn, pubkeyBytes, dBytesIn, sameIdIn, sameKeyIn, slotsFrom}
 use Rattle.slots.proofs.Pairs.{any-map, any-as, none-map, none-as}
 use Rattle.slots.proofs.Keys.{key-same}
 use Rattle.offers.specs.Inner.{newerIn, dLast, slotOf}
@@ -32,13 +32,13 @@ use Rattle.offers.proofs.First.{find-map, find-as, find-any, first-deci
 
 -- ---- keys of slots
 same-parts : (s t : List ℕ) → sameKeyIn s t ≡ true
-    → (kindIn t ≡ kindIn s) × (hasKeyIn (classOf (kindIn t)) ≡ true) × (pubkeyIn t ≡ pubkeyIn s) × (dBytesIn t ≡ dBytesIn s)
+    → (kindIn t ≡ kindIn s) × (hasKeyIn (classOf (kindIn t)) ≡ true) × (pubkeyBytes t ≡ pubkeyBytes s) × (dBytesIn t ≡ dBytesIn s)
 unfolding sameKeyIn
 same-parts s t h =
-    let a = both (eqb (kindIn t) (kindIn s)) (hasKeyIn (classOf (kindIn t)) && (sameBytes (pubkeyIn t) (pubkeyIn s) && sameBytes (dBytesIn t) (dBytesIn s))) h in
-    let b = both (hasKeyIn (classOf (kindIn t))) (sameBytes (pubkeyIn t) (pubkeyIn s) && sameBytes (dBytesIn t) (dBytesIn s)) (a .1) in
-    let c = both (sameBytes (pubkeyIn t) (pubkeyIn s)) (sameBytes (dBytesIn t) (dBytesIn s)) (b .1) in
-    (eqb-true (kindIn t) (kindIn s) (a .0), b .0, same-equal (pubkeyIn t) (pubkeyIn s) (c .0), same-equal (dBytesIn t) (dBytesIn s) (c .1))
+    let a = both (eqb (kindIn t) (kindIn s)) (hasKeyIn (classOf (kindIn t)) && (sameBytes (pubkeyBytes t) (pubkeyBytes s) && sameBytes (dBytesIn t) (dBytesIn s))) h in
+    let b = both (hasKeyIn (classOf (kindIn t))) (sameBytes (pubkeyBytes t) (pubkeyBytes s) && sameBytes (dBytesIn t) (dBytesIn s)) (a .1) in
+    let c = both (sameBytes (pubkeyBytes t) (pubkeyBytes s)) (sameBytes (dBytesIn t) (dBytesIn s)) (b .1) in
+    (eqb-true (kindIn t) (kindIn s) (a .0), b .0, same-equal (pubkeyBytes t) (pubkeyBytes s) (c .0), same-equal (dBytesIn t) (dBytesIn s) (c .1))
 
 tied : (s x y : List ℕ) → sameKeyIn s x ≡ true → sameKeyIn s y ≡ true → sameKeyIn x y ≡ true
 unfolding sameKeyIn
@@ -47,7 +47,7 @@ tied s x y e f =
     let (i, j, k, l) = same-parts s y f in
     and-true (eqb (kindIn y) (kindIn x)) _ (eq-eqb (kindIn y) (kindIn x) (i ∙ sym a))
     (and-true (hasKeyIn (classOf (kindIn y))) _ j
-    (and-true (sameBytes (pubkeyIn y) (pubkeyIn x)) (sameBytes (dBytesIn y) (dBytesIn x)) (equal-same (pubkeyIn y) (pubkeyIn x) (k ∙ sym c)) (equal-same (dBytesIn y) (dBytesIn x) (l ∙ sym d))))
+    (and-true (sameBytes (pubkeyBytes y) (pubkeyBytes x)) (sameBytes (dBytesIn y) (dBytesIn x)) (equal-same (pubkeyBytes y) (pubkeyBytes x) (k ∙ sym c)) (equal-same (dBytesIn y) (dBytesIn x) (l ∙ sym d))))
 
 -- d that ends otherwise
 pub other-end : (s t : List ℕ) → (dLast t ≡ dLast s → ⊥) → false ≡ sameKeyIn s t
@@ -74,7 +74,7 @@ module _ (s : List ℕ) {n at len : ℕ} {t d : List ℕ} (x : n ≡ fieldAt s 1
 -- ---- times
 time-of : (s : List ℕ) → slotSound s ≡ true → timeOfText (textIn s) ≡ signed (timeIn s)
 unfolding timeOfText
-time-of s ok = let (e, r) = sound-event s ok in ap events.timeIn r ∙ sym (sound-signed s ok e r)
+time-of s ok = let (e, r) = sound-event s ok in ap events.readTime r ∙ sym (sound-signed s ok e r)
 
 newer-same : (t s : List ℕ) → slotSound t ≡ true → slotSound s ≡ true → signedEvents .newer (inSlot t) (inSlot s) ≡ newerIn t s
 unfolding newerIn
@@ -87,13 +87,13 @@ module _ (b s : List ℕ) (g : sound b ≡ true) where
   unfolding slotsSound
   slots-ok = clauses b g .slots
 
-  pub ids : any (hasId signedEvents (inSlot s)) (view b) ≡ any (sameIdIn s) (from b 0 (countOf b))
-  unfolding view from sameIdIn
+  pub ids : any (hasId signedEvents (inSlot s)) (view b) ≡ any (sameIdIn s) (slotsFrom b 0 (countOf b))
+  unfolding view slotsFrom sameIdIn
   ids = any-map inSlot (hasId signedEvents (inSlot s)) (heldSlots b)
 
   module _ (ok : slotSound s ≡ true) where
-    pub slot-is : slotOf b s ≡ find (sameKeyIn s) (from b 0 (countOf b))
-    unfolding slotOf view from
+    pub slot-is : slotOf b s ≡ find (sameKeyIn s) (slotsFrom b 0 (countOf b))
+    unfolding slotOf view slotsFrom
     slot-is =
         find-map inSlot (hasKey signedEvents (inSlot s)) (heldSlots b)
         ∙ find-as slotSound (λ t. hasKey signedEvents (inSlot s) (inSlot t)) (sameKeyIn s) (λ t q. key-same s t ok q) (heldSlots b) slots-ok
@@ -110,7 +110,7 @@ module _ (b s : List ℕ) (g : sound b ≡ true) where
         ∙ clauses b g .keys
 
     pub newers : any (hasKeyNewer signedEvents (inSlot s)) (view b) ≡ (ltb (slotOf b s) (countOf b) && newerIn (getD (heldSlots b) (slotOf b s) []) s)
-    unfolding view from
+    unfolding view slotsFrom
     newers =
         any-map inSlot (hasKeyNewer signedEvents (inSlot s)) (heldSlots b)
         ∙ any-as slotSound (λ t. hasKeyNewer signedEvents (inSlot s) (inSlot t)) (λ t. sameKeyIn s t && newerIn t s)

@@ -19,7 +19,7 @@ use Rattle.spell.specs.Spell.{unhex}
 use Rattle.text.specs.Event.{Event, serialise}
 use Rattle.text.specs.Read.{read, readText}
 use Rattle.text.specs.Kinds.{classOf}
-use Rattle.text.specs.Answer.{textOf, answerOf}
+use Rattle.text.specs.Answer.{textParts, textAnswerOf}
 use Rattle.text.specs.declared.Class.{Class}
 use Rattle.text.specs.declared.Class.the-variants.{Regular, Replaceable, Ephemeral, Addressable}
 use Rattle.text.specs.declared.Text.{Text}
@@ -31,7 +31,7 @@ use Rattle.message.specs.declared.EventParts.{EventParts}
 use Rattle.message.specs.Lent.{isSpelled, string5, string7, body5, body7, event5, event7}
 use Rattle.event.specs.Lent.{said, eventOf}
 use Rattle.event.specs.Lent as lent
-use Rattle.event.specs.Answer.{offeredRow, offeredTextRow, offered, offeredOut, answered, outputAfter, numberOf}
+use Rattle.event.specs.Answer.{offeredRow, offeredTextRow, offered, offeredOut, answered, outputAfter, writtenNumber}
 use Rattle.event.specs.declared.Written.{Written}
 use Rattle.event.specs.declared.Written.the-variants as written
 use Rattle.event.proofs.Decoded.{or-neither}
@@ -40,7 +40,7 @@ use Rattle.event.proofs.Answers.{offered-small, row-alone-most}
 use Rattle.table.specs.Layout.{Held, Fits, slotSize, textPlace, dIfAddressable, dPlace, textBytes, slotBytes}
 use Rattle.table.specs.Offer.{asParts, heldOf, isValid}
 use Rattle.table.proofs.Valid.{clean, valid-fits}
-use Rattle.offers.specs.Inner.{SpellsHex, ifAddressable, numbersOf, headOf}
+use Rattle.offers.specs.Inner.{SpellsHex, ifAddressable, slotNumbers, headOf}
 
 -- ---- the front of an array that something was put into whole
 module _ {d s o : List ℕ} {n m : ℕ} (room : length o ≡ m) (p : Puts d 0 s n o) (h : length s ≤ m) where
@@ -56,13 +56,13 @@ module _ {d s o : List ℕ} {n m : ℕ} (room : length o ≡ m) (p : Puts d 0 s 
 -- ---- the numbers before the text
 pub numbers-put : (t : Text) (n : ℕ) {d o : List ℕ} {at r u i j : ℕ} → u ≡ unsigned (t .time) → i ≡ ifAddressable (classOf (t .kind)) (t .d)
     → j ≡ ifAddressable (classOf (t .kind)) (t .«d_len»)
-    → Puts d at (leBytes 8 u ++ leBytes 2 (t .kind) ++ leBytes 2 n ++ leBytes 2 i ++ leBytes 2 j) r o → Puts d at (numbersOf t n) r o
-unfolding numbersOf
+    → Puts d at (leBytes 8 u ++ leBytes 2 (t .kind) ++ leBytes 2 n ++ leBytes 2 i ++ leBytes 2 j) r o → Puts d at (slotNumbers t n) r o
+unfolding slotNumbers
 numbers-put t n p q s w = rw (p, q, s) at w
 
 -- what reading a text answers where it reads as the event e
-pub read-answers : {x : TextAnswer} {s t : List ℕ} (e : Event) → s ≡ t → x ≡ answerOf (readText s) → readText t ≡ read e → x ≡ answer.Read (textOf e)
-read-answers e q a r = a ∙ ap (λ z. answerOf (readText z)) q ∙ ap answerOf r
+pub read-answers : {x : TextAnswer} {s t : List ℕ} (e : Event) → s ≡ t → x ≡ textAnswerOf (readText s) → readText t ≡ read e → x ≡ answer.Read (textParts e)
+read-answers e q a r = a ∙ ap (λ z. textAnswerOf (readText z)) q ∙ ap textAnswerOf r
 
 pub same-read : {x : TextAnswer} {t v : Text} → x ≡ answer.Read t → x ≡ answer.Read v → t ≡ v
 same-read p q = cc
@@ -116,7 +116,7 @@ lent-most zs = omega (arith, ap length (blank zs), length-replicate {A = ℕ} mo
 abbrev pub given : List ℕ → List ℕ → List ℕ
 given d y = putMid textPlace (slotSize - textPlace) d y
 
-d-if : (c : Class) (v : Event) → (ifAddressable c (textOf v .d) ≡ dIfAddressable c v .at) × (ifAddressable c (textOf v .«d_len») ≡ dIfAddressable c v .len)
+d-if : (c : Class) (v : Event) → (ifAddressable c (textParts v .d) ≡ dIfAddressable c v .at) × (ifAddressable c (textParts v .«d_len») ≡ dIfAddressable c v .len)
 d-if Regular v = (refl, refl)
 d-if Replaceable v = (refl, refl)
 d-if Ephemeral v = (refl, refl)
@@ -164,20 +164,20 @@ module _ (b : List ℕ) (p : EventParts) where
           let t = lent.textOf b (p .body) in
           ap readText (ap₂ take l rest ∙ take-append-seam t (replicate (mostText - length t) 0)) ∙ reads
 
-      head-length : length (headOf b p n (textOf (eventOf b (p .body)))) ≡ textPlace
-      unfolding headOf numbersOf heldOf
+      head-length : length (headOf b p n (textParts (eventOf b (p .body)))) ≡ textPlace
+      unfolding headOf slotNumbers heldOf
       head-length = simp (length-append, length-leBytes) (omega (arith, fits .id, fits .sig))
 
-      head-text : headOf b p n (textOf (eventOf b (p .body))) ++ textBytes (lent.textOf b (p .body)) ≡ slotBytes (heldOf b p)
-      unfolding headOf numbersOf heldOf slotBytes dPlace lent.textOf
+      head-text : headOf b p n (textParts (eventOf b (p .body))) ++ textBytes (lent.textOf b (p .body)) ≡ slotBytes (heldOf b p)
+      unfolding headOf slotNumbers heldOf slotBytes dPlace lent.textOf
       head-text =
           let v = eventOf b (p .body) in
           let k = d-if (classOf (v .kind)) v in
           rw (l, k .0, k .1) (simp append-assoc)
 
-      slot-made : {o : List ℕ} {r : ℕ} → Puts d 0 (headOf b p n (textOf (eventOf b (p .body)))) r o → o ≡ slotBytes (heldOf b p)
+      slot-made : {o : List ℕ} {r : ℕ} → Puts d 0 (headOf b p n (textParts (eventOf b (p .body)))) r o → o ≡ slotBytes (heldOf b p)
       slot-made u =
-          let s = headOf b p n (textOf (eventOf b (p .body))) in
+          let s = headOf b p n (textParts (eventOf b (p .body))) in
           let x : textPlace ≤ length d
           =
           omega
@@ -186,8 +186,8 @@ module _ (b : List ℕ) (p : EventParts) where
           puts-whole (omega (arith, head-length)) u .1 ∙ ap (λ j. s ++ drop j d) head-length ∙ ap (s ++_) rest ∙ head-text
 
   -- what a slot d of zeros came back as, its place for the text having been lent
-  module _ (d : List ℕ) (zs : d ≡ replicate slotSize 0) {w : Written} (a : w ≡ offered b p (lentPart d)) (q : numberOf w ≡ offeredTextRow b p (lentPart d)) where
-    row-is : numberOf w ≡ offeredRow b p
+  module _ (d : List ℕ) (zs : d ≡ replicate slotSize 0) {w : Written} (a : w ≡ offered b p (lentPart d)) (q : writtenNumber w ≡ offeredTextRow b p (lentPart d)) where
+    row-is : writtenNumber w ≡ offeredRow b p
     row-is = q ∙ row-alone-most b p (lentPart d) (lent-most zs)
 
     not-wrote : (x r n : ℕ) → x ≡ 0 → answered x n ≡ written.Refused r → ⊥
@@ -196,16 +196,16 @@ module _ (b : List ℕ) (p : EventParts) where
     pub made-none : {r : ℕ} {o : List ℕ} → w ≡ written.Refused r → (r ≡ offeredRow b p) × (r ≡ 0 → o ≡ slotBytes (heldOf b p))
     unfolding offered
     made-none {r} e = (
-      sym (ap numberOf e) ∙ row-is,
-      λ n. absurd (not-wrote (offeredTextRow b p (lentPart d)) r (length (lent.textOf b (p .body))) (sym q ∙ ap numberOf e ∙ n) (sym a ∙ e)),
+      sym (ap writtenNumber e) ∙ row-is,
+      λ n. absurd (not-wrote (offeredTextRow b p (lentPart d)) r (length (lent.textOf b (p .body))) (sym q ∙ ap writtenNumber e ∙ n) (sym a ∙ e)),
     )
 
     module _ {n : ℕ} (e : w ≡ written.Wrote n) where
       pub row-none : offeredRow b p ≡ 0
-      row-none = sym row-is ∙ ap numberOf e
+      row-none = sym row-is ∙ ap writtenNumber e
 
       text-row : offeredTextRow b p (lentPart d) ≡ 0
-      text-row = sym q ∙ ap numberOf e
+      text-row = sym q ∙ ap writtenNumber e
 
       length-is : n ≡ length (lent.textOf b (p .body))
       unfolding offered
@@ -235,7 +235,7 @@ module _ (b : List ℕ) (p : EventParts) where
             ((id-hex row-none, sig-hex row-none), omega arith)
 
         pub made : {r : ℕ} {u : List ℕ}
-            → ((v : Event) → readText (part (given d y) textPlace n) ≡ read v → Puts (given d y) 0 (headOf b p n (textOf v)) r u)
+            → ((v : Event) → readText (part (given d y) textPlace n) ≡ read v → Puts (given d y) 0 (headOf b p n (textParts v)) r u)
             → (0 ≡ offeredRow b p) × (_≡_ {A = ℕ} 0 0 → u ≡ slotBytes (heldOf b p))
         made f =
             (sym row-none, λ z. slot-made row-none (given d y) came-back n length-is (f (eventOf b (p .body)) (text-reads row-none (given d y) came-back n length-is)))

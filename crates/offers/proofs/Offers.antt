@@ -11,12 +11,12 @@ use Rattle.wire.specs.Field.{leBytes}
 use Rattle.text.specs.Kinds.{isEphemeral, keyOf}
 use Rattle.shape.specs.Shape.{event}
 use Rattle.law.specs.Lists.{any, find}
-use Rattle.law.specs.Table.{hasId, hasKey, hasKeyNewer, lacksSlot, firstOf, verdict}
+use Rattle.law.specs.Table.{hasId, hasKey, hasKeyNewer, lacksSlot, firstVerdict, verdict}
 use Rattle.law.specs.Table as law
 use Rattle.table.specs.Layout.{Held, Fits, slotPlace, countPlace, capacityOf, countOf, slotBytes}
 use Rattle.table.specs.Events.{signedEvents, classIn, classOfEvent, classOfText, inSlot, ofHeld, view}
 use Rattle.table.specs.Sound.{sound}
-use Rattle.table.specs.Offer.{Offering, rowOf, isValid, offeredOf, answerOf, answer, numberOf, isStored, countAfter, slotFor, storedIn, next}
+use Rattle.table.specs.Offer.{Offering, offeringRow, isValid, offeredOf, offeredBy, answer, offerNumber, isStored, countAfter, slotFor, storedIn, next}
 use Rattle.table.specs.declared.Offered.{Offered}
 use Rattle.table.specs.declared.Offered.the-variants.{Refused}
 use Rattle.table.proofs.Valid.{valid-fits, valid-read}
@@ -48,7 +48,7 @@ module _ {A : Type 0} (p q : A → Bool) where
 
 -- the number of a verdict: n holds nowhere where k does not
 verdict-number : (e i n k l : Bool) → (k ≡ false → n ≡ false)
-    → numberOf (answerOf 0 (firstOf e i n (not k && l))) ≡ cond ((not e && (not i && not k)) && l) 12 0
+    → offerNumber (offeredBy 0 (firstVerdict e i n (not k && l))) ≡ cond ((not e && (not i && not k)) && l) 12 0
 verdict-number true i n k l h = refl
 verdict-number false true n k l h = refl
 verdict-number false false true true l h = refl
@@ -62,44 +62,44 @@ module _ (b : List ℕ) (o : Offering) where
   unfolding classOfText classOfEvent
   class-is v = ap (λ r. law.isEphemeral (classIn r)) (valid-read o v) ∙ class-lasts (offeredOf o .event .kind) (keyOf (offeredOf o .event))
 
-  valid-number : isValid o ≡ true → sound b ≡ true → numberOf (answer b o) ≡ cond (needsSlot b (offeredOf o) && allInUse b) 12 0
+  valid-number : isValid o ≡ true → sound b ≡ true → offerNumber (answer b o) ≡ cond (needsSlot b (offeredOf o) && allInUse b) 12 0
   unfolding verdict needsSlot allInUse
   valid-number v g =
       let h = ofHeld (offeredOf o) in
       let k = any (hasKey signedEvents h) (view b) in
       let i = any (hasId signedEvents h) (view b) in
       let n = any (hasKeyNewer signedEvents h) (view b) in
-      ap numberOf (answer-valid b o v g)
-      ∙ ap₂ (λ r e. numberOf (answerOf r (firstOf e i n (lacksSlot signedEvents (capacityOf b) (view b) h)))) (eqb-true (rowOf o) 0 v) (class-is v)
-      ∙ ap (λ m. numberOf (answerOf 0 (firstOf (isEphemeral (offeredOf o .event .kind)) i n (not k && leb (capacityOf b) m)))) (length-view b)
+      ap offerNumber (answer-valid b o v g)
+      ∙ ap₂ (λ r e. offerNumber (offeredBy r (firstVerdict e i n (lacksSlot signedEvents (capacityOf b) (view b) h)))) (eqb-true (offeringRow o) 0 v) (class-is v)
+      ∙ ap (λ m. offerNumber (offeredBy 0 (firstVerdict (isEphemeral (offeredOf o .event .kind)) i n (not k && leb (capacityOf b) m)))) (length-view b)
       ∙ verdict-number (isEphemeral (offeredOf o .event .kind)) i n k (leb (capacityOf b) (countOf b))
       (any-both (hasKey signedEvents h) (λ x. signedEvents .newer x h) (view b))
 
-  pub number-is : numberOf (answer b o) ≡ offerRow b o
+  pub number-is : offerNumber (answer b o) ≡ offerRow b o
   unfolding offerRow
-  number-is = go (eqb (rowOf o) 0) refl (sound b) refl
+  number-is = go (eqb (offeringRow o) 0) refl (sound b) refl
     where
-      go : (v : Bool) → eqb (rowOf o) 0 ≡ v → (g : Bool) → sound b ≡ g
-          → numberOf (answer b o) ≡ cond v (cond g (cond (needsSlot b (offeredOf o) && allInUse b) 12 0) 11) (rowOf o)
+      go : (v : Bool) → eqb (offeringRow o) 0 ≡ v → (g : Bool) → sound b ≡ g
+          → offerNumber (answer b o) ≡ cond v (cond g (cond (needsSlot b (offeredOf o) && allInUse b) 12 0) 11) (offeringRow o)
       go true v true g = valid-number v g
-      go true v false g = ap numberOf (answer-unsound b o v g)
-      go false v g h = ap numberOf (answer-invalid b o v)
+      go true v false g = ap offerNumber (answer-unsound b o v g)
+      go false v g h = ap offerNumber (answer-invalid b o v)
 
 -- ---- an offer o by its slot
 module _ (b : List ℕ) (o : Offering) where
   -- what is promised of an answer, and of the table at exit
   abbrev pub Answers : Offered → Type 0
-  Answers a = (a ≡ answer b o) × (numberOf a ≡ offerRow b o)
+  Answers a = (a ≡ answer b o) × (offerNumber a ≡ offerRow b o)
 
   abbrev pub Leaves : Offered → List ℕ → Type 0
-  Leaves a t = (a ≡ answer b o) × ((numberOf a ≡ offerRow b o) × (t ≡ next b o))
+  Leaves a t = (a ≡ answer b o) × ((offerNumber a ≡ offerRow b o) × (t ≡ next b o))
 
   answers : {a : Offered} → a ≡ answer b o → Answers a
-  answers e = (e, ap numberOf e ∙ number-is b o)
+  answers e = (e, ap offerNumber e ∙ number-is b o)
 
-  module _ {r : ℕ} (f : r ≡ rowOf o) where
-    refused-is : (r ≡ 0 → ⊥) → answer b o ≡ Refused (rowOf o)
-    refused-is n = answer-invalid b o (ne-eqb (rowOf o) 0 (λ q. n (f ∙ q)))
+  module _ {r : ℕ} (f : r ≡ offeringRow o) where
+    refused-is : (r ≡ 0 → ⊥) → answer b o ≡ Refused (offeringRow o)
+    refused-is n = answer-invalid b o (ne-eqb (offeringRow o) 0 (λ q. n (f ∙ q)))
 
     pub refused : (r ≡ 0 → ⊥) → Answers (Refused r)
     refused n = answers (ap Refused f ∙ sym (refused-is n))
@@ -113,7 +113,7 @@ module _ (b : List ℕ) (o : Offering) where
       q = w z
 
       valid : isValid o ≡ true
-      valid = eq-eqb (rowOf o) 0 (sym f ∙ z)
+      valid = eq-eqb (offeringRow o) 0 (sym f ∙ z)
 
       fits : Fits (offeredOf o)
       fits = valid-fits o valid
@@ -130,7 +130,7 @@ module _ (b : List ℕ) (o : Offering) where
         where
           go : (x : Bool) → sound b ≡ x → cond x (answerFor b s) (Refused 11) ≡ answer b o
           go true g =
-              ap₂ (λ k v. answerOf k (verdict signedEvents (capacityOf b) (view b) (some v))) (sym (sym f ∙ z)) held ∙ sym (answer-valid b o valid g)
+              ap₂ (λ k v. offeredBy k (verdict signedEvents (capacityOf b) (view b) (some v))) (sym (sym f ∙ z)) held ∙ sym (answer-valid b o valid g)
           go false g = sym (answer-unsound b o valid g)
 
       stores : storedFor b s ≡ storedIn b (offeredOf o)

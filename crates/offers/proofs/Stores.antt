@@ -15,11 +15,11 @@ use Rattle.wire.specs.Put.{put, Puts}
 use Rattle.wire.proofs.Laws.{puts-whole}
 use Rattle.text.specs.Kinds.{isEphemeral}
 use Rattle.law.specs.Lists.{any, find}
-use Rattle.law.specs.Table.{hasId, hasKey, firstOf}
+use Rattle.law.specs.Table.{hasId, hasKey, firstVerdict}
 use Rattle.table.specs.Layout.{slotSize, slotPlace, countPlace, capacityOf, countOf, kindIn}
 use Rattle.table.specs.Events.{signedEvents, inSlot, view}
 use Rattle.table.specs.Sound.{sound}
-use Rattle.table.specs.Offer.{answerOf, isStored}
+use Rattle.table.specs.Offer.{offeredBy, isStored}
 use Rattle.table.specs.declared.Offered.{Offered}
 use Rattle.table.specs.declared.Offered.the-variants.{Stored, Refused}
 use Rattle.table.proofs.Bytes.{clauses}
@@ -44,7 +44,7 @@ lent-put d a k s e h =
     sym (sets-eq s d a h′ ∙ append-assoc (take a d) s (drop (a + length s) d)
     ∙ ap (λ (l : List ℕ). take a d ++ (s ++ l)) (ap (λ (j : ℕ). drop (a + j) d) e ∙ sym (drop-drop k a d)))
 
-stored-means : (a i n l : Bool) → isStored (answerOf 0 (firstOf a i n l)) ≡ true → (a ≡ false) × (l ≡ false)
+stored-means : (a i n l : Bool) → isStored (offeredBy 0 (firstVerdict a i n l)) ≡ true → (a ≡ false) × (l ≡ false)
 stored-means true i n l e = absurd (false≢true e)
 stored-means false true n l e = absurd (false≢true e)
 stored-means false false true l e = absurd (false≢true e)

@@ -11,7 +11,7 @@ use Rattle.message.specs.declared.Message.{Message}
 use Rattle.message.specs.declared.Message.the-variants as message
 use Rattle.event.specs.declared.SentText.{SentText}
 use Rattle.event.specs.declared.SentText.the-variants as sent
-use Rattle.table.specs.Offer.{asMessage, answer, numberOf, next}
+use Rattle.table.specs.Offer.{asMessage, answer, offerNumber, next}
 use Rattle.table.specs.declared.Offered.{Offered}
 use Rattle.table.specs.declared.Offered.the-variants as offered
 use Rattle.offers.specs.Inner.{New, offeredTo, offeredNext}
@@ -25,7 +25,7 @@ use Rattle.offers.proofs.Offers as offers
 abbrev pub Takes : List ℕ → List ℕ → Taken → List ℕ → Type 0
 Takes b m r t = (r ≡ taken b m) × ((takenNumber r ≡ takenRow b m) × (t ≡ takenTable b m))
 
-number-as : (a : Offered) (x : Message) → takenNumber (takenAs a x) ≡ takenRowAs (numberOf a) x
+number-as : (a : Offered) (x : Message) → takenNumber (takenAs a x) ≡ takenRowAs (offerNumber a) x
 number-as a (message.Event p) = refl
 number-as a (message.Req q) = refl
 number-as a (message.Close s) = refl

@@ -16,7 +16,7 @@ use Rattle.law.specs.Demand3.{RelayOn, ExchangeOn, judged}
 use Rattle.law.specs.Demand3 as law
 use Rattle.table.specs.Layout.{countOf}
 use Rattle.table.specs.Events.{Signature, SignedEvent, tableEvents, view}
-use Rattle.table.specs.Offer.{Offering, isValid, offeredOf, judge, answer, numberOf, next}
+use Rattle.table.specs.Offer.{Offering, isValid, offeredOf, judge, answer, offerNumber, next}
 use Rattle.table.specs.Format.{formatRow, formatted}
 use Rattle.table.specs.Demand3.{Fresh, relay}
 use Rattle.table.specs.declared.Offered.{Offered}
@@ -34,7 +34,7 @@ pub record Call : Type 0 where
 -- what the call promises, with the table b lent to it
 pub record Promised (b : List ℕ) (c : Call) : Type 0 where
   pub answers : c .answer ≡ answer b (c .offer)
-  pub number : numberOf (c .answer) ≡ offerRow b (c .offer)
+  pub number : offerNumber (c .answer) ≡ offerRow b (c .offer)
   pub leaves : c .exit ≡ next b (c .offer)
 
 -- "each other to the table the last one left". 01: "Nobody else writes the table meanwhile."
@@ -70,7 +70,7 @@ validOf cs = judged tableEvents Signature relay (offersOf cs)
 
 -- 01: "An offer lacks room when its answer is 12."
 abbrev pub lacksRoom : List Call → Bool
-lacksRoom cs = any (λ (c : Call). eqb (numberOf (c .answer)) 12) cs
+lacksRoom cs = any (λ (c : Call). eqb (offerNumber (c .answer)) 12) cs
 
 -- 01: "The set held is the pairs of id and text in slots 0 to C-1."
 abbrev pub heldIn : Bytes → Table tableEvents
@@ -153,7 +153,7 @@ module _ (says : List ℕ → Offering → Offered) (exit : List ℕ → Offerin
 
   pub record NoneOfThese : Type 0 where
     -- "a relay that refuses everything or stores nothing"
-    pub takes : ((b : List ℕ) (o : Offering) → numberOf (says b o) ≢ 0) → ⊥
+    pub takes : ((b : List ℕ) (o : Offering) → offerNumber (says b o) ≢ 0) → ⊥
     pub stores : ((b : List ℕ) (o : Offering) → view (exit b o) ≡ view b) → ⊥
     -- "one verdict or id for all": the id of a valid event is the digest of its text, and those are not all one
     pub verdicts : ((b c : List ℕ) (o p : Offering) → says b o ≡ says c p) → ⊥

@@ -25,7 +25,7 @@ use Rattle.law.specs.Table as law
 use Rattle.table.specs.Layout.{slotSize, slotPlace, countPlace, capacityOf, countOf, idIn, timeIn, kindIn, textIn}
 use Rattle.table.specs.Events.{signedEvents, inSlot, classOfText, view}
 use Rattle.table.specs.Sound.{slotSound, sound}
-use Rattle.table.specs.Offer.{answerOf, isStored}
+use Rattle.table.specs.Offer.{offeredBy, isStored}
 use Rattle.table.specs.declared.Offered.{Offered}
 use Rattle.table.specs.declared.Offered.the-variants.{Stored, Refused}
 use Rattle.slots.specs.Slots.{dBytesIn}
@@ -49,7 +49,7 @@ pub record New (s : List ℕ) : Type 0 where
 
 -- "Verdicts of an offer"
 unfoldable pub answerFor : Bytes → Bytes → Offered
-answerFor b s = answerOf 0 (verdict signedEvents (capacityOf b) (view b) (some (inSlot s)))
+answerFor b s = offeredBy 0 (verdict signedEvents (capacityOf b) (view b) (some (inSlot s)))
 
 -- row 11, then the verdict
 unfoldable pub offeredTo : Bytes → Bytes → Offered
@@ -96,8 +96,8 @@ ifAddressable Ephemeral x = 0
 ifAddressable Addressable x = x
 
 -- "created_at 8, two's complement; kind 2; text length 2; d offset 2 and d length 2"
-unfoldable pub numbersOf : Text → ℕ → Bytes
-numbersOf t n =
+unfoldable pub slotNumbers : Text → ℕ → Bytes
+slotNumbers t n =
     leBytes 8 (unsigned (t .time))
     ++ leBytes 2 (t .kind)
     ++ leBytes 2 n
@@ -106,4 +106,4 @@ numbersOf t n =
 
 -- "id 32; sig 64", of the parts p over c, and these numbers
 unfoldable pub headOf : (c : Bytes) (p : EventParts) (n : ℕ) (t : Text) → Bytes
-headOf c p n t = unhex (said c (p .id)) ++ unhex (said c (p .sig)) ++ numbersOf t n
+headOf c p n t = unhex (said c (p .id)) ++ unhex (said c (p .sig)) ++ slotNumbers t n

@@ -10,7 +10,7 @@ use Rattle.law.specs.Table.{hasId, hasKey}
 use Rattle.table.specs.Layout.{Held, capacityOf, countOf}
 use Rattle.table.specs.Events.{signedEvents, ofHeld, view}
 use Rattle.table.specs.Sound.{sound}
-use Rattle.table.specs.Offer.{Offering, rowOf, offeredOf}
+use Rattle.table.specs.Offer.{Offering, offeringRow, offeredOf}
 use Rattle.wire.specs.Bytes.{Bytes, Row}
 
 -- "new slot needed": it is not ephemeral, and neither its id nor its key is held
@@ -25,4 +25,4 @@ allInUse b = leb (capacityOf b) (countOf b)
 
 -- rows 1 to 10 of what is offered; then 11, "table not sound"; then 12
 unfoldable pub offerRow : Bytes → Offering → Row
-offerRow b o = orElse (rowOf o) (cond (sound b) (cond (needsSlot b (offeredOf o) && allInUse b) 12 0) 11)
+offerRow b o = orElse (offeringRow o) (cond (sound b) (cond (needsSlot b (offeredOf o) && allInUse b) 12 0) 11)

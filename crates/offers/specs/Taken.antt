@@ -8,7 +8,7 @@ use Rattle.message.specs.declared.Message.the-variants as message
 use Rattle.event.specs.declared.SentText.{SentText}
 use Rattle.event.specs.declared.SentText.the-variants as sent
 use Rattle.table.specs.Layout.{slotBytes}
-use Rattle.table.specs.Offer.{asMessage, messageOfferRow, partsOf, heldOf, answer, numberOf, next}
+use Rattle.table.specs.Offer.{asMessage, messageOfferRow, partsOf, heldOf, answer, offerNumber, next}
 use Rattle.table.specs.declared.Offered.{Offered}
 use Rattle.offers.specs.Row.{offerRow}
 use Rattle.offers.specs.declared.Taken.{Taken}
@@ -27,7 +27,7 @@ taken b m = takenAs (answer b (asMessage m)) (readOf m)
 
 -- the number of 01: "Reading a message tests rows 1 to 8; offering one tests 1 to 12"
 abbrev pub takenNumber : Taken → ℕ
-takenNumber (Event i a) = numberOf a
+takenNumber (Event i a) = offerNumber a
 takenNumber (Req q) = 0
 takenNumber (Close s) = 0
 takenNumber (Refused r) = r

@@ -11,7 +11,7 @@ ghost use Rattle.wire.specs.Put.{Puts};
 ghost use Rattle.spell.specs.Spell.{hexVal, unhex, all};
 ghost use Rattle.text.specs.Event.{Event};
 ghost use Rattle.text.specs.Read.{read, readText};
-ghost use Rattle.text.specs.Answer.{textOf};
+ghost use Rattle.text.specs.Answer.{textParts};
 ghost use Rattle.text.specs.Kinds.{isEphemeral, classOf};
 ghost use Rattle.message.specs.Read.{readOf};
 ghost use Rattle.table.specs.declared.Offered.the-variants as offered;
@@ -20,11 +20,11 @@ ghost use Rattle.event.specs.Answer.{offeredRow};
 ghost use Rattle.law.specs.Lists.{any, find};
 ghost use Rattle.table.specs.Layout.{slotSize, textPlace, capacityOf, slotBytes};
 ghost use Rattle.table.specs.Sound.{sound};
-ghost use Rattle.table.specs.Offer.{asMessage, asParts, partsOf, messageOfferRow, heldOf, answer, numberOf, next};
-ghost use Rattle.slots.specs.Slots.{sameIdIn, sameKeyIn, from};
+ghost use Rattle.table.specs.Offer.{asMessage, asParts, partsOf, messageOfferRow, heldOf, answer, offerNumber, next};
+ghost use Rattle.slots.specs.Slots.{sameIdIn, sameKeyIn, slotsFrom};
 ghost use Rattle.offers.specs.Row.{offerRow};
 ghost use Rattle.offers.specs.Taken.{Makes, takenAs, taken, takenNumber, takenRow, takenTable};
-ghost use Rattle.offers.specs.Inner.{newerIn, dLast, New, answerFor, offeredTo, Decides, HasRoom, slotOf, storedFor, offeredNext, countFrom, SpellsHex, ifAddressable, numbersOf, headOf};
+ghost use Rattle.offers.specs.Inner.{newerIn, dLast, New, answerFor, offeredTo, Decides, HasRoom, slotOf, storedFor, offeredNext, countFrom, SpellsHex, ifAddressable, slotNumbers, headOf};
 
 // What taking a message gives: the place of an EVENT's id in it, and what its offer is answered; or what else was read.
 pub enum Taken {
@@ -93,7 +93,7 @@ fn d_if(kind: u16, x: usize) -> usize
 
 // The numbers of a slot, by what was read from its text of n bytes.
 fn put_numbers(out: &mut [u8], at: usize, n: usize, t: text::Text) -> usize
-    ensures { λ r. ⌜ Puts (now (out .entry)) at (numbersOf t n) r (now (out .exit)) ⌝ }
+    ensures { λ r. ⌜ Puts (now (out .entry)) at (slotNumbers t n) r (now (out .exit)) ⌝ }
 {
     let a = wire::put_le(out, at, 8, wire::to_unsigned(t.time));
     let b = wire::put_le(out, a, 2, t.kind as u64);
@@ -119,7 +119,7 @@ fn put_head(out: &mut [u8], b: &[u8], p: message::EventParts, n: usize, t: text:
 fn put_fields(out: &mut [u8], b: &[u8], p: message::EventParts, n: usize) -> usize
     requires { ⌜ SpellsHex (now b) (p .id) hexLength × SpellsHex (now b) (p .sig) sigLength ⌝ }
     requires { ⌜ slotSize ≤ length (now out) ⌝ }
-    ensures { λ r. ⌜ ((e : Event) → readText (part (now (out .entry)) textPlace n) ≡ read e → Puts (now (out .entry)) 0 (headOf (now (b .entry)) p n (textOf e)) r (now (out .exit))) ⌝ }
+    ensures { λ r. ⌜ ((e : Event) → readText (part (now (out .entry)) textPlace n) ≡ read e → Puts (now (out .entry)) 0 (headOf (now (b .entry)) p n (textParts e)) r (now (out .exit))) ⌝ }
 {
     match text::read_text(wire::piece(out, slots::TEXT_PLACE, n)) {
         text::TextAnswer::Read(t) => put_head(out, b, p, n, t),
@@ -182,7 +182,7 @@ fn is_ephemeral(kind: u64) -> bool
 
 // Whether one of slots 0 to c-1 has the id of the slot `new`.
 fn id_held(table: &[u8], c: usize, new: &[u8]) -> bool
-    ensures { λ r. ⌜ r ≡ any (sameIdIn (now (new .entry))) (from (now (table .entry)) 0 c) ⌝ }
+    ensures { λ r. ⌜ r ≡ any (sameIdIn (now (new .entry))) (slotsFrom (now (table .entry)) 0 c) ⌝ }
 {
     let mut k = 0;
     while k < c {
@@ -228,7 +228,7 @@ fn has_key(s: &[u8], last: u8, t: &[u8]) -> bool
 
 // The first of slots 0 to c-1 that has the key of the slot `new`, or c.
 fn find_key(table: &[u8], c: usize, new: &[u8]) -> usize
-    ensures { λ r. ⌜ r ≡ find (sameKeyIn (now (new .entry))) (from (now (table .entry)) 0 c) ⌝ }
+    ensures { λ r. ⌜ r ≡ find (sameKeyIn (now (new .entry))) (slotsFrom (now (table .entry)) 0 c) ⌝ }
 {
     let last = d_last(new);
     let mut k = 0;
@@ -347,7 +347,7 @@ fn offer_slot(table: &mut [u8], new: &[u8]) -> table::Offered
 // An event offered as parts: rows 2 and 4 to 10, then 11, then the verdict.
 pub fn offer_parts(table: &mut [u8], b: &[u8], p: message::EventParts) -> table::Offered
     ensures { λ r. ⌜ r ≡ answer (now (table .entry)) (asParts (now (b .entry)) p) ⌝ }
-    ensures { λ r. ⌜ numberOf r ≡ offerRow (now (table .entry)) (asParts (now (b .entry)) p) ⌝ }
+    ensures { λ r. ⌜ offerNumber r ≡ offerRow (now (table .entry)) (asParts (now (b .entry)) p) ⌝ }
     ensures { λ _. ⌜ now (table .exit) ≡ next (now (table .entry)) (asParts (now (b .entry)) p) ⌝ }
 {
     let mut new = [0u8; slots::SLOT_SIZE];
@@ -361,7 +361,7 @@ pub fn offer_parts(table: &mut [u8], b: &[u8], p: message::EventParts) -> table:
 // A message offered: rows 1 to 10, then 11, then the verdict.
 pub fn offer_message(table: &mut [u8], m: &[u8]) -> table::Offered
     ensures { λ r. ⌜ r ≡ answer (now (table .entry)) (asMessage (now (m .entry))) ⌝ }
-    ensures { λ r. ⌜ numberOf r ≡ offerRow (now (table .entry)) (asMessage (now (m .entry))) ⌝ }
+    ensures { λ r. ⌜ offerNumber r ≡ offerRow (now (table .entry)) (asMessage (now (m .entry))) ⌝ }
     ensures { λ _. ⌜ now (table .exit) ≡ next (now (table .entry)) (asMessage (now (m .entry))) ⌝ }
 {
     let mut new = [0u8; slots::SLOT_SIZE];
@@ -375,7 +375,7 @@ pub fn offer_message(table: &mut [u8], m: &[u8]) -> table::Offered
 // What the same offer would be answered; the table is only read.
 pub fn judge_message(table: &[u8], m: &[u8]) -> table::Offered
     ensures { λ r. ⌜ r ≡ answer (now (table .entry)) (asMessage (now (m .entry))) ⌝ }
-    ensures { λ r. ⌜ numberOf r ≡ offerRow (now (table .entry)) (asMessage (now (m .entry))) ⌝ }
+    ensures { λ r. ⌜ offerNumber r ≡ offerRow (now (table .entry)) (asMessage (now (m .entry))) ⌝ }
 {
     let mut new = [0u8; slots::SLOT_SIZE];
     let row = make_from(&mut new, m);

@@ -15,7 +15,7 @@ use Rattle.law.specs.Lists.{_∈_, Pairwise}
 use Rattle.law.proofs.Lists.{any-yes, any-has, count-law}
 use Rattle.table.proofs.Lists.{is-true}
 use Rattle.query.specs.Filter.{Filter}
-use Rattle.query.specs.Answer.{keep, among, from, newestFirst, cut, picked, pickedBySome, union}
+use Rattle.query.specs.Answer.{keep, among, numbersFrom, newestFirst, cut, picked, pickedBySome, union}
 use Rattle.query.specs.Claims.{Orders, Distinct, NoneNewer, Descending, Match, Picked, PickedMeans, UnionMeans, UnionOnce, UnionNewest, UnionDescends, allPicked, UnionSize, UnionShort, MoreFilters, FilterOrder, KeepMeans, FromMeans}
 use Rattle.query.proofs.Sorting.{bool, clash, among-here, among-later, among-cases, keep-among, keep-same, keep-length, from-among, Once, Sorted, sort-among, sort-sorted, sort-length, once-sort, sort-same}
 
@@ -52,7 +52,7 @@ sorted-newest newer (x ∷ l) o = (λ y m t. clash (is-true (newer y x) t) (o .0
 
 pub keep-means : KeepMeans
 unfolding keep
-keep-means p l s = (to l, from l)
+keep-means p l s = (to l, numbersFrom l)
   where
     to : (l : List ℕ) → s ∈ keep p l → (s ∈ l) × T (p s)
     to [] m = absurd (List·Memᴰ·not-nil m)
@@ -65,9 +65,9 @@ keep-means p l s = (to l, from l)
         go true e ih k = ⊎-elim (λ q. (List·Memᴰ·head q, true-T (ap p q ∙ e))) (λ j. below (ih j)) (List·Memᴰ·cases-cons k)
         go false e ih k = below (ih k)
 
-    from : (l : List ℕ) → (s ∈ l) × T (p s) → s ∈ keep p l
-    from [] h = absurd (List·Memᴰ·not-nil (h .0))
-    from (x ∷ l) h = go (p x) refl (λ m. from l (m, h .1)) (List·Memᴰ·cases-cons (h .0))
+    numbersFrom : (l : List ℕ) → (s ∈ l) × T (p s) → s ∈ keep p l
+    numbersFrom [] h = absurd (List·Memᴰ·not-nil (h .0))
+    numbersFrom (x ∷ l) h = go (p x) refl (λ m. numbersFrom l (m, h .1)) (List·Memᴰ·cases-cons (h .0))
       where
         go : (b : Bool) → p x ≡ b → (s ∈ l → s ∈ keep p l) → (s ≡ x) ⊎ (s ∈ l) → s ∈ cond b (x ∷ keep p l) (keep p l)
         go true e ih (inl q) = List·Memᴰ·head q
@@ -75,8 +75,8 @@ keep-means p l s = (to l, from l)
         go false e ih (inl q) = absurd (clash (is-true (p s) (h .1)) (ap p q ∙ e))
         go false e ih (inr m) = ih m
 
-from-in : (s i n : ℕ) → i ≤ s → s < i + n → s ∈ from i n
-unfolding from
+from-in : (s i n : ℕ) → i ≤ s → s < i + n → s ∈ numbersFrom i n
+unfolding numbersFrom
 from-in s i zero h k = absurd (omega arith)
 from-in s i (suc n) h k =
     ⊎-elim (λ e. List·Memᴰ·head (eqb-true s i e)) (λ e. List·Memᴰ·tail (from-in s (suc i) n (later (eqb-false s i e)) (omega arith))) (bool (eqb s i))
@@ -239,7 +239,7 @@ module _ (newer : ℕ → ℕ → Bool) where
     -- the union's entries are those of all picked lists
     all-in : (fs : List Filter) (s : ℕ) → (s ∈ allPicked newer fits held fs) ↔ Picked newer fits held fs s
     unfolding allPicked
-    all-in fs s = (to fs, λ (f, m, k). from m k)
+    all-in fs s = (to fs, λ (f, m, k). numbersFrom m k)
       where
         to : (fs : List Filter) → s ∈ allPicked newer fits held fs → Picked newer fits held fs s
         to [] m = absurd (List·Memᴰ·not-nil m)
@@ -247,9 +247,9 @@ module _ (newer : ℕ → ℕ → Bool) where
             ⊎-elim (λ k. (f, List·Memᴰ·head refl, k)) (λ k. let (g, i, j) = to fs k in (g, List·Memᴰ·tail i, j))
             (List·Memᴰ·append-cases (picked newer fits held f) m)
 
-        from : {f : Filter} {fs : List Filter} → f ∈ fs → s ∈ picked newer fits held f → s ∈ allPicked newer fits held fs
-        from (List·Memᴰ·head {x = g} {xs = gs} e) k = Memᴰ·append-left (allPicked newer fits held gs) (rw e at k)
-        from (List·Memᴰ·tail {x = g} {xs = gs} m) k = Memᴰ·append-right (picked newer fits held g) (from m k)
+        numbersFrom : {f : Filter} {fs : List Filter} → f ∈ fs → s ∈ picked newer fits held f → s ∈ allPicked newer fits held fs
+        numbersFrom (List·Memᴰ·head {x = g} {xs = gs} e) k = Memᴰ·append-left (allPicked newer fits held gs) (rw e at k)
+        numbersFrom (List·Memᴰ·tail {x = g} {xs = gs} m) k = Memᴰ·append-right (picked newer fits held g) (numbersFrom m k)
 
     pub union-size : UnionSize newer fits held
     union-size fs o =

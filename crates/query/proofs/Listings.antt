@@ -19,7 +19,7 @@ use Rattle.table.specs.Sound.{sound}
 use Rattle.query.specs.Match.{matchesSome}
 use Rattle.query.specs.declared.Matched.the-variants.{Matches, Differs}
 use Rattle.query.specs.declared.Matched.the-variants as matching
-use Rattle.query.specs.Answer.{meant, filtersRow, answerTo, matchedRow, matched, matchNumber, matchValue, listingRow, listed, listedRow, numberOf, valueOf}
+use Rattle.query.specs.Answer.{meant, filtersRow, answerTo, matchedRow, matched, matchNumber, matchValue, listingRow, listed, listedRow, listingNumber, listedCount}
 use Rattle.query.specs.declared.Listing.the-variants.{Count, Refused}
 use Rattle.query.specs.Claims.{RowHolds, of-filter, miscounted, Lowest, MatchedHolds, of-event, of-filters, too-large, MatchedRowIs, MatchedMeans, ListingHolds, of-lent, not-sound, too-short, ListingRowIs, ListingIs, ListingMeans}
 use Rattle.query.proofs.Sorting.{bool, clash}
@@ -168,12 +168,12 @@ module _ (b m : List ℕ) (fs : List FilterParts) (n : ℕ) (row : List ℕ) whe
 
   listing-is : ListingIs b m fs n row
   listing-is = record {
-    number = ⊎-elim (λ e. ap numberOf (is-count e) ∙ sym e) (λ ne. ap numberOf (is-refused ne)) zero-or;
-    count = λ e. ap valueOf (is-count e);
+    number = ⊎-elim (λ e. ap listingNumber (is-count e) ∙ sym e) (λ ne. ap listingNumber (is-refused ne)) zero-or;
+    count = λ e. ap listedCount (is-count e);
     written = λ e. ap (take (length slots)) (taken e) ∙ take-at slots (drop (length slots) row) (length slots) refl;
     rest = λ e. ap (drop (length slots)) (taken e) ∙ drop-at slots (drop (length slots) row) (length slots) refl;
     as-long = ⊎-elim (λ e. ap length (taken e) ∙ (let h = long-enough e in simp (length-append, length-drop) (omega arith))) (λ ne. ap length (left ne)) zero-or;
-    refused = λ ne. (left ne, ap valueOf (is-refused ne));
+    refused = λ ne. (left ne, ap listedCount (is-refused ne));
   }
 
 pub listing-row-is : ListingRowIs

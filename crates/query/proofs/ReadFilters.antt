@@ -18,22 +18,22 @@ use Rattle.message.specs.declared.Message.the-variants as message
 use Rattle.message.specs.Parts as parts
 use Rattle.message.specs.Parts.{membersGot, membersAt, filterAt}
 use Rattle.message.specs.Lent.{filterRow}
-use Rattle.message.specs.Lists.{within, elementsFrom, placesOf}
-use Rattle.message.specs.Read.{partsOf, inRoot, readOf, rowOf}
+use Rattle.message.specs.Lists.{openWithin, elementsFrom, placesOf}
+use Rattle.message.specs.Read.{messageParts, inRoot, readOf, readNumber}
 use Rattle.message.proofs.Walks.{Walk, more, deeper}
 use Rattle.message.proofs.Elements.{Group, filled, group-of, walk-first, walk-places, Listing, end, one, array-listing}
 use Rattle.message.proofs.Reading.{row-read}
 use Rattle.message.proofs.Passes as passes
 use Rattle.law.specs.Lists.{_∈_}
 use Rattle.query.specs.Filter.{filterOf}
-use Rattle.query.specs.Answer.{answerList, filterPlaces, partsAt, filtersAt, meant, listingRow}
-use Rattle.query.specs.Claims.{filtersOf, AllFilters, TextFilters, ReadPasses, ReadListing}
+use Rattle.query.specs.Answer.{answerList, filterPlaces, filterPartsAt, filtersMeant, meant, listingRow}
+use Rattle.query.specs.Claims.{filtersOfItems, AllFilters, TextFilters, ReadPasses, ReadListing}
 use Rattle.query.proofs.Sorting.{no-left, no-right}
 use Rattle.query.proofs.Lent.{filters-pass}
 
 -- ---- the elements of an array from its third on are the items there
 module _ {s : List ℕ} {n : ℕ} where
-  first-places : {f i q w : ℕ} {u : Json} {us : Items} → f ≤ length s → Walk (treeAt s within) s false f i (item q w u us) n
+  first-places : {f i q w : ℕ} {u : Json} {us : Items} → f ≤ length s → Walk (treeAt s openWithin) s false f i (item q w u us) n
       → elementsFrom s (At w) ≡ placesOf (item q w u us)
   unfolding elementsFrom
   first-places {i = i} {w = w} l r =
@@ -41,11 +41,11 @@ module _ {s : List ℕ} {n : ℕ} where
       let e : i ≡ w = cc in
       rw e at (walk-places (length s) l r)
 
-  second-places : {f i p v q w : ℕ} {t u : Json} {us : Items} → f ≤ length s → Walk (treeAt s within) s false f i (item p v t (item q w u us)) n
+  second-places : {f i p v q w : ℕ} {t u : Json} {us : Items} → f ≤ length s → Walk (treeAt s openWithin) s false f i (item p v t (item q w u us)) n
       → elementsFrom s (At w) ≡ placesOf (item q w u us)
   second-places l (more h w q r) = first-places (omega arith) r
 
-  third-walk : {f i p v q w k x : ℕ} {t u y : Json} {us : Items} → f ≤ length s → Walk (treeAt s within) s false f i (item p v t (item q w u (item k x y us))) n
+  third-walk : {f i p v q w k x : ℕ} {t u y : Json} {us : Items} → f ≤ length s → Walk (treeAt s openWithin) s false f i (item p v t (item q w u (item k x y us))) n
       → elementsFrom s (At x) ≡ placesOf (item k x y us)
   third-walk l (more h w q r) = second-places (omega arith) r
 
@@ -54,17 +54,17 @@ module _ {s : List ℕ} {n : ℕ} where
   third-places (filled h w) = third-walk (omega arith) w
 
 -- an element's parts, found at its place, are those of its object in the tree
-listing-filters : (s : List ℕ) {ts : Items} → Listing s ts → map (filterOf s) (map (filterAt s) (placesOf ts)) ≡ filtersOf s ts
-unfolding filtersOf filterAt membersAt
+listing-filters : (s : List ℕ) {ts : Items} → Listing s ts → map (filterOf s) (map (filterAt s) (placesOf ts)) ≡ filtersOfItems s ts
+unfolding filtersOfItems filterAt membersAt
 listing-filters s end = refl
 listing-filters s (one {v = v} {m = m} {t = t} e q l) =
-    ap₂ _∷_ (ap (λ g. filterOf s (parts.filterOf s v (membersGot g))) (deeper s within v t m e)) (listing-filters s l)
+    ap₂ _∷_ (ap (λ g. filterOf s (parts.filterPartsOf s v (membersGot g))) (deeper s openWithin v t m e)) (listing-filters s l)
 
 rest-listing : {s : List ℕ} {p v q w : ℕ} {t u : Json} {ts : Items} → Listing s (item p v t (item q w u ts)) → Listing s ts
 rest-listing (one e f (one g h l)) = l
 
-filters-count : (s : List ℕ) (ts : Items) → length (filtersOf s ts) ≡ count ts
-unfolding filtersOf countItems
+filters-count : (s : List ℕ) (ts : Items) → length (filtersOfItems s ts) ≡ count ts
+unfolding filtersOfItems countItems
 filters-count s nil = refl
 filters-count s (item p v t ts) = ap suc (filters-count s ts)
 
@@ -96,7 +96,7 @@ opened-rest s p v (obj us) ts = refl
 
 module _ (s : List ℕ) (r : ReqParts) where
   -- a REQ has a third element, and it is the first filter
-  on-word : (x : Word) {at p v q w n : ℕ} {t u : Json} (us : Items) → Group s at false (item p v t (item q w u us)) n → partsOf s x (item q w u us) ≡ message.Req r
+  on-word : (x : Word) {at p v q w n : ℕ} {t u : Json} (us : Items) → Group s at false (item p v t (item q w u us)) n → messageParts s x (item q w u us) ≡ message.Req r
       → wrongRequest s x (item q w u us) ≡ false → filterPlaces s (r .filters) ≡ placesOf us
   unfolding countItems
   on-word req {u = u} nil g e c = absurd (false≢true (sym (no-right (wrongSubscription s u) true c)))
@@ -107,7 +107,7 @@ module _ (s : List ℕ) (r : ReqParts) where
 
   module _ (e : readOf s ≡ message.Req r) {p v q w n : ℕ} {t u : Json} {ts : Items} (tree : root s ≡ got (arr (item p v t (item q w u ts))) n) where
     row-0 : messageRow s ≡ 0
-    row-0 = sym (row-read s) ∙ ap rowOf e
+    row-0 = sym (row-read s) ∙ ap readNumber e
 
     group : Group s (wsAt s 0) false (item p v t (item q w u ts)) n
     group = group-of s (wsAt s 0) false (item p v t (item q w u ts)) n tree
@@ -122,8 +122,8 @@ module _ (s : List ℕ) (r : ReqParts) where
         let c : wrongRequest s x y ≡ false = no-left (wrongRequest s x y) _ (counts-pass s (arr (item p v t (item q w u ts))) n tree row-0) in
         on-word x ts group (rw (tree, rest) at is) (rw rest at c)
 
-    all-meant : filtersAt s (r .filters) ≡ filtersOf s ts
-    unfolding filtersAt
+    all-meant : filtersMeant s (r .filters) ≡ filtersOfItems s ts
+    unfolding filtersMeant
     all-meant = ap (λ l. map (filterOf s) (map (filterAt s) l)) all-places ∙ listing-filters s (rest-listing (array-listing group .1))
 
 pub all-filters : AllFilters
@@ -131,11 +131,11 @@ all-filters m r e p v q w n t u ts tree = let z = all-meant m r e tree in (z, ap
 
 -- ---- lent as parts
 pub text-filters : TextFilters
-unfolding meant filtersAt
+unfolding meant filtersMeant
 text-filters m v fs n e = ap (map (filterOf m)) e
 
 -- n parts are lent
-parts-counted : (m : List ℕ) (v : ℕ) (fs : List FilterParts) (n : ℕ) → n ≤ length fs → take n fs ≡ partsAt m v → n ≡ length (filterPlaces m v)
+parts-counted : (m : List ℕ) (v : ℕ) (fs : List FilterParts) (n : ℕ) → n ≤ length fs → take n fs ≡ filterPartsAt m v → n ≡ length (filterPlaces m v)
 parts-counted m v fs n l e = omega (arith, length-take n fs, ap length e, length-map (filterPlaces m v) (filterAt m))
 
 pub read-passes : ReadPasses

@@ -30,7 +30,7 @@ use Rattle.table.proofs.Lists.{is-true}
 use Rattle.table.proofs.Shown.{slot-entry, slot-sound-at}
 use Rattle.query.specs.Filter.{Filter}
 use Rattle.query.specs.Match.{matches}
-use Rattle.query.specs.Answer.{from, union, newerSlot, matchesIn, matchesSlot, answerList}
+use Rattle.query.specs.Answer.{numbersFrom, union, newerSlot, matchesIn, matchesSlot, answerList}
 use Rattle.query.specs.Claims.{Distinct, Descending, NewerMeans, SlotsOrdered, SlotMatches, AnswerIs, AnswerMeans, limited, LimitZero}
 use Rattle.query.proofs.Sorting.{bool, clash, from-length, once-from}
 use Rattle.query.proofs.Answers.{same-order, true-T, once-distinct, from-means, picked-means, union-means, union-once, union-newest, union-descends, union-size, union-short}
@@ -155,13 +155,13 @@ slot-matches b ok k h = on (readText (textIn (slotAt b k))) refl (slot-reads b o
 
 -- ---- the answer
 module _ (b : List ℕ) (fs : List Filter) where
-  distinct-held : Distinct (from 0 (countOf b))
-  distinct-held = once-distinct (from 0 (countOf b)) (once-from 0 (countOf b))
+  distinct-held : Distinct (numbersFrom 0 (countOf b))
+  distinct-held = once-distinct (numbersFrom 0 (countOf b)) (once-from 0 (countOf b))
 
   down : sound b ≡ true → Descending (newerSlot b) (answerList b fs)
   unfolding answerList
   down ok =
-      union-descends (newerSlot b) (matchesSlot b) (from 0 (countOf b)) fs (slots-ordered b) distinct-held
+      union-descends (newerSlot b) (matchesSlot b) (numbersFrom 0 (countOf b)) fs (slots-ordered b) distinct-held
       (λ s t h k ne. slot-total b s t (ids-differ b ok s t (from-means (countOf b) s .0 h) (from-means (countOf b) t .0 k) ne))
 
   pub answer-is : AnswerIs b fs
@@ -187,7 +187,7 @@ module _ (b : List ℕ) (fs : List Filter) where
   }
     where
       held : List ℕ
-      held = from 0 (countOf b)
+      held = numbersFrom 0 (countOf b)
 
 pub answer-means : AnswerMeans
 answer-means b fs = answer-is b fs
@@ -197,7 +197,7 @@ unfolding answerList
 limit-zero b f = empty (union (newerSlot b) (matchesSlot b) held (g ∷ [])) none
   where
     held : List ℕ
-    held = from 0 (countOf b)
+    held = numbersFrom 0 (countOf b)
 
     g : Filter
     g = limited f (Number (pos 0))

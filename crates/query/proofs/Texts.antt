@@ -8,14 +8,14 @@ use Prim.Native.String.{String, [] as []ˢ, _∷_ as _∷ˢ_}
 use lib.IntN.{pos, negsuc}
 use Rattle.wire.specs.Bytes.{sameBytes}
 use Rattle.utf8.specs.Utf8.{isUtf8, utf8From, leadOf}
-use Rattle.json.specs.Grammar.{classOf, run, past, oneAt, tokenAt, wordAt, literalAt, digitsAt, intAt, fracAt, expAt, numberAt, hexAt, escapedAt, charAt, charsUpTo, charsAt, stringAt, scalarAt}
+use Rattle.json.specs.Grammar.{inClass, run, past, oneAt, tokenAt, wordAt, literalAt, digitsAt, intAt, fracAt, expAt, numberAt, hexAt, escapedAt, charAt, charsUpTo, charsAt, stringAt, scalarAt}
 use Rattle.json.specs.Tree.{itemsAt, treeAt}
-use Rattle.numeral.specs.Whole.{isDigit, allDigits, valueFrom, isNatural, naturalOf, negativeOf, wholeOf, isWithin, answerOf}
+use Rattle.numeral.specs.Whole.{isDigit, allDigits, valueFrom, isNatural, naturalOf, negativeOf, wholeOf, isWithin, wholeAnswer}
 use Rattle.spell.specs.Spell as spell
-use Rattle.spell.specs.Spell.{charOf, charsFrom, bytesOf, joined, decode, isRefused, refuses}
+use Rattle.spell.specs.Spell.{charOf, charsFrom, charBytes, charsBytes, decode, isRefused, refuses}
 use Rattle.rows.specs.Strings.{spelledAt, refusedIn}
-use Rattle.shape.specs.Shape.{anyItem, allItems, countItems, nameAt, noneTwice, filterMember, isFilter, isCondition}
-use Rattle.shape.specs.Rows.{wrongSmall, wrongTime, wrongList, filterNumber, filterHex, filterCount, filterCounts}
+use Rattle.shape.specs.Shape.{anyItem, allItems, countItems, nameAt, noNameTwice, filterMember, isFilter, isCondition}
+use Rattle.shape.specs.Rows.{wrongSmall, wrongTime, wrongList, filterNumber, filterHex, wrongFilter, filterCounts}
 use Rattle.message.specs.declared.Bound.the-variants.{Absent, Number}
 use Rattle.message.specs.Lists.{nextOf, upTo, elementsFrom}
 use Rattle.message.specs.Parts as parts
@@ -23,7 +23,7 @@ use Rattle.message.specs.Parts.{membersAt, filterAt}
 use Rattle.message.specs.Lent.{wrongNumber, value2, value4, value5, filter2, filter4, filter5, filter6, filter7, filter8, filterRow}
 use Rattle.event.specs.Lent.{stringsOf}
 use Rattle.query.specs.Filter.{filterOf}
-use Rattle.query.specs.Answer.{partsAt, filtersAt, lowestOf, filtersRow}
+use Rattle.query.specs.Answer.{filterPartsAt, filtersMeant, lowestOf, filtersRow}
 use Rattle.query.specs.Claims.{everything}
 
 -- a text of ASCII characters
@@ -34,7 +34,7 @@ text (c ∷ˢ s) = code c ∷ text s
 abbrev two : List ℕ
 two = text "{\"kinds\":[1,40],\"#e\":[\"x\"],\"since\":-5,\"limit\":0},{}]"
 
-pub two-filters : filtersAt two 0 ≡ record {
+pub two-filters : filtersMeant two 0 ≡ record {
   ids = none;
   authors = none;
   kinds = some (pos 1 ∷ pos 40 ∷ []);
@@ -43,11 +43,11 @@ pub two-filters : filtersAt two 0 ≡ record {
   limit = Number (pos 0);
   conditions = record { letter = 101; members = (120 ∷ []) ∷ [] } ∷ [];
 } ∷ everything ∷ []
-unfolding classOf run past oneAt tokenAt wordAt literalAt digitsAt intAt fracAt expAt numberAt hexAt escapedAt charAt charsUpTo charsAt stringAt scalarAt itemsAt treeAt isDigit allDigits valueFrom isNatural naturalOf negativeOf wholeOf answerOf charOf charsFrom bytesOf joined decode spell.any sameBytes spelledAt nameAt nextOf upTo elementsFrom parts.filterOf membersAt filterAt stringsOf filterOf filtersAt parts.memberOf isWithin isCondition
+unfolding inClass run past oneAt tokenAt wordAt literalAt digitsAt intAt fracAt expAt numberAt hexAt escapedAt charAt charsUpTo charsAt stringAt scalarAt itemsAt treeAt isDigit allDigits valueFrom isNatural naturalOf negativeOf wholeOf wholeAnswer charOf charsFrom charBytes charsBytes decode spell.any sameBytes spelledAt nameAt nextOf upTo elementsFrom parts.filterPartsOf membersAt filterAt stringsOf filterOf filtersMeant parts.memberOf isWithin isCondition
 two-filters = refl
 
 -- the other names; strings decoded
-pub one-filter : filtersAt (text "{\"until\":7,\"authors\":[\"b\"],\"ids\":[\"a\",\"\\u0062\"]}]") 0 ≡ record {
+pub one-filter : filtersMeant (text "{\"until\":7,\"authors\":[\"b\"],\"ids\":[\"a\",\"\\u0062\"]}]") 0 ≡ record {
   ids = some ((97 ∷ []) ∷ (98 ∷ []) ∷ []);
   authors = some ((98 ∷ []) ∷ []);
   kinds = none;
@@ -56,12 +56,12 @@ pub one-filter : filtersAt (text "{\"until\":7,\"authors\":[\"b\"],\"ids\":[\"a\
   limit = Absent;
   conditions = [];
 } ∷ []
-unfolding classOf run past oneAt tokenAt wordAt literalAt digitsAt intAt fracAt expAt numberAt hexAt escapedAt charAt charsUpTo charsAt stringAt scalarAt itemsAt treeAt isDigit allDigits valueFrom isNatural naturalOf negativeOf wholeOf answerOf charOf charsFrom bytesOf joined decode spell.any sameBytes spelledAt nameAt nextOf upTo elementsFrom parts.filterOf membersAt filterAt stringsOf filterOf filtersAt parts.memberOf isWithin isCondition spell.unicodeOf spell.isPair spell.fourAt spell.four spell.hexVal spell.utf8Of
+unfolding inClass run past oneAt tokenAt wordAt literalAt digitsAt intAt fracAt expAt numberAt hexAt escapedAt charAt charsUpTo charsAt stringAt scalarAt itemsAt treeAt isDigit allDigits valueFrom isNatural naturalOf negativeOf wholeOf wholeAnswer charOf charsFrom charBytes charsBytes decode spell.any sameBytes spelledAt nameAt nextOf upTo elementsFrom parts.filterPartsOf membersAt filterAt stringsOf filterOf filtersMeant parts.memberOf isWithin isCondition spell.unicodeOf spell.isPair spell.fourAt spell.four spell.hexVal spell.utf8Of
 one-filter = refl
 
 -- ---- lent as parts: 0 of these two; 8 of none and of {} five times, though six are lent; a number's row is lower
 abbrev lent : List ℕ → ℕ → ℕ
-lent m n = filtersRow m (partsAt m 0) n
+lent m n = filtersRow m (filterPartsAt m 0) n
 
 pub rows :
     (lent two 2 ≡ 0)
@@ -69,5 +69,5 @@ pub rows :
     × (lent (text "{},{},{},{},{},{}]") 5 ≡ 8)
     × (lent (text "{},{},{\"limit\":-0},{},{}]") 5 ≡ 6)
     × (lent (text "{},{},{\"limit\":-0},{},{}]") 2 ≡ 0)
-unfolding classOf run past oneAt tokenAt wordAt literalAt digitsAt intAt fracAt expAt numberAt hexAt escapedAt charAt charsUpTo charsAt stringAt scalarAt itemsAt treeAt isUtf8 utf8From leadOf isDigit allDigits valueFrom isNatural naturalOf negativeOf wholeOf answerOf isWithin charOf charsFrom bytesOf joined decode spell.any isRefused refuses sameBytes spelledAt refusedIn anyItem allItems countItems nameAt noneTwice isFilter isCondition filterCounts nextOf upTo elementsFrom parts.memberOf parts.filterOf membersAt filterAt wrongNumber value2 value4 value5 filter2 filter4 filter5 filter6 filter7 filter8 filterRow lowestOf filtersRow filterMember wrongSmall filterNumber wrongTime filterHex wrongList filterCount
+unfolding inClass run past oneAt tokenAt wordAt literalAt digitsAt intAt fracAt expAt numberAt hexAt escapedAt charAt charsUpTo charsAt stringAt scalarAt itemsAt treeAt isUtf8 utf8From leadOf isDigit allDigits valueFrom isNatural naturalOf negativeOf wholeOf wholeAnswer isWithin charOf charsFrom charBytes charsBytes decode spell.any isRefused refuses sameBytes spelledAt refusedIn anyItem allItems countItems nameAt noNameTwice isFilter isCondition filterCounts nextOf upTo elementsFrom parts.memberOf parts.filterPartsOf membersAt filterAt wrongNumber value2 value4 value5 filter2 filter4 filter5 filter6 filter7 filter8 filterRow lowestOf filtersRow filterMember wrongSmall filterNumber wrongTime filterHex wrongList wrongFilter
 rows = (refl, refl, refl, refl, refl)

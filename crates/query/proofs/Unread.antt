@@ -19,7 +19,7 @@ use Rattle.table.proofs.Bytes.{clauses}
 use Rattle.table.proofs.Unread.{count-append, sound-append}
 use Rattle.query.specs.Filter.{Filter}
 use Rattle.query.specs.declared.Listing.the-variants.{Count, Refused}
-use Rattle.query.specs.Answer.{among, from, union, newerSlot, matchesIn, matchesSlot, answerList, meant, filtersRow, listingRow, listed, listedRow}
+use Rattle.query.specs.Answer.{among, numbersFrom, union, newerSlot, matchesIn, matchesSlot, answerList, meant, filtersRow, listingRow, listed, listedRow}
 use Rattle.query.specs.Claims.{not-sound, ListingNeverRead}
 use Rattle.query.proofs.Sorting.{bool, from-among}
 use Rattle.query.proofs.Answers.{union-same}
@@ -47,11 +47,11 @@ module _ (b t : List ℕ) (full : length b ≡ tableSize (capacityOf b)) where
     answer-append : (fs : List Filter) → answerList (b ++ t) fs ≡ answerList b fs
     unfolding answerList
     answer-append fs =
-        ap (λ c. union (newerSlot (b ++ t)) (matchesSlot (b ++ t)) (from 0 c) fs) (count-append b t full)
-        ∙ union-same (newerSlot (b ++ t)) (newerSlot b) (matchesSlot (b ++ t)) (matchesSlot b) (from 0 (countOf b))
+        ap (λ c. union (newerSlot (b ++ t)) (matchesSlot (b ++ t)) (numbersFrom 0 c) fs) (count-append b t full)
+        ∙ union-same (newerSlot (b ++ t)) (newerSlot b) (matchesSlot (b ++ t)) (matchesSlot b) (numbersFrom 0 (countOf b))
         (λ j k m o. order-append j k (within j m) (within k o)) (λ f k m. match-append f k (within k m)) fs
       where
-        within : (k : ℕ) → among (from 0 (countOf b)) k ≡ true → k < countOf b
+        within : (k : ℕ) → among (numbersFrom 0 (countOf b)) k ≡ true → k < countOf b
         within k m = let (l, h) = from-among 0 (countOf b) k m in omega arith
 
   module _ (m : List ℕ) (fs : List FilterParts) (n : ℕ) (row : List ℕ) where

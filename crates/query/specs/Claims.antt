@@ -34,7 +34,7 @@ use Rattle.table.specs.Events.{timeOfText}
 use Rattle.table.specs.Sound.{sound}
 use Rattle.query.specs.Filter.{Condition, Filter, filterOf}
 use Rattle.query.specs.Match.{isMember, sameNumber, kindListed, sinceHolds, untilHolds, conditionHolds, matches, matchesSome}
-use Rattle.query.specs.Answer.{keep, from, picked, union, newerSlot, matchesSlot, answerList, partsAt, filtersAt, meant, lowestOf, filtersRow, answerTo, matchedRow, matched, matchNumber, matchValue, listingRow, listed, listedRow, numberOf, valueOf}
+use Rattle.query.specs.Answer.{keep, numbersFrom, picked, union, newerSlot, matchesSlot, answerList, filterPartsAt, filtersMeant, meant, lowestOf, filtersRow, answerTo, matchedRow, matched, matchNumber, matchValue, listingRow, listed, listedRow, listingNumber, listedCount}
 use Rattle.wire.specs.Bytes.{Bytes}
 
 -- ---- matching
@@ -190,7 +190,7 @@ abbrev pub KeepMeans : Type 0
 KeepMeans = (p : ℕ → Bool) (l : List ℕ) (s : ℕ) → (s ∈ keep p l) ↔ ((s ∈ l) × T (p s))
 
 abbrev pub FromMeans : Type 0
-FromMeans = (n s : ℕ) → (s ∈ from 0 n) ↔ (s < n)
+FromMeans = (n s : ℕ) → (s ∈ numbersFrom 0 n) ↔ (s < n)
 
 -- ---- the answer over the table b
 -- "later time, then lower id"
@@ -211,7 +211,7 @@ SlotMatches = (b : List ℕ) → sound b ≡ true → (k : ℕ) → k < countOf 
 
 pub record AnswerIs (b : List ℕ) (fs : List Filter) : Type 0 where
   -- "Slots 0 to C-1 are held"
-  pub exactly : (s : ℕ) → (s ∈ answerList b fs) ↔ ((s < countOf b) × Picked (newerSlot b) (matchesSlot b) (from 0 (countOf b)) fs s)
+  pub exactly : (s : ℕ) → (s ∈ answerList b fs) ↔ ((s < countOf b) × Picked (newerSlot b) (matchesSlot b) (numbersFrom 0 (countOf b)) fs s)
   pub matching : (s : ℕ) → s ∈ answerList b fs → (f : Filter) × (f ∈ fs) × T (matchesSlot b f s)
   -- with no limit, all that match
   pub unlimited : ((f : Filter) → f ∈ fs → f .limit ≡ Absent) → (s : ℕ) (f : Filter) → s < countOf b → f ∈ fs → T (matchesSlot b f s) → s ∈ answerList b fs
@@ -221,7 +221,7 @@ pub record AnswerIs (b : List ℕ) (fs : List Filter) : Type 0 where
   -- no other list has these slots in that order
   pub only : sound b ≡ true → (l : List ℕ) → ((s : ℕ) → (s ∈ l) ↔ (s ∈ answerList b fs)) → Descending (newerSlot b) l → l ≡ answerList b fs
   -- "its length is the count answered": 01, "How far": "the union's size"
-  pub size : length (answerList b fs) ≡ different eqb (allPicked (newerSlot b) (matchesSlot b) (from 0 (countOf b)) fs)
+  pub size : length (answerList b fs) ≡ different eqb (allPicked (newerSlot b) (matchesSlot b) (numbersFrom 0 (countOf b)) fs)
   pub short : length (answerList b fs) ≤ countOf b
 
 abbrev pub AnswerMeans : Type 0
@@ -233,19 +233,19 @@ LimitZero = (b : List ℕ) (f : Filter) → answerList b (limited f (Number (pos
 
 -- ---- the filters of a REQ
 -- what some elements of a message's array mean as filters, one each
-unfoldable pub filtersOf : Bytes → Items → List Filter
-filtersOf m nil = []
-filtersOf m (item p v t ts) = filterOf m (parts.filterOf m v (membersOf t)) ∷ filtersOf m ts
+unfoldable pub filtersOfItems : Bytes → Items → List Filter
+filtersOfItems m nil = []
+filtersOfItems m (item p v t ts) = filterOf m (parts.filterPartsOf m v (membersOf t)) ∷ filtersOfItems m ts
 
 -- a REQ is answered by all its filters, in their order: those after the first word and the subscription id, as many as there are
 abbrev pub AllFilters : Type 0
 AllFilters = (m : List ℕ) (r : ReqParts) → readOf m ≡ Req r →
     (p v q w n : ℕ) (first subscription : Json) (ts : Items) → root m ≡ got (arr (item p v first (item q w subscription ts))) n →
-    (filtersAt m (r .filters) ≡ filtersOf m ts) × (length (filtersAt m (r .filters)) ≡ count ts)
+    (filtersMeant m (r .filters) ≡ filtersOfItems m ts) × (length (filtersMeant m (r .filters)) ≡ count ts)
 
 -- lent parts that are those of the text mean what the text means
 abbrev pub TextFilters : Type 0
-TextFilters = (m : List ℕ) (v : ℕ) (fs : List FilterParts) (n : ℕ) → take n fs ≡ partsAt m v → meant m fs n ≡ filtersAt m v
+TextFilters = (m : List ℕ) (v : ℕ) (fs : List FilterParts) (n : ℕ) → take n fs ≡ filterPartsAt m v → meant m fs n ≡ filtersMeant m v
 
 -- ---- lent filters
 -- the row r holds of the first n of fs
@@ -270,13 +270,13 @@ pub record AllPass (m : List ℕ) (fs : List FilterParts) (n : ℕ) : Type 0 whe
   pub some : 1 ≤ n
   pub few : n ≤ 4
 
-abbrev pub FiltersPass : Type 0
-FiltersPass = (m : List ℕ) (fs : List FilterParts) (n : ℕ) → (filtersRow m fs n ≡ 0) ↔ AllPass m fs n
+abbrev pub LentPass : Type 0
+LentPass = (m : List ℕ) (fs : List FilterParts) (n : ℕ) → (filtersRow m fs n ≡ 0) ↔ AllPass m fs n
 
 -- what was read from an accepted REQ passes as lent parts, so the program's own call is never refused by rows 2 and 4 to 8
 abbrev pub ReadPasses : Type 0
 ReadPasses = (m : List ℕ) (r : ReqParts) → readOf m ≡ Req r →
-    (fs : List FilterParts) (n : ℕ) → n ≤ length fs → take n fs ≡ partsAt m (r .filters) → filtersRow m fs n ≡ 0
+    (fs : List FilterParts) (n : ℕ) → n ≤ length fs → take n fs ≡ filterPartsAt m (r .filters) → filtersRow m fs n ≡ 0
 
 -- ---- what is answered
 -- "Parts of an event, filter .. are tested by rows 2 and 4 to 8 .., an event by 9 too"
@@ -308,12 +308,12 @@ ListingRowIs = (b m : List ℕ) (fs : List FilterParts) (n : ℕ) (row : List �
 -- "It is written to a lent row of 16-bit numbers, and its length is the count answered." "Output is written from its start, and its rest
 -- stays. A refusal carries its number and no other value .., and every lent buffer stays as found."
 pub record ListingIs (b m : List ℕ) (fs : List FilterParts) (n : ℕ) (row : List ℕ) : Type 0 where
-  pub number : numberOf (listed b m fs n row) ≡ listingRow b m fs n row
-  pub count : listingRow b m fs n row ≡ 0 → valueOf (listed b m fs n row) ≡ length (answerTo b m fs n)
+  pub number : listingNumber (listed b m fs n row) ≡ listingRow b m fs n row
+  pub count : listingRow b m fs n row ≡ 0 → listedCount (listed b m fs n row) ≡ length (answerTo b m fs n)
   pub written : listingRow b m fs n row ≡ 0 → take (length (answerTo b m fs n)) (listedRow b m fs n row) ≡ answerTo b m fs n
   pub rest : listingRow b m fs n row ≡ 0 → drop (length (answerTo b m fs n)) (listedRow b m fs n row) ≡ drop (length (answerTo b m fs n)) row
   pub as-long : length (listedRow b m fs n row) ≡ length row
-  pub refused : listingRow b m fs n row ≢ 0 → (listedRow b m fs n row ≡ row) × (valueOf (listed b m fs n row) ≡ 0)
+  pub refused : listingRow b m fs n row ≢ 0 → (listedRow b m fs n row ≡ row) × (listedCount (listed b m fs n row) ≡ 0)
 
 abbrev pub ListingMeans : Type 0
 ListingMeans = (b m : List ℕ) (fs : List FilterParts) (n : ℕ) (row : List ℕ) → ListingIs b m fs n row
@@ -321,9 +321,9 @@ ListingMeans = (b m : List ℕ) (fs : List FilterParts) (n : ℕ) (row : List �
 -- of the filters of an accepted REQ, lent as parts: 11, 13, or the answer to the filters of its text
 abbrev pub ReadListing : Type 0
 ReadListing = (b m : List ℕ) (r : ReqParts) → readOf m ≡ Req r →
-    (fs : List FilterParts) (n : ℕ) → n ≤ length fs → take n fs ≡ partsAt m (r .filters) → (row : List ℕ) →
-    (answerTo b m fs n ≡ answerList b (filtersAt m (r .filters)))
-    × (listingRow b m fs n row ≡ cond (sound b) (cond (ltb (length row) (length (answerList b (filtersAt m (r .filters))))) 13 0) 11)
+    (fs : List FilterParts) (n : ℕ) → n ≤ length fs → take n fs ≡ filterPartsAt m (r .filters) → (row : List ℕ) →
+    (answerTo b m fs n ≡ answerList b (filtersMeant m (r .filters)))
+    × (listingRow b m fs n row ≡ cond (sound b) (cond (ltb (length row) (length (answerList b (filtersMeant m (r .filters))))) 13 0) 11)
 
 -- 01, "The table": "Bytes after slot N-1 are never read": whatever they are, a REQ's answer is the same
 abbrev pub ListingNeverRead : Type 0

@@ -8,7 +8,7 @@ use lib.ListN.{getD}
 use Rattle.json.specs.Tree.{Json, word, num, str, arr, obj, Items, nil, item, Got, depth, treeAt}
 use Rattle.json.specs.Tree as tree
 use Rattle.shape.specs.Shape.{nameAt, isCondition}
-use Rattle.message.specs.Parts.{numberOf, membersAt}
+use Rattle.message.specs.Parts.{numberSpelled, membersAt}
 use Rattle.message.specs.declared.Bound.{Bound}
 use Rattle.message.specs.declared.Listed.{Listed}
 use Rattle.message.specs.declared.Listed.the-variants as listed
@@ -42,7 +42,7 @@ stringsIn b (tree.got t n) = tagOf b t
 
 abbrev pub numbersOf : Bytes → Items → List ℤ
 numbersOf b nil = []
-numbersOf b (item p v t ts) = numberOf b t ∷ numbersOf b ts
+numbersOf b (item p v t ts) = numberSpelled b t ∷ numbersOf b ts
 
 abbrev pub numbersIn : Bytes → Got Json → List ℤ
 numbersIn b tree.none = []

@@ -6,7 +6,7 @@ use native.Mathlib.Decide.{decLe}
 use native.Mathlib.Omega.{arith}
 use borrow.Author.Tests.{eq-eqb}
 use lib.ListN.{length, replicate}
-use Rattle.event.specs.Answer.{numberOf, valueOf}
+use Rattle.event.specs.Answer.{writtenNumber, writtenLength}
 use Rattle.event.specs.declared.Written.{Written}
 use Rattle.event.specs.declared.Written.the-variants as sent
 use Rattle.table.specs.Layout.{capacityOf, tableSize}
@@ -20,10 +20,10 @@ use Rattle.reply.specs.declared.Turned.the-variants as turning
 use Rattle.reply.proofs.Example.{row-0}
 use Rattle.reply.proofs.Respond.{fits-if}
 use Rattle.reply.proofs.Feed.{turn-means, turn-row-is, turned-means}
-use Rattle.feed.specs.Finish.{finishText, finished, finishRow, finishTable, finishOut}
+use Rattle.feed.specs.Finish.{finishText, feedFinished, finishRow, finishTable, finishOut}
 use Rattle.feed.proofs.Run.{finished-means}
 use Rattle.feed.proofs.Room.{turn-fits, slots-stay}
-use Rattle.relay.specs.Inner.{Ready, Stands, waiting}
+use Rattle.relay.specs.Inner.{Ready, Stands, waitingFrom}
 use Rattle.relay.specs.declared.Place.{Place}
 
 -- the piece is what is left of the chunk, and the turn's output what is left of the output
@@ -64,7 +64,7 @@ module _ (b line chunk out : List ℕ) (p : Place) (piece rest : List ℕ) where
           )
 
       pub step-fed : {out′ : List ℕ} → length out′ ≡ length out → let q : Place = record { at = p .at + u; n = k; w = p .w + w } in
-          Ready b′ line′ out′ × (Stands chunk out′ q × (waiting chunk q < waiting chunk p))
+          Ready b′ line′ out′ × (Stands chunk out′ q × (waitingFrom chunk q < waitingFrom chunk p))
       step-fed e =
           let (i, j, m) = goes in
           (stays-ready a t e, (record { used = i; waits = omega arith }, omega arith))
@@ -90,18 +90,18 @@ module _ (b line chunk out : List ℕ) (p : Place) (piece rest : List ℕ) where
               absurd (is-fed (turn-fits b line (p .n) piece rest (a .wide) room))
 
       pub step-refused : {out′ : List ℕ} → length out′ ≡ length out → let q : Place = record { at = p .at; n = p .n; w = 0 } in
-          Ready b′ line′ out′ × (Stands chunk out′ q × (waiting chunk q < waiting chunk p))
+          Ready b′ line′ out′ × (Stands chunk out′ q × (waitingFrom chunk q < waitingFrom chunk p))
       step-refused e = (stays-ready a t e, (record { used = s .used; waits = omega arith }, omega (arith, some-waits)))
 
 -- ---- the end of the input
 pub finish-room : (b line : List ℕ) (n : ℕ) (out : List ℕ) {w : ℕ} {r : Written} {b′ o : List ℕ}
-    → (r ≡ finished b line n out) × ((numberOf r ≡ finishRow b line n out) × ((b′ ≡ finishTable b line n out) × (o ≡ finishOut b line n out)))
+    → (r ≡ feedFinished b line n out) × ((writtenNumber r ≡ finishRow b line n out) × ((b′ ≡ finishTable b line n out) × (o ≡ finishOut b line n out)))
     → r ≡ sent.Wrote w → w ≤ length o
 unfolding finishRow
 finish-room b line n out (x, (y, (t, o))) f =
     let m = finished-means b line n out .0 in
-    let z = sym y ∙ ap numberOf f in
-    let e = sym (ap valueOf (sym x ∙ f)) ∙ m .value z in
+    let z = sym y ∙ ap writtenNumber f in
+    let e = sym (ap writtenLength (sym x ∙ f)) ∙ m .value z in
     omega (arith, e, fits-if (finishText b line n) out z, m .as-long, ap length o)
 
 -- ---- the start

@@ -20,5 +20,5 @@ pub record Stands (chunk out : List ℕ) (p : Place) : Type 0 where
   pub waits : p .w ≤ length out
 
 -- falls with each turn: what is left of the chunk, and whether the output is to be written
-abbrev pub waiting : List ℕ → Place → ℕ
-waiting chunk p = 2 * (length chunk - p .at) + min (p .w) 1
+abbrev pub waitingFrom : List ℕ → Place → ℕ
+waitingFrom chunk p = 2 * (length chunk - p .at) + min (p .w) 1

@@ -6,7 +6,7 @@ ghost use lib.ListN.{length, replicate};
 ghost use Rattle.reply.specs.Program.{programSlots, freshTable};
 ghost use Rattle.reply.specs.Feed.{mostLine};
 ghost use Rattle.reply.specs.Claims.Respond.{enoughFor};
-ghost use Rattle.relay.specs.Inner.{Ready, Stands, waiting};
+ghost use Rattle.relay.specs.Inner.{Ready, Stands, waitingFrom};
 use event::Written;
 use libc::STDIN_FILENO;
 use libc::STDOUT_FILENO;
@@ -38,7 +38,7 @@ fn step(table: &mut [u8], line: &mut [u8], chunk: &[u8], out: &mut [u8], p: Plac
     requires { ⌜ p .at < length (now chunk) ⌝ }
     ensures { λ _. ⌜ Ready (now (table .exit)) (now (line .exit)) (now (out .exit)) ⌝ }
     ensures { λ r. ⌜ Stands (now (chunk .entry)) (now (out .exit)) r ⌝ }
-    ensures { λ r. ⌜ waiting (now (chunk .entry)) r < waiting (now (chunk .entry)) p ⌝ }
+    ensures { λ r. ⌜ waitingFrom (now (chunk .entry)) r < waitingFrom (now (chunk .entry)) p ⌝ }
 {
     let at = p.at;
     let w = p.w;

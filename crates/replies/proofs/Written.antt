@@ -23,11 +23,11 @@ use Rattle.text.proofs.Pieces.{both}
 use Rattle.message.specs.declared.Span.{Span}
 use Rattle.message.specs.declared.Body.{Body}
 use Rattle.message.specs.declared.EventParts.{EventParts}
-use Rattle.message.specs.Lent.{lowest, lowerRow, bytesOf, isSpelled, string2, string4, string5, string7, subscription8, stringRow, hexRow, subscriptionRow, event2, event4, event5, event7, body5, body6, body7, body8, eventRow}
+use Rattle.message.specs.Lent.{lowest, lowerRow, spanBytes, isSpelled, string2, string4, string5, string7, subscription8, stringRow, hexRow, subscriptionRow, event2, event4, event5, event7, body5, body6, body7, body8, eventRow}
 use Rattle.message.proofs.Facts.{or-not}
 use Rattle.message.proofs.Ranks.{lowest-lower}
-use Rattle.event.specs.Lent.{said, natural, tagsAt, eventOf, textOf}
-use Rattle.event.specs.Answer.{isLarge, numberOf}
+use Rattle.event.specs.Lent.{said, natural, lentTagsAt, eventOf, textOf}
+use Rattle.event.specs.Answer.{isLarge, writtenNumber}
 use Rattle.event.specs.Inner.{lengthOf}
 use Rattle.event.specs.declared.Written.{Written}
 use Rattle.event.specs.declared.Written.the-variants.{Wrote, Refused}
@@ -76,7 +76,7 @@ module _ (b : List ℕ) (s i : Span) (p : Body) {d o₁ o₂ o₃ o₄ o₅ o₆
 module _ (b : List ℕ) (p : Body) {d o₁ o₂ o₃ o₄ o₅ o₆ : List ℕ} {j a₁ a₂ a₃ a₄ a₅ r : ℕ} where
   pub middle-put : {k : ℕ} → mag (p .«created_at») < 2 ^ 63 → mag (p .kind) < 2 ^ 63 → k ≡ natural (toZ w64 (ofZ w64 (p .kind)))
       → Puts d j (ascii ",\"created_at\":") a₁ o₁ → Puts o₁ a₁ (decimal (toZ w64 (ofZ w64 (p .«created_at»)))) a₂ o₂ → Puts o₂ a₂ (ascii ",\"kind\":") a₃ o₃ → Puts o₃ a₃ (digits k) a₄ o₄
-      → Puts o₄ a₄ (ascii ",\"tags\":") a₅ o₅ → Puts o₅ a₅ (tagsText (tagsAt b (p .tags))) r o₆ → Puts d j (middleText (eventOf b p)) r o₆
+      → Puts o₄ a₄ (ascii ",\"tags\":") a₅ o₅ → Puts o₅ a₅ (tagsText (lentTagsAt b (p .tags))) r o₆ → Puts d j (middleText (eventOf b p)) r o₆
   unfolding middleText eventOf
   middle-put {k} ft fk f x₁ x₂ x₃ x₄ x₅ x₆ =
       let n : k ≡ natural (p .kind) = f ∙ ap natural (back (p .kind) fk) in
@@ -202,9 +202,9 @@ none-holds false false false true e f z = absurd (omega arith)
 none-holds false false false false true f z = absurd (omega arith)
 none-holds false false false false false f z = (refl, refl)
 
-hex-of : (k : ℕ) (b : List ℕ) (s : Span) → string5 b s ≡ false → string7 k b s ≡ false → isHexOf k (bytesOf b s) ≡ true
+hex-of : (k : ℕ) (b : List ℕ) (s : Span) → string5 b s ≡ false → string7 k b s ≡ false → isHexOf k (spanBytes b s) ≡ true
 unfolding string5 string7
-hex-of k b s e f = not-false (isHexOf k (bytesOf b s)) (rw (not-false (isSpelled b s) e) at f)
+hex-of k b s e f = not-false (isHexOf k (spanBytes b s)) (rw (not-false (isSpelled b s) e) at f)
 
 hex-length : (k : ℕ) (l : List ℕ) → isHexOf k l ≡ true → (length (decode l) ≡ k) × (length (quoted (decode l)) ≡ k + 2)
 unfolding isHexOf
@@ -231,9 +231,9 @@ module _ (b : List ℕ) (s : Span) (p : EventParts) (z : partsRow b (eventParts 
       let (f₃, f₄) = or-not (body5 b (p .body)) _ f₂ in
       let (g₁, g₂) = or-not (string7 hexLength b (p .id)) _ g in
       let (g₃, g₄) = or-not (body7 b (p .body)) _ g₂ in
-      let (i, i′) = hex-length 64 (bytesOf b (p .id)) (hex-of 64 b (p .id) f₁ g₁) in
-      let (k, k′) = hex-length 64 (bytesOf b (p .body .pubkey)) (hex-of 64 b (p .body .pubkey) (or-not (string5 b (p .body .pubkey)) _ f₃ .0) g₃) in
-      let (j, j′) = hex-length 128 (bytesOf b (p .sig)) (hex-of 128 b (p .sig) f₄ g₄) in
+      let (i, i′) = hex-length 64 (spanBytes b (p .id)) (hex-of 64 b (p .id) f₁ g₁) in
+      let (k, k′) = hex-length 64 (spanBytes b (p .body .pubkey)) (hex-of 64 b (p .body .pubkey) (or-not (string5 b (p .body .pubkey)) _ f₃ .0) g₃) in
+      let (j, j′) = hex-length 128 (spanBytes b (p .sig)) (hex-of 128 b (p .sig) f₄ g₄) in
       event-length (said b s) (said b (p .id)) (said b (p .sig)) (eventOf b (p .body)) i′ k k′ j′ ∙ omega (arith, quoted-length (said b s))
 
   pub event-room : {n m room : ℕ} {r : Bool} → n ≡ lengthOf (textOf b (p .body)) → m ≡ length (escape (said b s)) → Room (266 + n + m) room r
@@ -244,7 +244,7 @@ module _ (b : List ℕ) (s : Span) (p : EventParts) (z : partsRow b (eventParts 
 
 -- ---- what is answered
 abbrev pub AsReplied : List ℕ → ReplyParts → List ℕ → Written → List ℕ → Type 0
-AsReplied b p out w o = (w ≡ replied b p out) × ((numberOf w ≡ replyRow b p out) × (o ≡ repliedOut b p out))
+AsReplied b p out w o = (w ≡ replied b p out) × ((writtenNumber w ≡ replyRow b p out) × (o ≡ repliedOut b p out))
 
 module _ (b : List ℕ) (p : ReplyParts) (out : List ℕ) {x : ℕ} (e : x ≡ partsRow b p) where
   pub reply-refused : (x ≡ 0 → ⊥) → AsReplied b p out (Refused x) out

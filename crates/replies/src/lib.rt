@@ -5,7 +5,7 @@ ghost use Prim.Native.Nat.{_+_, _≤_};
 ghost use lib.ListN.{length};
 ghost use Rattle.wire.specs.Put.{Puts};
 ghost use Rattle.event.specs.Lent.{said, eventOf};
-ghost use Rattle.event.specs.Answer.{numberOf};
+ghost use Rattle.event.specs.Answer.{writtenNumber};
 ghost use Rattle.reply.specs.Replies.{truth, replyText};
 ghost use Rattle.reply.specs.Lent.{replyOf, partsRow, replyRow, replied, repliedOut};
 ghost use Rattle.replies.specs.Inner.{frontText, middleText, backText, okParts, eventParts, eoseParts, closedParts, noticeParts, Room};
@@ -232,7 +232,7 @@ fn reply_fits(b: &[u8], p: ReplyParts, room: usize) -> bool
 // The reply that the parts spell, from the start of `out`.
 pub fn reply(b: &[u8], p: ReplyParts, out: &mut [u8]) -> Written
     ensures { λ r. ⌜ r ≡ replied (now (b .entry)) p (now (out .entry)) ⌝ }
-    ensures { λ r. ⌜ numberOf r ≡ replyRow (now (b .entry)) p (now (out .entry)) ⌝ }
+    ensures { λ r. ⌜ writtenNumber r ≡ replyRow (now (b .entry)) p (now (out .entry)) ⌝ }
     ensures { λ _. ⌜ now (out .exit) ≡ repliedOut (now (b .entry)) p (now (out .entry)) ⌝ }
 {
     let row = parts_row(b, p);

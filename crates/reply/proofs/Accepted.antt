@@ -9,28 +9,28 @@ use lib.IntN.{pos}
 use lib.ListN.{length, getD, replicate}
 use Rattle.wire.specs.Bytes.{sameBytes, isHex}
 use Rattle.utf8.specs.Utf8.{isUtf8, utf8From, leadOf}
-use Rattle.json.specs.Grammar.{classOf, run, past, oneAt, tokenAt, wordAt, literalAt, digitsAt, intAt, fracAt, expAt, numberAt, hexAt, escapedAt, charAt, charsUpTo, charsAt, stringAt, scalarAt}
+use Rattle.json.specs.Grammar.{inClass, run, past, oneAt, tokenAt, wordAt, literalAt, digitsAt, intAt, fracAt, expAt, numberAt, hexAt, escapedAt, charAt, charsUpTo, charsAt, stringAt, scalarAt}
 use Rattle.json.specs.Tree.{itemsAt, treeAt}
-use Rattle.numeral.specs.Whole.{isDigit, allDigits, valueFrom, isNatural, naturalOf, negativeOf, wholeOf, isWithin, answerOf}
+use Rattle.numeral.specs.Whole.{isDigit, allDigits, valueFrom, isNatural, naturalOf, negativeOf, wholeOf, isWithin, wholeAnswer}
 use Rattle.spell.specs.Spell as spell
-use Rattle.spell.specs.Spell.{hexVal, charOf, charsFrom, bytesOf, joined, decode, isRefused, refuses, isHexOf, points, characterCount}
+use Rattle.spell.specs.Spell.{hexVal, charOf, charsFrom, charBytes, charsBytes, decode, isRefused, refuses, isHexOf, points, characterCount}
 use Rattle.rows.specs.Strings.{spelledAt, refusedIn}
-use Rattle.shape.specs.Shape.{anyItem, allItems, countItems, nameAt, noneTwice, once, eventMember, isEvent, isFilter, wordOf}
+use Rattle.shape.specs.Shape.{anyItem, allItems, countItems, nameAt, noNameTwice, once, eventMember, isEvent, isFilter, wordOf}
 use Rattle.shape.specs.Rows.{row6, row7, row8, eventNumber, eventHex, eventCount, wrongTime, wrongSmall, wrongHex, wrongTag, filterCounts, wrongSubscription, treeRow, messageRow}
-use Rattle.message.specs.Parts.{memberOf, bodyOf, eventOf, membersAt, filterAt}
+use Rattle.message.specs.Parts.{memberOf, bodyOf, eventPartsOf, membersAt, filterAt}
 use Rattle.message.specs.Read.{readOf}
 use Rattle.message.specs.declared.EventParts.{EventParts}
 use Rattle.message.specs.declared.Message.the-variants as message
 use Rattle.wire.specs.Escape.{letterOf, escOne, escape}
 use Rattle.numeral.specs.Decimal.{digitsIn, digits, decimal}
 use Rattle.text.specs.Event.{quoted, membersText, tagText, tagsText, serialise}
-use Rattle.event.specs.Lent.{tagsOf, tagsAt, textOf, said}
+use Rattle.event.specs.Lent.{tagsOf, lentTagsAt, textOf, said}
 use Rattle.event.specs.Lent as lent
 use Rattle.event.specs.Answer.{hexOf}
 use Rattle.text.specs.Event.{Event, isPubkey, isTime}
 use Rattle.text.specs.Event as texts
 use Rattle.text.specs.Read as reading
-use Rattle.text.specs.Read.{read, readText, opened, standsAt, fieldsAt, pairAt, closedAt, pubkeyAt, timeAt, runOf, kindAt, bodyFrom}
+use Rattle.text.specs.Read.{read, readText, openedText, standsAt, fieldsAt, pairAt, closedAt, pubkeyAt, timeAt, runOf, kindAt, bodyFrom}
 use Rattle.text.specs.Kinds as kinds
 use Rattle.law.specs.Table.{regular, stored, verdict, after}
 use Rattle.table.specs.Events.{SignedEvent, signedEvents, inSlot, ofHeld, classOfEvent, classOfText, view}
@@ -48,7 +48,7 @@ use Rattle.table.proofs.Stored.{length-view}
 use Rattle.table.proofs.Shown.{view-at}
 use Rattle.query.specs.Filter.{Filter, filterOf}
 use Rattle.query.specs.Match.{matches}
-use Rattle.query.specs.Answer.{keep, among, from, newestFirst, insert, picked, union, answerList, filtersAt, matchesSlot}
+use Rattle.query.specs.Answer.{keep, among, numbersFrom, newestFirst, insert, picked, union, answerList, filtersMeant, matchesSlot}
 use Rattle.message.specs.Lists.{elementsFrom, upTo, nextOf}
 use Rattle.message.specs.Parts as msg
 use Rattle.message.specs.declared.Bound.the-variants.{Absent}
@@ -84,20 +84,20 @@ abbrev id : List ℕ
 id = 0x3d ∷ 0x40 ∷ 0x67 ∷ 0xef ∷ 0xc3 ∷ 0x7f ∷ 0x3f ∷ 0x54 ∷ 0xbe ∷ 0x41 ∷ 0x33 ∷ 0x12 ∷ 0x44 ∷ 0xaa ∷ 0xad ∷ 0xf4 ∷ 0x39 ∷ 0xdd ∷ 0xdf ∷ 0xd4 ∷ 0x7b ∷ 0x27 ∷ 0x31 ∷ 0x5e ∷ 0x8c ∷ 0xa5 ∷ 0x70 ∷ 0xdf ∷ 0xfc ∷ 0x7c ∷ 0x92 ∷ 0x7b ∷ []
 
 hash : digest text ≡ id
-unfolding digest digestBytes hashAfter padded padding digests.bytesOf compress chained rounds round schedule words H0 K
+unfolding digest digestBytes hashAfter padded padding digests.bigEndian compress chained rounds round schedule words H0 K
 hash = refl
 
 reads : readOf sent ≡ message.Event parts
-unfolding classOf run past oneAt tokenAt wordAt literalAt digitsAt intAt fracAt expAt numberAt hexAt escapedAt charAt charsUpTo charsAt stringAt scalarAt itemsAt treeAt isUtf8 utf8From leadOf charOf charsFrom bytesOf joined decode isRefused spell.any refuses sameBytes isHex spell.all isHexOf points characterCount spelledAt refusedIn anyItem allItems countItems nameAt noneTwice isFilter isEvent eventMember once wordOf row6 row7 row8 eventNumber eventHex eventCount wrongTime wrongSmall wrongHex wrongTag filterCounts wrongSubscription treeRow messageRow readOf eventOf bodyOf memberOf isDigit allDigits valueFrom isNatural naturalOf negativeOf wholeOf isWithin answerOf
+unfolding inClass run past oneAt tokenAt wordAt literalAt digitsAt intAt fracAt expAt numberAt hexAt escapedAt charAt charsUpTo charsAt stringAt scalarAt itemsAt treeAt isUtf8 utf8From leadOf charOf charsFrom charBytes charsBytes decode isRefused spell.any refuses sameBytes isHex spell.all isHexOf points characterCount spelledAt refusedIn anyItem allItems countItems nameAt noNameTwice isFilter isEvent eventMember once wordOf row6 row7 row8 eventNumber eventHex eventCount wrongTime wrongSmall wrongHex wrongTag filterCounts wrongSubscription treeRow messageRow readOf eventPartsOf bodyOf memberOf isDigit allDigits valueFrom isNatural naturalOf negativeOf wholeOf isWithin wholeAnswer
 reads = refl
 
 writes : textOf sent (parts .body) ≡ text
-unfolding classOf run past oneAt tokenAt wordAt literalAt digitsAt intAt fracAt expAt numberAt hexAt escapedAt charAt charsUpTo charsAt stringAt scalarAt itemsAt treeAt charOf charsFrom bytesOf joined decode tagsOf tagsAt lent.eventOf textOf letterOf escOne escape digitsIn digits decimal quoted membersText tagText tagsText serialise
+unfolding inClass run past oneAt tokenAt wordAt literalAt digitsAt intAt fracAt expAt numberAt hexAt escapedAt charAt charsUpTo charsAt stringAt scalarAt itemsAt treeAt charOf charsFrom charBytes charsBytes decode tagsOf lentTagsAt lent.eventOf textOf letterOf escOne escape digitsIn digits decimal quoted membersText tagText tagsText serialise
 writes = refl
 
 -- none of rows 1 to 10 refuses it
 valid : messageOfferRow sent ≡ 0
-unfolding charOf charsFrom bytesOf joined decode hexOf
+unfolding charOf charsFrom charBytes charsBytes decode hexOf
 valid = rows-in-order .2 sent parts reads .none (rw writes (lit≤ tt)) (rw (writes, hash) refl)
 
 -- ---- a fresh table stores it, and a REQ gives it back
@@ -105,7 +105,7 @@ abbrev note : SignedEvent
 note = (record { id = id; text = text }, replicate 64 0xbb)
 
 held-is : ofHeld (heldOf sent parts) ≡ note
-unfolding heldOf unhex hexVal classOf run past oneAt tokenAt wordAt literalAt digitsAt intAt fracAt expAt numberAt hexAt escapedAt charAt charsUpTo charsAt stringAt scalarAt itemsAt treeAt charOf charsFrom bytesOf joined decode tagsOf tagsAt lent.eventOf letterOf escOne escape digitsIn digits decimal quoted membersText tagText tagsText serialise
+unfolding heldOf unhex hexVal inClass run past oneAt tokenAt wordAt literalAt digitsAt intAt fracAt expAt numberAt hexAt escapedAt charAt charsUpTo charsAt stringAt scalarAt itemsAt treeAt charOf charsFrom charBytes charsBytes decode tagsOf lentTagsAt lent.eventOf letterOf escOne escape digitsIn digits decimal quoted membersText tagText tagsText serialise
 held-is = refl
 
 judged : judge (asMessage sent) ≡ some note
@@ -116,7 +116,7 @@ abbrev content : Event
 content = record { pubkey = replicate 64 97; time = pos 0; kind = 1; tags = []; content = [] }
 
 text-read : readText text ≡ read content
-unfolding readText opened standsAt fieldsAt pairAt closedAt pubkeyAt isPubkey isHex texts.all timeAt runOf wholeOf naturalOf isNatural allDigits isDigit valueFrom negativeOf isTime isWithin kindAt reading.tagsAt reading.membersAt reading.stringAt bodyFrom isUtf8 utf8From
+unfolding readText openedText standsAt fieldsAt pairAt closedAt pubkeyAt isPubkey isHex texts.all timeAt runOf wholeOf naturalOf isNatural allDigits isDigit valueFrom negativeOf isTime isWithin kindAt reading.tagsAt reading.textMembersAt reading.stringAt bodyFrom isUtf8 utf8From
 text-read = refl
 
 regular-note : classOfText text ≡ regular
@@ -157,10 +157,10 @@ says-stored : answer freshTable (asMessage sent) ≡ Stored
 unfolding partsOf
 says-stored =
     rows-in-order .0 freshTable (asMessage sent) .judged (rw valid) (fresh-good freshTable fresh .is-sound)
-    ∙ ap (λ (t : List SignedEvent). offer.answerOf 0 (verdict signedEvents (capacityOf freshTable) t (some (ofHeld (offeredOf (asMessage sent)))))) (fresh-view freshTable fresh)
-    ∙ ap (λ N. offer.answerOf 0 (verdict signedEvents N [] (some (ofHeld (offeredOf (asMessage sent)))))) capacity
-    ∙ ap (λ x. offer.answerOf 0 (verdict signedEvents 8 [] (some x))) (rw reads held-is)
-    ∙ ap (offer.answerOf 0) first-verdict
+    ∙ ap (λ (t : List SignedEvent). offer.offeredBy 0 (verdict signedEvents (capacityOf freshTable) t (some (ofHeld (offeredOf (asMessage sent)))))) (fresh-view freshTable fresh)
+    ∙ ap (λ N. offer.offeredBy 0 (verdict signedEvents N [] (some (ofHeld (offeredOf (asMessage sent)))))) capacity
+    ∙ ap (λ x. offer.offeredBy 0 (verdict signedEvents 8 [] (some x))) (rw reads held-is)
+    ∙ ap (offer.offeredBy 0) first-verdict
 
 -- slot 0 holds it
 slot-0 : inSlot (slotAt table 0) ≡ note
@@ -176,17 +176,17 @@ matched : matchesSlot table all-events 0 ≡ true
 unfolding matchesSlot matches texts.all
 matched = rw (ap (λ (x : SignedEvent). readText (x .0 .text)) slot-0 ∙ text-read)
 
-the-filter : filtersAt asked 11 ≡ all-events ∷ []
-unfolding classOf run past oneAt tokenAt wordAt literalAt digitsAt intAt fracAt expAt numberAt hexAt escapedAt charAt charsUpTo charsAt stringAt scalarAt itemsAt treeAt filtersAt filterOf filterAt membersAt msg.filterOf memberOf elementsFrom upTo nextOf
+the-filter : filtersMeant asked 11 ≡ all-events ∷ []
+unfolding inClass run past oneAt tokenAt wordAt literalAt digitsAt intAt fracAt expAt numberAt hexAt escapedAt charAt charsUpTo charsAt stringAt scalarAt itemsAt treeAt filtersMeant filterOf filterAt membersAt msg.filterPartsOf memberOf elementsFrom upTo nextOf
 the-filter = refl
 
-answered : answerList table (filtersAt asked 11) ≡ 0 ∷ []
-unfolding answerList union picked keep among from newestFirst insert
+answered : answerList table (filtersMeant asked 11) ≡ 0 ∷ []
+unfolding answerList union picked keep among numbersFrom newestFirst insert
 answered = rw (the-filter, table-count, matched)
 
 -- ---- what the program writes
 hex-id : said sent (parts .id) ≡ hexOf id
-unfolding charOf charsFrom bytesOf joined decode hexOf
+unfolding charOf charsFrom charBytes charsBytes decode hexOf
 hex-id = refl
 
 event-reply : (repliesTo freshTable sent ≡ ok (hexOf id) true [] ∷ []) × (tableAfter freshTable sent ≡ table)
@@ -203,7 +203,7 @@ slot-shown =
     rw (t, i, g)
 
 request-reply : repliesTo table asked ≡ event (ascii "s") (hexOf id) content (hexOf (replicate 64 0xbb)) ∷ eose (ascii "s") ∷ []
-unfolding repliesTo requestReplies charOf charsFrom bytesOf joined decode
+unfolding repliesTo requestReplies charOf charsFrom charBytes charsBytes decode
 request-reply = rw (request, table-sound, answered, slot-shown)
 
 texts-are : written (ok (hexOf id) true [] ∷ []) ++ (written (event (ascii "s") (hexOf id) content (hexOf (replicate 64 0xbb)) ∷ eose (ascii "s") ∷ []) ++ [])

@@ -27,7 +27,7 @@ use Rattle.message.specs.declared.Message.{Message}
 use Rattle.message.specs.declared.Message.the-variants as message
 use Rattle.message.specs.declared.Named.{Named}
 use Rattle.message.specs.declared.Named.the-variants as names
-use Rattle.message.specs.Lists.{within}
+use Rattle.message.specs.Lists.{openWithin}
 use Rattle.message.specs.Parts.{memberOf, membersOf, spanIn, spanOf}
 use Rattle.message.specs.Read.{readOf, idNamed, namedIn, namedRoot, isEarly, namedOf}
 use Rattle.message.proofs.Elements.{group-of, Listing, one, array-listing}
@@ -42,7 +42,7 @@ use Rattle.table.specs.declared.Offered.{Offered}
 use Rattle.table.specs.declared.Offered.the-variants as offered
 use Rattle.table.proofs.Bytes.{clauses}
 use Rattle.table.proofs.Shown.{text-small}
-use Rattle.query.specs.Answer.{answerList, filtersAt}
+use Rattle.query.specs.Answer.{answerList, filtersMeant}
 use Rattle.query.proofs.Sorting.{no-left, no-right}
 use Rattle.query.proofs.Tables.{answer-means}
 use Rattle.reply.specs.Replies.{Reply, ok, eose, closed, notice, truth, replyText, reasonOf, verdictReason}
@@ -91,7 +91,7 @@ id-short m p = go (isHexOf hexLength (part m (p .start) (p .len))) refl
     go true e = hex-short (part m (p .start) (p .len)) e
     go false e = tt
 
-subscription-short : (m : List ℕ) (w k : ℕ) (u : Json) → isUtf8 m ≡ true → treeAt m within w ≡ got u k → isString u ≡ true → refusedIn m u ≡ false
+subscription-short : (m : List ℕ) (w k : ℕ) (u : Json) → isUtf8 m ≡ true → treeAt m openWithin w ≡ got u k → isString u ≡ true → refusedIn m u ≡ false
     → NamedShort m (cond (wrongSubscription m u) names.Nothing (names.Subscription (spanOf u)))
 unfolding wrongSubscription refusedIn
 subscription-short m w k (word a n) f e h r = absurd (false≢true h)
@@ -115,14 +115,14 @@ named-short : (m : List ℕ) → NamedShort m (namedOf m)
 unfolding namedOf refusedIn
 named-short m = early (isEarly (messageRow m)) refl
   where
-    by : (x : Word) (q w k : ℕ) (u : Json) (us : Items) → isUtf8 m ≡ true → treeAt m within w ≡ got u k → refusedIn m u ≡ false
+    by : (x : Word) (q w k : ℕ) (u : Json) (us : Items) → isUtf8 m ≡ true → treeAt m openWithin w ≡ got u k → refusedIn m u ≡ false
         → hasShape m x (item q w u us) ≡ true → NamedShort m (namedIn m x (item q w u us))
     by event q w k u us f e r h = id-short m (spanIn (memberOf m idName (membersOf u)))
     by req q w k u us f e r h = subscription-short m w k u f e (both (isString u) _ h .0) r
     by close q w k u us f e r h = tt
     by other q w k u us f e r h = tt
 
-    second : {p v q w : ℕ} {t u : Json} {us : Items} → Listing m (item p v t (item q w u us)) → (k : ℕ) × (treeAt m within w ≡ got u k)
+    second : {p v q w : ℕ} {t u : Json} {us : Items} → Listing m (item p v t (item q w u us)) → (k : ℕ) × (treeAt m openWithin w ≡ got u k)
     second (one e f (one g h l)) = (_, g)
 
     late : isEarly (messageRow m) ≡ false → {t : Json} {n : ℕ} → root m ≡ got t n → hasShape m (opened m t .first) (opened m t .rest) ≡ true → Begun t
@@ -222,7 +222,7 @@ module _ (b m : List ℕ) where
 
       go : (x : Bool) → sound b ≡ x → length (response b m) ≤ enoughFor (capacityOf b)
       go true s =
-          let fs = filtersAt m (r .filters) in
+          let fs = filtersMeant m (r .filters) in
           let ks = answerList b fs in
           let sub = said m (r .subscription) in
           omega (

@@ -7,12 +7,12 @@ use Prim.Native.Nat.{ℕ}
 use Rattle.wire.specs.Bytes.{sameBytes}
 use Rattle.wire.specs.Escape.{letterOf, escOne, escape}
 use Rattle.utf8.specs.Utf8.{isUtf8, utf8From, leadOf}
-use Rattle.json.specs.Grammar.{classOf, run, past, oneAt, tokenAt, wordAt, literalAt, digitsAt, intAt, fracAt, expAt, numberAt, hexAt, escapedAt, charAt, charsUpTo, charsAt, stringAt, scalarAt}
+use Rattle.json.specs.Grammar.{inClass, run, past, oneAt, tokenAt, wordAt, literalAt, digitsAt, intAt, fracAt, expAt, numberAt, hexAt, escapedAt, charAt, charsUpTo, charsAt, stringAt, scalarAt}
 use Rattle.json.specs.Tree.{itemsAt, treeAt}
 use Rattle.spell.specs.Spell as spell
-use Rattle.spell.specs.Spell.{charOf, charsFrom, bytesOf, joined, decode, isRefused, refuses, points, characterCount}
+use Rattle.spell.specs.Spell.{charOf, charsFrom, charBytes, charsBytes, decode, isRefused, refuses, points, characterCount}
 use Rattle.rows.specs.Strings.{spelledAt, refusedIn}
-use Rattle.shape.specs.Shape.{anyItem, allItems, countItems, nameAt, noneTwice, isFilter, wordOf}
+use Rattle.shape.specs.Shape.{anyItem, allItems, countItems, nameAt, noNameTwice, isFilter, wordOf}
 use Rattle.shape.specs.Rows.{row6, row7, row8, filterCounts, wrongSubscription, treeRow, messageRow}
 use Rattle.message.specs.Read.{readOf}
 use Rattle.message.specs.declared.Message.the-variants as message
@@ -25,25 +25,25 @@ use Rattle.table.specs.Events.{inSlot, view}
 use Rattle.table.specs.Sound.{sound}
 use Rattle.table.specs.Format.{formatRow, formatted}
 use Rattle.table.proofs.Formatted.{formatted-view, formatted-sound}
-use Rattle.query.specs.Answer.{keep, from, newestFirst, union, answerList, filtersAt}
+use Rattle.query.specs.Answer.{keep, numbersFrom, newestFirst, union, answerList, filtersMeant}
 use Rattle.wire.specs.Ascii.{ascii}
 use Rattle.reply.specs.Replies.{Reply, eose, notice, replyText, reasonOf}
 use Rattle.reply.specs.Program.{refusal, eventsOf, requestReplies, repliesTo, tableAfter, lines, written, outputFrom, programSlots, freshTable, output}
 
 braces : readOf (ascii "{}") ≡ message.Refused 5
-unfolding classOf run past oneAt tokenAt wordAt literalAt digitsAt intAt fracAt expAt numberAt hexAt escapedAt charAt charsUpTo charsAt stringAt scalarAt itemsAt treeAt isUtf8 utf8From leadOf charOf charsFrom bytesOf joined decode isRefused spell.any refuses sameBytes points characterCount spelledAt refusedIn anyItem countItems nameAt noneTwice isFilter wordOf allItems row6 row7 row8 filterCounts wrongSubscription treeRow messageRow readOf
+unfolding inClass run past oneAt tokenAt wordAt literalAt digitsAt intAt fracAt expAt numberAt hexAt escapedAt charAt charsUpTo charsAt stringAt scalarAt itemsAt treeAt isUtf8 utf8From leadOf charOf charsFrom charBytes charsBytes decode isRefused spell.any refuses sameBytes points characterCount spelledAt refusedIn anyItem countItems nameAt noNameTwice isFilter wordOf allItems row6 row7 row8 filterCounts wrongSubscription treeRow messageRow readOf
 braces = refl
 
 pub request : readOf (ascii "[\"REQ\",\"s\",{}]") ≡ message.Req (record { subscription = record { start = 8; len = 1 }; filters = 11 })
-unfolding classOf run past oneAt tokenAt wordAt literalAt digitsAt intAt fracAt expAt numberAt hexAt escapedAt charAt charsUpTo charsAt stringAt scalarAt itemsAt treeAt isUtf8 utf8From leadOf charOf charsFrom bytesOf joined decode isRefused spell.any refuses sameBytes points characterCount spelledAt refusedIn anyItem countItems nameAt noneTwice isFilter wordOf allItems row6 row7 row8 filterCounts wrongSubscription treeRow messageRow readOf
+unfolding inClass run past oneAt tokenAt wordAt literalAt digitsAt intAt fracAt expAt numberAt hexAt escapedAt charAt charsUpTo charsAt stringAt scalarAt itemsAt treeAt isUtf8 utf8From leadOf charOf charsFrom charBytes charsBytes decode isRefused spell.any refuses sameBytes points characterCount spelledAt refusedIn anyItem countItems nameAt noNameTwice isFilter wordOf allItems row6 row7 row8 filterCounts wrongSubscription treeRow messageRow readOf
 request = refl
 
 close : readOf (ascii "[\"CLOSE\",\"s\"]") ≡ message.Close (record { start = 10; len = 1 })
-unfolding classOf run past oneAt tokenAt wordAt literalAt digitsAt intAt fracAt expAt numberAt hexAt escapedAt charAt charsUpTo charsAt stringAt scalarAt itemsAt treeAt isUtf8 utf8From leadOf charOf charsFrom bytesOf joined decode isRefused spell.any refuses sameBytes points characterCount spelledAt refusedIn anyItem countItems nameAt noneTwice isFilter wordOf allItems row6 row7 row8 filterCounts wrongSubscription treeRow messageRow readOf
+unfolding inClass run past oneAt tokenAt wordAt literalAt digitsAt intAt fracAt expAt numberAt hexAt escapedAt charAt charsUpTo charsAt stringAt scalarAt itemsAt treeAt isUtf8 utf8From leadOf charOf charsFrom charBytes charsBytes decode isRefused spell.any refuses sameBytes points characterCount spelledAt refusedIn anyItem countItems nameAt noNameTwice isFilter wordOf allItems row6 row7 row8 filterCounts wrongSubscription treeRow messageRow readOf
 close = refl
 
 empty : readOf [] ≡ message.Refused 3
-unfolding classOf run past oneAt tokenAt wordAt literalAt digitsAt intAt fracAt expAt numberAt hexAt escapedAt charAt charsUpTo charsAt stringAt scalarAt itemsAt treeAt isUtf8 utf8From leadOf charOf charsFrom bytesOf joined decode isRefused spell.any refuses sameBytes points characterCount spelledAt refusedIn anyItem countItems nameAt noneTwice isFilter wordOf allItems row6 row7 row8 filterCounts wrongSubscription treeRow messageRow readOf
+unfolding inClass run past oneAt tokenAt wordAt literalAt digitsAt intAt fracAt expAt numberAt hexAt escapedAt charAt charsUpTo charsAt stringAt scalarAt itemsAt treeAt isUtf8 utf8From leadOf charOf charsFrom charBytes charsBytes decode isRefused spell.any refuses sameBytes points characterCount spelledAt refusedIn anyItem countItems nameAt noNameTwice isFilter wordOf allItems row6 row7 row8 filterCounts wrongSubscription treeRow messageRow readOf
 empty = refl
 
 -- ---- the fresh table
@@ -61,8 +61,8 @@ fresh-count =
     sym (length-map (heldSlots freshTable) inSlot ∙ length-cells slotSize (countOf freshTable) _)
     ∙ ap length (formatted-view programSlots (replicate (tableSize programSlots) 0) row-0)
 
-fresh-answer : answerList freshTable (filtersAt (ascii "[\"REQ\",\"s\",{}]") 11) ≡ []
-unfolding answerList union from keep newestFirst
+fresh-answer : answerList freshTable (filtersMeant (ascii "[\"REQ\",\"s\",{}]") 11) ≡ []
+unfolding answerList union numbersFrom keep newestFirst
 fresh-answer = rw fresh-count
 
 -- ---- the replies to each line, and the table
@@ -71,7 +71,7 @@ unfolding repliesTo tableAfter refusal
 first = (rw braces, rw braces)
 
 second : (repliesTo freshTable (ascii "[\"REQ\",\"s\",{}]") ≡ eose (ascii "s") ∷ []) × (tableAfter freshTable (ascii "[\"REQ\",\"s\",{}]") ≡ freshTable)
-unfolding repliesTo tableAfter requestReplies eventsOf charOf charsFrom bytesOf joined decode
+unfolding repliesTo tableAfter requestReplies eventsOf charOf charsFrom charBytes charsBytes decode
 second = (rw (request, fresh-sound, fresh-answer), rw request)
 
 third : (repliesTo freshTable (ascii "[\"CLOSE\",\"s\"]") ≡ []) × (tableAfter freshTable (ascii "[\"CLOSE\",\"s\"]") ≡ freshTable)

@@ -18,7 +18,7 @@ use Rattle.reply.specs.Program.{repliesTo, tableAfter, lines, written, o
 use Rattle.reply.specs.Claims.Replies.{Plain}
 use Rattle.reply.specs.Respond.{response}
 use Rattle.reply.specs.declared.Turned.the-variants as turning
-use Rattle.reply.specs.Feed.{State, mostLine, kept, isEnd, afterByte, saidAt, afterBytes, saidBy, lastLine, saidLast, stateOf, before, usedOf, turnText, turnState, turnRow, turned, turnTable, turnLine, turnOut, turnedNumber, turnedUsed, turnedLine, turnedBytes}
+use Rattle.reply.specs.Feed.{State, mostLine, kept, isEnd, afterByte, saidAt, afterBytes, saidBy, lastLine, saidLast, feedState, before, usedOf, turnText, turnState, turnRow, turned, turnTable, turnLine, turnOut, turnedNumber, turnedUsed, turnedLine, turnedBytes}
 use Rattle.reply.specs.Claims.Respond.{KeptSame, InPieces, SaysOutput, TurnMeans, TurnRowIs, TurnedMeans}
 use Rattle.reply.proofs.Which.{overlong}
 use Rattle.reply.proofs.Lines.{line-ends, last-line}
@@ -190,14 +190,14 @@ pub turn-means : TurnMeans
 unfolding turnText turnState
 turn-means b line n piece =
     let u = usedOf piece in
-    let (p, q) = in-pieces (stateOf b line n) (take u piece) (drop u piece) in
+    let (p, q) = in-pieces (feedState b line n) (take u piece) (drop u piece) in
     let e = take-append-drop u piece in
     record {
       used = used-few piece;
       progress = used-some piece;
       says = turn-says b (take n (kept line)) piece;
-      goes-on = sym (ap (saidBy (stateOf b line n)) e) ∙ q;
-      state = sym (ap (afterBytes (stateOf b line n)) e) ∙ p;
+      goes-on = sym (ap (saidBy (feedState b line n)) e) ∙ q;
+      state = sym (ap (afterBytes (feedState b line n)) e) ∙ p;
     }
 
 pub turn-row-is : TurnRowIs
@@ -267,11 +267,11 @@ module _ (b line : List ℕ) (n : ℕ) (piece out : List ℕ) where
 
   -- the state is in the buffers, whether or not the piece ends the line
   in-buffers : mostLine ≤ length line → (e : Bool) → let l = kept (take n (kept line) ++ before piece) in
-      stateOf (left b l e .table) lineAfter (length (left b l e .line)) ≡ left b l e
+      feedState (left b l e .table) lineAfter (length (left b l e .line)) ≡ left b l e
   in-buffers w true = refl
   in-buffers w false = ap (at b) (line-kept line n (before piece) w)
 
-  is-state : row ≡ 0 → stateOf (turnTable b line n piece out) (turnLine b line n piece out) (turnedLine (turned b line n piece out)) ≡ turnState b line n piece
+  is-state : row ≡ 0 → feedState (turnTable b line n piece out) (turnLine b line n piece out) (turnedLine (turned b line n piece out)) ≡ turnState b line n piece
   unfolding turnTable turnLine turnState
   is-state e =
       let a = turn-after b (take n (kept line)) piece (take-all mostLine (take n (kept line)) (omega (arith, length-take n (kept line), length-take mostLine line))) in

@@ -13,14 +13,14 @@ use Rattle.wire.specs.Limits.{hexLength}
 use Rattle.message.specs.declared.Span.{Span}
 use Rattle.message.specs.declared.EventParts.{EventParts}
 use Rattle.message.specs.Lent.{lowest, string2, string4, string5, string7, event2, event4, event5, event7, body6, body8}
-use Rattle.event.specs.Answer.{orElse, isLarge, answered, serialised, serialisedRow, numberOf, valueOf}
+use Rattle.event.specs.Answer.{orElse, isLarge, answered, serialised, serialisedRow, writtenNumber, writtenLength}
 use Rattle.event.specs.declared.Written.the-variants as sent
 use Rattle.table.specs.Layout.{capacityOf}
 use Rattle.table.specs.Events.{ofHeld, view}
 use Rattle.table.specs.Sound.{sound}
 use Rattle.law.specs.Table.{verdict}
 use Rattle.table.specs.Offer as offers
-use Rattle.table.specs.Offer.{Offering, isValid, judge, answerOf, verdictOn, answer}
+use Rattle.table.specs.Offer.{Offering, isValid, judge, offeredBy, verdictOn, answer}
 use Rattle.table.specs.declared.Offered.{Offered}
 use Rattle.table.specs.declared.Offered.the-variants as offered
 use Rattle.query.specs.Claims.{Lowest}
@@ -38,13 +38,13 @@ zero-or r = ⊎-elim (λ e. inl (eqb-true r 0 e)) (λ e. inr (eqb-false r 0 e)) 
 -- ---- a text is written that fits where no row refuses it
 pub writes-or : (row : ℕ) (t out : List ℕ) → (row ≡ 0 → length t ≤ length out) → WritesOr row t out (answered row (length t)) (outputAfter row t out)
 writes-or row t out fits = record {
-  number = ⊎-elim (λ e. ap numberOf (is-wrote e) ∙ sym e) (λ ne. ap numberOf (is-refused ne)) (zero-or row);
+  number = ⊎-elim (λ e. ap writtenNumber (is-wrote e) ∙ sym e) (λ ne. ap writtenNumber (is-refused ne)) (zero-or row);
   wrote = is-wrote;
-  value = λ e. ap valueOf (is-wrote e);
+  value = λ e. ap writtenLength (is-wrote e);
   begins = λ e. ap (take (length t)) (taken e) ∙ take-at t (drop (length t) out) (length t) refl;
   rest = λ e. ap (drop (length t)) (taken e) ∙ drop-at t (drop (length t) out) (length t) refl;
   as-long = ⊎-elim (λ e. ap length (taken e) ∙ (let h = fits e in simp (length-append, length-drop) (omega arith))) (λ ne. ap length (left ne)) (zero-or row);
-  refused = λ ne. (is-refused ne, ap valueOf (is-refused ne), left ne);
+  refused = λ ne. (is-refused ne, ap writtenLength (is-refused ne), left ne);
 }
   where
     taken : row ≡ 0 → outputAfter row t out ≡ t ++ drop (length t) out
@@ -400,32 +400,32 @@ refused-row : (b : List ℕ) (o : Offering) (r : ℕ) → answer b o ≡ offered
 unfolding answer verdictOn judge verdict
 refused-row b o r a = go (isValid o) refl (sound b) a
   where
-    go : (v : Bool) → isValid o ≡ v → (s : Bool) → cond (v && not s) (offered.Refused 11) (answerOf (offers.rowOf o) (verdictOn b o)) ≡ offered.Refused r → 1 ≤ r
-    go true v false q = let z = ap offers.numberOf q in omega arith
+    go : (v : Bool) → isValid o ≡ v → (s : Bool) → cond (v && not s) (offered.Refused 11) (offeredBy (offers.offeringRow o) (verdictOn b o)) ≡ offered.Refused r → 1 ≤ r
+    go true v false q = let z = ap offers.offerNumber q in omega arith
     go true v true q =
-        let (l, h) = verdict-rows r (offers.rowOf o) (capacityOf b) (view b) (ofHeld (offers.offeredOf o)) (rw v at q) in
+        let (l, h) = verdict-rows r (offers.offeringRow o) (capacityOf b) (view b) (ofHeld (offers.offeredOf o)) (rw v at q) in
         omega arith
     go false v s q =
-        let z : offers.rowOf o ≡ r = ap offers.numberOf (rw v at q) in
-        let n = eqb-false (offers.rowOf o) 0 v in
+        let z : offers.offeringRow o ≡ r = ap offers.offerNumber (rw v at q) in
+        let n = eqb-false (offers.offeringRow o) 0 v in
         omega (arith, n)
 
 pub offered-number : OfferedNumber
-offered-number b o = (λ r l. (of-number (answer b o) r l, ap offers.numberOf), (no-row, on (answer b o) refl))
+offered-number b o = (λ r l. (of-number (answer b o) r l, ap offers.offerNumber), (no-row, on (answer b o) refl))
   where
-    of-number : (a : Offered) (r : ℕ) → 1 ≤ r → offers.numberOf a ≡ r → a ≡ offered.Refused r
+    of-number : (a : Offered) (r : ℕ) → 1 ≤ r → offers.offerNumber a ≡ r → a ≡ offered.Refused r
     of-number offered.Ephemeral r l e = absurd (omega arith)
     of-number offered.Duplicate r l e = absurd (omega arith)
     of-number offered.Older r l e = absurd (omega arith)
     of-number offered.Stored r l e = absurd (omega arith)
     of-number (offered.Refused k) r l e = ap offered.Refused e
 
-    no-row : offers.numberOf (answer b o) ≡ 0 → (r : ℕ) → answer b o ≢ offered.Refused r
-    no-row e r a = let l = refused-row b o r a in let z = ap offers.numberOf a in omega arith
+    no-row : offers.offerNumber (answer b o) ≡ 0 → (r : ℕ) → answer b o ≢ offered.Refused r
+    no-row e r a = let l = refused-row b o r a in let z = ap offers.offerNumber a in omega arith
 
-    on : (a : Offered) → answer b o ≡ a → ((r : ℕ) → answer b o ≢ offered.Refused r) → offers.numberOf (answer b o) ≡ 0
-    on offered.Ephemeral e n = ap offers.numberOf e
-    on offered.Duplicate e n = ap offers.numberOf e
-    on offered.Older e n = ap offers.numberOf e
-    on offered.Stored e n = ap offers.numberOf e
+    on : (a : Offered) → answer b o ≡ a → ((r : ℕ) → answer b o ≢ offered.Refused r) → offers.offerNumber (answer b o) ≡ 0
+    on offered.Ephemeral e n = ap offers.offerNumber e
+    on offered.Duplicate e n = ap offers.offerNumber e
+    on offered.Older e n = ap offers.offerNumber e
+    on offered.Stored e n = ap offers.offerNumber e
     on (offered.Refused k) e n = absurd (n k e)

@@ -8,8 +8,8 @@ use Rattle.law.specs.Lists.{any}
 use Rattle.table.specs.Layout.{tableSize}
 use Rattle.table.proofs.Formatted.{formatted-capacity, formatted-view, formatted-length}
 use Rattle.reply.specs.Replies.{Reply, replyText}
-use Rattle.reply.specs.Program.{push, repliesTo, tableAfter, lines, replyLine, written, outputFrom, programSlots, freshTable, output}
-use Rattle.reply.specs.Claims.Replies.{isNewline, Plain, LineEnds, LastLine, NoLine, Fresh, tableFrom, repliesFrom, GoesOn, OutputGoesOn, OutputIs, OutputLines}
+use Rattle.reply.specs.Program.{pushByte, repliesTo, tableAfter, lines, replyLine, written, outputFrom, programSlots, freshTable, output}
+use Rattle.reply.specs.Claims.Replies.{isNewline, Plain, LineEnds, LastLine, NoLine, FreshTable, tableFrom, repliesFrom, GoesOn, OutputGoesOn, OutputIs, OutputLines}
 use Rattle.reply.proofs.Example.{row-0, fresh-sound}
 use Rattle.reply.proofs.Plain.{reply-plain}
 
@@ -20,9 +20,9 @@ line-ends [] rest p = refl
 line-ends (x ∷ l) rest p = go (isNewline x) p (line-ends l rest)
   where
     go : (b : Bool) → (b || any isNewline l) ≡ false → (Plain l → lines (l ++ (0x0a ∷ rest)) ≡ l ∷ lines rest)
-        → cond b ([] ∷ lines (l ++ (0x0a ∷ rest))) (push x (lines (l ++ (0x0a ∷ rest)))) ≡ (x ∷ l) ∷ lines rest
+        → cond b ([] ∷ lines (l ++ (0x0a ∷ rest))) (pushByte x (lines (l ++ (0x0a ∷ rest)))) ≡ (x ∷ l) ∷ lines rest
     go true h ih = absurd (false≢true (sym h))
-    go false h ih = ap (push x) (ih h)
+    go false h ih = ap (pushByte x) (ih h)
 
 pub no-line : NoLine
 unfolding lines
@@ -38,15 +38,15 @@ last-line x [] p = go (isNewline x) p
 last-line x (y ∷ l) p = go (isNewline x) p (last-line y l)
   where
     go : (b : Bool) → (b || any isNewline (y ∷ l)) ≡ false → (Plain (y ∷ l) → lines (y ∷ l) ≡ (y ∷ l) ∷ [])
-        → cond b ([] ∷ lines (y ∷ l)) (push x (lines (y ∷ l))) ≡ (x ∷ y ∷ l) ∷ []
+        → cond b ([] ∷ lines (y ∷ l)) (pushByte x (lines (y ∷ l))) ≡ (x ∷ y ∷ l) ∷ []
     go true h ih = absurd (false≢true (sym h))
-    go false h ih = ap (push x) (ih h)
+    go false h ih = ap (pushByte x) (ih h)
 
 -- a line's end parts the lines before it from those after it
 data Some : List (List ℕ) → Type 0 where
   some : {l : List ℕ} {ls : List (List ℕ)} → Some (l ∷ ls)
 
-push-append : (x : ℕ) (ls ms : List (List ℕ)) → Some ls → push x (ls ++ ms) ≡ push x ls ++ ms
+push-append : (x : ℕ) (ls ms : List (List ℕ)) → Some ls → pushByte x (ls ++ ms) ≡ pushByte x ls ++ ms
 push-append x (l ∷ ls) ms some = refl
 
 some-line : (s : List ℕ) → Some (lines (s ++ (0x0a ∷ [])))
@@ -54,7 +54,7 @@ unfolding lines
 some-line [] = some
 some-line (x ∷ s) = go (isNewline x) (lines (s ++ (0x0a ∷ [])))
   where
-    go : (b : Bool) (ls : List (List ℕ)) → Some (cond b ([] ∷ ls) (push x ls))
+    go : (b : Bool) (ls : List (List ℕ)) → Some (cond b ([] ∷ ls) (pushByte x ls))
     go true ls = some
     go false [] = some
     go false (l ∷ ls) = some
@@ -65,12 +65,12 @@ lines-part [] rest = refl
 lines-part (x ∷ s) rest = go (isNewline x) (lines-part s rest)
   where
     go : (b : Bool) → lines (s ++ (0x0a ∷ rest)) ≡ lines (s ++ (0x0a ∷ [])) ++ lines rest
-        → cond b ([] ∷ lines (s ++ (0x0a ∷ rest))) (push x (lines (s ++ (0x0a ∷ rest)))) ≡ cond b ([] ∷ lines (s ++ (0x0a ∷ []))) (push x (lines (s ++ (0x0a ∷ [])))) ++ lines rest
+        → cond b ([] ∷ lines (s ++ (0x0a ∷ rest))) (pushByte x (lines (s ++ (0x0a ∷ rest)))) ≡ cond b ([] ∷ lines (s ++ (0x0a ∷ []))) (pushByte x (lines (s ++ (0x0a ∷ [])))) ++ lines rest
     go true e = ap ([] ∷_) e
-    go false e = ap (push x) e ∙ push-append x (lines (s ++ (0x0a ∷ []))) (lines rest) (some-line s)
+    go false e = ap (pushByte x) e ∙ push-append x (lines (s ++ (0x0a ∷ []))) (lines rest) (some-line s)
 
 -- ---- the table
-pub fresh : Fresh
+pub fresh : FreshTable
 fresh = let z : List ℕ = replicate (tableSize programSlots) 0 in (fresh-sound, formatted-capacity 8 z row-0, formatted-view 8 z row-0, formatted-length 8 z row-0 ∙ length-replicate {A = ℕ} (tableSize 8) 0)
 
 -- ---- the output

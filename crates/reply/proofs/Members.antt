@@ -13,7 +13,7 @@ use lib.Seq.{take-append-seam}
 use Rattle.wire.specs.Escape.{escape}
 use Rattle.utf8.specs.Utf8.{utf8From}
 use Rattle.utf8.specs.declared.Want.the-variants.{Lead}
-use Rattle.json.specs.Grammar.{classOf, run, past, oneAt, digitsAt, intAt, fracAt, expAt, numberAt, stringAt, scalarAt, headAt, nextAt, startAt}
+use Rattle.json.specs.Grammar.{inClass, run, past, oneAt, digitsAt, intAt, fracAt, expAt, numberAt, stringAt, scalarAt, headAt, nextAt, startAt}
 use Rattle.json.specs.Tree.{Json, num, obj, Items, nil, item, got, itemsAt, treeAt}
 use Rattle.json.specs.declared.Class.the-variants.{Digit, Byte}
 use Rattle.json.specs.declared.Out.the-variants.{End}
@@ -26,7 +26,7 @@ use Rattle.numeral.specs.Whole.{isDigit, allDigits, isEmpty, isNatural}
 use Rattle.numeral.proofs.Digits.{digits-all}
 use Rattle.numeral.proofs.Wholes.{natural-digits}
 use Rattle.rows.specs.Strings.{part, spelledAt}
-use Rattle.text.specs.Event.{quoted, all, isPlainByte, isString}
+use Rattle.text.specs.Event.{quoted, all, isPlainByte, isStringBytes}
 use Rattle.text.proofs.Pieces.{Spelt, first-of, left, right, tail, byte-is, both, spelt-inside}
 use Rattle.text.proofs.Strings.{utf8-escape}
 use Rattle.utf8.proofs.States.{lead-low}
@@ -40,8 +40,8 @@ digit-bounds : (x : ℕ) → isDigit x ≡ true → (48 ≤ x) × (x ≤ 57)
 unfolding isDigit
 digit-bounds x e = let (p, q) = both (leb 48 x) _ e in (leb-true 48 x p, leb-true x 57 q)
 
-digits-run : (l r : List ℕ) → allDigits l ≡ true → classOf Digit (getD r 0 0) ≡ false → run Digit (l ++ r) ≡ length l
-unfolding allDigits isDigit run classOf
+digits-run : (l r : List ℕ) → allDigits l ≡ true → inClass Digit (getD r 0 0) ≡ false → run Digit (l ++ r) ≡ length l
+unfolding allDigits isDigit run inClass
 digits-run [] [] e f = refl
 digits-run [] (x ∷ r) e f = rw f
 digits-run (x ∷ l) r e f = let (p, q) = both (isDigit x) _ e in rw (p, digits-run l r q f)
@@ -67,7 +67,7 @@ natural-bounds x l e = go (eqb x 48) refl e
 -- ---- a number, and a comma after it
 module _ (s : List ℕ) where
   natural-here : (l : List ℕ) (at n : ℕ) → isNatural l ≡ true → Spelt s at l n → getD s n 0 ≡ 44 → intAt s at ≡ End n
-  unfolding intAt oneAt classOf digitsAt isNatural allDigits isDigit past
+  unfolding intAt oneAt inClass digitsAt isNatural allDigits isDigit past
   natural-here [] at n e a c = absurd (let z : _≡_ {A = ℕ} 0 1 = cc in omega arith)
   natural-here (x ∷ l) at n e a c = go (eqb x 48) refl e
     where
@@ -86,11 +86,11 @@ module _ (s : List ℕ) where
 
   -- what stands at n ends a number
   number-ends : (n : ℕ) → getD s n 0 ≡ 44 → (fracAt s n ≡ End n) × (expAt s n ≡ End n)
-  unfolding fracAt expAt oneAt classOf
+  unfolding fracAt expAt oneAt inClass
   number-ends n c = (rw c, rw c)
 
   number-here : (z : ℤ) (at n : ℕ) → Spelt s at (decimal z) n → getD s n 0 ≡ 44 → numberAt s at ≡ End n
-  unfolding decimal numberAt classOf isNatural
+  unfolding decimal numberAt inClass isNatural
   number-here (pos k) at n a c = go (digits k) (natural-digits k) a
     where
       go : (l : List ℕ) → isNatural l ≡ true → Spelt s at l n → numberAt s at ≡ End n
@@ -114,14 +114,14 @@ module _ (s : List ℕ) where
   number-first (negsuc k) at n a = let z = byte-is a in (omega arith, omega arith)
 
   pub number-tight : (z : ℤ) (at n : ℕ) → Spelt s at (decimal z) n → Tight s at
-  unfolding classOf
+  unfolding inClass
   number-tight z at n a =
       let (p, q) = number-first z at n a in
       let b = getD s at 0 in
       rw (ne-eqb b 0x20 (λ z. omega arith), ne-eqb b 0x09 (λ z. omega arith), ne-eqb b 0x0A (λ z. omega arith), ne-eqb b 0x0D (λ z. omega arith))
 
   pub number-read : (d : ℕ) (z : ℤ) (at n : ℕ) → Spelt s at (decimal z) n → getD s n 0 ≡ 44 → treeAt s (suc d) at ≡ got (num at (n - at)) n
-  unfolding scalarAt stringAt oneAt classOf
+  unfolding scalarAt stringAt oneAt inClass
   number-read d z at n a c =
       let (p, q) = number-first z at n a in
       let b = getD s at 0 in
@@ -129,8 +129,8 @@ module _ (s : List ℕ) where
       tree-open s d at Leaf (sym o) ∙ rw (ne-eqb b 0x22 (λ z. omega arith), number-here z at n a c) (ap (got (num at (n - at))) (ws-none s n (rw c)))
 
   -- ---- a string, as a part
-  pub string-told : (v : List ℕ) (at n : ℕ) → isString v ≡ true → Spelt s at (quoted v) n → Spells s (record { start = at + 1; len = n - at - 2 }) v
-  unfolding isString quoted isInside
+  pub string-told : (v : List ℕ) (at n : ℕ) → isStringBytes v ≡ true → Spelt s at (quoted v) n → Spells s (record { start = at + 1; len = n - at - 2 }) v
+  unfolding isStringBytes quoted isInside
   string-told v at n h a =
       let (p, u) = both (all isPlainByte v) _ h in
       let b = left (escape v) (34 ∷ []) (tail a) in
@@ -154,7 +154,7 @@ module _ (s : List ℕ) where
 
   pub member : (w x r : List ℕ) (c at e : ℕ) → escape w ≡ w → all isPlainByte w ≡ true → Spelt s at (34 ∷ (w ++ (34 ∷ 58 ∷ (x ++ (c ∷ r))))) e
       → Member w x r c at (at + 1 + length w + 1 + 1) (at + 1 + length w + 1 + 1 + length x) e
-  unfolding quoted spelledAt classOf
+  unfolding quoted spelledAt inClass
   member w x r c at e z h a =
       let y : List ℕ = 58 ∷ (x ++ (c ∷ r)) in
       let q : 34 ∷ (w ++ (34 ∷ y)) ≡ (34 ∷ (w ++ (34 ∷ []))) ++ y = sym (ap (λ l. 34 ∷ l) (append-assoc w (34 ∷ []) y)) in
@@ -192,7 +192,7 @@ module _ (s : List ℕ) where
 
   pub object-read : (d at n : ℕ) (us : Items) → getD s at 0 ≡ 123 → getD s (at + 1) 0 ≡ 34 → itemsAt (treeAt s d) s true (length s - 0) (at + 1) ≡ got us n
       → treeAt s (suc d) at ≡ got (obj us) n
-  unfolding classOf
+  unfolding inClass
   object-read d at n us e f i =
       let z : startAt s at ≡ Many (at + 1) true = rw (token-not s 0x5B at (rw e), token-is s 0x7B at e (rw f), token-not s 0x7D (at + 1) (rw f)) in
       tree-open s d at (Many (at + 1) true) (sym z) ∙ rw (rw sub-zero at i)

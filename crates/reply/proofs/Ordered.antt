@@ -9,17 +9,17 @@ use Rattle.wire.specs.Bytes.{sameBytes}
 use Rattle.wire.specs.Escape.{letterOf, escOne, escape}
 use Rattle.wire.specs.Limits.{widest}
 use Rattle.json.specs.Tree.{Json, num, str, arr, obj, Items, nil, item}
-use Rattle.numeral.specs.Whole.{wholeOf, answerOf, isWithin}
+use Rattle.numeral.specs.Whole.{wholeOf, wholeAnswer, isWithin}
 use Rattle.numeral.specs.declared.Whole.the-variants.{Value}
 use Rattle.rows.specs.Strings.{part, spelledAt, refusedIn}
 use Rattle.spell.specs.Spell as spell
-use Rattle.spell.specs.Spell.{charOf, charsFrom, bytesOf, joined, decode, isRefused, refuses, isHexOf}
+use Rattle.spell.specs.Spell.{charOf, charsFrom, charBytes, charsBytes, decode, isRefused, refuses, isHexOf}
 use Rattle.shape.specs.Shape.{anyItem, allItems, countItems, nameAt, idName, pubkeyName, createdAtName, kindName, tagsName, contentName, sigName, eventWord, eventMember, once, isEvent, event, wordOf, opened}
 use Rattle.shape.specs.Rows.{row5, row6, row7, row8, eventNumber, eventHex, eventCount, wrongTime, wrongSmall, wrongHex, treeRow, wrongTags}
 use Rattle.text.specs.Event.{all, isPlainByte}
-use Rattle.message.specs.Lent.{isTags}
-use Rattle.message.specs.Parts.{memberOf, bodyOf, eventOf}
-use Rattle.message.specs.Read.{partsOf}
+use Rattle.message.specs.Lent.{isTagsShape}
+use Rattle.message.specs.Parts.{memberOf, bodyOf, eventPartsOf}
+use Rattle.message.specs.Read.{messageParts}
 use Rattle.message.specs.declared.EventParts.{EventParts}
 use Rattle.message.specs.declared.Message.the-variants as message
 
@@ -31,7 +31,7 @@ pub record Verbatim (w : List ℕ) : Type 0 where
   pub fine : refuses w ≡ false
 
 pub verbatim-names : Verbatim idName × Verbatim pubkeyName × Verbatim createdAtName × Verbatim kindName × Verbatim tagsName × Verbatim contentName × Verbatim sigName × Verbatim eventWord
-unfolding escape escOne letterOf all isPlainByte charOf charsFrom bytesOf joined decode isRefused spell.any refuses
+unfolding escape escOne letterOf all isPlainByte charOf charsFrom charBytes charsBytes decode isRefused spell.any refuses
 verbatim-names = (
   record { spelled = refl; decoded = refl; bytes = refl; fine = refl },
   record { spelled = refl; decoded = refl; bytes = refl; fine = refl },
@@ -94,11 +94,11 @@ pub record Fine (s : List ℕ) (i k t n g c z : Entry) (array : Json) (time : �
   pub id-hex : isHexOf 64 (held s i) ≡ true
   pub pubkey-hex : isHexOf 64 (held s k) ≡ true
   pub sig-hex : isHexOf 128 (held s z) ≡ true
-  pub time-is : answerOf (wholeOf (held s t)) ≡ Value time
+  pub time-is : wholeAnswer (wholeOf (held s t)) ≡ Value time
   pub time-within : isWithin (Value time) (negℤ (pos widest)) (pos widest) ≡ true
-  pub kind-is : answerOf (wholeOf (held s n)) ≡ Value (pos kind)
+  pub kind-is : wholeAnswer (wholeOf (held s n)) ≡ Value (pos kind)
   pub kind-within : isWithin (Value (pos kind)) (pos 0) (pos 65535) ≡ true
-  pub tags-array : isTags array ≡ true
+  pub tags-array : isTagsShape array ≡ true
   pub tags-few : wrongTags array ≡ false
 
 abbrev pub partsAt : (id pubkey tags content sig : Entry) → ℤ → ℕ → EventParts
@@ -186,6 +186,6 @@ module _ (s : List ℕ) (i k t n g c z : Entry) (array : Json) (time : ℤ) (kin
   unfolding treeRow
   rows-none = rw (no-4, no-5, no-6, no-7, no-8)
 
-  pub parts-are : partsOf s (opened s whole .first) (opened s whole .rest) ≡ message.Event (partsAt i k g c z time kind)
-  unfolding eventOf bodyOf memberOf sameBytes
+  pub parts-are : messageParts s (opened s whole .first) (opened s whole .rest) ≡ message.Event (partsAt i k g c z time kind)
+  unfolding eventPartsOf bodyOf memberOf sameBytes
   parts-are = rw (first, id-says, pubkey-says, time-says, kind-says, tags-say, content-says, sig-says, f .time-is, f .kind-is)

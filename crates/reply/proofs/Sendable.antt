@@ -17,12 +17,12 @@ use Rattle.wire.specs.Limits.{mostText, mostMessage, widest}
 use Rattle.utf8.specs.Utf8.{isUtf8, utf8From, leadOf}
 use Rattle.utf8.specs.declared.Want.the-variants.{Lead}
 use Rattle.utf8.proofs.States.{utf8-append}
-use Rattle.json.specs.Grammar.{classOf}
+use Rattle.json.specs.Grammar.{inClass}
 use Rattle.json.specs.Tree.{Json, num, str, obj, Items, nil, item, got, root, itemsAt, treeAt}
 use Rattle.json.proofs.Deeper.{deeper}
 use Rattle.digest.specs.Digest.{digest}
 use Rattle.numeral.specs.Decimal.{digits, decimal}
-use Rattle.numeral.specs.Whole.{wholeOf, answerOf, isWithin}
+use Rattle.numeral.specs.Whole.{wholeOf, wholeAnswer, isWithin}
 use Rattle.numeral.specs.declared.Whole.the-variants.{Value}
 use Rattle.numeral.proofs.Wholes.{decimal-value}
 use Rattle.rows.specs.Strings.{part, refusedIn}
@@ -31,7 +31,7 @@ use Rattle.spell.specs.Spell as spell
 use Rattle.spell.proofs.Laws.{hex-escape}
 use Rattle.shape.specs.Shape.{idName, pubkeyName, createdAtName, kindName, tagsName, contentName, sigName, eventWord}
 use Rattle.shape.specs.Rows.{messageRow, wrongTags}
-use Rattle.text.specs.Event.{Event, quoted, tagsText, serialise, all, isPlainByte, isString, isTags, isTime}
+use Rattle.text.specs.Event.{Event, quoted, tagsText, serialise, all, isPlainByte, isStringBytes, isTags, isTime}
 use Rattle.text.specs.Read.{read, readText}
 use Rattle.text.proofs.Pieces.{Spelt, all-of, left, right, tail, byte-is, both, spelt-inside}
 use Rattle.text.proofs.Limits.{Limits, limits-of}
@@ -196,31 +196,31 @@ module _ (i : List ℕ) (e : Event) (g s : List ℕ) (is : s ≡ eventMessage i 
   sig-read = member s sigName (quoted g) [] 125 (sig .at) close (verbatim-names .6 .spelled) (verbatim-names .6 .bytes) (content-read .rest)
 
   -- ---- their values
-  id-string : isString i ≡ true
+  id-string : isStringBytes i ≡ true
   id-string = hex-string i id-hex
 
   pubkey-is : spell.all isHex (e .pubkey) ≡ true
   pubkey-is = pubkey-hex (e .pubkey) (limits .pubkey)
 
-  pubkey-string : isString (e .pubkey) ≡ true
+  pubkey-string : isStringBytes (e .pubkey) ≡ true
   pubkey-string = hex-string (e .pubkey) pubkey-is
 
-  sig-string : isString g ≡ true
+  sig-string : isStringBytes g ≡ true
   sig-string = hex-string g sig-hex
 
-  tags-stand : Stands (treeAt s 6) (λ t. tagsIn s (got t tags-end)) lent.isTags (tags .value) (e .tags) tags-end
-  unfolding classOf
+  tags-stand : Stands (treeAt s 6) (λ t. tagsIn s (got t tags-end)) lent.isTagsShape (tags .value) (e .tags) tags-end
+  unfolding inClass
   tags-stand = tags-read s 3 (e .tags) (tags .value) tags-end (limits .tags) (tags-here .value) (rw (tags-here .next))
 
   abbrev array : Json
   array = tags-stand .tree
 
   tags-tight : Tight s (tags .value)
-  unfolding tagsText classOf
+  unfolding tagsText inClass
   tags-tight = rw (byte-is (tags-here .value))
 
   string-tight : (v : List ℕ) (at n : ℕ) → Spelt s at (quoted v) n → Tight s at
-  unfolding quoted classOf
+  unfolding quoted inClass
   string-tight v at n a = rw (byte-is a)
 
   -- ---- the items, from the last on; all end where the object does
@@ -239,14 +239,14 @@ module _ (i : List ℕ) (e : Event) (g s : List ℕ) (is : s ≡ eventMessage i 
   -- a member, and a comma and a quote after it
   member-more : {w x r : List ℕ} {at v n : ℕ} (k : ℕ) (t : Json) (us : Items) → k < 9 → Member s w x (34 ∷ r) 44 at v n close → Tight s v → treeAt s 6 v ≡ got t n
       → itemsAt (treeAt s 6) s true (length s - (k + 1)) (n + 1) ≡ got us end → itemsAt (treeAt s 6) s true (length s - k) at ≡ got (item at v t us) end
-  unfolding classOf
+  unfolding inClass
   member-more {at = at} {v = v} {n = n} k t us h m w y i =
       item-more s 6 true k at v n (n + 1) end t us (omega (arith, long)) (m .head w) y (next-more s true n (m .next) (rw (byte-is (m .rest)))) i
 
-  string-more : {w r : List ℕ} {at p n : ℕ} (k : ℕ) (v : List ℕ) (us : Items) → k < 9 → isString v ≡ true → Member s w (quoted v) (34 ∷ r) 44 at p n close
+  string-more : {w r : List ℕ} {at p n : ℕ} (k : ℕ) (v : List ℕ) (us : Items) → k < 9 → isStringBytes v ≡ true → Member s w (quoted v) (34 ∷ r) 44 at p n close
       → itemsAt (treeAt s 6) s true (length s - (k + 1)) (n + 1) ≡ got us end
       → itemsAt (treeAt s 6) s true (length s - k) at ≡ got (item at p (str (p + 1) (n - p - 2)) us) end
-  unfolding classOf isString
+  unfolding inClass isStringBytes
   string-more {p = p} {n = n} k v us h g m i =
       member-more k (str (p + 1) (n - p - 2)) us h m (string-tight v p n (m .value))
       (string-read s 5 v p n (both (all isPlainByte v) _ g .0) (m .value) (rw (m .next))) i
@@ -260,7 +260,7 @@ module _ (i : List ℕ) (e : Event) (g s : List ℕ) (is : s ≡ eventMessage i 
   fromSig = itemOf sig (string sig) nil
 
   sig-item : itemsAt (treeAt s 6) s true (length s - 6) (sig .at) ≡ got fromSig end
-  unfolding classOf isString
+  unfolding inClass isStringBytes
   sig-item =
       item-last s 6 true 6 (sig .at) (sig .value) sig-end end (string sig) (omega (arith, long))
       (sig-read .head (string-tight g (sig .value) sig-end (sig-read .value)))
@@ -312,7 +312,7 @@ module _ (i : List ℕ) (e : Event) (g s : List ℕ) (is : s ≡ eventMessage i 
   size = omega (arith, ends, bracket .end)
 
   object-item : itemsAt (treeAt s 7) s false (length s - 1) 9 ≡ got (item 9 9 (obj members) nil) (end + 1)
-  unfolding classOf
+  unfolding inClass
   object-item =
       let z : getD s (end + 1) 0 ≡ 0 = List·getD-eq-default s 0 (omega (arith, size)) in
       item-last s 7 false 1 9 9 end (end + 1) (obj members) (omega (arith, long)) refl object-tree (next-done s end closed (rw z))
@@ -330,13 +330,13 @@ module _ (i : List ℕ) (e : Event) (g s : List ℕ) (is : s ≡ eventMessage i 
   word-next = byte-is (right (quoted eventWord) (44 ∷ []) word-comma)
 
   word-item : itemsAt (treeAt s 7) s false (length s - 0) 1 ≡ got (item 1 1 (str 2 5) (item 9 9 (obj members) nil)) (end + 1)
-  unfolding classOf
+  unfolding inClass
   word-item =
       item-more s 7 false 0 1 1 8 9 (end + 1) (str 2 5) _ (omega (arith, long)) refl
       (string-read s 6 eventWord 1 8 (verbatim-names .7 .bytes) word-spelt (rw word-next)) (next-more s false 8 word-next (rw (byte-is object))) object-item
 
   tree : treeAt s 8 0 ≡ got (messageOf members) (end + 1)
-  unfolding classOf
+  unfolding inClass
   tree = array-many s 7 0 (end + 1) _ (byte-is begin) (rw (byte-is (tail begin))) (rw (byte-is (tail begin))) (rw sub-zero at word-item)
 
   -- ---- what the parts say
@@ -356,7 +356,7 @@ module _ (i : List ℕ) (e : Event) (g s : List ℕ) (is : s ≡ eventMessage i 
   sig-told = string-told s g (sig .value) sig-end sig-string (sig-read .value)
 
   -- ---- rows 4 to 8
-  allowed : {p : Span} {v : List ℕ} → Spells s p v → isString v ≡ true → refuses (part s (p .start) (p .len)) ≡ false
+  allowed : {p : Span} {v : List ℕ} → Spells s p v → isStringBytes v ≡ true → refuses (part s (p .start) (p .len)) ≡ false
   allowed t h = not-refused _ (t .utf8) (t .spelling) (rw (t .says) h)
 
   hex-of : (k : ℕ) {p : Span} {v : List ℕ} → Spells s p v → length v ≡ k → spell.all isHex v ≡ true → isHexOf k (part s (p .start) (p .len)) ≡ true
@@ -379,10 +379,10 @@ module _ (i : List ℕ) (e : Event) (g s : List ℕ) (is : s ≡ eventMessage i 
   unfolding isWithin
   kind-within = rw (le-ltb (e .kind) 0 (omega arith), le-ltb 65535 (e .kind) (limits .kind))
 
-  time-is : answerOf (wholeOf (part s (time .start) (time .size))) ≡ Value (e .time)
+  time-is : wholeAnswer (wholeOf (part s (time .start) (time .size))) ≡ Value (e .time)
   time-is = rw (taken (decimal (e .time)) (time .value) time-end (time-read .value)) (decimal-value (e .time) time-within)
 
-  kind-is : answerOf (wholeOf (part s (kind .start) (kind .size))) ≡ Value (pos (e .kind))
+  kind-is : wholeAnswer (wholeOf (part s (kind .start) (kind .size))) ≡ Value (pos (e .kind))
   unfolding decimal
   kind-is = rw (taken (digits (e .kind)) (kind .value) kind-end (kind-read .value)) (decimal-value (pos (e .kind)) kind-wide)
 
@@ -459,7 +459,7 @@ module _ (i : List ℕ) (e : Event) (g s : List ℕ) (is : s ≡ eventMessage i 
   utf8 = rw is (pieces (ascii "[\"EVENT\",") (objectText i e g) (ascii "]") refl object-utf8 refl)
 
   root-is : root s ≡ got (messageOf members) (end + 1)
-  unfolding classOf
+  unfolding inClass
   root-is = rw (ws-none s 0 (rw (byte-is begin))) tree
 
   -- ---- it is read, and judged to be the event

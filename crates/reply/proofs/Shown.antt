@@ -10,7 +10,7 @@ use Rattle.event.specs.Lent.{said}
 use Rattle.law.specs.Lists.{_∈_}
 use Rattle.table.specs.Layout.{countOf, slotAt, textIn}
 use Rattle.table.specs.Sound.{sound}
-use Rattle.query.specs.Answer.{answerList, filtersAt}
+use Rattle.query.specs.Answer.{answerList, filtersMeant}
 use Rattle.query.proofs.Tables.{slot-matches, answer-means}
 use Rattle.reply.specs.Replies.{Reply}
 use Rattle.reply.specs.Program.{eventsOf, requestReplies, repliesTo, tableAfter}
@@ -37,7 +37,7 @@ shows-length b sub ks rs (slot {ks = js} {rs = qs} r s) = ap suc (shows-length b
 pub read-request : ReadRequest
 unfolding repliesTo tableAfter requestReplies
 read-request b m r e s =
-    let ks = answerList b (filtersAt m (r .filters)) in
+    let ks = answerList b (filtersMeant m (r .filters)) in
     let sub = said m (r .subscription) in
-    let w = shows b sub s ks (answers-held b (filtersAt m (r .filters))) in
+    let w = shows b sub s ks (answers-held b (filtersMeant m (r .filters))) in
     (eventsOf b sub ks, w, shows-length b sub ks (eventsOf b sub ks) w, rw (e, s), rw e)

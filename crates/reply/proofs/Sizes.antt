@@ -16,7 +16,7 @@ use Rattle.utf8.proofs.Abnf.{as-in-abnf}
 use Rattle.json.specs.Grammar.{isSpelling}
 use Rattle.spell.specs.Spell.{decode, refuses, points, characterCount, isHexOf}
 use Rattle.spell.proofs.Laws.{hex-escape}
-use Rattle.text.specs.Event.{Event, quoted, serialise, isPlainByte, isString, all}
+use Rattle.text.specs.Event.{Event, quoted, serialise, isPlainByte, isStringBytes, all}
 use Rattle.text.proofs.Pieces.{both}
 use Rattle.text.proofs.Limits.{limits-of}
 use Rattle.text.proofs.Places.{escape-none}
@@ -162,7 +162,7 @@ octets-short (utf8-4-f4 {b = b} {c = c} {d = d} {s = s} r p q o) =
     four 0xf4 b c d s (omega arith) (r .low) (omega arith) (p .low) (p .high) (q .low) (q .high) (octets-short o)
 
 pub spelled-short : (l : List ℕ) → isUtf8 l ≡ true → isSpelling l ≡ true → refuses l ≡ false → length (escape (decode l)) ≤ 4 * characterCount l
-unfolding isString characterCount
+unfolding isStringBytes characterCount
 spelled-short l u s r = octets-short (as-in-abnf (decode l) .0 (both (all isPlainByte (decode l)) _ (decoded-string l u s r) .1))
 
 -- 64 characters of hex

@@ -17,13 +17,13 @@ use Rattle.json.specs.Grammar as json
 use Rattle.json.specs.Grammar.{run, past, oneAt, tokenAt, wordAt, literalAt, digitsAt, intAt, fracAt, expAt, numberAt, hexAt, escapedAt, charAt, charsUpTo, charsAt, stringAt, scalarAt}
 use Rattle.json.specs.Tree.{arr, nil, got, itemsAt, treeAt}
 use Rattle.numeral.specs.Decimal.{digitsIn, digits, decimal}
-use Rattle.numeral.specs.Whole.{isDigit, allDigits, valueFrom, isNatural, naturalOf, negativeOf, wholeOf, answerOf, isWithin}
+use Rattle.numeral.specs.Whole.{isDigit, allDigits, valueFrom, isNatural, naturalOf, negativeOf, wholeOf, wholeAnswer, isWithin}
 use Rattle.spell.specs.Spell as spell
-use Rattle.spell.specs.Spell.{charOf, charsFrom, bytesOf as bytesOfChar, joined, decode, isHexOf}
+use Rattle.spell.specs.Spell.{charOf, charsFrom, charBytes as bytesOfChar, charsBytes, decode, isHexOf}
 use Rattle.spell.proofs.Laws.{decode-escape}
 use Rattle.rows.specs.Strings.{spelledAt, refusedIn}
 use Rattle.shape.specs.Shape.{anyItem, allItems, countItems, nameAt, isCondition}
-use Rattle.text.specs.Event.{quoted, membersText, tagText, tagsText, serialise, all, isPlainByte, isString}
+use Rattle.text.specs.Event.{quoted, membersText, tagText, tagsText, serialise, all, isPlainByte, isStringBytes}
 use Rattle.text.specs.Kinds.{classOf, dOf, keyOf}
 use Rattle.text.proofs.Cases.{xs-length, xs-cases}
 use Rattle.text.proofs.Pieces.{both}
@@ -33,9 +33,9 @@ use Rattle.message.specs.declared.Body.{Body}
 use Rattle.message.specs.declared.Bound.the-variants.{Absent, Number}
 use Rattle.message.specs.Parts as parts
 use Rattle.message.specs.Parts.{membersAt, filterAt}
-use Rattle.message.specs.Lent.{bytesOf, isInside, isSpelled, string2, string4, string5, string7, wrongNumber, value2, value4, value5, body2, body4, body5, body6, body7, body8, bodyRow}
-use Rattle.event.specs.Lent.{said, stringsOf, tagsOf, tagsAt, eventOf, textOf}
-use Rattle.event.specs.Answer.{isLarge, textRow}
+use Rattle.message.specs.Lent.{spanBytes, isInside, isSpelled, string2, string4, string5, string7, wrongNumber, value2, value4, value5, body2, body4, body5, body6, body7, body8, bodyRow}
+use Rattle.event.specs.Lent.{said, stringsOf, tagsOf, lentTagsAt, eventOf, textOf}
+use Rattle.event.specs.Answer.{isLarge, bodyTextRow}
 use Rattle.event.specs.Order.{isLower, isNewer}
 use Rattle.table.proofs.Strings.{escape-spelling}
 use Rattle.table.proofs.Refused.{not-refused}
@@ -43,7 +43,7 @@ use Rattle.query.specs.Filter.{Filter, filterOf}
 use Rattle.query.specs.Match.{matches}
 use Rattle.query.specs.Answer.{keep, among, newestFirst, picked, union, answerList}
 use Rattle.wire.specs.Ascii.{ascii}
-use Rattle.reply.specs.Starred.{AllHold, A, dated, lentIn, lentParts, filterIn, starred}
+use Rattle.reply.specs.Starred.{AllCases, A, dated, lentIn, lentParts, filterOfText, starred}
 
 -- a test that nothing passes keeps nothing
 keep-none : (p : ℕ → Bool) → ((s : ℕ) → p s ≡ false) → (l : List ℕ) → keep p l ≡ []
@@ -57,23 +57,23 @@ unfolding answerList union picked newestFirst among
 nothing f e b = rw (e, keep-none (λ s. false) (λ s. refl))
 
 -- ---- filters read from their texts
-limit-read : filterIn (ascii "{\"limit\":0}") .limit ≡ Number (pos 0)
-unfolding json.classOf run past oneAt tokenAt wordAt literalAt digitsAt intAt fracAt expAt numberAt hexAt escapedAt charAt charsUpTo charsAt stringAt scalarAt itemsAt treeAt isDigit allDigits valueFrom isNatural naturalOf negativeOf wholeOf answerOf charOf charsFrom bytesOfChar joined decode spell.any sameBytes spelledAt nameAt parts.filterOf membersAt filterAt stringsOf filterOf parts.memberOf isWithin isCondition
+limit-read : filterOfText (ascii "{\"limit\":0}") .limit ≡ Number (pos 0)
+unfolding json.inClass run past oneAt tokenAt wordAt literalAt digitsAt intAt fracAt expAt numberAt hexAt escapedAt charAt charsUpTo charsAt stringAt scalarAt itemsAt treeAt isDigit allDigits valueFrom isNatural naturalOf negativeOf wholeOf wholeAnswer charOf charsFrom bytesOfChar charsBytes decode spell.any sameBytes spelledAt nameAt parts.filterPartsOf membersAt filterAt stringsOf filterOf parts.memberOf isWithin isCondition
 limit-read = refl
 
-since-read : filterIn (ascii "{\"since\":0}")
+since-read : filterOfText (ascii "{\"since\":0}")
     ≡ record { ids = none; authors = none; kinds = none; since = Number (pos 0); until = Absent; limit = Absent; conditions = [] }
-unfolding json.classOf run past oneAt tokenAt wordAt literalAt digitsAt intAt fracAt expAt numberAt hexAt escapedAt charAt charsUpTo charsAt stringAt scalarAt itemsAt treeAt isDigit allDigits valueFrom isNatural naturalOf negativeOf wholeOf answerOf charOf charsFrom bytesOfChar joined decode spell.any sameBytes spelledAt nameAt parts.filterOf membersAt filterAt stringsOf filterOf parts.memberOf isWithin isCondition
+unfolding json.inClass run past oneAt tokenAt wordAt literalAt digitsAt intAt fracAt expAt numberAt hexAt escapedAt charAt charsUpTo charsAt stringAt scalarAt itemsAt treeAt isDigit allDigits valueFrom isNatural naturalOf negativeOf wholeOf wholeAnswer charOf charsFrom bytesOfChar charsBytes decode spell.any sameBytes spelledAt nameAt parts.filterPartsOf membersAt filterAt stringsOf filterOf parts.memberOf isWithin isCondition
 since-read = refl
 
-shut-out : (i : List ℕ) → matches (filterIn (ascii "{\"since\":0}")) i (dated (negsuc 0) 1 [] []) ≡ false
+shut-out : (i : List ℕ) → matches (filterOfText (ascii "{\"since\":0}")) i (dated (negsuc 0) 1 [] []) ≡ false
 unfolding matches
 shut-out i = rw since-read
 
 -- ---- a lent part that spells a string
-clean : (b : List ℕ) (s : Span) (v : List ℕ) → bytesOf b s ≡ escape v → isInside b s ≡ true → isString v ≡ true
+clean : (b : List ℕ) (s : Span) (v : List ℕ) → spanBytes b s ≡ escape v → isInside b s ≡ true → isStringBytes v ≡ true
     → (string2 b s ≡ false) × (string4 b s ≡ false) × (string5 b s ≡ false) × (said b s ≡ v)
-unfolding string2 string4 string5 isSpelled isString
+unfolding string2 string4 string5 isSpelled isStringBytes
 clean b s v q i h =
     let (a, u) = both (all isPlainByte v) _ h in
     let u′ : isUtf8 (escape v) ≡ true = utf8-escape v ∙ u in
@@ -86,8 +86,8 @@ unfolding escape escOne letterOf
 escape-xs zero = refl
 escape-xs (suc n) = ap (120 ∷_) (escape-xs n)
 
-string-xs : (n : ℕ) → isString (replicate n 120) ≡ true
-unfolding isString all isPlainByte isUtf8 utf8From leadOf
+string-xs : (n : ℕ) → isStringBytes (replicate n 120) ≡ true
+unfolding isStringBytes all isPlainByte isUtf8 utf8From leadOf
 string-xs zero = refl
 string-xs (suc n) = string-xs n
 
@@ -103,7 +103,7 @@ module _ (n : ℕ) where
   size = length-append A (ascii "[]," ++ replicate n 120) ∙ omega (arith, length-replicate {A = ℕ} n 120)
 
   pubkey-clean : (string2 b (p .pubkey) ≡ false) × (string4 b (p .pubkey) ≡ false) × (string5 b (p .pubkey) ≡ false) × (said b (p .pubkey) ≡ A)
-  unfolding isInside isString all isPlainByte isUtf8 utf8From leadOf escape escOne letterOf
+  unfolding isInside isStringBytes all isPlainByte isUtf8 utf8From leadOf escape escOne letterOf
   pubkey-clean = clean b (p .pubkey) A refl (le-leb 64 (length b) (omega (arith, size))) refl
 
   content-clean : (string2 b (p .content) ≡ false) × (string4 b (p .content) ≡ false) × (string5 b (p .content) ≡ false) × (said b (p .content) ≡ replicate n 120)
@@ -113,11 +113,11 @@ module _ (n : ℕ) where
       (le-leb (67 + n) (length b) (omega (arith, size))) (string-xs n)
 
   tags-tree : treeAt b 8 64 ≡ got (arr nil) 66
-  unfolding json.classOf run past oneAt tokenAt treeAt
+  unfolding json.inClass run past oneAt tokenAt treeAt
   tags-tree = refl
 
   event-is : eventOf b p ≡ dated (pos 0) 0 [] (replicate n 120)
-  unfolding eventOf tagsAt tagsOf
+  unfolding eventOf lentTagsAt tagsOf
   event-is = rw (pubkey-clean .3, content-clean .3, tags-tree)
 
   hex : body7 b p ≡ false
@@ -128,11 +128,11 @@ module _ (n : ℕ) where
   unfolding bodyRow body2 body4 body5 body6 body8 value2 value4 value5 isUtf8 utf8From leadOf refusedIn allItems countItems anyItem wrongNumber isWithin
   rows = rw (pubkey-clean .0, pubkey-clean .1, pubkey-clean .2, content-clean .0, content-clean .1, content-clean .2, hex, tags-tree) refl
 
-  lent-row : textRow b p ≡ cond (ltb 4096 (80 + n)) 9 0
-  unfolding textRow isLarge textOf
+  lent-row : bodyTextRow b p ≡ cond (ltb 4096 (80 + n)) 9 0
+  unfolding bodyTextRow isLarge textOf
   lent-row = rw (rows, event-is, xs-length n)
 
-pub starred-hold : AllHold starred
+pub starred-hold : AllCases starred
 unfolding letterOf escOne escape digitsIn digits decimal quoted membersText tagText tagsText serialise classOf dOf keyOf isLower isNewer matches
 starred-hold = (
   (refl, refl),

@@ -19,14 +19,14 @@ use Rattle.table.specs.Layout.{countOf, slotAt, textIn}
 use Rattle.table.specs.Sound.{sound}
 use Rattle.table.specs.Format.{shownRow}
 use Rattle.table.proofs.Valid as valid
-use Rattle.query.specs.Answer.{answerList, filtersAt}
+use Rattle.query.specs.Answer.{answerList, filtersMeant}
 use Rattle.query.specs.Claims.{Lowest}
 use Rattle.query.proofs.Sorting.{clash}
 use Rattle.query.proofs.Lent.{alike}
 use Rattle.query.proofs.Listings.{or-else}
 use Rattle.reply.specs.Replies.{eose}
 use Rattle.reply.specs.Lent.{eoseRow, outputAfter}
-use Rattle.reply.specs.Program.{eventIn, eventsOf, requestReplies, repliesTo, replyLine, written}
+use Rattle.reply.specs.Program.{eventReplies, eventsOf, requestReplies, repliesTo, replyLine, written}
 use Rattle.reply.specs.Claims.Replies.{PartsHold, WritesOr}
 use Rattle.reply.specs.declared.ReplyParts.the-variants as parts
 use Rattle.reply.specs.Respond.{response, slotText, slotLine, slotEventRow, slotEvent, slotEventOut, joined, fitting, slotLines, fittingText, noneFits, allHeld, eventsRow, sentEvents, sentEventsOut, sentNumber, sentBytes, sentSlots}
@@ -49,8 +49,8 @@ lines-are : (b sub ks : List ℕ) → ((k : ℕ) → k ∈ ks → k < countOf b)
 unfolding eventsOf joined slotLine written
 lines-are b sub [] h = refl
 lines-are b sub (k ∷ ks) h =
-    written-append (eventIn sub (slotAt b k) (readText (textIn (slotAt b k)))) (eventsOf b sub ks)
-    ∙ ap₂ _++_ (sym (ap (λ x. written (cond x (eventIn sub (slotAt b k) (readText (textIn (slotAt b k)))) [])) (lt-ltb k (countOf b) (h k (List·Memᴰ·head refl)))))
+    written-append (eventReplies sub (slotAt b k) (readText (textIn (slotAt b k)))) (eventsOf b sub ks)
+    ∙ ap₂ _++_ (sym (ap (λ x. written (cond x (eventReplies sub (slotAt b k) (readText (textIn (slotAt b k)))) [])) (lt-ltb k (countOf b) (h k (List·Memᴰ·head refl)))))
     (lines-are b sub ks (λ j i. h j (List·Memᴰ·tail i)))
 
 eose-line : (sub : List ℕ) → written (eose sub ∷ []) ≡ replyLine (eose sub)
@@ -61,9 +61,9 @@ pub one-by-one : OneByOne
 unfolding response repliesTo requestReplies
 one-by-one b m r e s =
     let sub = said m (r .subscription) in
-    let ks = answerList b (filtersAt m (r .filters)) in
+    let ks = answerList b (filtersMeant m (r .filters)) in
     rw (e, s)
-    (written-append (eventsOf b sub ks) (eose sub ∷ []) ∙ ap₂ _++_ (lines-are b sub ks (answers-held b (filtersAt m (r .filters)))) (eose-line sub))
+    (written-append (eventsOf b sub ks) (eose sub ∷ []) ∙ ap₂ _++_ (lines-are b sub ks (answers-held b (filtersMeant m (r .filters)))) (eose-line sub))
 
 pub slot-text-is : SlotTextIs
 unfolding slotText slotLine written
@@ -203,7 +203,7 @@ has-line : (b sub : List ℕ) (k : ℕ) → 0 < length (slotLine b sub k) → k 
 unfolding slotLine written
 has-line b sub k = go (ltb k (countOf b)) refl
   where
-    go : (x : Bool) → ltb k (countOf b) ≡ x → 0 < length (written (cond x (eventIn sub (slotAt b k) (readText (textIn (slotAt b k)))) [])) → k < countOf b
+    go : (x : Bool) → ltb k (countOf b) ≡ x → 0 < length (written (cond x (eventReplies sub (slotAt b k) (readText (textIn (slotAt b k)))) [])) → k < countOf b
     go true e l = ltb-true k (countOf b) e
     go false e l = absurd (omega arith)
 

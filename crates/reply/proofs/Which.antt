@@ -20,29 +20,29 @@ use Rattle.message.specs.declared.ReqParts.{ReqParts}
 use Rattle.message.specs.declared.Message.{Message}
 use Rattle.message.specs.declared.Message.the-variants as message
 use Rattle.message.specs.declared.Named.the-variants as names
-use Rattle.message.specs.Parts.{spanOf, eventOf, membersOf}
-use Rattle.message.specs.Read.{firstOf, partsOf, readOf, rowOf, idNamed, namedIn, namedRoot, isEarly, namedOf}
-use Rattle.message.specs.Lent.{bytesOf, isSpelled, string5, string7, event5, event7, body6, eventRow, event2, event4}
+use Rattle.message.specs.Parts.{spanOf, eventPartsOf, membersOf}
+use Rattle.message.specs.Read.{firstItem, messageParts, readOf, readNumber, idNamed, namedIn, namedRoot, isEarly, namedOf}
+use Rattle.message.specs.Lent.{spanBytes, isSpelled, string5, string7, event5, event7, body6, eventRow, event2, event4}
 use Rattle.message.proofs.Reading.{Shaped, shaped, late-shaped, row-read}
 use Rattle.message.proofs.Passes.{event-passes}
 use Rattle.event.specs.Lent.{said}
 use Rattle.event.specs.Answer.{isLarge, hasId, offeredRow}
 use Rattle.law.specs.Lists.{any}
 use Rattle.law.specs.Table as law
-use Rattle.law.specs.Table.{verdict, firstOf as firstVerdict, isEphemeral, hasKeyNewer, lacksSlot}
+use Rattle.law.specs.Table.{verdict, firstVerdict, isEphemeral, hasKeyNewer, lacksSlot}
 use Rattle.table.specs.Layout.{capacityOf}
 use Rattle.law.specs.Demand3.{runOn}
 use Rattle.table.specs.Events.{Signature, SignedEvent, tableEvents, signedEvents, ofHeld, view}
 use Rattle.table.specs.Demand3.{relay}
 use Rattle.table.specs.Sound.{sound}
 use Rattle.table.specs.Offer as offers
-use Rattle.table.specs.Offer.{asMessage, isEvent, isEventWord, messageOfferRow, isValid, judge, answerOf, verdictOn, answer, isStored, next}
+use Rattle.table.specs.Offer.{asMessage, isEvent, isEventWord, messageOfferRow, isValid, judge, offeredBy, verdictOn, answer, isStored, next}
 use Rattle.table.specs.declared.Offered.{Offered}
 use Rattle.table.specs.declared.Offered.the-variants as offered
 use Rattle.table.proofs.Valid.{or-else}
 use Rattle.reply.specs.Replies.{Reply, ok, closed, notice, reasonOf, isAccepted, verdictReason}
 use Rattle.reply.specs.Program.{refusalNaming, refusal, offerReply, requestReplies, repliesTo, tableIn, tableAfter}
-use Rattle.reply.specs.Claims.Replies.{openedIn, wordIn, restIn, idField, subscriptionField, Covered, EarlyRow, LateWord, LateEvent, LateRequest, LateClose, NamesId, NamesSubscription, LastRows, ReadEvent, ReadClose, BadTable, OnlyStored, Overlong, AllOffered}
+use Rattle.reply.specs.Claims.Replies.{openedIn, wordIn, restItems, idField, subscriptionField, Covered, EarlyRow, LateWord, LateEvent, LateRequest, LateClose, NamesId, NamesSubscription, LastRows, ReadEvent, ReadClose, BadTable, OnlyStored, Overlong, AllOffered}
 
 -- ---- refused when read
 read-refused : (m : List ℕ) → 1 ≤ messageRow m → readOf m ≡ message.Refused (messageRow m)
@@ -66,15 +66,15 @@ named-root m (got t n) = refl
 not-early : (r : ℕ) → 6 ≤ r → isEarly r ≡ false
 not-early r h = rw (le-leb 1 r (omega arith), lt-leb r 5 (omega arith))
 
-late-refusal : (m : List ℕ) (r : ℕ) → isEarly (messageRow m) ≡ false → 6 ≤ r → refusal m r ≡ refusalNaming m (namedIn m (wordIn m) (restIn m)) (reasonOf r)
+late-refusal : (m : List ℕ) (r : ℕ) → isEarly (messageRow m) ≡ false → 6 ≤ r → refusal m r ≡ refusalNaming m (namedIn m (wordIn m) (restItems m)) (reasonOf r)
 unfolding refusal namedOf
 late-refusal m r e h = rw (lt-leb r 5 (omega arith), e, named-root m (root m))
 
 module _ (b m : List ℕ) (h : 6 ≤ messageRow m) where
-  late : (w : Word) → wordIn m ≡ w → (r : Reply) → refusalNaming m (namedIn m w (restIn m)) (reasonOf (messageRow m)) ≡ r → (repliesTo b m ≡ r ∷ []) × (tableAfter b m ≡ b)
+  late : (w : Word) → wordIn m ≡ w → (r : Reply) → refusalNaming m (namedIn m w (restItems m)) (reasonOf (messageRow m)) ≡ r → (repliesTo b m ≡ r ∷ []) × (tableAfter b m ≡ b)
   late w e r q =
       one-reply b m r (omega arith)
-      (late-refusal m (messageRow m) (not-early (messageRow m) h) h ∙ ap (λ v. refusalNaming m (namedIn m v (restIn m)) (reasonOf (messageRow m))) e ∙ q)
+      (late-refusal m (messageRow m) (not-early (messageRow m) h) h ∙ ap (λ v. refusalNaming m (namedIn m v (restItems m)) (reasonOf (messageRow m))) e ∙ q)
 
 pub late-event : LateEvent
 late-event b m h e = late b m h event e _ (go (isHexOf 64 (part m (idField m .start) (idField m .len))))
@@ -84,7 +84,7 @@ late-event b m h e = late b m h event e _ (go (isHexOf 64 (part m (idField m .st
     go false = refl
 
 pub late-request : LateRequest
-late-request b m h e = late b m h req e _ (go (wrongSubscription m (firstOf (restIn m))))
+late-request b m h e = late b m h req e _ (go (wrongSubscription m (firstItem (restItems m))))
   where
     go : (x : Bool) → refusalNaming m (cond x names.Nothing (names.Subscription (subscriptionField m))) (reasonOf (messageRow m)) ≡ cond x (notice (reasonOf (messageRow m))) (closed (said m (subscriptionField m)) (reasonOf (messageRow m)))
     go true = refl
@@ -107,8 +107,8 @@ overlong b m h =
     (p ∙ ap (λ r. notice (reasonOf r) ∷ []) e, q)
 
 -- ---- read
-row-of : (m : List ℕ) (x : Message) → readOf m ≡ x → messageRow m ≡ rowOf x
-row-of m x e = sym (row-read m) ∙ ap rowOf e
+row-of : (m : List ℕ) (x : Message) → readOf m ≡ x → messageRow m ≡ readNumber x
+row-of m x e = sym (row-read m) ∙ ap readNumber e
 
 off : (b : Bool) (k x : ℕ) → 0 < k → cond b k x ≡ 0 → (b ≡ false) × (x ≡ 0)
 off true k x h e = absurd (omega arith)
@@ -140,7 +140,7 @@ clean-of m e =
         (t, n, record { tree = r; text = rw (z₁, z₂, z₃, r, z₄); shape = not-false _ z₅; a8 = z₈ })
 
 -- what is read of it, over its tree
-read-tree : (m : List ℕ) (t : Json) (n : ℕ) → messageRow m ≡ 0 → root m ≡ got t n → readOf m ≡ partsOf m (opened m t .first) (opened m t .rest)
+read-tree : (m : List ℕ) (t : Json) (n : ℕ) → messageRow m ≡ 0 → root m ≡ got t n → readOf m ≡ messageParts m (opened m t .first) (opened m t .rest)
 unfolding readOf
 read-tree m t n z r = rw (z, r)
 
@@ -163,7 +163,7 @@ covered m = go (messageRow m) refl (below m)
     below : (m : List ℕ) → messageRow m ≤ 8
     below m = most (row1 m) 1 _ (omega arith) (most (row2 m) 2 _ (omega arith) (most (row3 m) 3 _ (omega arith) (tree m (root m))))
 
-    word : (w : Word) (ts : Items) (r : ℕ) → hasShape m w ts ≡ true → partsOf m w ts ≢ message.Refused r
+    word : (w : Word) (ts : Items) (r : ℕ) → hasShape m w ts ≡ true → messageParts m w ts ≢ message.Refused r
     word event ts r h e = let z : _≡_ {A = ℕ} 0 1 = cc in omega arith
     word req ts r h e = let z : _≡_ {A = ℕ} 0 1 = cc in omega arith
     word close ts r h e = let z : _≡_ {A = ℕ} 0 1 = cc in omega arith
@@ -183,7 +183,7 @@ or-left : (a b : Bool) → (a || b) ≡ false → a ≡ false
 or-left true b e = absurd (false≢true (sym e))
 or-left false b e = refl
 
-id-hex : (m : List ℕ) (p : EventParts) → eventRow m p ≡ 0 → isHexOf 64 (bytesOf m (p .id)) ≡ true
+id-hex : (m : List ℕ) (p : EventParts) → eventRow m p ≡ 0 → isHexOf 64 (spanBytes m (p .id)) ≡ true
 unfolding eventRow event5 event7 string5 string7
 id-hex m p e =
     let (z₂, e₂) = off (event2 m p) 2 _ (omega arith) e in
@@ -191,13 +191,13 @@ id-hex m p e =
     let (z₅, e₅) = off (event5 m p) 5 _ (omega arith) e₄ in
     let (z₆, e₆) = off (body6 (p .body)) 6 _ (omega arith) e₅ in
     let (z₇, e₇) = off (event7 m p) 7 _ (omega arith) e₆ in
-    spelled-hex (isSpelled m (p .id)) (isHexOf 64 (bytesOf m (p .id))) (or-left _ _ z₅) (or-left _ _ z₇)
+    spelled-hex (isSpelled m (p .id)) (isHexOf 64 (spanBytes m (p .id))) (or-left _ _ z₅) (or-left _ _ z₇)
 
 -- the word, by what was read
 data Opens (m : List ℕ) (p : EventParts) : Word → Items → Type 0 where
-  opens : {ts : Items} → eventOf m (membersOf (firstOf ts)) ≡ p → Opens m p event ts
+  opens : {ts : Items} → eventPartsOf m (membersOf (firstItem ts)) ≡ p → Opens m p event ts
 
-opens-of : (m : List ℕ) (p : EventParts) (w : Word) (ts : Items) → partsOf m w ts ≡ message.Event p → Opens m p w ts
+opens-of : (m : List ℕ) (p : EventParts) (w : Word) (ts : Items) → messageParts m w ts ≡ message.Event p → Opens m p w ts
 opens-of m p event ts e = opens {ts = ts} cc
 opens-of m p req ts e = absurd (let z : _≡_ {A = ℕ} 0 1 = cc in omega arith)
 opens-of m p close ts e = absurd (let z : _≡_ {A = ℕ} 0 1 = cc in omega arith)
@@ -213,7 +213,7 @@ module _ (m : List ℕ) (p : EventParts) (e : readOf m ≡ message.Event p) wher
       (t, n, c, opens-of m p (opened m t .first) (opened m t .rest) (sym (read-tree m t n row-0 (c .tree)) ∙ e))
 
   word-named : (w : Word) (ts : Items) → Opens m p w ts → namedIn m w ts ≡ names.Id (p .id)
-  unfolding eventOf
+  unfolding eventPartsOf
   word-named w ts (opens q) =
       let i = ap (λ x. x .id) q in
       ap (idNamed m) i ∙ rw (id-hex m p (event-passes m p e))
@@ -222,7 +222,7 @@ module _ (m : List ℕ) (p : EventParts) (e : readOf m ≡ message.Event p) wher
   event-word w ts (opens q) = refl
 
   -- rows 9 and 10
-  offer-row : offers.rowOf (asMessage m) ≡ cond (isLarge m (p .body)) 9 (cond (hasId m p) 0 10)
+  offer-row : offers.offeringRow (asMessage m) ≡ cond (isLarge m (p .body)) 9 (cond (hasId m p) 0 10)
   unfolding messageOfferRow isEvent offers.partsOf offeredRow
   offer-row =
       let (t, n, c, o) = event-tree in
@@ -239,14 +239,14 @@ large-rows true h r e z = (omega arith, omega arith)
 large-rows false true r e z = absurd (z e)
 large-rows false false r e z = (omega arith, omega arith)
 
-first-rows : (r x : ℕ) (a i n l : Bool) → answerOf x (firstVerdict a i n l) ≡ offered.Refused r → (9 ≤ r) × (r ≤ 12)
+first-rows : (r x : ℕ) (a i n l : Bool) → offeredBy x (firstVerdict a i n l) ≡ offered.Refused r → (9 ≤ r) × (r ≤ 12)
 first-rows r x true i n l e = absurd (false≢true (sym (ap isAccepted e)))
 first-rows r x false true n l e = absurd (false≢true (sym (ap isAccepted e)))
 first-rows r x false false true l e = absurd (false≢true (sym (ap isAccepted e)))
-first-rows r x false false false true e = let z = ap offers.numberOf e in (omega arith, omega arith)
+first-rows r x false false false true e = let z = ap offers.offerNumber e in (omega arith, omega arith)
 first-rows r x false false false false e = absurd (false≢true (sym (ap isAccepted e)))
 
-pub verdict-rows : (r x N : ℕ) (t : List SignedEvent) (e : SignedEvent) → answerOf x (verdict signedEvents N t (some e)) ≡ offered.Refused r → (9 ≤ r) × (r ≤ 12)
+pub verdict-rows : (r x N : ℕ) (t : List SignedEvent) (e : SignedEvent) → offeredBy x (verdict signedEvents N t (some e)) ≡ offered.Refused r → (9 ≤ r) × (r ≤ 12)
 unfolding verdict
 verdict-rows r x N t e q =
     first-rows r x (isEphemeral (signedEvents .classOf e)) (any (law.hasId signedEvents e) t) (any (hasKeyNewer signedEvents e) t) (lacksSlot signedEvents N t e) q
@@ -255,11 +255,11 @@ pub last-rows : LastRows
 unfolding answer verdictOn judge verdict
 last-rows b m p r e a = go (isValid (asMessage m)) refl (sound b) a
   where
-    go : (v : Bool) → isValid (asMessage m) ≡ v → (s : Bool) → cond (v && not s) (offered.Refused 11) (answerOf (offers.rowOf (asMessage m)) (verdictOn b (asMessage m))) ≡ offered.Refused r → (9 ≤ r) × (r ≤ 12)
-    go true v false q = let z = ap offers.numberOf q in (omega arith, omega arith)
-    go true v true q = verdict-rows r (offers.rowOf (asMessage m)) (capacityOf b) (view b) (ofHeld (offers.offeredOf (asMessage m))) (rw v at q)
+    go : (v : Bool) → isValid (asMessage m) ≡ v → (s : Bool) → cond (v && not s) (offered.Refused 11) (offeredBy (offers.offeringRow (asMessage m)) (verdictOn b (asMessage m))) ≡ offered.Refused r → (9 ≤ r) × (r ≤ 12)
+    go true v false q = let z = ap offers.offerNumber q in (omega arith, omega arith)
+    go true v true q = verdict-rows r (offers.offeringRow (asMessage m)) (capacityOf b) (view b) (ofHeld (offers.offeredOf (asMessage m))) (rw v at q)
     go false v s q =
-        let z : offers.rowOf (asMessage m) ≡ r = ap offers.numberOf (rw v at q) in
+        let z : offers.offeringRow (asMessage m) ≡ r = ap offers.offerNumber (rw v at q) in
         large-rows (isLarge m (p .body)) (hasId m p) r (sym z ∙ offer-row m p e) (λ k. eqb-false _ 0 v (z ∙ k))
 
 pub read-event : ReadEvent
@@ -281,7 +281,7 @@ pub read-close : ReadClose
 unfolding repliesTo tableAfter
 read-close b m p e = (rw e, rw e)
 
-subscription-named : (m : List ℕ) (r : ReqParts) (w : Word) (ts : Items) → partsOf m w ts ≡ message.Req r → hasShape m w ts ≡ true → wrongRequest m w ts ≡ false
+subscription-named : (m : List ℕ) (r : ReqParts) (w : Word) (ts : Items) → messageParts m w ts ≡ message.Req r → hasShape m w ts ≡ true → wrongRequest m w ts ≡ false
     → namedIn m w ts ≡ names.Subscription (r .subscription)
 subscription-named m r event ts e h x = absurd (let z : _≡_ {A = ℕ} 0 1 = cc in omega arith)
 subscription-named m r req nil e h x = absurd (false≢true h)
@@ -321,7 +321,7 @@ only-stored b m = go (readOf m) refl
     go (message.Refused r) e = inl refl
 
 -- ---- every line is offered: an offer of what is no EVENT that was read is refused, and changes nothing
-valid-read : (m : List ℕ) → offers.rowOf (asMessage m) ≡ 0 → (p : EventParts) × (readOf m ≡ message.Event p)
+valid-read : (m : List ℕ) → offers.offeringRow (asMessage m) ≡ 0 → (p : EventParts) × (readOf m ≡ message.Event p)
 unfolding messageOfferRow isEvent
 valid-read m e =
     let (x, e₁) = or-else (textRow m) _ e in
@@ -335,7 +335,7 @@ valid-read m e =
     is-event true r e = (refl, e)
     is-event false r e = absurd (omega arith)
 
-    word : (w : Word) (ts : Items) → isEventWord w ≡ true → (p : EventParts) × (partsOf m w ts ≡ message.Event p)
+    word : (w : Word) (ts : Items) → isEventWord w ≡ true → (p : EventParts) × (messageParts m w ts ≡ message.Event p)
     word event ts h = (_, refl)
     word req ts h = absurd (false≢true h)
     word close ts h = absurd (false≢true h)
@@ -344,7 +344,7 @@ valid-read m e =
 no-offer : (b m : List ℕ) → ((p : EventParts) → readOf m ≢ message.Event p) → b ≡ next b (asMessage m)
 unfolding next answer verdictOn judge verdict
 no-offer b m n =
-    let v : isValid (asMessage m) ≡ false = ne-eqb (offers.rowOf (asMessage m)) 0 (λ e. let (p, q) = valid-read m e in n p q) in
+    let v : isValid (asMessage m) ≡ false = ne-eqb (offers.offeringRow (asMessage m)) 0 (λ e. let (p, q) = valid-read m e in n p q) in
     rw v
 
 one-offered : (b m : List ℕ) → tableAfter b m ≡ next b (asMessage m)

@@ -10,19 +10,19 @@ use Rattle.wire.specs.Bytes.{sameBytes, isHex}
 use Rattle.wire.specs.Escape.{letterOf, escOne, escape}
 use Rattle.numeral.specs.Decimal.{digitsIn, digits, decimal}
 use Rattle.text.specs.Event.{Event, quoted, membersText, tagText, tagsText}
-use Rattle.numeral.specs.Whole.{wholeOf, answerOf, isWithin, isNatural, allDigits, isDigit, valueFrom, naturalOf, negativeOf}
+use Rattle.numeral.specs.Whole.{wholeOf, wholeAnswer, isWithin, isNatural, allDigits, isDigit, valueFrom, naturalOf, negativeOf}
 use Rattle.utf8.specs.Utf8.{isUtf8, utf8From, leadOf}
-use Rattle.json.specs.Grammar.{classOf, run, past, oneAt, tokenAt, wordAt, literalAt, digitsAt, intAt, fracAt, expAt, numberAt, hexAt, escapedAt, charAt, charsUpTo, charsAt, stringAt, scalarAt}
+use Rattle.json.specs.Grammar.{inClass, run, past, oneAt, tokenAt, wordAt, literalAt, digitsAt, intAt, fracAt, expAt, numberAt, hexAt, escapedAt, charAt, charsUpTo, charsAt, stringAt, scalarAt}
 use Rattle.json.specs.Tree.{itemsAt, treeAt}
 use Rattle.spell.specs.Spell as spell
-use Rattle.spell.specs.Spell.{charOf, charsFrom, bytesOf, joined, decode, isRefused, refuses, points, characterCount, isHexOf}
+use Rattle.spell.specs.Spell.{charOf, charsFrom, charBytes, charsBytes, decode, isRefused, refuses, points, characterCount, isHexOf}
 use Rattle.rows.specs.Strings.{spelledAt, refusedIn}
 use Rattle.shape.specs.Shape as word
-use Rattle.shape.specs.Shape.{anyItem, allItems, countItems, nameAt, noneTwice, filterMember, isFilter, isCondition, wordOf, isEvent, eventMember, once}
-use Rattle.shape.specs.Rows.{row6, row7, row8, filterCount, filterNumber, filterHex, filterCounts, wrongList, wrongHex, wrongSubscription, treeRow, messageRow, eventNumber, wrongTime, wrongSmall}
+use Rattle.shape.specs.Shape.{anyItem, allItems, countItems, nameAt, noNameTwice, filterMember, isFilter, isCondition, wordOf, isEvent, eventMember, once}
+use Rattle.shape.specs.Rows.{row6, row7, row8, wrongFilter, filterNumber, filterHex, filterCounts, wrongList, wrongHex, wrongSubscription, treeRow, messageRow, eventNumber, wrongTime, wrongSmall}
 use Rattle.message.specs.Parts.{memberOf}
 use Rattle.message.specs.declared.Span.{Span}
-use Rattle.message.specs.Lent.{bytesOf as bytes}
+use Rattle.message.specs.Lent.{spanBytes as bytes}
 use Rattle.message.specs.Read.{readOf, namedOf}
 use Rattle.event.specs.Lent.{said}
 use Rattle.wire.specs.Ascii.{ascii}
@@ -53,7 +53,7 @@ pub without-filter :
     ((b : List ℕ) → repliesTo b (ascii "[\"REQ\",\"a\\/\\u0062\"]") ≡ closed (ascii "a/b") (reasonOf 8) ∷ [])
     × ((b : List ℕ) → repliesTo b (ascii "[\"REQ\",\"\"]") ≡ notice (reasonOf 8) ∷ [])
     × ((b : List ℕ) → repliesTo b (ascii "[\"CLOSE\",\"\"]") ≡ notice (reasonOf 8) ∷ [])
-unfolding classOf run past oneAt tokenAt wordAt literalAt digitsAt intAt fracAt expAt numberAt hexAt escapedAt charAt charsUpTo charsAt stringAt scalarAt itemsAt treeAt isUtf8 utf8From leadOf charOf charsFrom bytesOf joined decode isRefused spell.any refuses sameBytes points characterCount spelledAt refusedIn anyItem countItems nameAt noneTwice isFilter wordOf allItems row6 row7 row8 filterCounts wrongSubscription treeRow messageRow readOf namedOf repliesTo refusal spell.shortOf spell.unicodeOf spell.isPair spell.fourAt spell.four spell.hexVal spell.utf8Of
+unfolding inClass run past oneAt tokenAt wordAt literalAt digitsAt intAt fracAt expAt numberAt hexAt escapedAt charAt charsUpTo charsAt stringAt scalarAt itemsAt treeAt isUtf8 utf8From leadOf charOf charsFrom charBytes charsBytes decode isRefused spell.any refuses sameBytes points characterCount spelledAt refusedIn anyItem countItems nameAt noNameTwice isFilter wordOf allItems row6 row7 row8 filterCounts wrongSubscription treeRow messageRow readOf namedOf repliesTo refusal spell.shortOf spell.unicodeOf spell.isPair spell.fourAt spell.four spell.hexVal spell.utf8Of
 without-filter = ((λ b. refl), (λ b. refl), (λ b. refl))
 
 -- the lowest row over the whole message, also past a bound; hex of the wrong length; names and shapes; what is no JSON text
@@ -68,7 +68,7 @@ pub more-refused :
     × ((b : List ℕ) → repliesTo b (ascii "[\"REQ\",{}]") ≡ notice (reasonOf 5) ∷ [])
     × ((b : List ℕ) → repliesTo b (0xef ∷ 0xbb ∷ 0xbf ∷ ascii "[]") ≡ notice (reasonOf 3) ∷ [])
     × ((b : List ℕ) → repliesTo b (ascii "\r") ≡ notice (reasonOf 3) ∷ [])
-unfolding classOf run past oneAt tokenAt wordAt literalAt digitsAt intAt fracAt expAt numberAt hexAt escapedAt charAt charsUpTo charsAt stringAt scalarAt itemsAt treeAt isUtf8 utf8From leadOf charOf charsFrom bytesOf joined decode isRefused spell.any refuses sameBytes points characterCount spelledAt refusedIn anyItem countItems nameAt noneTwice isFilter wordOf allItems row6 row7 row8 filterCounts wrongSubscription treeRow messageRow readOf namedOf repliesTo refusal spell.shortOf spell.unicodeOf spell.isPair spell.fourAt spell.four spell.hexVal spell.utf8Of filterMember isCondition filterCount filterNumber filterHex wrongList wrongHex wrongTime wrongSmall wholeOf answerOf isWithin isNatural allDigits isDigit valueFrom naturalOf negativeOf isHexOf isHex spell.all
+unfolding inClass run past oneAt tokenAt wordAt literalAt digitsAt intAt fracAt expAt numberAt hexAt escapedAt charAt charsUpTo charsAt stringAt scalarAt itemsAt treeAt isUtf8 utf8From leadOf charOf charsFrom charBytes charsBytes decode isRefused spell.any refuses sameBytes points characterCount spelledAt refusedIn anyItem countItems nameAt noNameTwice isFilter wordOf allItems row6 row7 row8 filterCounts wrongSubscription treeRow messageRow readOf namedOf repliesTo refusal spell.shortOf spell.unicodeOf spell.isPair spell.fourAt spell.four spell.hexVal spell.utf8Of filterMember isCondition wrongFilter filterNumber filterHex wrongList wrongHex wrongTime wrongSmall wholeOf wholeAnswer isWithin isNatural allDigits isDigit valueFrom naturalOf negativeOf isHexOf isHex spell.all
 more-refused = ((λ b. refl), (λ b. refl), (λ b. refl), (λ b. refl), (λ b. refl), (λ b. refl), (λ b. refl), (λ b. refl), (λ b. refl), (λ b. refl))
 
 -- 0D stays in the line; empty lines are messages
@@ -83,18 +83,18 @@ abbrev message : List ℕ
 message = wrongKind (ascii "\\u0061" ++ replicate 63 97)
 
 row : messageRow message ≡ 6
-unfolding classOf run past oneAt tokenAt wordAt literalAt digitsAt intAt fracAt expAt numberAt hexAt escapedAt charAt charsUpTo charsAt stringAt scalarAt itemsAt treeAt isUtf8 utf8From leadOf charOf charsFrom bytesOf joined decode isRefused spell.any refuses sameBytes points characterCount spelledAt refusedIn anyItem countItems nameAt noneTwice isFilter wordOf allItems row6 row7 row8 filterCounts wrongSubscription treeRow messageRow spell.shortOf spell.unicodeOf spell.isPair spell.fourAt spell.four spell.hexVal spell.utf8Of isEvent eventMember once eventNumber wrongTime wrongSmall wholeOf answerOf isWithin isNatural allDigits isDigit valueFrom naturalOf negativeOf
+unfolding inClass run past oneAt tokenAt wordAt literalAt digitsAt intAt fracAt expAt numberAt hexAt escapedAt charAt charsUpTo charsAt stringAt scalarAt itemsAt treeAt isUtf8 utf8From leadOf charOf charsFrom charBytes charsBytes decode isRefused spell.any refuses sameBytes points characterCount spelledAt refusedIn anyItem countItems nameAt noNameTwice isFilter wordOf allItems row6 row7 row8 filterCounts wrongSubscription treeRow messageRow spell.shortOf spell.unicodeOf spell.isPair spell.fourAt spell.four spell.hexVal spell.utf8Of isEvent eventMember once eventNumber wrongTime wrongSmall wholeOf wholeAnswer isWithin isNatural allDigits isDigit valueFrom naturalOf negativeOf
 row = refl
 
 abbrev place : Span
 place = record { start = 16; len = 69 }
 
 found : (wordIn message ≡ word.event) × (idField message ≡ place)
-unfolding classOf run past oneAt tokenAt wordAt literalAt digitsAt intAt fracAt expAt numberAt hexAt escapedAt charAt charsUpTo charsAt stringAt scalarAt itemsAt treeAt charOf charsFrom bytesOf joined decode sameBytes spelledAt nameAt wordOf memberOf
+unfolding inClass run past oneAt tokenAt wordAt literalAt digitsAt intAt fracAt expAt numberAt hexAt escapedAt charAt charsUpTo charsAt stringAt scalarAt itemsAt treeAt charOf charsFrom charBytes charsBytes decode sameBytes spelledAt nameAt wordOf memberOf
 found = (refl, refl)
 
 spelled : (isHexOf 64 (bytes message place) ≡ true) × (said message place ≡ replicate 64 97)
-unfolding charOf charsFrom bytesOf joined decode spell.shortOf spell.unicodeOf spell.isPair spell.fourAt spell.four spell.hexVal spell.utf8Of isHexOf spell.all isHex
+unfolding charOf charsFrom charBytes charsBytes decode spell.shortOf spell.unicodeOf spell.isPair spell.fourAt spell.four spell.hexVal spell.utf8Of isHexOf spell.all isHex
 spelled = (refl, refl)
 
 -- from the law, so that the checker reads the message a few times only

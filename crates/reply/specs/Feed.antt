@@ -60,8 +60,8 @@ saidLast s = lastLine (s .table) (s .line)
 
 -- ---- one turn: a piece of the input is fed up to its first line's end, and with it. The first n bytes of the lent line buffer are the line so
 -- far
-abbrev pub stateOf : (b line : Bytes) (n : ℕ) → State
-stateOf b line n = record { table = b; line = take n (kept line) }
+abbrev pub feedState : (b line : Bytes) (n : ℕ) → State
+feedState b line n = record { table = b; line = take n (kept line) }
 
 -- the bytes before the piece's first line's end, and how many are used up
 unfoldable pub before : Bytes → Bytes
@@ -73,10 +73,10 @@ usedOf [] = 0
 usedOf (x ∷ l) = cond (isEnd x) 1 (suc (usedOf l))
 
 unfoldable pub turnText : (b line : Bytes) (n : ℕ) (piece : Bytes) → Bytes
-turnText b line n piece = saidBy (stateOf b line n) (take (usedOf piece) piece)
+turnText b line n piece = saidBy (feedState b line n) (take (usedOf piece) piece)
 
 unfoldable pub turnState : (b line : Bytes) (n : ℕ) (piece : Bytes) → State
-turnState b line n piece = afterBytes (stateOf b line n) (take (usedOf piece) piece)
+turnState b line n piece = afterBytes (feedState b line n) (take (usedOf piece) piece)
 
 -- row 13: a line buffer that does not hold what is kept of a line, or an output too short
 unfoldable pub turnRow : (b line : Bytes) (n : ℕ) (piece out : Bytes) → Row

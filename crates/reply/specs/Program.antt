@@ -18,7 +18,7 @@ use Rattle.table.specs.Offer.{asMessage, answer, next}
 use Rattle.table.specs.Format.{formatted}
 use Rattle.table.specs.declared.Offered.{Offered}
 use Rattle.table.specs.declared.Offered.the-variants as offered
-use Rattle.query.specs.Answer.{answerList, filtersAt}
+use Rattle.query.specs.Answer.{answerList, filtersMeant}
 use Rattle.reply.specs.Replies.{Reply, ok, event, eose, closed, notice, replyText, reasonOf, verdictReason}
 use Rattle.wire.specs.Bytes.{Bytes}
 
@@ -46,17 +46,17 @@ offerReply m i (offered.Refused r) = refusal m r
 
 -- ---- "An accepted REQ gives its EVENTs, then EOSE."
 -- every held text of a sound table reads, so no slot is left out: specs/Claims/Replies, `ReadRequest`
-abbrev pub eventIn : (sub s : Bytes) (tooLarge : Read) → List Reply
-eventIn sub s tooLarge = []
-eventIn sub s wrongShape = []
-eventIn sub s (read e) = event sub (hexOf (idIn s)) e (hexOf (sigIn s)) ∷ []
+abbrev pub eventReplies : (sub s : Bytes) (tooLarge : Read) → List Reply
+eventReplies sub s tooLarge = []
+eventReplies sub s wrongShape = []
+eventReplies sub s (read e) = event sub (hexOf (idIn s)) e (hexOf (sigIn s)) ∷ []
 
 unfoldable pub eventsOf : (b sub : Bytes) (ks : List ℕ) → List Reply
 eventsOf b sub [] = []
-eventsOf b sub (k ∷ ks) = eventIn sub (slotAt b k) (readText (textIn (slotAt b k))) ++ eventsOf b sub ks
+eventsOf b sub (k ∷ ks) = eventReplies sub (slotAt b k) (readText (textIn (slotAt b k))) ++ eventsOf b sub ks
 
 unfoldable pub requestReplies : (b m sub : Bytes) (v : ℕ) → List Reply
-requestReplies b m sub v = cond (sound b) (eventsOf b sub (answerList b (filtersAt m v)) ++ (eose sub ∷ [])) (refusal m 11 ∷ [])
+requestReplies b m sub v = cond (sound b) (eventsOf b sub (answerList b (filtersMeant m v)) ++ (eose sub ∷ [])) (refusal m 11 ∷ [])
 
 -- ---- one message m to the table b: the replies, and the table afterwards
 abbrev pub repliesIn : (b m : Bytes) (x : Message) → List Reply
@@ -80,13 +80,13 @@ tableAfter b m = tableIn b m (readOf m)
 
 -- ---- "One program reads messages from standard input, one a line, over a fresh table of 8 slots. 0A ends a line and is no part of the
 -- message; a last line without it counts if not empty; an overlong line gives one reply."
-abbrev pub push : ℕ → List (List ℕ) → List (List ℕ)
-push x [] = (x ∷ []) ∷ []
-push x (l ∷ ls) = (x ∷ l) ∷ ls
+abbrev pub pushByte : ℕ → List (List ℕ) → List (List ℕ)
+pushByte x [] = (x ∷ []) ∷ []
+pushByte x (l ∷ ls) = (x ∷ l) ∷ ls
 
 unfoldable pub lines : Bytes → List (List ℕ)
 lines [] = []
-lines (x ∷ s) = cond (eqb x 0x0a) ([] ∷ lines s) (push x (lines s))
+lines (x ∷ s) = cond (eqb x 0x0a) ([] ∷ lines s) (pushByte x (lines s))
 
 -- "The program ends each reply with 0A."
 abbrev pub replyLine : Reply → Bytes

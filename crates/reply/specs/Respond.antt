@@ -15,7 +15,7 @@ use Rattle.table.specs.Sound.{sound}
 use Rattle.table.specs.Format.{shownRow}
 use Rattle.reply.specs.Replies.{Reply, replyText}
 use Rattle.reply.specs.Lent.{eoseRow, shortRow, outputAfter}
-use Rattle.reply.specs.Program.{eventIn, repliesTo, tableAfter, written}
+use Rattle.reply.specs.Program.{eventReplies, repliesTo, tableAfter, written}
 use Rattle.reply.specs.declared.Sent.{Sent}
 use Rattle.reply.specs.declared.Sent.the-variants as sending
 use Rattle.wire.specs.Bytes.{Bytes, Row}
@@ -39,7 +39,7 @@ respondedTable b m out = cond (eqb (respondRow b m out) 0) (tableAfter b m) b
 
 -- ---- the EVENT of slot k, for the subscription id sub; of a slot that is not held there is none
 abbrev pub slotReplies : (b sub : Bytes) (k : ℕ) → List Reply
-slotReplies b sub k = cond (ltb k (countOf b)) (eventIn sub (slotAt b k) (readText (textIn (slotAt b k)))) []
+slotReplies b sub k = cond (ltb k (countOf b)) (eventReplies sub (slotAt b k) (readText (textIn (slotAt b k)))) []
 
 abbrev pub firstText : List Reply → Bytes
 firstText [] = []

@@ -1,5 +1,5 @@
 -- 01, "Cases on either side (starred ones are proved)": "The starred cases go into a single table, proved by one statement over the
--- definitions". The statement is `AllHold starred`; proofs/Starred has it.
+-- definitions". The statement is `AllCases starred`; proofs/Starred has it.
 use mathlib.Core.Path.{_≡_}
 use mathlib.Core.Bool.{true, false}
 use mathlib.Core.List.{List, [], _∷_, _++_}
@@ -14,7 +14,7 @@ use Rattle.text.specs.declared.Class.the-variants.{Regular, Replaceable, Epheme
 use Rattle.message.specs.declared.Body.{Body}
 use Rattle.message.specs.Parts.{filterAt}
 use Rattle.event.specs.Lent.{eventOf}
-use Rattle.event.specs.Answer.{textRow}
+use Rattle.event.specs.Answer.{bodyTextRow}
 use Rattle.event.specs.Order.{isNewer}
 use Rattle.query.specs.Filter.{Filter, filterOf}
 use Rattle.query.specs.Match.{matches}
@@ -41,24 +41,24 @@ pub data Case : Type 0 where
   shutsOut : List ℕ → Event → Case
 
 -- the filter whose text begins the buffer
-abbrev pub filterIn : Bytes → Filter
-filterIn t = filterOf t (filterAt t 0)
+abbrev pub filterOfText : Bytes → Filter
+filterOfText t = filterOf t (filterAt t 0)
 
-abbrev pub Holds : Case → Type 0
-Holds (serialises e t n) = (serialise e ≡ t) × (length (serialise e) ≡ n)
-Holds (bytes e n) = length (serialise e) ≡ n
-Holds (taken e) = readText (serialise e) ≡ read e
-Holds (refusedBy9 e) = readText (serialise e) ≡ tooLarge
-Holds (newer s i t j) = (isNewer s i t j ≡ true) × (isNewer t j s i ≡ false)
-Holds (class k c) = classOf k ≡ c
-Holds (key e k) = keyOf e ≡ k
-Holds (lent b p e r) = (eventOf b p ≡ e) × (textRow b p ≡ r)
-Holds (answersNothing t) = (b : List ℕ) → answerList b (filterIn t ∷ []) ≡ []
-Holds (shutsOut t e) = (id : List ℕ) → matches (filterIn t) id e ≡ false
+abbrev pub CaseHolds : Case → Type 0
+CaseHolds (serialises e t n) = (serialise e ≡ t) × (length (serialise e) ≡ n)
+CaseHolds (bytes e n) = length (serialise e) ≡ n
+CaseHolds (taken e) = readText (serialise e) ≡ read e
+CaseHolds (refusedBy9 e) = readText (serialise e) ≡ tooLarge
+CaseHolds (newer s i t j) = (isNewer s i t j ≡ true) × (isNewer t j s i ≡ false)
+CaseHolds (class k c) = classOf k ≡ c
+CaseHolds (key e k) = keyOf e ≡ k
+CaseHolds (lent b p e r) = (eventOf b p ≡ e) × (bodyTextRow b p ≡ r)
+CaseHolds (answersNothing t) = (b : List ℕ) → answerList b (filterOfText t ∷ []) ≡ []
+CaseHolds (shutsOut t e) = (id : List ℕ) → matches (filterOfText t) id e ≡ false
 
-abbrev pub AllHold : List Case → Type 0
-AllHold [] = Unit {0}
-AllHold (c ∷ cs) = Holds c × AllHold cs
+abbrev pub AllCases : List Case → Type 0
+AllCases [] = Unit {0}
+AllCases (c ∷ cs) = CaseHolds c × AllCases cs
 
 -- ---- "Let A be 64 times `a`."
 abbrev pub A : Bytes

@@ -20,7 +20,7 @@ use Rattle.spell.specs.Spell.{decode, isHexOf}
 use Rattle.text.specs.Event.{quoted}
 use Rattle.message.specs.Parts as parts
 use Rattle.message.specs.Parts.{spanOf, memberOf, membersOf, spanIn}
-use Rattle.message.specs.Read.{firstOf, readOf, namedIn, namedRoot, isEarly, namedOf}
+use Rattle.message.specs.Read.{firstItem, readOf, namedIn, namedRoot, isEarly, namedOf}
 use Rattle.message.specs.declared.EventParts.{EventParts}
 use Rattle.message.specs.declared.Filters.{Filters}
 use Rattle.message.specs.declared.ReqParts.{ReqParts}
@@ -31,7 +31,7 @@ use Rattle.message.specs.declared.Named.{Named}
 use Rattle.message.specs.declared.Named.the-variants as names
 use Rattle.message.proofs.Taken.{filters-taken}
 use Rattle.event.specs.Lent.{said}
-use Rattle.event.specs.Answer.{numberOf}
+use Rattle.event.specs.Answer.{writtenNumber}
 use Rattle.event.specs.declared.Written.{Written}
 use Rattle.event.specs.declared.Written.the-variants as sent
 use Rattle.event.proofs.Answers.{number-is}
@@ -45,7 +45,7 @@ use Rattle.offers.specs.Taken as taking
 use Rattle.offers.specs.declared.Taken.{Taken}
 use Rattle.offers.specs.declared.Taken.the-variants as takes
 use Rattle.offers.proofs.Takes.{took-event, took-req, took-close, took-refused, table-event, table-req, table-close, table-refused}
-use Rattle.query.specs.Answer.{answerList, filtersAt, answerTo, listingRow, listed, listedRow}
+use Rattle.query.specs.Answer.{answerList, filtersMeant, answerTo, listingRow, listed, listedRow}
 use Rattle.query.specs.declared.Listing.{Listing}
 use Rattle.query.specs.declared.Listing.the-variants as listing
 use Rattle.query.proofs.Tables.{answer-means}
@@ -86,14 +86,14 @@ ended-length t = length-append t (0x0a ∷ [])
 -- ---- a refused message, alone
 module _ (m : List ℕ) (row : ℕ) (out : List ℕ) {n : Named} (e : n ≡ namedFor m row) {f : Bool} (room : Room (length (namingText m n row)) (length out) f) where
   abbrev AsRefused : Written → List ℕ → Type 0
-  AsRefused r o = (r ≡ refusedReply m row out) × ((numberOf r ≡ refusedRow m row out) × (o ≡ refusedOut m row out))
+  AsRefused r o = (r ≡ refusedReply m row out) × ((writtenNumber r ≡ refusedRow m row out) × (o ≡ refusedOut m row out))
 
   text-is : namingText m n row ≡ refusedText m row
   text-is = ap (λ x. namingText m x row) e ∙ naming-is m row
 
   as-refused : {r : Written} {o : List ℕ} → Said (refusedText m row) out r o → AsRefused r o
   unfolding refusedReply refusedRow refusedOut
-  as-refused s = (s .answer, (ap numberOf (s .answer) ∙ number-is (shortRow (refusedText m row) out) (length (refusedText m row)), s .bytes))
+  as-refused s = (s .answer, (ap writtenNumber (s .answer) ∙ number-is (shortRow (refusedText m row) out) (length (refusedText m row)), s .bytes))
 
   pub refused-short : f ≡ false → AsRefused (sent.Refused 13) out
   refused-short q = as-refused (said-short (refusedText m row) out (omega (arith, room .no q, ap length text-is)))
@@ -130,8 +130,8 @@ named-hex m p = early (isEarly (messageRow m))
     sub s false e = clash cc
 
     word : (w : Word) (ts : Items) → namedIn m w ts ≡ names.Id p → isHexOf hexLength (part m (p .start) (p .len)) ≡ true
-    word event ts e = let s = spanIn (memberOf m idName (membersOf (firstOf ts))) in hex s (isHexOf hexLength (part m (s .start) (s .len))) refl e
-    word req ts e = sub (spanOf (firstOf ts)) (wrongSubscription m (firstOf ts)) e
+    word event ts e = let s = spanIn (memberOf m idName (membersOf (firstItem ts))) in hex s (isHexOf hexLength (part m (s .start) (s .len))) refl e
+    word req ts e = sub (spanOf (firstItem ts)) (wrongSubscription m (firstItem ts)) e
     word close ts e = clash cc
     word other ts e = clash cc
 
@@ -266,10 +266,10 @@ module _ (b m : List ℕ) (q : ReqParts) (e : readOf m ≡ message.Req q) {fs : 
   sub = said m (q .subscription)
 
   abbrev ks : List ℕ
-  ks = answerList b (filtersAt m (q .filters))
+  ks = answerList b (filtersMeant m (q .filters))
 
   few : sound b ≡ true → length ks ≤ 64
-  few s = omega (arith, answer-means b (filtersAt m (q .filters)) .short, clauses b s .count, clauses b s .high)
+  few s = omega (arith, answer-means b (filtersMeant m (q .filters)) .short, clauses b s .count, clauses b s .high)
 
   lent : (answerTo b m (fs .parts) (fs .n) ≡ ks) × (listingRow b m (fs .parts) (fs .n) row ≡ cond (sound b) (cond (ltb (length row) (length ks)) 13 0) 11)
   unfolding parts.filtersAt
@@ -305,7 +305,7 @@ module _ (b m : List ℕ) (q : ReqParts) (e : readOf m ≡ message.Req q) {fs : 
       taken = let (s, n) = told in rw (y, sound-row s, lent .0, n) (take-append-seam ks (drop (length ks) row))
 
       pub all-held : AllHeld b (take k row′)
-      all-held = rw taken (record { is-sound = told .0; held = answers-held b (filtersAt m (q .filters)) })
+      all-held = rw taken (record { is-sound = told .0; held = answers-held b (filtersMeant m (q .filters)) })
 
       answer-line : response b m ≡ answerText b sub ks
       unfolding response answerText repliesTo requestReplies eoseLine
@@ -328,7 +328,7 @@ module _ (b m : List ℕ) (q : ReqParts) (e : readOf m ≡ message.Req q) {fs : 
 
 -- ---- one message
 abbrev pub Responds : (b m out : List ℕ) (r : Written) (o t : List ℕ) → Type 0
-Responds b m out r o t = (r ≡ responded b m out) × ((numberOf r ≡ respondRow b m out) × ((o ≡ respondedOut b m out) × (t ≡ respondedTable b m out)))
+Responds b m out r o t = (r ≡ responded b m out) × ((writtenNumber r ≡ respondRow b m out) × ((o ≡ respondedOut b m out) × (t ≡ respondedTable b m out)))
 
 table-stays : (b m out : List ℕ) → tableAfter b m ≡ b → b ≡ respondedTable b m out
 unfolding respondedTable
@@ -342,7 +342,7 @@ table-stays b m out e = go (eqb (respondRow b m out) 0)
 module _ (b m out : List ℕ) {r : Written} {o : List ℕ} where
   pub responds : {t : List ℕ} → Said (response b m) out r o → t ≡ respondedTable b m out → Responds b m out r o t
   unfolding responded respondedOut respondRow
-  responds s e = (s .answer, (ap numberOf (s .answer) ∙ number-is (shortRow (response b m) out) (length (response b m)), (s .bytes, e)))
+  responds s e = (s .answer, (ap writtenNumber (s .answer) ∙ number-is (shortRow (response b m) out) (length (response b m)), (s .bytes, e)))
 
   module _ {x : Message} (a : x ≡ readOf m) where
     pub responds-request : {q : ReqParts} → x ≡ message.Req q → Said (response b m) out r o → Responds b m out r o b

@@ -9,7 +9,7 @@ ghost use Rattle.text.specs.Event.{quoted};
 ghost use Rattle.message.specs.Read.{readOf};
 ghost use Rattle.message.specs.declared.Message.the-variants as message;
 ghost use Rattle.event.specs.Lent.{said};
-ghost use Rattle.event.specs.Answer.{numberOf};
+ghost use Rattle.event.specs.Answer.{writtenNumber};
 ghost use Rattle.reply.specs.Replies.{reasonOf};
 ghost use Rattle.reply.specs.Respond.{response, responded, respondRow, respondedOut, respondedTable};
 ghost use Rattle.replies.specs.Inner.{Room};
@@ -179,7 +179,7 @@ fn refusal_fits(m: &[u8], n: Named, row: u8, room: usize) -> bool
 // The reply that a refused message gets, without 0A (NOTICE, OK with false, or CLOSED), for a row of 01's table.
 pub fn refused(m: &[u8], row: u8, out: &mut [u8]) -> Written
     ensures { λ r. ⌜ r ≡ refusedReply (now (m .entry)) row (now (out .entry)) ⌝ }
-    ensures { λ r. ⌜ numberOf r ≡ refusedRow (now (m .entry)) row (now (out .entry)) ⌝ }
+    ensures { λ r. ⌜ writtenNumber r ≡ refusedRow (now (m .entry)) row (now (out .entry)) ⌝ }
     ensures { λ _. ⌜ now (out .exit) ≡ refusedOut (now (m .entry)) row (now (out .entry)) ⌝ }
 {
     let n = named_for(m, row);
@@ -284,7 +284,7 @@ fn taken_first(m: &[u8], room: usize) -> bool
 fn respond_taken(table: &mut [u8], m: &[u8], out: &mut [u8]) -> Written
     requires { ⌜ 116 ≤ length (now out) ⌝ }
     ensures { λ r. ⌜ r ≡ responded (now (table .entry)) (now (m .entry)) (now (out .entry)) ⌝ }
-    ensures { λ r. ⌜ numberOf r ≡ respondRow (now (table .entry)) (now (m .entry)) (now (out .entry)) ⌝ }
+    ensures { λ r. ⌜ writtenNumber r ≡ respondRow (now (table .entry)) (now (m .entry)) (now (out .entry)) ⌝ }
     ensures { λ _. ⌜ now (out .exit) ≡ respondedOut (now (table .entry)) (now (m .entry)) (now (out .entry)) ⌝ }
     ensures { λ _. ⌜ now (table .exit) ≡ respondedTable (now (table .entry)) (now (m .entry)) (now (out .entry)) ⌝ }
 {
@@ -302,7 +302,7 @@ fn respond_taken(table: &mut [u8], m: &[u8], out: &mut [u8]) -> Written
 // One message answered, each reply ended with 0A, and the table updated. 13 is the only refusal; table and output then stay as found.
 pub fn respond(table: &mut [u8], m: &[u8], out: &mut [u8]) -> Written
     ensures { λ r. ⌜ r ≡ responded (now (table .entry)) (now (m .entry)) (now (out .entry)) ⌝ }
-    ensures { λ r. ⌜ numberOf r ≡ respondRow (now (table .entry)) (now (m .entry)) (now (out .entry)) ⌝ }
+    ensures { λ r. ⌜ writtenNumber r ≡ respondRow (now (table .entry)) (now (m .entry)) (now (out .entry)) ⌝ }
     ensures { λ _. ⌜ now (out .exit) ≡ respondedOut (now (table .entry)) (now (m .entry)) (now (out .entry)) ⌝ }
     ensures { λ _. ⌜ now (table .exit) ≡ respondedTable (now (table .entry)) (now (m .entry)) (now (out .entry)) ⌝ }
 {

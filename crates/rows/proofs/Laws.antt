@@ -24,7 +24,7 @@ use Rattle.rows.specs.declared.Seen.the-variants.{Clean, Missing}
 use Rattle.rows.specs.Strings.{spelledAt, refusedIn, refusedItems}
 use Rattle.wire.specs.Limits.{mostMessage}
 use Rattle.rows.specs.Rows.{onRoot, row4, textRow}
-use Rattle.rows.specs.Inner.{made, seenOf, nameAt, placeOf, isRefused, toldOf}
+use Rattle.rows.specs.Inner.{made, seenOf, nameSeen, seenEnd, seenRefused, seenTold}
 
 -- ---- strings
 module _ (s : List ℕ) where
@@ -43,50 +43,50 @@ module _ (s : List ℕ) where
       go Bad Bad Bad e = absurd (let z : _≡_ {A = ℕ} 0 1 = cc in omega arith)
 
 -- ---- answers
-pub made-place : (n : ℕ) (b : Bool) → placeOf (made n b) ≡ End n
+pub made-place : (n : ℕ) (b : Bool) → seenEnd (made n b) ≡ End n
 unfolding made
 made-place n true = refl
 made-place n false = refl
 
-pub made-refused : (n : ℕ) (b : Bool) → isRefused (made n b) ≡ b
+pub made-refused : (n : ℕ) (b : Bool) → seenRefused (made n b) ≡ b
 unfolding made
 made-refused n true = refl
 made-refused n false = refl
 
 -- a name, by the place of its value
-module _ (s : List ℕ) (at : ℕ) (named : Bool) (x : Seen) (e : x ≡ nameAt s at named) where
-  pub name-bad : placeOf x ≡ Bad → headAt s at named ≡ Bad
+module _ (s : List ℕ) (at : ℕ) (named : Bool) (x : Seen) (e : x ≡ nameSeen s at named) where
+  pub name-bad : seenEnd x ≡ Bad → headAt s at named ≡ Bad
   name-bad p = go (headAt s at named) e
     where
       go : (o : Out) → x ≡ case o (λ v. made v (named && refuses (spelledAt s at))) Missing → o ≡ Bad
-      go (End v) q = absurd (let z : End v ≡ Bad = sym (made-place _ _) ∙ ap placeOf (sym q) ∙ p in let w : _≡_ {A = ℕ} 0 1 = cc in omega arith)
+      go (End v) q = absurd (let z : End v ≡ Bad = sym (made-place _ _) ∙ ap seenEnd (sym q) ∙ p in let w : _≡_ {A = ℕ} 0 1 = cc in omega arith)
       go Bad q = refl
 
-  pub name-end : (v : ℕ) → placeOf x ≡ End v → (headAt s at named ≡ End v) × (isRefused x ≡ (named && refuses (spelledAt s at)))
+  pub name-end : (v : ℕ) → seenEnd x ≡ End v → (headAt s at named ≡ End v) × (seenRefused x ≡ (named && refuses (spelledAt s at)))
   name-end v p = go (headAt s at named) e
     where
-      go : (o : Out) → x ≡ case o (λ v. made v (named && refuses (spelledAt s at))) Missing → (o ≡ End v) × (isRefused x ≡ (named && refuses (spelledAt s at)))
-      go (End w) q = (sym (made-place _ _) ∙ ap placeOf (sym q) ∙ p, ap isRefused q ∙ made-refused _ _)
-      go Bad q = absurd (let z : Bad ≡ End v = ap placeOf (sym q) ∙ p in let w : _≡_ {A = ℕ} 0 1 = cc in omega arith)
+      go : (o : Out) → x ≡ case o (λ v. made v (named && refuses (spelledAt s at))) Missing → (o ≡ End v) × (seenRefused x ≡ (named && refuses (spelledAt s at)))
+      go (End w) q = (sym (made-place _ _) ∙ ap seenEnd (sym q) ∙ p, ap seenRefused q ∙ made-refused _ _)
+      go Bad q = absurd (let z : Bad ≡ End v = ap seenEnd (sym q) ∙ p in let w : _≡_ {A = ℕ} 0 1 = cc in omega arith)
 
 -- a value, by its end
 module _ (s : List ℕ) (g : Got Json) (x : Seen) (e : x ≡ seenOf s g) where
-  pub seen-bad : placeOf x ≡ Bad → endOf g ≡ Bad
+  pub seen-bad : seenEnd x ≡ Bad → endOf g ≡ Bad
   seen-bad p = go g e
     where
       go : (g : Got Json) → x ≡ seenOf s g → endOf g ≡ Bad
       go none q = refl
-      go (got t n) q = absurd (let z : End n ≡ Bad = sym (made-place _ _) ∙ ap placeOf (sym q) ∙ p in let w : _≡_ {A = ℕ} 0 1 = cc in omega arith)
+      go (got t n) q = absurd (let z : End n ≡ Bad = sym (made-place _ _) ∙ ap seenEnd (sym q) ∙ p in let w : _≡_ {A = ℕ} 0 1 = cc in omega arith)
 
-  pub seen-end : (n : ℕ) → placeOf x ≡ End n → endOf g ≡ End n
+  pub seen-end : (n : ℕ) → seenEnd x ≡ End n → endOf g ≡ End n
   seen-end n p = go g e
     where
       go : (g : Got Json) → x ≡ seenOf s g → endOf g ≡ End n
-      go none q = absurd (let z : Bad ≡ End n = ap placeOf (sym q) ∙ p in let w : _≡_ {A = ℕ} 0 1 = cc in omega arith)
-      go (got t m) q = sym (made-place _ _) ∙ ap placeOf (sym q) ∙ p
+      go none q = absurd (let z : Bad ≡ End n = ap seenEnd (sym q) ∙ p in let w : _≡_ {A = ℕ} 0 1 = cc in omega arith)
+      go (got t m) q = sym (made-place _ _) ∙ ap seenEnd (sym q) ∙ p
 
-  pub seen-refused : (t : Json) (n : ℕ) → g ≡ got t n → isRefused x ≡ refusedIn s t
-  seen-refused t n q = ap isRefused e ∙ rw q (made-refused n (refusedIn s t))
+  pub seen-refused : (t : Json) (n : ℕ) → g ≡ got t n → seenRefused x ≡ refusedIn s t
+  seen-refused t n q = ap seenRefused e ∙ rw q (made-refused n (refusedIn s t))
 
 -- ---- items
 -- an item more: its name, where it has one, and its value
@@ -127,16 +127,16 @@ module _ (value : ℕ → Got Json) (s : List ℕ) (named : Bool) (k i : ℕ) (a
   pub seen-gone : length s ≤ k → seenItems s named a (itemsAt value s named (length s - k) i) ≡ Missing
   seen-gone h = fold-gone _ _ _ _ value s named k i h
 
-  module _ (x : Seen) (h : k < length s) (ex : x ≡ nameAt s i named) where
-    pub seen-unnamed : placeOf x ≡ Bad → seenItems s named a (itemsAt value s named (length s - k) i) ≡ Missing
+  module _ (x : Seen) (h : k < length s) (ex : x ≡ nameSeen s i named) where
+    pub seen-unnamed : seenEnd x ≡ Bad → seenItems s named a (itemsAt value s named (length s - k) i) ≡ Missing
     seen-unnamed p = fold-unnamed _ _ _ _ value s named k i h (name-bad s i named x ex p)
 
-    module _ (v : ℕ) (y : Seen) (p : placeOf x ≡ End v) (ey : y ≡ seenOf s (value v)) where
-      pub seen-no-value : placeOf y ≡ Bad → seenItems s named a (itemsAt value s named (length s - k) i) ≡ Missing
+    module _ (v : ℕ) (y : Seen) (p : seenEnd x ≡ End v) (ey : y ≡ seenOf s (value v)) where
+      pub seen-no-value : seenEnd y ≡ Bad → seenItems s named a (itemsAt value s named (length s - k) i) ≡ Missing
       seen-no-value q = fold-bad _ _ _ _ value s named k i v h (name-end s i named x ex v p .0) (seen-bad s (value v) y ey q)
 
-      pub seen-next : (n : ℕ) (z : Next) (b : Bool) {f g : Bool} → placeOf y ≡ End n → nextAt s n named ≡ z
-          → f ≡ isRefused x → g ≡ isRefused y → b ≡ (a || (f || g))
+      pub seen-next : (n : ℕ) (z : Next) (b : Bool) {f g : Bool} → seenEnd y ≡ End n → nextAt s n named ≡ z
+          → f ≡ seenRefused x → g ≡ seenRefused y → b ≡ (a || (f || g))
           → seenItems s named a (itemsAt value s named (length s - k) i)
           ≡ turned z Missing (λ e. made e b) (λ j. seenItems s named b (itemsAt value s named (length s - (k + 1)) j))
       seen-next n z b q w ef eg eb =
@@ -146,21 +146,21 @@ module _ (value : ℕ → Got Json) (s : List ℕ) (named : Bool) (k i : ℕ) (a
 
 -- ---- the text
 module _ (s : List ℕ) where
-  pub refused-text : (x : Seen) → x ≡ seenOf s (root s) → isRefused x ≡ row4 s
+  pub refused-text : (x : Seen) → x ≡ seenOf s (root s) → seenRefused x ≡ row4 s
   unfolding row4
-  refused-text x e = ap isRefused e ∙ go (root s)
+  refused-text x e = ap seenRefused e ∙ go (root s)
     where
-      go : (g : Got Json) → isRefused (seenOf s g) ≡ onRoot (refusedIn s) g
+      go : (g : Got Json) → seenRefused (seenOf s g) ≡ onRoot (refusedIn s) g
       go none = refl
       go (got t n) = made-refused n (refusedIn s t)
 
   -- rows 3 and 4, by the answer at the root
-  told-root : (k : ℕ) (g : Got Json) → toldOf (seenOf s g) k ≡ cond (not (endsAt k (endOf g))) 3 (cond (onRoot (refusedIn s) g) 4 0)
+  told-root : (k : ℕ) (g : Got Json) → seenTold (seenOf s g) k ≡ cond (not (endsAt k (endOf g))) 3 (cond (onRoot (refusedIn s) g) 4 0)
   unfolding made
   told-root k none = refl
   told-root k (got t n) = go (refusedIn s t) (eqb n k) refl
     where
-      go : (b e : Bool) → eqb n k ≡ e → toldOf (made n b) k ≡ cond (not e) 3 (cond b 4 0)
+      go : (b e : Bool) → eqb n k ≡ e → seenTold (made n b) k ≡ cond (not e) 3 (cond b 4 0)
       go true true q = rw q
       go true false q = rw q
       go false true q = rw q
@@ -176,6 +176,6 @@ module _ (s : List ℕ) where
     unfolding textRow
     row-bytes b e q = rw (le-ltb mostMessage (length s) h, ← e, q)
 
-    pub row-told : (b : Bool) (x : Seen) (r : ℕ) → b ≡ isUtf8 s → not b ≡ false → x ≡ seenOf s (root s) → r ≡ toldOf x (length s) → r ≡ textRow s
+    pub row-told : (b : Bool) (x : Seen) (r : ℕ) → b ≡ isUtf8 s → not b ≡ false → x ≡ seenOf s (root s) → r ≡ seenTold x (length s) → r ≡ textRow s
     unfolding textRow row4
     row-told b x r e q ex er = er ∙ rw (ex, le-ltb mostMessage (length s) h, ← e, q) (told-root (length s) (root s))

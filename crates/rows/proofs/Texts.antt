@@ -6,7 +6,7 @@ use mathlib.Core.Bool.{Bool, true, false, cond}
 use Prim.Native.Nat.{ℕ}
 use native.Mathlib.Omega.{arith}
 use Rattle.utf8.specs.Utf8.{leadOf, utf8From, isUtf8}
-use Rattle.json.specs.Grammar.{classOf, run, past, oneAt, tokenAt, wordAt, literalAt, digitsAt, intAt, fracAt, expAt, numberAt, hexAt, escapedAt, charAt, charsUpTo, charsAt, stringAt, scalarAt}
+use Rattle.json.specs.Grammar.{inClass, run, past, oneAt, tokenAt, wordAt, literalAt, digitsAt, intAt, fracAt, expAt, numberAt, hexAt, escapedAt, charAt, charsUpTo, charsAt, stringAt, scalarAt}
 use Rattle.json.specs.Tree.{itemsAt, treeAt}
 use Rattle.spell.specs.Spell.{hexVal, four, fourAt, shortOf, isPair, pairOf, unicodeOf, charOf, charsFrom, isRefused, any, refuses}
 use Rattle.rows.specs.Strings.{spelledAt, refusedIn}
@@ -53,25 +53,25 @@ module _ (s : List ℕ) where
 module _ where
   -- {"\u0001":0}: an escaped control, in a name
   pub control-in-name : textRow (0x7b ∷ 0x22 ∷ 0x5c ∷ 0x75 ∷ 0x30 ∷ 0x30 ∷ 0x30 ∷ 0x31 ∷ 0x22 ∷ 0x3a ∷ 0x30 ∷ 0x7d ∷ []) ≡ 4
-  unfolding textRow row4 spelledAt refusedIn isUtf8 utf8From leadOf treeAt itemsAt scalarAt stringAt charsAt charsUpTo charAt escapedAt hexAt numberAt expAt fracAt intAt digitsAt literalAt wordAt tokenAt oneAt past run classOf refuses any isRefused charsFrom charOf unicodeOf pairOf isPair shortOf fourAt four hexVal
+  unfolding textRow row4 spelledAt refusedIn isUtf8 utf8From leadOf treeAt itemsAt scalarAt stringAt charsAt charsUpTo charAt escapedAt hexAt numberAt expAt fracAt intAt digitsAt literalAt wordAt tokenAt oneAt past run inClass refuses any isRefused charsFrom charOf unicodeOf pairOf isPair shortOf fourAt four hexVal
   control-in-name = refl
 
   -- ["\u0009"]: one of the five controls that a string may have
   pub control-allowed : textRow (0x5b ∷ 0x22 ∷ 0x5c ∷ 0x75 ∷ 0x30 ∷ 0x30 ∷ 0x30 ∷ 0x39 ∷ 0x22 ∷ 0x5d ∷ []) ≡ 0
-  unfolding textRow row4 spelledAt refusedIn isUtf8 utf8From leadOf treeAt itemsAt scalarAt stringAt charsAt charsUpTo charAt escapedAt hexAt numberAt expAt fracAt intAt digitsAt literalAt wordAt tokenAt oneAt past run classOf refuses any isRefused charsFrom charOf unicodeOf pairOf isPair shortOf fourAt four hexVal
+  unfolding textRow row4 spelledAt refusedIn isUtf8 utf8From leadOf treeAt itemsAt scalarAt stringAt charsAt charsUpTo charAt escapedAt hexAt numberAt expAt fracAt intAt digitsAt literalAt wordAt tokenAt oneAt past run inClass refuses any isRefused charsFrom charOf unicodeOf pairOf isPair shortOf fourAt four hexVal
   control-allowed = refl
 
   -- [["\ud800"]]: an unpaired surrogate, two brackets deep
   pub nested-surrogate : textRow (0x5b ∷ 0x5b ∷ 0x22 ∷ 0x5c ∷ 0x75 ∷ 0x64 ∷ 0x38 ∷ 0x30 ∷ 0x30 ∷ 0x22 ∷ 0x5d ∷ 0x5d ∷ []) ≡ 4
-  unfolding textRow row4 spelledAt refusedIn isUtf8 utf8From leadOf treeAt itemsAt scalarAt stringAt charsAt charsUpTo charAt escapedAt hexAt numberAt expAt fracAt intAt digitsAt literalAt wordAt tokenAt oneAt past run classOf refuses any isRefused charsFrom charOf unicodeOf pairOf isPair shortOf fourAt four hexVal
+  unfolding textRow row4 spelledAt refusedIn isUtf8 utf8From leadOf treeAt itemsAt scalarAt stringAt charsAt charsUpTo charAt escapedAt hexAt numberAt expAt fracAt intAt digitsAt literalAt wordAt tokenAt oneAt past run inClass refuses any isRefused charsFrom charOf unicodeOf pairOf isPair shortOf fourAt four hexVal
   nested-surrogate = refl
 
   -- ["\ud83d\ude00"]: a pair
   pub pair : textRow (0x5b ∷ 0x22 ∷ 0x5c ∷ 0x75 ∷ 0x64 ∷ 0x38 ∷ 0x33 ∷ 0x64 ∷ 0x5c ∷ 0x75 ∷ 0x64 ∷ 0x65 ∷ 0x30 ∷ 0x30 ∷ 0x22 ∷ 0x5d ∷ []) ≡ 0
-  unfolding textRow row4 spelledAt refusedIn isUtf8 utf8From leadOf treeAt itemsAt scalarAt stringAt charsAt charsUpTo charAt escapedAt hexAt numberAt expAt fracAt intAt digitsAt literalAt wordAt tokenAt oneAt past run classOf refuses any isRefused charsFrom charOf unicodeOf pairOf isPair shortOf fourAt four hexVal
+  unfolding textRow row4 spelledAt refusedIn isUtf8 utf8From leadOf treeAt itemsAt scalarAt stringAt charsAt charsUpTo charAt escapedAt hexAt numberAt expAt fracAt intAt digitsAt literalAt wordAt tokenAt oneAt past run inClass refuses any isRefused charsFrom charOf unicodeOf pairOf isPair shortOf fourAt four hexVal
   pair = refl
 
   -- ["\ud800": the text breaks after what row 4 refuses
   pub broken-after : textRow (0x5b ∷ 0x22 ∷ 0x5c ∷ 0x75 ∷ 0x64 ∷ 0x38 ∷ 0x30 ∷ 0x30 ∷ 0x22 ∷ []) ≡ 3
-  unfolding textRow row4 spelledAt refusedIn isUtf8 utf8From leadOf treeAt itemsAt scalarAt stringAt charsAt charsUpTo charAt escapedAt hexAt numberAt expAt fracAt intAt digitsAt literalAt wordAt tokenAt oneAt past run classOf refuses any isRefused charsFrom charOf unicodeOf pairOf isPair shortOf fourAt four hexVal
+  unfolding textRow row4 spelledAt refusedIn isUtf8 utf8From leadOf treeAt itemsAt scalarAt stringAt charsAt charsUpTo charAt escapedAt hexAt numberAt expAt fracAt intAt digitsAt literalAt wordAt tokenAt oneAt past run inClass refuses any isRefused charsFrom charOf unicodeOf pairOf isPair shortOf fourAt four hexVal
   broken-after = refl

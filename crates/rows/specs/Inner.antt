@@ -22,22 +22,22 @@ seenOf s none = Missing
 seenOf s (got t n) = made n (refusedIn s t)
 
 -- an item up to its value: where the value begins, and whether the item's name is refused
-abbrev pub nameAt : (s : Bytes) (at : Place) (named : Bool) → Seen
-nameAt s at named = case (headAt s at named) (λ v. made v (named && refuses (spelledAt s at))) Missing
+abbrev pub nameSeen : (s : Bytes) (at : Place) (named : Bool) → Seen
+nameSeen s at named = case (headAt s at named) (λ v. made v (named && refuses (spelledAt s at))) Missing
 
 -- the two parts of an answer
-abbrev pub placeOf : Seen → Out
-placeOf (Clean n) = End n
-placeOf (Refused n) = End n
-placeOf Missing = Bad
+abbrev pub seenEnd : Seen → Out
+seenEnd (Clean n) = End n
+seenEnd (Refused n) = End n
+seenEnd Missing = Bad
 
-abbrev pub isRefused : Seen → Bool
-isRefused (Clean n) = false
-isRefused (Refused n) = true
-isRefused Missing = false
+abbrev pub seenRefused : Seen → Bool
+seenRefused (Clean n) = false
+seenRefused (Refused n) = true
+seenRefused Missing = false
 
 -- rows 3 and 4 of a text of so many bytes, by what its value came to
-abbrev pub toldOf : Seen → ℕ → ℕ
-toldOf (Clean n) size = cond (eqb n size) 0 3
-toldOf (Refused n) size = cond (eqb n size) 4 3
-toldOf Missing size = 3
+abbrev pub seenTold : Seen → ℕ → ℕ
+seenTold (Clean n) size = cond (eqb n size) 0 3
+seenTold (Refused n) size = cond (eqb n size) 4 3
+seenTold Missing size = 3

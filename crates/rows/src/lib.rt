@@ -8,7 +8,7 @@ ghost use Rattle.json.specs.Tree.{onLeaf, treeAt, root};
 ghost use Rattle.spell.specs.Spell.{refuses};
 ghost use Rattle.rows.specs.Strings.{part, spelledAt};
 ghost use Rattle.rows.specs.Rows.{row4, textRow};
-ghost use Rattle.rows.specs.Inner.{made, seenOf, nameAt, placeOf, isRefused, toldOf};
+ghost use Rattle.rows.specs.Inner.{made, seenOf, nameSeen, seenEnd, seenRefused, seenTold};
 use json::Kind;
 use json::Next;
 use json::Out;
@@ -32,7 +32,7 @@ fn make(n: usize, bad: bool) -> Seen
 }
 
 fn place(x: Seen) -> Out
-    ensures { λ r. ⌜ r ≡ placeOf x ⌝ }
+    ensures { λ r. ⌜ r ≡ seenEnd x ⌝ }
 {
     match x {
         Seen::Clean(n) => Out::End(n),
@@ -42,7 +42,7 @@ fn place(x: Seen) -> Out
 }
 
 fn is_refused(x: Seen) -> bool
-    ensures { λ r. ⌜ r ≡ isRefused x ⌝ }
+    ensures { λ r. ⌜ r ≡ seenRefused x ⌝ }
 {
     match x {
         Seen::Clean(_) => false,
@@ -101,7 +101,7 @@ fn colon(s: &[u8], at: usize) -> Out
 
 // The place of an item's value, and row 4 of its name.
 fn name(s: &[u8], at: usize, named: bool) -> Seen
-    ensures { λ r. ⌜ r ≡ nameAt (now (s .entry)) at named ⌝ }
+    ensures { λ r. ⌜ r ≡ nameSeen (now (s .entry)) at named ⌝ }
 {
     if named {
         match json::string(s, at) {
@@ -174,7 +174,7 @@ pub fn refused(s: &[u8]) -> bool
 
 // Rows 3 and 4 of a text of `size` bytes, by what its value came to.
 fn told(x: Seen, size: usize) -> u8
-    ensures { λ r. ⌜ r ≡ toldOf x size ⌝ }
+    ensures { λ r. ⌜ r ≡ seenTold x size ⌝ }
 {
     match x {
         Seen::Clean(n) => if n == size { 0 } else { 3 },

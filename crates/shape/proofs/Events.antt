@@ -11,7 +11,7 @@ use Rattle.wire.specs.Bytes.{sameBytes}
 use Rattle.rows.specs.Strings.{refusedIn}
 use Rattle.shape.specs.Shape.{allItems, anyItem, countItems, nameAt, named, idName, pubkeyName, createdAtName, kindName, tagsName, contentName, sigName, eventMember, once, isEvent}
 use Rattle.shape.specs.Rows.{eventNumber, eventHex, eventCount}
-use Rattle.shape.specs.Inner.{SHAPE, FINE, UNKNOWN, EVENT, stringForm, stringRow, numberRow, groupForm, nameSlot, eventSlot, eventForm, slotForm, isIn, isFull, fresh, endRow, rowOf}
+use Rattle.shape.specs.Inner.{SHAPE, noRow, UNKNOWN, EVENT, stringForm, stringFormRow, numberRow, groupForm, nameSlot, eventSlot, eventForm, slotForm, isIn, isFull, fresh, endRow, rowOf}
 use Rattle.shape.proofs.Names.{no, and-left, and-right, both-ways}
 use Rattle.shape.proofs.Bits.{in-none, full-bits}
 use Rattle.shape.proofs.Low.{low, Lowest, said, begins}
@@ -142,7 +142,7 @@ module _ (s : List ℕ) where
   -- ---- the whole
   pub event : (t : Json)
       → Lowest (rowOf s EVENT t) (refusedIn s t) (not (isEvent s t)) (onObject (anyItem (eventNumber s)) t) (onObject (anyItem (eventHex s)) t) (onObject (anyItem (eventCount s)) t)
-  unfolding low rowOf refusedIn stringRow stringForm numberRow groupForm fresh endRow isEvent eachOnce
+  unfolding low rowOf refusedIn stringFormRow stringForm numberRow groupForm fresh endRow isEvent eachOnce
   event (word a n) = record { is = refl }
   event (num a n) = record { is = refl }
   event (str a n) = record { is = refl }
@@ -151,6 +151,6 @@ module _ (s : List ℕ) where
       said refl (each-once ts) refl refl (or-false (anyItem (eventCount s) ts))
       (begins (object-after s EVENT (eventMember s) (eventNumber s) (eventHex s) (eventCount s) (λ m. not (isFull m)) (λ n. false) member (λ k a. record { is = ends (isFull (a .seen)) }) 0 fresh ts))
     where
-      ends : (x : Bool) → cond x FINE SHAPE ≡ cond (not x) SHAPE FINE
+      ends : (x : Bool) → cond x noRow SHAPE ≡ cond (not x) SHAPE noRow
       ends true = refl
       ends false = refl

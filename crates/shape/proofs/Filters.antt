@@ -7,13 +7,13 @@ use native.Mathlib.Omega.{arith}
 use borrow.Author.Tests.{lt-ltb, le-ltb, ltb-true, ltb-false, le-leb}
 use lib.Dec.{ltb}
 use Rattle.json.specs.Tree.{Json, word, num, str, arr, obj, Items, nil, item, onObject}
-use Rattle.json.specs.Grammar.{within}
+use Rattle.json.specs.Grammar.{isBetween}
 use Rattle.wire.specs.Limits.{mostConditions}
 use Rattle.wire.specs.Bytes.{sameBytes}
 use Rattle.rows.specs.Strings.{refusedIn}
-use Rattle.shape.specs.Shape.{allItems, anyItem, countItems, nameAt, isLetter, isCondition, filterMember, noneTwice, isFilter}
-use Rattle.shape.specs.Rows.{outside, filterNumber, filterHex, filterCount, filterCounts}
-use Rattle.shape.specs.Inner.{UNKNOWN, LOWER, UPPER, FILTER, stringForm, stringRow, numberRow, groupForm, nameSlot, letterSlot, conditionSlot, filterSlot, filterForm, slotForm, marksAfter, fresh, endRow, rowOf}
+use Rattle.shape.specs.Shape.{allItems, anyItem, countItems, nameAt, isLetter, isCondition, filterMember, noNameTwice, isFilter}
+use Rattle.shape.specs.Rows.{outside, filterNumber, filterHex, wrongFilter, filterCounts}
+use Rattle.shape.specs.Inner.{UNKNOWN, LOWER, UPPER, FILTER, stringForm, stringFormRow, numberRow, groupForm, nameSlot, letterSlot, conditionSlot, filterSlot, filterForm, slotForm, marksAfter, fresh, endRow, rowOf}
 use Rattle.shape.proofs.Names.{no, and-left, and-right}
 use Rattle.shape.proofs.Low.{low, Lowest, said, begins}
 use Rattle.shape.proofs.Never.{never, never-after}
@@ -25,9 +25,9 @@ use Rattle.shape.proofs.Known.{filter-cases, filterBack, filter-back, c
 -- ---- the slot of a condition
 letter-high : (b : ℕ) → isLetter b ≡ true → LOWER ≤ letterSlot b
 unfolding letterSlot
-letter-high b e = go (within 97 122 b) refl (within 65 90 b) refl e
+letter-high b e = go (isBetween 97 122 b) refl (isBetween 65 90 b) refl e
   where
-    go : (x : Bool) → within 97 122 b ≡ x → (y : Bool) → within 65 90 b ≡ y → (x || y) ≡ true → LOWER ≤ cond x (b - 97 + LOWER) (cond y (b - 65 + UPPER) UNKNOWN)
+    go : (x : Bool) → isBetween 97 122 b ≡ x → (y : Bool) → isBetween 65 90 b ≡ y → (x || y) ≡ true → LOWER ≤ cond x (b - 97 + LOWER) (cond y (b - 65 + UPPER) UNKNOWN)
     go true p y q e = omega arith
     go false p true q e = omega arith
     go false p false q e = no cc
@@ -39,15 +39,15 @@ condition-form n h = rw (le-leb LOWER n h)
 module _ (s : List ℕ) where
   -- ---- one member
   condition : (p : ℕ) (t : Json) (b : ℕ) → nameAt s p ≡ 35 ∷ b ∷ [] → isLetter b ≡ true
-      → Lowest (rowOf s (slotForm FILTER (slotAt s FILTER p)) t) (refusedIn s t) (not (filterMember s p t)) (filterNumber s p t) (filterHex s p t) (filterCount s p t)
-  unfolding slotForm nameSlot filterMember filterNumber filterHex filterCount sameBytes isCondition
+      → Lowest (rowOf s (slotForm FILTER (slotAt s FILTER p)) t) (refusedIn s t) (not (filterMember s p t)) (filterNumber s p t) (filterHex s p t) (wrongFilter s p t)
+  unfolding slotForm nameSlot filterMember filterNumber filterHex wrongFilter sameBytes isCondition
   condition p t b e l = rw (e, condition-slot b, condition-form (letterSlot b) (letter-high b l), l) (texts s t)
 
-  member : (p : ℕ) (t : Json) → Lowest (rowOf s (slotForm FILTER (slotAt s FILTER p)) t) (refusedIn s t) (not (filterMember s p t)) (filterNumber s p t) (filterHex s p t) (filterCount s p t)
-  unfolding slotForm nameSlot filterForm filterSlot conditionSlot filterMember filterNumber filterHex filterCount sameBytes isCondition
+  member : (p : ℕ) (t : Json) → Lowest (rowOf s (slotForm FILTER (slotAt s FILTER p)) t) (refusedIn s t) (not (filterMember s p t)) (filterNumber s p t) (filterHex s p t) (wrongFilter s p t)
+  unfolding slotForm nameSlot filterForm filterSlot conditionSlot filterMember filterNumber filterHex wrongFilter sameBytes isCondition
   member p t =
       filter-cases
-      (λ w. nameAt s p ≡ w → Lowest (rowOf s (slotForm FILTER (slotAt s FILTER p)) t) (refusedIn s t) (not (filterMember s p t)) (filterNumber s p t) (filterHex s p t) (filterCount s p t))
+      (λ w. nameAt s p ≡ w → Lowest (rowOf s (slotForm FILTER (slotAt s FILTER p)) t) (refusedIn s t) (not (filterMember s p t)) (filterNumber s p t) (filterHex s p t) (wrongFilter s p t))
       (λ e. rw e (hexes s t)) (λ e. rw e (hexes s t)) (λ e. rw e (smalls s t)) (λ e. rw e (time s t)) (λ e. rw e (time s t)) (λ e. rw e (small s t))
       (λ b l e. condition p t b e l) (λ w a b c d f g h e. rw (e, a, b, c, d, f, g, h) (never s t)) (nameAt s p) refl
 
@@ -61,8 +61,8 @@ module _ (s : List ℕ) where
       (λ w a b c d f g h e m z. no (let y : false ≡ true = rw (e, a, b, c, d, f, g, h) at m in cc)) (nameAt s p) refl
 
   -- ---- each at most once
-  two-same : (ts : Items) → allItems (filterMember s) ts ≡ true → noTwo (slotAt s FILTER) ts ≡ noneTwice s ts
-  unfolding noTwo noneTwice allItems nameSlot
+  two-same : (ts : Items) → allItems (filterMember s) ts ≡ true → noTwo (slotAt s FILTER) ts ≡ noNameTwice s ts
+  unfolding noTwo noNameTwice allItems nameSlot
   two-same nil e = refl
   two-same (item p v t ts) e =
       rw (
@@ -70,10 +70,10 @@ module _ (s : List ℕ) where
         two-same ts (and-right (filterMember s p t) _ e),
       )
 
-  none-twice : (ts : Items) → (not (allItems (filterMember s) ts) || (twice (slotAt s FILTER) 0 ts || false)) ≡ not (allItems (filterMember s) ts && noneTwice s ts)
+  none-twice : (ts : Items) → (not (allItems (filterMember s) ts) || (twice (slotAt s FILTER) 0 ts || false)) ≡ not (allItems (filterMember s) ts && noNameTwice s ts)
   none-twice ts = go (allItems (filterMember s) ts) refl
     where
-      go : (x : Bool) → allItems (filterMember s) ts ≡ x → (not x || (twice (slotAt s FILTER) 0 ts || false)) ≡ not (x && noneTwice s ts)
+      go : (x : Bool) → allItems (filterMember s) ts ≡ x → (not x || (twice (slotAt s FILTER) 0 ts || false)) ≡ not (x && noNameTwice s ts)
       go false a = refl
       go true a = or-false _ ∙ twice-none (slotAt s FILTER) ts ∙ ap not (two-same ts a)
 
@@ -104,14 +104,14 @@ module _ (s : List ℕ) where
   -- ---- the whole
   pub filter : (t : Json)
       → Lowest (rowOf s FILTER t) (refusedIn s t) (not (isFilter s t)) (onObject (anyItem (filterNumber s)) t) (onObject (anyItem (filterHex s)) t) (onObject (filterCounts s) t)
-  unfolding low rowOf refusedIn stringRow stringForm numberRow groupForm fresh endRow isFilter filterCounts
+  unfolding low rowOf refusedIn stringFormRow stringForm numberRow groupForm fresh endRow isFilter filterCounts
   filter (word a n) = record { is = refl }
   filter (num a n) = record { is = refl }
   filter (str a n) = record { is = refl }
   filter (arr ts) = begins (never-after s false 0 fresh ts)
   filter (obj ts) =
       said refl (none-twice ts) refl refl
-      (ap (λ (x : Bool). anyItem (filterCount s) ts || x) (ap (outside 0 mostConditions) (marks-are 0 ts (omega arith)) ∙ outside-most (countItems (λ p t. isCondition (nameAt s p)) ts)))
+      (ap (λ (x : Bool). anyItem (wrongFilter s) ts || x) (ap (outside 0 mostConditions) (marks-are 0 ts (omega arith)) ∙ outside-most (countItems (λ p t. isCondition (nameAt s p)) ts)))
       (begins
-      (object-after s FILTER (filterMember s) (filterNumber s) (filterHex s) (filterCount s) (λ m. false) (outside 0 mostConditions) member
+      (object-after s FILTER (filterMember s) (filterNumber s) (filterHex s) (wrongFilter s) (λ m. false) (outside 0 mostConditions) member
       (λ k a. record { is = bounds-is 0 mostConditions (a .marks) }) 0 fresh ts))

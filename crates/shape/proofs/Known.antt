@@ -7,7 +7,7 @@ use native.Mathlib.Omega.{arith}
 use borrow.Author.Tests.{lt-ltb, le-ltb, eq-eqb, eqb-true}
 use lib.Dec.{eqb, ltb}
 use lib.ListN.{getD}
-use Rattle.json.specs.Grammar.{within}
+use Rattle.json.specs.Grammar.{isBetween}
 use Rattle.wire.specs.Bytes.{sameBytes}
 use Rattle.shape.specs.Shape.{idName, pubkeyName, createdAtName, kindName, tagsName, contentName, sigName, idsName, authorsName, kindsName, sinceName, untilName, limitName, isLetter, isCondition}
 use Rattle.shape.specs.Inner.{SIG, UNKNOWN, LOWER, UPPER, among, eventSlot, letterSlot, conditionSlot, filterSlot}
@@ -64,7 +64,7 @@ event-back =
 -- the letter of a condition comes back
 letter-back : (b : ℕ) → isLetter b ≡ true → 35 ∷ b ∷ [] ≡ filterBack (letterSlot b)
 unfolding filterBack letterSlot
-letter-back b e = go (within 97 122 b) refl (within 65 90 b) refl e
+letter-back b e = go (isBetween 97 122 b) refl (isBetween 65 90 b) refl e
   where
     lower : 97 ≤ b → b ≤ 122 → 35 ∷ b ∷ [] ≡ filterBack (b - 97 + LOWER)
     lower l h =
@@ -76,7 +76,7 @@ letter-back b e = go (within 97 122 b) refl (within 65 90 b) refl e
         let z : b - 65 + UPPER - UPPER + 65 ≡ b = omega arith in
         rw (le-ltb (b - 65 + UPPER) LOWER (omega arith), le-ltb (b - 65 + UPPER) UPPER (omega arith), z)
 
-    go : (x : Bool) → within 97 122 b ≡ x → (y : Bool) → within 65 90 b ≡ y → (x || y) ≡ true → 35 ∷ b ∷ [] ≡ filterBack (cond x (b - 97 + LOWER) (cond y (b - 65 + UPPER) UNKNOWN))
+    go : (x : Bool) → isBetween 97 122 b ≡ x → (y : Bool) → isBetween 65 90 b ≡ y → (x || y) ≡ true → 35 ∷ b ∷ [] ≡ filterBack (cond x (b - 97 + LOWER) (cond y (b - 65 + UPPER) UNKNOWN))
     go true p y q e = let w = within-ends 97 122 b p in lower (w .0) (w .1)
     go false p true q e = let w = within-ends 65 90 b q in upper (w .0) (w .1)
     go false p false q e = no cc

@@ -11,7 +11,7 @@ use Rattle.shape.specs.declared.Tally.{Tally}
 use Rattle.shape.specs.Shape.{anyItem, allItems, countItems, count, isString, isNumber, isArrayOf}
 use Rattle.wire.specs.Limits.{mostTags, mostStrings, mostMembers}
 use Rattle.shape.specs.Rows.{outside, wrongSmall, wrongHex, wrongTag, wrongTags, wrongList}
-use Rattle.shape.specs.Inner.{TEXT, HEX64, SMALL, TAGLIST, TAG, TEXTS, HEXES, SMALLS, stringForm, stringRow, numberRow, groupForm, placeSlot, itemOf, slotForm, fresh, endRow, closed, rowOf, rowItems}
+use Rattle.shape.specs.Inner.{TEXT, HEX64, SMALL, TAGLIST, TAG, TEXTS, HEXES, SMALLS, stringForm, stringFormRow, numberRow, groupForm, placeSlot, itemOf, slotForm, fresh, endRow, closed, rowOf, rowItems}
 use Rattle.shape.proofs.Low.{low, Lowest, After, said, after-said, ends, begins, not-both, either-first}
 use Rattle.shape.proofs.Never.{turn-after, never-after}
 use Rattle.shape.proofs.Leaves.{bounds-is, text, hex64, small}
@@ -56,7 +56,7 @@ module _ (s : List ℕ) (f h most : ℕ) (ok w₆ w₇ : Json → Bool)
 
 module _ (s : List ℕ) where
   pub tag : (t : Json) → Lowest (rowOf s TAG t) (refusedIn s t) (not (isArrayOf isString t)) false false (wrongTag t)
-  unfolding low rowOf refusedIn stringRow stringForm numberRow groupForm fresh wrongTag slotForm endRow
+  unfolding low rowOf refusedIn stringFormRow stringForm numberRow groupForm fresh wrongTag slotForm endRow
   tag (word a n) = record { is = refl }
   tag (num a n) = record { is = refl }
   tag (str a n) = record { is = refl }
@@ -64,7 +64,7 @@ module _ (s : List ℕ) where
   tag (obj ts) = begins (never-after s true 0 fresh ts)
 
   pub texts : (t : Json) → Lowest (rowOf s TEXTS t) (refusedIn s t) (not (isArrayOf isString t)) false false (wrongList t)
-  unfolding low rowOf refusedIn stringRow stringForm numberRow groupForm fresh wrongList slotForm endRow
+  unfolding low rowOf refusedIn stringFormRow stringForm numberRow groupForm fresh wrongList slotForm endRow
   texts (word a n) = record { is = refl }
   texts (num a n) = record { is = refl }
   texts (str a n) = record { is = refl }
@@ -72,7 +72,7 @@ module _ (s : List ℕ) where
   texts (obj ts) = begins (never-after s true 0 fresh ts)
 
   pub hexes : (t : Json) → Lowest (rowOf s HEXES t) (refusedIn s t) (not (isArrayOf isString t)) false (onArray (anyItem (λ q u. wrongHex 64 s u)) t) (wrongList t)
-  unfolding low rowOf refusedIn stringRow stringForm numberRow groupForm fresh wrongList slotForm endRow
+  unfolding low rowOf refusedIn stringFormRow stringForm numberRow groupForm fresh wrongList slotForm endRow
   hexes (word a n) = record { is = refl }
   hexes (num a n) = record { is = refl }
   hexes (str a n) = record { is = refl }
@@ -80,7 +80,7 @@ module _ (s : List ℕ) where
   hexes (obj ts) = begins (never-after s true 0 fresh ts)
 
   pub smalls : (t : Json) → Lowest (rowOf s SMALLS t) (refusedIn s t) (not (isArrayOf isNumber t)) (onArray (anyItem (λ q u. wrongSmall s u)) t) false (wrongList t)
-  unfolding low rowOf refusedIn stringRow stringForm numberRow groupForm fresh wrongList slotForm endRow
+  unfolding low rowOf refusedIn stringFormRow stringForm numberRow groupForm fresh wrongList slotForm endRow
   smalls (word a n) = record { is = refl }
   smalls (num a n) = record { is = refl }
   smalls (str a n) = record { is = refl }
@@ -91,7 +91,7 @@ module _ (s : List ℕ) where
   pub tags : (t : Json)
       → Lowest (rowOf s TAGLIST t) (refusedIn s t) (not (isArrayOf (isArrayOf isString) t)) false false
       (wrongTags t)
-  unfolding low rowOf refusedIn stringRow stringForm numberRow groupForm fresh slotForm endRow
+  unfolding low rowOf refusedIn stringFormRow stringForm numberRow groupForm fresh slotForm endRow
   tags (word a n) = record { is = refl }
   tags (num a n) = record { is = refl }
   tags (str a n) = record { is = refl }

@@ -13,7 +13,7 @@ use Rattle.shape.specs.declared.Tally.{Tally}
 use Rattle.shape.specs.Shape.{anyItem, allItems, countItems, count, isString, isEvent, isFilter, isOne, Word, event, req, close, other, wordOf, opened, hasShape}
 use Rattle.wire.specs.Limits.{mostFilters}
 use Rattle.shape.specs.Rows.{row4, row5, row6, row7, row8, treeRow, inMessage, wrongRequest, outside, eventNumber, eventHex, eventCount, filterNumber, filterHex, filterCounts, wrongSubscription}
-use Rattle.shape.specs.Inner.{SHAPE, FINE, NEVER, TEXT, LABEL, EVENT, FILTER, OFFER, REQUEST, CLOSING, FIRST, SECOND, LATER, bounds, groupForm, placeSlot, itemOf, elementForm, slotForm, fresh, endRow, closed, rowOf, rowItems, wordForm, toldOf}
+use Rattle.shape.specs.Inner.{SHAPE, noRow, NEVER, TEXT, LABEL, EVENT, FILTER, OFFER, REQUEST, CLOSING, FIRST, SECOND, LATER, bounds, groupForm, placeSlot, itemOf, elementForm, slotForm, fresh, endRow, closed, rowOf, rowItems, wordForm, toldOf}
 use Rattle.shape.proofs.Names.{both-ways}
 use Rattle.shape.proofs.Low.{low, Lowest, After, said, after-said, after-hidden, ends, begins, not-both, between-last}
 use Rattle.shape.proofs.Never.{turn-after, never}
@@ -31,12 +31,12 @@ later f k h = rw (ne-eqb k 0 (λ e. omega arith), ne-eqb k 1 (λ e. omega arith)
 module _ (s : List ℕ) (f h : ℕ) (ok w₆ w₇ w₈ : Json → Bool)
     (inner : (t : Json) → Lowest (rowOf s h t) (refusedIn s t) (not (ok t)) (w₆ t) (w₇ t) (w₈ t))
     (first : slotForm f FIRST ≡ TEXT) (second : slotForm f SECOND ≡ h) (third : slotForm f LATER ≡ NEVER)
-    (end : (k : ℕ) (a : Tally) → endRow f k a ≡ cond (eqb k 2) FINE SHAPE) where
+    (end : (k : ℕ) (a : Tally) → endRow f k a ≡ cond (eqb k 2) noRow SHAPE) where
   over : (k : ℕ) (a : Tally) → Lowest (endRow f k a) false (not (eqb k 2)) false false false
   unfolding low
   over k a = record { is = end k a ∙ go (eqb k 2) }
     where
-      go : (x : Bool) → cond x FINE SHAPE ≡ cond (not x) SHAPE FINE
+      go : (x : Bool) → cond x noRow SHAPE ≡ cond (not x) SHAPE noRow
       go true = refl
       go false = refl
 

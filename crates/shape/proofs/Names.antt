@@ -7,10 +7,10 @@ use native.Mathlib.Omega.{arith}
 use borrow.Author.Tests.{eqb-true, eqb-false, leb-true, eq-eqb, ne-eqb}
 use lib.Dec.{eqb, leb}
 use lib.ListN.{length, getD}
-use Rattle.json.specs.Grammar.{within}
+use Rattle.json.specs.Grammar.{isBetween}
 use Rattle.wire.proofs.Bytes.{same-self}
 use Rattle.wire.specs.Bytes.{sameBytes}
-use Rattle.spell.specs.Spell.{charOf, charsFrom, bytesOf, joined, decode}
+use Rattle.spell.specs.Spell.{charOf, charsFrom, charBytes, charsBytes, decode}
 use Rattle.shape.specs.Shape.{idName, pubkeyName, createdAtName, kindName, tagsName, contentName, idsName, authorsName, kindsName, sinceName, untilName, limitName, isLetter, isCondition}
 use Rattle.shape.specs.Inner.{UNKNOWN, LOWER, UPPER, among, letterSlot, conditionSlot}
 
@@ -33,21 +33,21 @@ both-ways false false f g = refl
 -- ---- letters
 pub letter-not : (b : ℕ) → isLetter b ≡ false → letterSlot b ≡ UNKNOWN
 unfolding letterSlot
-letter-not b e = go (within 97 122 b) (within 65 90 b) e
+letter-not b e = go (isBetween 97 122 b) (isBetween 65 90 b) e
   where
     go : (x y : Bool) → (x || y) ≡ false → cond x (b - 97 + LOWER) (cond y (b - 65 + UPPER) UNKNOWN) ≡ UNKNOWN
     go true y e = no cc
     go false true e = no cc
     go false false e = refl
 
-pub within-ends : (low high b : ℕ) → within low high b ≡ true → (low ≤ b) × (b ≤ high)
+pub within-ends : (low high b : ℕ) → isBetween low high b ≡ true → (low ≤ b) × (b ≤ high)
 within-ends low high b q = (leb-true _ _ (and-left (leb low b) (leb b high) q), leb-true _ _ (and-right (leb low b) (leb b high) q))
 
 -- a letter lies in one of two ranges
 pub letter-range : (b : ℕ) → isLetter b ≡ true → (65 ≤ b) × (b ≤ 122) × (b ≡ 0x5c → ⊥)
-letter-range b e = go (within 97 122 b) refl (within 65 90 b) refl e
+letter-range b e = go (isBetween 97 122 b) refl (isBetween 65 90 b) refl e
   where
-    go : (x : Bool) → within 97 122 b ≡ x → (y : Bool) → within 65 90 b ≡ y → (x || y) ≡ true → (65 ≤ b) × (b ≤ 122) × (b ≡ 0x5c → ⊥)
+    go : (x : Bool) → isBetween 97 122 b ≡ x → (y : Bool) → isBetween 65 90 b ≡ y → (x || y) ≡ true → (65 ≤ b) × (b ≤ 122) × (b ≡ 0x5c → ⊥)
     go true p y q e = let w = within-ends 97 122 b p in (omega arith, omega arith, λ z. omega arith)
     go false p true q e = let w = within-ends 65 90 b q in (omega arith, omega arith, λ z. omega arith)
     go false p false q e = no cc
@@ -97,7 +97,7 @@ one-more w b f e k h l = go (eqb k b) refl
 
 -- spelled plainly
 plain-decodes : (b : ℕ) → (b ≡ 0x5c → ⊥) → decode (35 ∷ b ∷ []) ≡ 35 ∷ b ∷ []
-unfolding decode joined charsFrom charOf bytesOf
+unfolding decode charsBytes charsFrom charOf charBytes
 plain-decodes b m = rw (ne-eqb b 0x5c m)
 
 pub condition-plain : (p : List ℕ) {x : ℕ} → length p ≡ 2 → getD p 0 0 ≡ 35 → x ≡ getD p 1 0 → (letterSlot x ≡ UNKNOWN → ⊥) → letterSlot x ≡ conditionSlot (decode p)

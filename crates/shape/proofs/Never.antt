@@ -7,12 +7,12 @@ use Rattle.json.specs.Tree.{Json, word, num, str, arr, obj, Items, nil, item}
 use Rattle.spell.specs.Spell.{refuses}
 use Rattle.rows.specs.Strings.{spelledAt, refusedIn, refusedItems}
 use Rattle.shape.specs.declared.Tally.{Tally}
-use Rattle.shape.specs.Inner.{NEVER, stringForm, stringRow, numberRow, groupForm, nameRow, memberOf, itemOf, slotForm, isIn, onceRow, stepped, fresh, endRow, closed, rowOf, rowItems}
+use Rattle.shape.specs.Inner.{NEVER, stringForm, stringFormRow, numberRow, groupForm, nameRow, memberItem, itemOf, slotForm, isIn, onceRow, stepped, fresh, endRow, closed, rowOf, rowItems}
 use Rattle.shape.proofs.Low.{low, Lowest, After, ends, goes-on, begins}
 
 -- ---- an item's name, and whether it is there already
 name-lowest : (s : List ℕ) (f : ℕ) (named : Bool) (k p : ℕ) → Lowest (itemOf s f named k p .row) (named && refuses (spelledAt s p)) false false false false
-unfolding low itemOf memberOf nameRow
+unfolding low itemOf memberItem nameRow
 name-lowest s f true k p = record { is = refl }
 name-lowest s f false k p = record { is = refl }
 
@@ -31,7 +31,7 @@ module _ (s : List ℕ) (f : ℕ) (named : Bool) (k p : ℕ) (a : Tally) where
 
 -- ---- NEVER
 mutual
-  unfolding low rowOf refusedIn stringRow stringForm numberRow groupForm slotForm fresh closed endRow
+  unfolding low rowOf refusedIn stringFormRow stringForm numberRow groupForm slotForm fresh closed endRow
 
   pub never : (s : List ℕ) (t : Json) → Lowest (rowOf s NEVER t) (refusedIn s t) true false false false
   never s (word a n) = record { is = refl }

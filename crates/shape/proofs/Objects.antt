@@ -12,7 +12,7 @@ use Rattle.json.specs.Tree.{Json, Items, nil, item}
 use Rattle.rows.specs.Strings.{refusedIn, refusedItems}
 use Rattle.shape.specs.declared.Tally.{Tally}
 use Rattle.shape.specs.Shape.{anyItem, allItems, countItems, nameAt}
-use Rattle.shape.specs.Inner.{nameSlot, memberOf, itemOf, slotForm, isIn, marksAfter, stepped, endRow, closed, rowOf, rowItems}
+use Rattle.shape.specs.Inner.{nameSlot, memberItem, itemOf, slotForm, isIn, marksAfter, stepped, endRow, closed, rowOf, rowItems}
 use Rattle.shape.proofs.Names.{no, and-left, and-right, both-ways}
 use Rattle.shape.proofs.Bits.{in-more, in-none}
 use Rattle.shape.proofs.Low.{Lowest, After, after-said, ends, either-first, broken-first}
@@ -47,7 +47,7 @@ module _ (s : List ℕ) (f : ℕ) (member w₆ w₇ w₈ : ℕ → Json → Bool
   pub object-after : (k : ℕ) (a : Tally) (ts : Items)
       → After (rowItems s true f k a ts) (a .row) (refusedItems s true ts) (not (allItems member ts) || (twice (slotAt s f) (a .seen) ts || e₅ (taken (slotAt s f) (a .seen) ts)))
       (anyItem w₆ ts) (anyItem w₇ ts) (anyItem w₈ ts || e₈ (marked (slotAt s f) (a .marks) ts))
-  unfolding rowOf refusedIn itemOf memberOf nameAt stepped closed allItems anyItem twice taken marked
+  unfolding rowOf refusedIn itemOf memberItem nameAt stepped closed allItems anyItem twice taken marked
   object-after k a nil = ends refl (end k a)
   object-after k a (item p v t ts) =
       after-said refl (broken-first (member p t) (isIn (slotAt s f p) (a .seen)) (allItems member ts) _ _) refl refl (either-first (w₈ p t) (anyItem w₈ ts) _)

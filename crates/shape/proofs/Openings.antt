@@ -7,7 +7,7 @@ use native.Mathlib.Omega.{arith}
 use borrow.Author.Tests.{eqb-true, eq-eqb, ne-eqb, le-ltb}
 use lib.Dec.{eqb, ltb}
 use lib.ListN.{length, getD}
-use Rattle.json.specs.Grammar.{case, wsAt, classOf, oneAt, tokenAt, stringAt, numberAt, literalAt, scalarAt, openedAt, startAt, nextAt}
+use Rattle.json.specs.Grammar.{case, wsAt, inClass, oneAt, tokenAt, stringAt, numberAt, literalAt, scalarAt, openedAt, startAt, nextAt}
 use Rattle.json.specs.Tree.{Json, word, num, str, arr, obj, Items, nil, item, Got, none, got, bind, follow, node, onLeaf, itemsAt, groupAt, treeAt, root, depth, endOf, endsAt}
 use Rattle.json.specs.declared.Out.{Out}
 use Rattle.json.specs.declared.Out.the-variants.{End, Bad}
@@ -22,7 +22,7 @@ use Rattle.json.proofs.Ends.{ends-bad}
 use Rattle.json.proofs.Trees.{tree-open, value-flat}
 use Rattle.wire.specs.Limits.{mostMessage}
 use Rattle.wire.specs.Bytes.{sameBytes}
-use Rattle.spell.specs.Spell.{charsFrom, joined, decode}
+use Rattle.spell.specs.Spell.{charsFrom, charsBytes, decode}
 use Rattle.rows.specs.Strings.{part, spelledAt}
 use Rattle.shape.specs.Shape.{nameAt, other, wordOf, opened}
 use Rattle.shape.specs.Shape.{Word as TheWord}
@@ -56,7 +56,7 @@ first-opened s (item p v (obj us) ts) = refl
 
 module _ (s : List ℕ) (p : ℕ) where
   no-string : stringAt s p ≡ Bad → other ≡ wordOf (nameAt s p)
-  unfolding nameAt spelledAt decode joined charsFrom wordOf sameBytes
+  unfolding nameAt spelledAt decode charsBytes charsFrom wordOf sameBytes
   no-string e = rw e
 
   a-string : (n : ℕ) → stringAt s p ≡ End n → wordOf (decode (part s (p + 1) (n - p - 2))) ≡ wordOf (nameAt s p)
@@ -76,7 +76,7 @@ module _ (s : List ℕ) (p : ℕ) where
 
   -- ---- brackets and braces are no quotes
   token-byte : (b n : ℕ) → tokenAt s b p ≡ End n → getD s p 0 ≡ b
-  unfolding tokenAt oneAt classOf
+  unfolding tokenAt oneAt inClass
   token-byte b n e = go (eqb (getD s p 0) b) refl e
     where
       go : (x : Bool) → eqb (getD s p 0) b ≡ x → case (cond x (End (p + 1)) Bad) (λ n. End (wsAt s n)) Bad ≡ End n → getD s p 0 ≡ b
@@ -84,7 +84,7 @@ module _ (s : List ℕ) (p : ℕ) where
       go false q w = ends-bad w
 
   not-quote : (b : ℕ) → getD s p 0 ≡ b → eqb b 0x22 ≡ false → stringAt s p ≡ Bad
-  unfolding stringAt oneAt classOf
+  unfolding stringAt oneAt inClass
   not-quote b e f = rw (e, f)
 
   group-word : (r : Start) → startAt s p ≡ r → (r ≡ Leaf → ⊥) → other ≡ wordOf (nameAt s p)

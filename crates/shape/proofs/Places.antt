@@ -5,7 +5,7 @@ use Prim.Native.Nat.{ℕ, _+_, _-_, _<_, _≤_}
 use native.Mathlib.Omega.{arith}
 use lib.ListN.{length, take, drop, length-drop, drop-of-length-le}
 use lib.Seq.{take-all, take-nil}
-use Rattle.json.specs.Grammar.{classOf, oneAt, charsAt, stringAt, numberAt, literalAt, scalarAt, case}
+use Rattle.json.specs.Grammar.{inClass, oneAt, charsAt, stringAt, numberAt, literalAt, scalarAt, case}
 use Rattle.json.specs.declared.Out.{Out}
 use Rattle.json.specs.declared.Out.the-variants.{End, Bad}
 use Rattle.json.specs.declared.Kind.{Kind}
@@ -32,7 +32,7 @@ then-within at size n Bad f e a b = ends-bad e
 
 module _ (s : List ℕ) (at n : ℕ) where
   pub string-within : stringAt s at ≡ End n → (at < length s) × (1 ≤ n)
-  unfolding stringAt classOf
+  unfolding stringAt inClass
   string-within e = then-within at (length s) n _ _ e (one-ends s _ at refl) (λ m. (charsAt s m, one-ends s _ (charsAt s m) refl))
 
   pub scalar-string : scalarAt s at ≡ Str n → stringAt s at ≡ End n

@@ -6,13 +6,13 @@ use Prim.Native.Nat.{ℕ, _+_, _-_, _<_, _≤_}
 use native.Mathlib.Omega.{arith}
 use lib.Dec.{eqb}
 use lib.ListN.{getD}
-use Rattle.json.specs.Grammar.{within}
+use Rattle.json.specs.Grammar.{isBetween}
 use Rattle.rows.specs.Strings.{spelledAt}
 use Rattle.wire.specs.Bytes.{sameBytes}
 use Rattle.spell.specs.Spell.{decode}
 use Rattle.shape.specs.Shape.{idName, pubkeyName, createdAtName, kindName, tagsName, contentName, sigName, idsName, authorsName, kindsName, sinceName, untilName, limitName, isCondition}
 use Rattle.shape.specs.declared.Item.{Item}
-use Rattle.shape.specs.Inner.{EVENT, FILTER, UNKNOWN, LOWER, UPPER, placeSlot, eventSlot, letterSlot, conditionSlot, filterSlot, nameSlot, memberOf, itemOf}
+use Rattle.shape.specs.Inner.{EVENT, FILTER, UNKNOWN, LOWER, UPPER, placeSlot, eventSlot, letterSlot, conditionSlot, filterSlot, nameSlot, memberItem, itemOf}
 use Rattle.shape.proofs.Names.{within-ends}
 
 either : (b : Bool) {x y : ℕ} → x < 64 → y < 64 → cond b x y < 64
@@ -37,9 +37,9 @@ event-small w =
 
 letter-small : (b : ℕ) → letterSlot b < 64
 unfolding letterSlot
-letter-small b = go (within 97 122 b) refl (within 65 90 b) refl
+letter-small b = go (isBetween 97 122 b) refl (isBetween 65 90 b) refl
   where
-    go : (x : Bool) → within 97 122 b ≡ x → (y : Bool) → within 65 90 b ≡ y → cond x (b - 97 + LOWER) (cond y (b - 65 + UPPER) UNKNOWN) < 64
+    go : (x : Bool) → isBetween 97 122 b ≡ x → (y : Bool) → isBetween 65 90 b ≡ y → cond x (b - 97 + LOWER) (cond y (b - 65 + UPPER) UNKNOWN) < 64
     go true p y q = let w = within-ends 97 122 b p in omega arith
     go false p true q = let w = within-ends 65 90 b q in omega arith
     go false p false q = omega arith
@@ -56,6 +56,6 @@ filter-small w =
     (either (isCondition w) (letter-small (getD w 1 0)) (omega arith)))))))
 
 pub slot-small : (s : List ℕ) (f : ℕ) (named : Bool) (k p : ℕ) {it : Item} → it ≡ itemOf s f named k p → it .slot < 64
-unfolding itemOf memberOf nameSlot
+unfolding itemOf memberItem nameSlot
 slot-small s f true k p e = rw e (either (eqb f EVENT) (event-small (decode (spelledAt s p))) (either (eqb f FILTER) (filter-small (decode (spelledAt s p))) (omega arith)))
 slot-small s f false k p e = rw e (place-small k)

@@ -7,7 +7,7 @@ use lib.ListN.{getD}
 use lib.Dec.{eqb, leb, ltb}
 use lib.Bits.{bitOr}
 use lib.IntN.{ℤ, pos, negℤ}
-use Rattle.json.specs.Grammar.{within}
+use Rattle.json.specs.Grammar.{isBetween}
 use Rattle.json.specs.Tree.{Json, word, num, str, arr, obj, Items, nil, item, Got, none, got}
 use Rattle.json.specs.declared.Start.{Start}
 use Rattle.json.specs.declared.Start.the-variants.{Leaf, Empty, Many}
@@ -15,7 +15,7 @@ use Rattle.rows.specs.Strings.{part, spelledAt}
 use Rattle.wire.specs.Limits.{widest, mostSmall, hexLength, sigLength, mostTags, mostStrings, mostFilters, mostMembers, mostConditions, mostCharacters}
 use Rattle.wire.specs.Bytes.{Bytes, Row, sameBytes}
 use Rattle.spell.specs.Spell.{decode, refuses, characterCount, isHexOf}
-use Rattle.numeral.specs.Whole.{wholeOf, answerOf, isWithin}
+use Rattle.numeral.specs.Whole.{wholeOf, wholeAnswer, isWithin}
 use Rattle.shape.specs.declared.Judged.{Judged}
 use Rattle.shape.specs.declared.Judged.the-variants.{Ends, Wrong}
 use Rattle.shape.specs.declared.Item.{Item}
@@ -38,8 +38,8 @@ HEX = 7
 abbrev pub COUNT : ℕ
 COUNT = 8
 
-abbrev pub FINE : ℕ
-FINE = 9
+abbrev pub noRow : ℕ
+noRow = 9
 
 -- ---- the forms. NEVER: nothing may stand there, nor in it
 abbrev pub NEVER : ℕ
@@ -157,23 +157,23 @@ UPPER = 38
 
 -- ---- values that hold no value
 unfoldable pub bounds : (low high n : ℕ) → ℕ
-bounds low high n = cond (ltb n low) COUNT (cond (ltb high n) COUNT FINE)
+bounds low high n = cond (ltb n low) COUNT (cond (ltb high n) COUNT noRow)
 
-unfoldable pub hexRow : ℕ → Bytes → Row
-hexRow k p = cond (isHexOf k p) FINE HEX
+unfoldable pub hexFormRow : ℕ → Bytes → Row
+hexFormRow k p = cond (isHexOf k p) noRow HEX
 
 unfoldable pub stringForm : ℕ → Bytes → ℕ
 stringForm f p =
-    cond (eqb f TEXT) FINE
+    cond (eqb f TEXT) noRow
     (cond (eqb f LABEL) (bounds 1 mostCharacters (characterCount p))
-    (cond (eqb f HEX64) (hexRow hexLength p)
-    (cond (eqb f HEX128) (hexRow sigLength p) SHAPE)))
+    (cond (eqb f HEX64) (hexFormRow hexLength p)
+    (cond (eqb f HEX128) (hexFormRow sigLength p) SHAPE)))
 
-unfoldable pub stringRow : ℕ → Bytes → Row
-stringRow f p = cond (refuses p) STRING (stringForm f p)
+unfoldable pub stringFormRow : ℕ → Bytes → Row
+stringFormRow f p = cond (refuses p) STRING (stringForm f p)
 
 unfoldable pub rangeRow : (low high : ℤ) (p : Bytes) → Row
-rangeRow low high p = cond (isWithin (answerOf (wholeOf p)) low high) FINE NUMBER
+rangeRow low high p = cond (isWithin (wholeAnswer (wholeOf p)) low high) noRow NUMBER
 
 unfoldable pub numberRow : ℕ → Bytes → Row
 numberRow f p = cond (eqb f TIME) (rangeRow (negℤ (pos widest)) (pos widest) p) (cond (eqb f SMALL) (rangeRow (pos 0) (pos mostSmall) p) SHAPE)
@@ -201,7 +201,7 @@ unfoldable pub eventSlot : Bytes → ℕ
 eventSlot w = among w true (cond (sameBytes w sigName) SIG UNKNOWN)
 
 unfoldable pub letterSlot : ℕ → ℕ
-letterSlot b = cond (within 97 122 b) (b - 97 + LOWER) (cond (within 65 90 b) (b - 65 + UPPER) UNKNOWN)
+letterSlot b = cond (isBetween 97 122 b) (b - 97 + LOWER) (cond (isBetween 65 90 b) (b - 65 + UPPER) UNKNOWN)
 
 unfoldable pub conditionSlot : Bytes → ℕ
 conditionSlot w = cond (isCondition w) (letterSlot (getD w 1 0)) UNKNOWN
@@ -215,16 +215,16 @@ nameSlot f w = cond (eqb f EVENT) (eventSlot w) (cond (eqb f FILTER) (filterSlot
 
 -- row 4 of a name
 unfoldable pub nameRow : Bytes → Row
-nameRow p = cond (refuses p) STRING FINE
+nameRow p = cond (refuses p) STRING noRow
 
 -- a member of an object of the form f, whose name is spelled p
-unfoldable pub memberOf : ℕ → Bytes → Item
-memberOf f p = record { slot = nameSlot f (decode p); row = nameRow p }
+unfoldable pub memberItem : ℕ → Bytes → Item
+memberItem f p = record { slot = nameSlot f (decode p); row = nameRow p }
 
 -- item k, which begins at p
 unfoldable pub itemOf : (s : Bytes) (f : ℕ) (named : Bool) (k p : ℕ) → Item
 itemOf s f named k p =
-    cond named (memberOf f (spelledAt s p)) (record { slot = placeSlot k; row = FINE })
+    cond named (memberItem f (spelledAt s p)) (record { slot = placeSlot k; row = noRow })
 
 -- ---- the form in a slot
 unfoldable pub eventForm : ℕ → ℕ
@@ -263,13 +263,13 @@ isIn slot seen = eqb (seen / 2 ^ slot % 2) 1
 
 -- a member that is there already
 unfoldable pub onceRow : (named : Bool) (slot seen : ℕ) → Row
-onceRow named slot seen = cond named (cond (isIn slot seen) SHAPE FINE) FINE
+onceRow named slot seen = cond named (cond (isIn slot seen) SHAPE noRow) noRow
 
 unfoldable pub marksAfter : ℕ → ℕ → ℕ
 marksAfter slot marks = cond (ltb slot LOWER) marks (min (marks + 1) 5)
 
 unfoldable pub fresh : Tally
-fresh = record { row = FINE; seen = 0; marks = 0 }
+fresh = record { row = noRow; seen = 0; marks = 0 }
 
 unfoldable pub stepped : (named : Bool) (a : Tally) (it : Item) (row : Row) → Tally
 stepped named a it row = record {
@@ -285,13 +285,13 @@ isFull seen = eqb (seen % 128) 127
 -- k items in all
 unfoldable pub endRow : (f k : ℕ) (a : Tally) → Row
 endRow f k a =
-    cond (eqb f EVENT) (cond (isFull (a .seen)) FINE SHAPE)
+    cond (eqb f EVENT) (cond (isFull (a .seen)) noRow SHAPE)
     (cond (eqb f FILTER) (bounds 0 mostConditions (a .marks))
     (cond (eqb f TAGLIST) (bounds 0 mostTags k)
     (cond (eqb f TAG) (bounds 1 mostStrings k)
     (cond (eqb f NEVER) SHAPE
     (cond (ltb f OFFER) (bounds 1 mostMembers k)
-    (cond (eqb f REQUEST) (cond (ltb k 2) SHAPE (bounds 3 (2 + mostFilters) k)) (cond (eqb k 2) FINE SHAPE)))))))
+    (cond (eqb f REQUEST) (cond (ltb k 2) SHAPE (bounds 3 (2 + mostFilters) k)) (cond (eqb k 2) noRow SHAPE)))))))
 
 unfoldable pub closed : (f k : ℕ) (a : Tally) → ℕ
 closed f k a = min (a .row) (endRow f k a)
@@ -302,7 +302,7 @@ unfoldable mutual
   pub rowOf : List ℕ → ℕ → Json → ℕ
   rowOf s f (word a n) = SHAPE
   rowOf s f (num a n) = numberRow f (part s a n)
-  rowOf s f (str a n) = stringRow f (part s a n)
+  rowOf s f (str a n) = stringFormRow f (part s a n)
   rowOf s f (arr ts) = rowItems s false (groupForm f false) 0 fresh ts
   rowOf s f (obj ts) = rowItems s true (groupForm f true) 0 fresh ts
 
@@ -331,4 +331,4 @@ openingOf s (Many first named) = cond named NEVER (wordForm (wordOf (nameAt s fi
 
 -- a row, and 0 for none
 unfoldable pub toldOf : ℕ → ℕ
-toldOf r = cond (eqb r FINE) 0 r
+toldOf r = cond (eqb r noRow) 0 r

@@ -10,7 +10,7 @@ use Rattle.rows.specs.Strings.{part, refusedIn}
 use Rattle.rows.specs.Rows.{row1, row2, row3}
 use Rattle.spell.specs.Spell.{characterCount, isHexOf}
 use Rattle.wire.specs.Limits.{widest, mostSmall, hexLength, sigLength, mostTags, mostStrings, mostFilters, mostMembers, mostConditions, mostCharacters}
-use Rattle.numeral.specs.Whole.{wholeOf, answerOf, isWithin}
+use Rattle.numeral.specs.Whole.{wholeOf, wholeAnswer, isWithin}
 use Rattle.shape.specs.Shape.{anyItem, countItems, count, nameAt, named, idName, pubkeyName, createdAtName, kindName, tagsName, contentName, sigName, idsName, authorsName, kindsName, sinceName, untilName, limitName, isCondition, Word, event, req, close, other, opened, hasShape}
 use Rattle.wire.specs.Bytes.{Bytes, Row}
 
@@ -32,11 +32,11 @@ inMessage e f other ts = false
 
 -- ---- row 6: "An optional minus and digits, no needless leading zero, no fraction or exponent, not -0", and the ranges
 unfoldable pub wrongTime : Bytes → Json → Bool
-wrongTime s t = onNumber (λ a n. not (isWithin (answerOf (wholeOf (part s a n))) (negℤ (pos widest)) (pos widest))) t
+wrongTime s t = onNumber (λ a n. not (isWithin (wholeAnswer (wholeOf (part s a n))) (negℤ (pos widest)) (pos widest))) t
 
 -- kind, kinds, limit: 0 to 65,535
 unfoldable pub wrongSmall : Bytes → Json → Bool
-wrongSmall s t = onNumber (λ a n. not (isWithin (answerOf (wholeOf (part s a n))) (pos 0) (pos mostSmall))) t
+wrongSmall s t = onNumber (λ a n. not (isWithin (wholeAnswer (wholeOf (part s a n))) (pos 0) (pos mostSmall))) t
 
 unfoldable pub eventNumber : (s : Bytes) (p : ℕ) (t : Json) → Bool
 eventNumber s p t = cond (named s createdAtName p) (wrongTime s t) (cond (named s kindName p) (wrongSmall s t) false)
@@ -84,15 +84,15 @@ eventCount s p t = cond (named s tagsName p) (wrongTags t) false
 unfoldable pub wrongList : Json → Bool
 wrongList t = onArray (λ ts. outside 1 mostMembers (count ts)) t
 
-unfoldable pub filterCount : (s : Bytes) (p : ℕ) (t : Json) → Bool
-filterCount s p t =
+unfoldable pub wrongFilter : (s : Bytes) (p : ℕ) (t : Json) → Bool
+wrongFilter s p t =
     cond (named s idsName p) (wrongList t)
     (cond (named s authorsName p) (wrongList t)
     (cond (named s kindsName p) (wrongList t)
     (cond (isCondition (nameAt s p)) (wrongList t) false)))
 
 unfoldable pub filterCounts : Bytes → Items → Bool
-filterCounts s ts = anyItem (filterCount s) ts || outside 0 mostConditions (countItems (λ p t. isCondition (nameAt s p)) ts)
+filterCounts s ts = anyItem (wrongFilter s) ts || outside 0 mostConditions (countItems (λ p t. isCondition (nameAt s p)) ts)
 
 unfoldable pub wrongSubscription : Bytes → Json → Bool
 wrongSubscription s t = onString (λ a n. outside 1 mostCharacters (characterCount (part s a n))) t

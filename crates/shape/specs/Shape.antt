@@ -111,9 +111,9 @@ untilName = ascii "until"
 abbrev pub limitName : Bytes
 limitName = ascii "limit"
 
-unfoldable pub noneTwice : Bytes → Items → Bool
-noneTwice s nil = true
-noneTwice s (item p v t ts) = not (anyItem (λ q u. sameBytes (nameAt s q) (nameAt s p)) ts) && noneTwice s ts
+unfoldable pub noNameTwice : Bytes → Items → Bool
+noNameTwice s nil = true
+noNameTwice s (item p v t ts) = not (anyItem (λ q u. sameBytes (nameAt s q) (nameAt s p)) ts) && noNameTwice s ts
 
 unfoldable pub filterMember : (s : Bytes) (p : ℕ) (t : Json) → Bool
 filterMember s p t =
@@ -126,7 +126,7 @@ filterMember s p t =
     (cond (isCondition (nameAt s p)) (isArrayOf isString t) false))))))
 
 unfoldable pub isFilter : Bytes → Json → Bool
-isFilter s t = onObject (λ ts. allItems (filterMember s) ts && noneTwice s ts) t
+isFilter s t = onObject (λ ts. allItems (filterMember s) ts && noNameTwice s ts) t
 
 -- ---- the message: its first word, and the elements after it
 abbrev pub eventWord : Bytes

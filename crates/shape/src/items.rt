@@ -2,7 +2,7 @@
 ghost use mathlib.Core.Path.{_≡_};
 ghost use mathlib.Core.Bool.{cond};
 ghost use Rattle.spell.specs.Spell.{decode};
-ghost use Rattle.shape.specs.Inner.{placeSlot, among, eventSlot, letterSlot, conditionSlot, filterSlot, nameSlot, nameRow, memberOf, itemOf};
+ghost use Rattle.shape.specs.Inner.{placeSlot, among, eventSlot, letterSlot, conditionSlot, filterSlot, nameSlot, nameRow, memberItem, itemOf};
 use crate::Item;
 use crate::forms;
 
@@ -138,7 +138,7 @@ pub(crate) fn name_row(p: &[u8]) -> u8
 }
 
 pub(crate) fn member(form: u8, p: &[u8]) -> Item
-    ensures { λ r. ⌜ r ≡ memberOf form (now (p .entry)) ⌝ }
+    ensures { λ r. ⌜ r ≡ memberItem form (now (p .entry)) ⌝ }
 {
     Item {
         slot: name_slot(form, p),

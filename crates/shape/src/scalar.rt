@@ -6,7 +6,7 @@ ghost use Rattle.json.specs.Grammar.{scalarAt};
 ghost use Rattle.json.specs.Tree.{onLeaf};
 ghost use Rattle.wire.specs.Limits.{widest, mostSmall};
 ghost use Rattle.rows.specs.Strings.{part};
-ghost use Rattle.shape.specs.Inner.{bounds, hexRow, stringForm, stringRow, rangeRow, numberRow, judgedOf};
+ghost use Rattle.shape.specs.Inner.{bounds, hexFormRow, stringForm, stringFormRow, rangeRow, numberRow, judgedOf};
 use crate::Judged;
 use crate::forms;
 use json::Kind;
@@ -40,7 +40,7 @@ pub(crate) fn cut(s: &[u8], from: usize, to: usize) -> &[u8]
 }
 
 pub(crate) fn hex_row(k: usize, p: &[u8]) -> u8
-    ensures { λ r. ⌜ r ≡ hexRow k (now (p .entry)) ⌝ }
+    ensures { λ r. ⌜ r ≡ hexFormRow k (now (p .entry)) ⌝ }
 {
     if spell::is_hex(p, k) {
         forms::FINE
@@ -66,7 +66,7 @@ pub(crate) fn string_form(form: u8, p: &[u8]) -> u8
 }
 
 pub(crate) fn string_row(form: u8, p: &[u8]) -> u8
-    ensures { λ r. ⌜ r ≡ stringRow form (now (p .entry)) ⌝ }
+    ensures { λ r. ⌜ r ≡ stringFormRow form (now (p .entry)) ⌝ }
 {
     if spell::refused(p) {
         forms::STRING

@@ -15,14 +15,14 @@ use Rattle.spell.specs.Spell.{decode}
 use Rattle.message.specs.declared.Span.{Span}
 use Rattle.message.specs.Lent.{subscriptionRow}
 use Rattle.event.specs.Lent.{said}
-use Rattle.event.specs.Answer.{orElse, numberOf}
+use Rattle.event.specs.Answer.{orElse, writtenNumber}
 use Rattle.event.specs.declared.Written.{Written}
 use Rattle.event.specs.declared.Written.the-variants.{Wrote, Refused}
 use Rattle.event.proofs.Answers.{Outcome, refused, passed, too-short, room-for}
 use Rattle.table.specs.Layout.{countOf, slotAt, lengthIn}
 use Rattle.table.specs.Format.{shownRow}
 use Rattle.table.proofs.Shown.{shown-if}
-use Rattle.slots.specs.Shown.{numberOf as shownNumber}
+use Rattle.slots.specs.Shown.{shownNumber}
 use Rattle.slots.specs.declared.Shown.{Shown}
 use Rattle.reply.specs.Lent.{eoseRow, shortRow}
 use Rattle.reply.specs.Respond.{slotText, slotEventRow, slotEvent, slotEventOut}
@@ -55,7 +55,7 @@ shown-number r x y e q = ap shownNumber (sym e) ∙ q
 
 -- ---- what is answered
 abbrev pub AsSent : List ℕ → ℕ → List ℕ → Span → List ℕ → Written → List ℕ → Type 0
-AsSent b k m s out w o = (w ≡ slotEvent b k m s out) × ((numberOf w ≡ slotEventRow b k m s out) × (o ≡ slotEventOut b k m s out))
+AsSent b k m s out w o = (w ≡ slotEvent b k m s out) × ((writtenNumber w ≡ slotEventRow b k m s out) × (o ≡ slotEventOut b k m s out))
 
 held-text : (b sub : List ℕ) (k : ℕ) → k < countOf b → slotText b sub k ≡ heldText sub (slotAt b k)
 unfolding slotText heldText

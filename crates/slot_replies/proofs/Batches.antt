@@ -24,7 +24,7 @@ use Rattle.event.specs.Lent.{said}
 use Rattle.table.specs.Layout.{countOf, slotAt, textIn}
 use Rattle.table.specs.Sound.{sound}
 use Rattle.reply.specs.Lent.{eoseRow, outputAfter}
-use Rattle.reply.specs.Program.{eventIn, eventsOf, written}
+use Rattle.reply.specs.Program.{eventReplies, eventsOf, written}
 use Rattle.reply.specs.Respond.{slotLine, joined, fitting, slotLines, fittingText, noneFits, allHeld, eventsRow, sentEvents, sentEventsOut, sentNumber}
 use Rattle.reply.specs.declared.Sent.{Sent}
 use Rattle.reply.specs.declared.Sent.the-variants.{Wrote, Refused}
@@ -173,8 +173,8 @@ module _ (b sub : List ℕ) (s : sound b ≡ true) where
   lines-joined (suc i) [] e = refl
   lines-joined (suc i) (k ∷ ks) e =
       let (g, h) = both (ltb k (countOf b)) (allHeld b ks) e in
-      written-append (eventIn sub (slotAt b k) (readText (textIn (slotAt b k)))) (eventsOf b sub (take i ks))
-      ∙ ap₂ _++_ (sym (ap (λ x. written (cond x (eventIn sub (slotAt b k) (readText (textIn (slotAt b k)))) [])) g)) (lines-joined i ks h)
+      written-append (eventReplies sub (slotAt b k) (readText (textIn (slotAt b k)))) (eventsOf b sub (take i ks))
+      ∙ ap₂ _++_ (sym (ap (λ x. written (cond x (eventReplies sub (slotAt b k) (readText (textIn (slotAt b k)))) [])) g)) (lines-joined i ks h)
 
 -- ---- the parts of the row that are taken lie in it
 pub held-few : (b ks : List ℕ) {held : ℕ} → held ≡ heldLen b ks → held ≤ length ks

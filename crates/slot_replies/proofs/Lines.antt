@@ -18,7 +18,7 @@ use Rattle.law.specs.Lists.{_∈_}
 use Rattle.table.specs.Layout.{countOf, slotAt, lengthIn, textIn}
 use Rattle.table.specs.Sound.{sound}
 use Rattle.reply.specs.Replies.{replyText}
-use Rattle.reply.specs.Program.{eventIn, eventsOf, written}
+use Rattle.reply.specs.Program.{eventReplies, eventsOf, written}
 use Rattle.reply.specs.Respond.{firstText, slotLine}
 use Rattle.reply.proofs.Lines.{written-append}
 use Rattle.reply.proofs.Sizes.{line-length}
@@ -37,7 +37,7 @@ line-is : (sub s : List ℕ) → Line (heldLine sub s) (heldText sub s)
 unfolding heldLine heldText written replyText
 line-is sub s = go (readText (textIn s))
   where
-    go : (r : Read) → Line (written (eventIn sub s r)) (firstText (eventIn sub s r))
+    go : (r : Read) → Line (written (eventReplies sub s r)) (firstText (eventReplies sub s r))
     go tooLarge = nothing refl refl
     go wrongShape = nothing refl refl
     go (read e) = ended (append-nil _) (omega arith)
@@ -87,7 +87,7 @@ pub lines-size : (b sub ks : List ℕ) → sound b ≡ true → ((k : ℕ) → k
 unfolding heldLine eventsOf written linesSize
 lines-size b sub [] s h = refl
 lines-size b sub (k ∷ ks) s h =
-    ap length (written-append (eventIn sub (slotAt b k) (readText (textIn (slotAt b k)))) (eventsOf b sub ks))
+    ap length (written-append (eventReplies sub (slotAt b k) (readText (textIn (slotAt b k)))) (eventsOf b sub ks))
     ∙ length-append (heldLine sub (slotAt b k)) (written (eventsOf b sub ks))
     ∙ ap₂ _+_ (one-size b sub k s (h k (List·Memᴰ·head refl))) (lines-size b sub ks s (λ j i. h j (List·Memᴰ·tail i)))
 

@@ -14,7 +14,7 @@ use Rattle.numeral.proofs.Ways.{back}
 use Rattle.rows.specs.Strings.{part}
 use Rattle.text.specs.Event.{Event, quoted, tagsText}
 use Rattle.text.specs.Read.{Read, tooLarge, wrongShape, read, readText}
-use Rattle.text.specs.Answer.{answerOf}
+use Rattle.text.specs.Answer.{textAnswerOf}
 use Rattle.text.specs.declared.Text.{Text}
 use Rattle.text.specs.declared.TextAnswer.the-variants as answer
 use Rattle.text.proofs.RoundTrip.{read-same}
@@ -24,16 +24,16 @@ use Rattle.event.proofs.Answers.{escape-hex}
 use Rattle.table.specs.Layout.{idIn, sigIn, lengthIn, textIn}
 use Rattle.wire.specs.Ascii.{ascii}
 use Rattle.reply.specs.Replies.{objectText, replyText}
-use Rattle.reply.specs.Program.{eventIn}
+use Rattle.reply.specs.Program.{eventReplies}
 use Rattle.reply.specs.Respond.{firstText}
-use Rattle.slot_replies.specs.Inner.{numbersText, stringsText, numbersOf, stringsOf, ReadAs, frontText, backText, heldText}
+use Rattle.slot_replies.specs.Inner.{numbersText, heldStrings, numberBytes, stringBytes, ReadAs, frontText, backText, heldText}
 
 -- ---- the puts in a row
 module _ (t : List ℕ) (x : Text) (w : ReadAs t x) where
   pub numbers-put : {d o₁ o₂ o₃ o₄ o₅ o : List ℕ} {i a₁ a₂ a₃ a₄ a₅ r : ℕ} {k : List ℕ} → mag (x .time) < 2 ^ 63 → k ≡ part t 3 66
       → Puts d i (ascii ",\"pubkey\":") a₁ o₁ → Puts o₁ a₁ k a₂ o₂ → Puts o₂ a₂ (ascii ",\"created_at\":") a₃ o₃ → Puts o₃ a₃ (decimal (toZ w64 (ofZ w64 (x .time)))) a₄ o₄
-      → Puts o₄ a₄ (ascii ",\"kind\":") a₅ o₅ → Puts o₅ a₅ (digits (x .kind)) r o → Puts d i (numbersOf t) r o
-  unfolding numbersOf
+      → Puts o₄ a₄ (ascii ",\"kind\":") a₅ o₅ → Puts o₅ a₅ (digits (x .kind)) r o → Puts d i (numberBytes t) r o
+  unfolding numberBytes
   numbers-put {k = k} ft ek x₁ x₂ x₃ x₄ x₅ x₆ =
       let (e, rd, q) = read-told (readText t) x (w .is) in
       let fk : k ≡ quoted (e .pubkey) = ek ∙ key-part t e (read-same t e rd) in
@@ -42,8 +42,8 @@ module _ (t : List ℕ) (x : Text) (w : ReadAs t x) where
       rw rd (puts-then x₁ (puts-then (rw fk at x₂) (puts-then x₃ (puts-then (rw fz at x₄) (puts-then x₅ (rw fn at x₆))))))
 
   pub strings-put : {d o₁ o₂ o₃ o : List ℕ} {i a₁ a₂ a₃ r : ℕ} {g c : List ℕ} → g ≡ part t (x .tags) (x .content - 2 - x .tags) → c ≡ part t (x .content - 1) (x .«content_len» + 2)
-      → Puts d i (ascii ",\"tags\":") a₁ o₁ → Puts o₁ a₁ g a₂ o₂ → Puts o₂ a₂ (ascii ",\"content\":") a₃ o₃ → Puts o₃ a₃ c r o → Puts d i (stringsOf t) r o
-  unfolding stringsOf
+      → Puts d i (ascii ",\"tags\":") a₁ o₁ → Puts o₁ a₁ g a₂ o₂ → Puts o₂ a₂ (ascii ",\"content\":") a₃ o₃ → Puts o₃ a₃ c r o → Puts d i (stringBytes t) r o
+  unfolding stringBytes
   strings-put {g = g} {c = c} eg ec x₁ x₂ x₃ x₄ =
       let (e, rd, q) = read-told (readText t) x (w .is) in
       let a = read-same t e rd in
@@ -76,28 +76,28 @@ module _ (s : List ℕ) {t : List ℕ} {n : ℕ} (f : Field s 106 2 n) (q : t �
   unfolding textIn lengthIn
   text-is = ap (part s 112) (sym (f .is)) ∙ sym q
 
-  slot-is : (sub : List ℕ) (r : Read) → readText t ≡ r → heldText sub s ≡ firstText (eventIn sub s r)
+  slot-is : (sub : List ℕ) (r : Read) → readText t ≡ r → heldText sub s ≡ firstText (eventReplies sub s r)
   unfolding heldText
-  slot-is sub r e = ap (λ v. firstText (eventIn sub s (readText v))) text-is ∙ ap (λ v. firstText (eventIn sub s v)) e
+  slot-is sub r e = ap (λ v. firstText (eventReplies sub s (readText v))) text-is ∙ ap (λ v. firstText (eventReplies sub s v)) e
 
-  none-large : (sub : List ℕ) (r : Read) → readText t ≡ r → answer.TooLarge ≡ answerOf r → heldText sub s ≡ []
+  none-large : (sub : List ℕ) (r : Read) → readText t ≡ r → answer.TooLarge ≡ textAnswerOf r → heldText sub s ≡ []
   none-large sub tooLarge e z = slot-is sub tooLarge e
   none-large sub wrongShape e z = absurd (let y : _≡_ {A = ℕ} 0 1 = cc in omega arith)
   none-large sub (read x) e z = absurd (let y : _≡_ {A = ℕ} 0 1 = cc in omega arith)
 
-  none-shape : (sub : List ℕ) (r : Read) → readText t ≡ r → answer.WrongShape ≡ answerOf r → heldText sub s ≡ []
+  none-shape : (sub : List ℕ) (r : Read) → readText t ≡ r → answer.WrongShape ≡ textAnswerOf r → heldText sub s ≡ []
   none-shape sub tooLarge e z = absurd (let y : _≡_ {A = ℕ} 0 1 = cc in omega arith)
   none-shape sub wrongShape e z = slot-is sub wrongShape e
   none-shape sub (read x) e z = absurd (let y : _≡_ {A = ℕ} 0 1 = cc in omega arith)
 
   module _ (sub : List ℕ) {d o : List ℕ} {i r : ℕ} where
-    pub slot-large : answer.TooLarge ≡ answerOf (readText t) → Puts d i [] r o → Puts d i (heldText sub s) r o
+    pub slot-large : answer.TooLarge ≡ textAnswerOf (readText t) → Puts d i [] r o → Puts d i (heldText sub s) r o
     slot-large z x = rw (none-large sub (readText t) refl z) x
 
-    pub slot-shape : answer.WrongShape ≡ answerOf (readText t) → Puts d i [] r o → Puts d i (heldText sub s) r o
+    pub slot-shape : answer.WrongShape ≡ textAnswerOf (readText t) → Puts d i [] r o → Puts d i (heldText sub s) r o
     slot-shape z x = rw (none-shape sub (readText t) refl z) x
 
-  slot-halves : (sub i g : List ℕ) (e : Event) → i ≡ hexOf (idIn s) → g ≡ hexOf (sigIn s) → readText t ≡ read e → heldText sub s ≡ ((frontText sub i ++ numbersText e) ++ stringsText e) ++ backText g
+  slot-halves : (sub i g : List ℕ) (e : Event) → i ≡ hexOf (idIn s) → g ≡ hexOf (sigIn s) → readText t ≡ read e → heldText sub s ≡ ((frontText sub i ++ numbersText e) ++ heldStrings e) ++ backText g
   unfolding replyText objectText frontText backText
   slot-halves sub i g e ei eg rd =
       slot-is sub (read e) rd
@@ -105,9 +105,9 @@ module _ (s : List ℕ) {t : List ℕ} {n : ℕ} (f : Field s 106 2 n) (q : t �
       (decimal (e .time)) (ascii ",\"kind\":") (digits (e .kind)) (ascii ",\"tags\":") (tagsText (e .tags)) (ascii ",\"content\":") (quoted (e .content)) (ascii ",\"sig\":")
       (quoted (hexOf (sigIn s))) (ascii "}") (ascii "]"))
 
-  pub slot-put : (sub : List ℕ) {x : Text} {i g : List ℕ} {d o₁ o₂ o₃ o₄ : List ℕ} {j a₁ a₂ a₃ r : ℕ} → answer.Read x ≡ answerOf (readText t) → i ≡ part s 0 32 → g ≡ part s 32 64
-      → Puts d j (frontText sub (hexOf i)) a₁ o₁ → Puts o₁ a₁ (numbersOf t) a₂ o₂ → Puts o₂ a₂ (stringsOf t) a₃ o₃ → Puts o₃ a₃ (backText (hexOf g)) r o₄ → Puts d j (heldText sub s) r o₄
-  unfolding numbersOf stringsOf idIn sigIn
+  pub slot-put : (sub : List ℕ) {x : Text} {i g : List ℕ} {d o₁ o₂ o₃ o₄ : List ℕ} {j a₁ a₂ a₃ r : ℕ} → answer.Read x ≡ textAnswerOf (readText t) → i ≡ part s 0 32 → g ≡ part s 32 64
+      → Puts d j (frontText sub (hexOf i)) a₁ o₁ → Puts o₁ a₁ (numberBytes t) a₂ o₂ → Puts o₂ a₂ (stringBytes t) a₃ o₃ → Puts o₃ a₃ (backText (hexOf g)) r o₄ → Puts d j (heldText sub s) r o₄
+  unfolding numberBytes stringBytes idIn sigIn
   slot-put sub {x} {i} {g} w ei eg x₁ x₂ x₃ x₄ =
       let (e, rd, q) = read-told (readText t) x w in
       rw (slot-halves sub (hexOf i) (hexOf g) e (ap hexOf ei) (ap hexOf eg) rd) (puts-then (puts-then (puts-then x₁ (rw rd at x₂)) (rw rd at x₃)) x₄)

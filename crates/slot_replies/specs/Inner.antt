@@ -9,12 +9,12 @@ use Rattle.wire.specs.Escape.{escape}
 use Rattle.numeral.specs.Decimal.{digits, decimal}
 use Rattle.text.specs.Event.{Event, quoted, tagsText}
 use Rattle.text.specs.Read.{Read, tooLarge, wrongShape, read, readText}
-use Rattle.text.specs.Answer.{answerOf}
+use Rattle.text.specs.Answer.{textAnswerOf}
 use Rattle.text.specs.declared.Text.{Text}
 use Rattle.text.specs.declared.TextAnswer.the-variants as answer
 use Rattle.table.specs.Layout.{countOf, slotAt, lengthIn, textIn}
 use Rattle.wire.specs.Ascii.{ascii}
-use Rattle.reply.specs.Program.{eventIn, written}
+use Rattle.reply.specs.Program.{eventReplies, written}
 use Rattle.reply.specs.Lent.{outputAfter}
 use Rattle.reply.specs.Respond.{firstText, fitting, slotLines, fittingText, noneFits, allHeld}
 use Rattle.reply.specs.declared.Sent.{Sent}
@@ -30,8 +30,8 @@ frontText sub i = ascii "[\"EVENT\"," ++ (quoted sub ++ (ascii ",{\"id\":" ++ qu
 abbrev pub numbersText : Event → Bytes
 numbersText e = ascii ",\"pubkey\":" ++ (quoted (e .pubkey) ++ (ascii ",\"created_at\":" ++ (decimal (e .time) ++ (ascii ",\"kind\":" ++ digits (e .kind)))))
 
-abbrev pub stringsText : Event → Bytes
-stringsText e = ascii ",\"tags\":" ++ (tagsText (e .tags) ++ (ascii ",\"content\":" ++ quoted (e .content)))
+abbrev pub heldStrings : Event → Bytes
+heldStrings e = ascii ",\"tags\":" ++ (tagsText (e .tags) ++ (ascii ",\"content\":" ++ quoted (e .content)))
 
 unfoldable pub backText : (s : Bytes) → Bytes
 backText s = ascii ",\"sig\":" ++ (quoted s ++ ascii "}]")
@@ -42,23 +42,23 @@ ofRead f tooLarge = []
 ofRead f wrongShape = []
 ofRead f (read e) = f e
 
-unfoldable pub numbersOf : Bytes → Bytes
-numbersOf t = ofRead numbersText (readText t)
+unfoldable pub numberBytes : Bytes → Bytes
+numberBytes t = ofRead numbersText (readText t)
 
-unfoldable pub stringsOf : Bytes → Bytes
-stringsOf t = ofRead stringsText (readText t)
+unfoldable pub stringBytes : Bytes → Bytes
+stringBytes t = ofRead heldStrings (readText t)
 
 -- the text t was read, and x is what was answered
 pub record ReadAs (t : List ℕ) (x : Text) : Type 0 where
-  pub is : answer.Read x ≡ answerOf (readText t)
+  pub is : answer.Read x ≡ textAnswerOf (readText t)
 
 -- the EVENT of the slot s; nothing where its text does not read
 unfoldable pub heldText : (sub s : Bytes) → Bytes
-heldText sub s = firstText (eventIn sub s (readText (textIn s)))
+heldText sub s = firstText (eventReplies sub s (readText (textIn s)))
 
 -- as a line, which 0A ends
 unfoldable pub heldLine : (sub s : Bytes) → Bytes
-heldLine sub s = written (eventIn sub s (readText (textIn s)))
+heldLine sub s = written (eventReplies sub s (readText (textIn s)))
 
 -- ---- the EVENTs of the slots ks, each a line, whatever bytes are lent: `written (eventsOf b sub ks)` of reply/specs/Program
 -- how many bytes that is if the table is sound and holds them: each line is 267 bytes longer than the slot's text and the subscription id escaped

@@ -8,14 +8,14 @@ ghost use Rattle.wire.specs.Put.{Puts};
 ghost use Rattle.wire.specs.Escape.{escape};
 ghost use Rattle.spell.specs.Spell.{decode};
 ghost use Rattle.text.specs.Event.{quoted};
-ghost use Rattle.event.specs.Answer.{hexOf, numberOf};
+ghost use Rattle.event.specs.Answer.{hexOf, writtenNumber};
 ghost use Rattle.table.specs.Layout.{lengthIn};
 ghost use Rattle.table.specs.Sound.{sound};
 ghost use Rattle.table.specs.Format.{shownRow};
 ghost use Rattle.reply.specs.Program.{eventsOf, written};
 ghost use Rattle.reply.specs.Respond.{slotEvent, slotEventRow, slotEventOut, eventsRow, sentEvents, sentEventsOut, sentNumber};
 ghost use Rattle.replies.specs.Inner.{Room};
-ghost use Rattle.slot_replies.specs.Inner.{numbersOf, stringsOf, ReadAs, frontText, backText, heldText, heldLine, linesSize, leftIn, sizes, fittedIn, heldLen, fitRow, sentLines, sentLinesOut};
+ghost use Rattle.slot_replies.specs.Inner.{numberBytes, stringBytes, ReadAs, frontText, backText, heldText, heldLine, linesSize, leftIn, sizes, fittedIn, heldLen, fitRow, sentLines, sentLinesOut};
 use event::Written;
 use message::Span;
 use reply::Sent;
@@ -51,7 +51,7 @@ fn put_front(out: &mut [u8], at: usize, sub: &[u8], id: &[u8]) -> usize
 // ,"pubkey":PUBKEY,"created_at":TIME,"kind":KIND of the text that was read.
 fn put_numbers(out: &mut [u8], at: usize, t: &[u8], x: Text) -> usize
     requires { ⌜ ReadAs (now t) x ⌝ }
-    ensures { λ r. ⌜ Puts (now (out .entry)) at (numbersOf (now (t .entry))) r (now (out .exit)) ⌝ }
+    ensures { λ r. ⌜ Puts (now (out .entry)) at (numberBytes (now (t .entry))) r (now (out .exit)) ⌝ }
 {
     let time = x.time;
     let kind = x.kind as u64;
@@ -66,7 +66,7 @@ fn put_numbers(out: &mut [u8], at: usize, t: &[u8], x: Text) -> usize
 // ,"tags":TAGS,"content":CONTENT copied from it.
 fn put_strings(out: &mut [u8], at: usize, t: &[u8], x: Text) -> usize
     requires { ⌜ ReadAs (now t) x ⌝ }
-    ensures { λ r. ⌜ Puts (now (out .entry)) at (stringsOf (now (t .entry))) r (now (out .exit)) ⌝ }
+    ensures { λ r. ⌜ Puts (now (out .entry)) at (stringBytes (now (t .entry))) r (now (out .exit)) ⌝ }
 {
     let tags = x.tags;
     let content = x.content;
@@ -142,7 +142,7 @@ fn shown_row(table: &[u8], slot: usize) -> u8
 // The EVENT of a held slot, for the subscription id that stands at `sub` in m, from the start of `out`.
 pub fn slot_event(table: &[u8], slot: usize, m: &[u8], sub: Span, out: &mut [u8]) -> Written
     ensures { λ r. ⌜ r ≡ slotEvent (now (table .entry)) slot (now (m .entry)) sub (now (out .entry)) ⌝ }
-    ensures { λ r. ⌜ numberOf r ≡ slotEventRow (now (table .entry)) slot (now (m .entry)) sub (now (out .entry)) ⌝ }
+    ensures { λ r. ⌜ writtenNumber r ≡ slotEventRow (now (table .entry)) slot (now (m .entry)) sub (now (out .entry)) ⌝ }
     ensures { λ _. ⌜ now (out .exit) ≡ slotEventOut (now (table .entry)) slot (now (m .entry)) sub (now (out .entry)) ⌝ }
 {
     let row = message::subscription_row(m, sub);

@@ -14,7 +14,7 @@ use Rattle.wire.specs.Field.{fieldAt, unsigned}
 use Rattle.text.specs.Event.{Event}
 use Rattle.text.specs.Read.{Read, tooLarge, wrongShape, read, readText}
 use Rattle.text.specs.Kinds.{isEphemeral, keyOf, classOf}
-use Rattle.text.specs.Answer.{textOf, answerOf}
+use Rattle.text.specs.Answer.{textParts, textAnswerOf}
 use Rattle.text.specs.declared.Class.{Class}
 use Rattle.text.specs.declared.Class.the-variants.{Regular, Replaceable, Ephemeral, Addressable}
 use Rattle.text.specs.declared.Text.{Text}
@@ -53,13 +53,13 @@ module _ (s : List ℕ) (t : Text) {r u : ℕ} (a : r ≡ fieldAt s 96 8) (b : u
 -- d's place and the kind, by class
 d-by : (c : Class) (s : List ℕ) (e : Event)
     → ((eqb (dIn s .at) (dIfAddressable c e .at) && eqb (dIn s .len) (dIfAddressable c e .len)) && not (law.isEphemeral (classFor c (keyOf e))))
-    ≡ dAgrees c (dIn s .at) (dIn s .len) (textOf e .d) (textOf e .«d_len»)
+    ≡ dAgrees c (dIn s .at) (dIn s .len) (textParts e .d) (textParts e .«d_len»)
 d-by Regular s e = and-comm (eqb (dIn s .at) 0 && eqb (dIn s .len) 0) true
 d-by Replaceable s e = and-comm (eqb (dIn s .at) 0 && eqb (dIn s .len) 0) true
 d-by Ephemeral s e = and-false (eqb (dIn s .at) 0 && eqb (dIn s .len) 0)
-d-by Addressable s e = and-comm (eqb (dIn s .at) (textOf e .d) && eqb (dIn s .len) (textOf e .«d_len»)) true
+d-by Addressable s e = and-comm (eqb (dIn s .at) (textParts e .d) && eqb (dIn s .len) (textParts e .«d_len»)) true
 
-agrees-same : (s : List ℕ) (e : Event) → (agreesWith s e && isLasting s) ≡ agreesText s (textOf e)
+agrees-same : (s : List ℕ) (e : Event) → (agreesWith s e && isLasting s) ≡ agreesText s (textParts e)
 unfolding agreesWith agreesText isLasting dPlace
 agrees-same s e =
     let a = eqb (timeIn s) (unsigned (e .time)) in
@@ -69,7 +69,7 @@ agrees-same s e =
   where
     go : (k : Bool) → eqb (kindIn s) (e .kind) ≡ k
         → (k && ((eqb (dIn s .at) (dPlace e .at) && eqb (dIn s .len) (dPlace e .len)) && not (isEphemeral (kindIn s))))
-        ≡ (k && dAgrees (classOf (e .kind)) (dIn s .at) (dIn s .len) (textOf e .d) (textOf e .«d_len»))
+        ≡ (k && dAgrees (classOf (e .kind)) (dIn s .at) (dIn s .len) (textParts e .d) (textParts e .«d_len»))
     go false q = refl
     go true q =
         ap (λ t. (eqb (dIn s .at) (dPlace e .at) && eqb (dIn s .len) (dPlace e .len)) && not t)
@@ -85,10 +85,10 @@ module _ (s : List ℕ) {n : ℕ} (l : n ≡ fieldAt s 106 2) where
   unfolding slotSound textReads lengthIn
   long-text h = sym (rw (lt-leb (fieldAt s 106 2) mostText (omega arith)))
 
-  module _ {p : List ℕ} {x : TextAnswer} (q : p ≡ part s 112 n) (a : x ≡ answerOf (readText p)) where
-    answers : x ≡ answerOf (readText (textIn s))
+  module _ {p : List ℕ} {x : TextAnswer} (q : p ≡ part s 112 n) (a : x ≡ textAnswerOf (readText p)) where
+    answers : x ≡ textAnswerOf (readText (textIn s))
     unfolding textIn lengthIn
-    answers = a ∙ ap (λ t. answerOf (readText t)) (q ∙ ap (part s 112) l)
+    answers = a ∙ ap (λ t. textAnswerOf (readText t)) (q ∙ ap (part s 112) l)
 
     no-text : (r : Read) → readText (textIn s) ≡ r → isRead r ≡ false → slotSound s ≡ false
     unfolding slotSound textReads
@@ -99,7 +99,7 @@ module _ (s : List ℕ) {n : ℕ} (l : n ≡ fieldAt s 106 2) where
     pub too-large : x ≡ answer.TooLarge → false ≡ slotSound s
     too-large e = sym (go (readText (textIn s)) refl (sym e ∙ answers))
       where
-        go : (r : Read) → readText (textIn s) ≡ r → answer.TooLarge ≡ answerOf r → slotSound s ≡ false
+        go : (r : Read) → readText (textIn s) ≡ r → answer.TooLarge ≡ textAnswerOf r → slotSound s ≡ false
         go tooLarge h f = no-text tooLarge h refl
         go wrongShape h f = no-text wrongShape h refl
         go (read v) h f = absurd (let z : _≡_ {A = ℕ} 0 1 = cc in omega arith)
@@ -107,7 +107,7 @@ module _ (s : List ℕ) {n : ℕ} (l : n ≡ fieldAt s 106 2) where
     pub wrong-shape : x ≡ answer.WrongShape → false ≡ slotSound s
     wrong-shape e = sym (go (readText (textIn s)) refl (sym e ∙ answers))
       where
-        go : (r : Read) → readText (textIn s) ≡ r → answer.WrongShape ≡ answerOf r → slotSound s ≡ false
+        go : (r : Read) → readText (textIn s) ≡ r → answer.WrongShape ≡ textAnswerOf r → slotSound s ≡ false
         go tooLarge h f = no-text tooLarge h refl
         go wrongShape h f = no-text wrongShape h refl
         go (read v) h f = absurd (let z : _≡_ {A = ℕ} 0 1 = cc in omega arith)
@@ -123,12 +123,12 @@ module _ (s : List ℕ) {n : ℕ} (l : n ≡ fieldAt s 106 2) where
           ap (λ b. (b && isRead (readText (textIn s))) && rest s) (le-leb (lengthIn s) mostText short)
           ∙ go (readText (textIn s)) refl (sym e ∙ answers)
         where
-          go : (r : Read) → readText (textIn s) ≡ r → answer.Read t ≡ answerOf r
+          go : (r : Read) → readText (textIn s) ≡ r → answer.Read t ≡ textAnswerOf r
               → (isRead (readText (textIn s)) && rest s) ≡ (agreesText s t && zeroAfterText s)
           go tooLarge h f = absurd (let z : _≡_ {A = ℕ} 0 1 = cc in omega arith)
           go wrongShape h f = absurd (let z : _≡_ {A = ℕ} 0 1 = cc in omega arith)
           go (read v) h f =
-              let z : textOf v ≡ t = cc in
+              let z : textParts v ≡ t = cc in
               rw h
               (sym (and-assoc (agreesWith s v) (isLasting s) (zeroAfterText s)) ∙ ap (_&& zeroAfterText s) (agrees-same s v ∙ ap (agreesText s) z))
 

@@ -18,7 +18,7 @@ use Rattle.table.specs.Sound.{sound}
 use Rattle.table.specs.Format.{formatRow, formatted, shownRow, shown}
 use Rattle.table.proofs.Shown.{shown-inside, shown-rows}
 use Rattle.table.proofs.Bytes.{clauses}
-use Rattle.slots.specs.Shown.{shownAt, numberOf, bytesIn}
+use Rattle.slots.specs.Shown.{shownAt, shownNumber, bytesIn}
 use Rattle.slots.specs.declared.Shown.{Shown}
 use Rattle.slots.specs.declared.Shown.the-variants.{At, Refused}
 
@@ -56,7 +56,7 @@ module _ (n : ℕ) (b : List ℕ) where
 -- ---- showing
 -- what is promised of an answer r
 abbrev Shows : List ℕ → ℕ → Shown → Type 0
-Shows b k r = (r ≡ shownAt b k) × ((numberOf r ≡ shownRow b k) × (bytesIn b r ≡ shown b k))
+Shows b k r = (r ≡ shownAt b k) × ((shownNumber r ≡ shownRow b k) × (bytesIn b r ≡ shown b k))
 
 module _ (b : List ℕ) (k : ℕ) where
   refuses : {r : ℕ} → shownRow b k ≡ r → (r ≡ 0 → ⊥) → Shows b k (Refused r)

@@ -14,7 +14,7 @@ use Rattle.wire.specs.Escape.{escape}
 use Rattle.wire.specs.Field.{fieldAt}
 use Rattle.wire.specs.Bytes.{sameBytes, part}
 use Rattle.wire.proofs.Bytes.{same-equal, equal-same}
-use Rattle.text.specs.Event.{Tag, Event, all, isPlainByte, isString, isTag, isTags}
+use Rattle.text.specs.Event.{Tag, Event, all, isPlainByte, isStringBytes, isTag, isTags}
 use Rattle.text.specs.Read.{Read, read, readText, IsTextOf}
 use Rattle.text.specs.Kinds.{Key, sameKey, keyIn, keyOf, classOf, isNamedD, second, dOf}
 use Rattle.text.specs.declared.Class.{Class}
@@ -30,18 +30,18 @@ use Rattle.table.specs.Events.{signedEvents, inSlot, classFor, classIn, classOf
 use Rattle.table.specs.Sound.{slotSound, slotsSound, noneTwice, noIdTwice, noKeyTwice}
 use Rattle.table.proofs.Slots.{sound-event, sound-kind}
 use Rattle.table.proofs.DPlaces.{d-place}
-use Rattle.slots.specs.Slots.{hasKeyIn, pubkeyIn, dBytesIn, sameIdIn, sameKeyIn, clash, from}
+use Rattle.slots.specs.Slots.{hasKeyIn, pubkeyBytes, dBytesIn, sameIdIn, sameKeyIn, clash, slotsFrom}
 use Rattle.slots.proofs.Pairs.{none-map, none-or, none-as}
 
 -- ---- d is a string
 second-plain : (t : Tag) → isTag t ≡ true → all isPlainByte (second t) ≡ true
-unfolding isTag isString all
+unfolding isTag isStringBytes all
 second-plain [] h = refl
 second-plain (v ∷ []) h = refl
 second-plain (v ∷ w ∷ t) h =
     let n = length (v ∷ w ∷ t) in
-    let a = both (leb n mostStrings) (all isString (v ∷ w ∷ t)) (both (leb 1 n) (leb n mostStrings && all isString (v ∷ w ∷ t)) h .1) .1 in
-    both (all isPlainByte w) (isUtf8 w) (both (isString w) (all isString t) (both (isString v) (all isString (w ∷ t)) a .1) .0) .0
+    let a = both (leb n mostStrings) (all isStringBytes (v ∷ w ∷ t)) (both (leb 1 n) (leb n mostStrings && all isStringBytes (v ∷ w ∷ t)) h .1) .1 in
+    both (all isPlainByte w) (isUtf8 w) (both (isStringBytes w) (all isStringBytes t) (both (isStringBytes v) (all isStringBytes (w ∷ t)) a .1) .0) .0
 
 d-plain : (ts : List Tag) → all isTag ts ≡ true → all isPlainByte (dOf ts) ≡ true
 unfolding dOf all
@@ -67,13 +67,13 @@ same-escaped u v p q = same-tests (sameBytes u v) (sameBytes (escape u) (escape 
 pub record Slot (s : List ℕ) (e : Event) : Type 0 where
   pub class : classOfText (textIn s) ≡ classFor (classOf (e .kind)) (keyIn (classOf (e .kind)) e)
   pub kind : kindIn s ≡ e .kind
-  pub pubkey : pubkeyIn s ≡ e .pubkey
+  pub pubkey : pubkeyBytes s ≡ e .pubkey
   pub d-none : classOf (e .kind) ≢ Addressable → dBytesIn s ≡ []
   pub d-there : classOf (e .kind) ≡ Addressable → dBytesIn s ≡ escape (dOf (e .tags))
   pub plain : all isPlainByte (dOf (e .tags)) ≡ true
 
 pub slot-of : (s : List ℕ) → slotSound s ≡ true → (e : Event) × Slot s e
-unfolding classOfText classOfEvent keyOf pubkeyIn dBytesIn isTags
+unfolding classOfText classOfEvent keyOf pubkeyBytes dBytesIn isTags
 slot-of s ok =
     let (e, r) = sound-event s ok in
     let t = read-same (textIn s) e r in
@@ -91,7 +91,7 @@ slot-of s ok =
 
 -- pubkey and d's bytes are those of slot s
 abbrev alike : List ℕ → List ℕ → Bool
-alike s t = sameBytes (pubkeyIn t) (pubkeyIn s) && sameBytes (dBytesIn t) (dBytesIn s)
+alike s t = sameBytes (pubkeyBytes t) (pubkeyBytes s) && sameBytes (dBytesIn t) (dBytesIn s)
 
 -- ---- keys of different kinds differ
 key-apart : (c d : Class) (e f : Event) → eqb (e .kind) (f .kind) ≡ false → shareKey sameKey (classFor c (keyIn c e)) (classFor d (keyIn d f)) ≡ false
@@ -143,8 +143,8 @@ key-same s t ok on =
         ∙ ap (λ k. eqb (f .kind) (e .kind) && (hasKeyIn (classOf (f .kind)) && (k && sameBytes (dBytesIn t) (dBytesIn s)))) (sym (ap₂ sameBytes (b .pubkey) (a .pubkey)))
 
 -- ---- the whole table
-pub apart-is : (b : List ℕ) → slotsSound b ≡ true → (noIdTwice b && noKeyTwice b) ≡ noneTwice clash (from b 0 (countOf b))
-unfolding slotsSound noIdTwice noKeyTwice view from clash sameIdIn
+pub apart-is : (b : List ℕ) → slotsSound b ≡ true → (noIdTwice b && noKeyTwice b) ≡ noneTwice clash (slotsFrom b 0 (countOf b))
+unfolding slotsSound noIdTwice noKeyTwice view slotsFrom clash sameIdIn
 apart-is b ok =
     let l = heldSlots b in
     ap₂ _&&_ (none-map inSlot (hasId signedEvents) l)
@@ -169,7 +169,7 @@ module _ (s t : List ℕ) {j k : ℕ} (a : k ≡ fieldAt t 104 2) (b : j ≡ fie
     pub no-key : x ≡ false → false ≡ sameKeyIn s t
     no-key f = sym (by-key ∙ ap (_&& alike s t) f)
 
-    module _ (f : x ≡ true) {y : Bool} (g : y ≡ sameBytes (pubkeyIn t) (pubkeyIn s)) where
+    module _ (f : x ≡ true) {y : Bool} (g : y ≡ sameBytes (pubkeyBytes t) (pubkeyBytes s)) where
       pub other-pubkey : y ≡ false → false ≡ sameKeyIn s t
       other-pubkey h = sym (by-key ∙ ap (_&& alike s t) f ∙ ap (_&& sameBytes (dBytesIn t) (dBytesIn s)) (sym g ∙ h))
 

@@ -18,7 +18,7 @@ use Rattle.text.proofs.Pieces.{both}
 use Rattle.law.specs.Lists.{any}
 use Rattle.event.proofs.Decoded.{or-neither}
 use Rattle.table.specs.Layout.{slotAt, kindIn, idIn}
-use Rattle.slots.specs.Slots.{hasKeyIn, pubkeyIn, dBytesIn, sameIdIn, sameKeyIn, clash, from}
+use Rattle.slots.specs.Slots.{hasKeyIn, pubkeyBytes, dBytesIn, sameIdIn, sameKeyIn, clash, slotsFrom}
 use Rattle.slots.specs.Marks.{idMark, lastOf, keyMark, Marked, Unlike}
 use Rattle.slots.proofs.Bytes.{is-false}
 use Rattle.slots.proofs.Walk.{any-none}
@@ -51,7 +51,7 @@ unlike-more {ids} {keys} {i} {j} h u e =
 
 -- ---- the mark of a slot whose kind is x, with a key and without
 module _ (s : List ℕ) {x : ℕ} (k : x ≡ kindIn s) where
-  pub mark-keyed : {l m : ℕ} → hasKeyIn (classOf x) ≡ true → l ≡ lastOf (dBytesIn s) → m ≡ lastOf (pubkeyIn s) → bitXor (bitXor l m) x ≡ keyMark s
+  pub mark-keyed : {l m : ℕ} → hasKeyIn (classOf x) ≡ true → l ≡ lastOf (dBytesIn s) → m ≡ lastOf (pubkeyBytes s) → bitXor (bitXor l m) x ≡ keyMark s
   unfolding keyMark
   mark-keyed h p q =
       let g : hasKeyIn (classOf (kindIn s)) ≡ true = ap (λ z. hasKeyIn (classOf z)) (sym k) ∙ h in
@@ -69,10 +69,10 @@ unfolding sameKeyIn keyMark
 alike s t e =
     let (a, f) = both (eqb (kindIn t) (kindIn s)) _ e in
     let (h, p) = both (hasKeyIn (classOf (kindIn t))) _ f in
-    let q = both (sameBytes (pubkeyIn t) (pubkeyIn s)) (sameBytes (dBytesIn t) (dBytesIn s)) p in
+    let q = both (sameBytes (pubkeyBytes t) (pubkeyBytes s)) (sameBytes (dBytesIn t) (dBytesIn s)) p in
     let k = eqb-true (kindIn t) (kindIn s) a in
     let g : hasKeyIn (classOf (kindIn s)) ≡ true = ap (λ z. hasKeyIn (classOf z)) (sym k) ∙ h in
-    rw (h, g, same-equal (pubkeyIn t) (pubkeyIn s) (q .0), same-equal (dBytesIn t) (dBytesIn s) (q .1), k)
+    rw (h, g, same-equal (pubkeyBytes t) (pubkeyBytes s) (q .0), same-equal (dBytesIn t) (dBytesIn s) (q .1), k)
 
 module _ {b : List ℕ} {c : ℕ} {ids keys : List ℕ} (m : Marked b c ids keys) (i j : ℕ) (h : i < c) (k : j < c) where
   pub ids-differ : (getD ids i 0 ≡ getD ids j 0 → ⊥) → false ≡ sameIdIn (slotAt b i) (slotAt b j)
@@ -101,7 +101,7 @@ module _ (s t : List ℕ) where
 
 -- ---- no later slot is alike
 pub none-alike : {b : List ℕ} {c : ℕ} {ids keys : List ℕ} (i : ℕ) → Marked b c ids keys → i < c → Unlike ids keys i c
-    → false ≡ any (clash (slotAt b i)) (from b (i + 1) (c - (i + 1)))
+    → false ≡ any (clash (slotAt b i)) (slotsFrom b (i + 1) (c - (i + 1)))
 none-alike {b} {c} {ids} {keys} i m h u =
     sym (any-none b c (clash (slotAt b i)) (c - (i + 1)) (i + 1) refl
     (λ j p q. clash-none (slotAt b i) (slotAt b j) (sym (ids-differ m i j h q (u .ids-differ j (omega arith) q))) (sym (keys-differ m i j h q (u .keys-differ j (omega arith) q)))))

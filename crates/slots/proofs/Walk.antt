@@ -11,61 +11,61 @@ use Rattle.table.specs.Cells.{cells}
 use Rattle.law.specs.Lists.{any}
 use Rattle.table.specs.Layout.{slotSize, slotPlace, slotAt}
 use Rattle.table.specs.Sound.{noneTwice}
-use Rattle.slots.specs.Slots.{from}
+use Rattle.slots.specs.Slots.{slotsFrom}
 
 module _ (b : List ℕ) (k c : ℕ) where
-  pub from-more : k < c → from b k (c - k) ≡ slotAt b k ∷ from b (k + 1) (c - (k + 1))
-  unfolding from
+  pub from-more : k < c → slotsFrom b k (c - k) ≡ slotAt b k ∷ slotsFrom b (k + 1) (c - (k + 1))
+  unfolding slotsFrom
   from-more h =
       let n : c - k ≡ suc (c - (k + 1)) = omega arith in
       let p : slotPlace k + slotSize ≡ slotPlace (k + 1) = omega arith in
       ap (λ m. cells slotSize m (drop (slotPlace k) b)) n
       ∙ ap (λ l. slotAt b k ∷ cells slotSize (c - (k + 1)) l) (drop-drop slotSize (slotPlace k) b ∙ ap (λ m. drop m b) p)
 
-  pub from-none : c ≤ k → from b k (c - k) ≡ []
-  unfolding from
+  pub from-none : c ≤ k → slotsFrom b k (c - k) ≡ []
+  unfolding slotsFrom
   from-none h = let n : c - k ≡ 0 = omega arith in ap (λ m. cells slotSize m (drop (slotPlace k) b)) n
 
   -- ---- x is the whole answer
   module _ (p : List ℕ → Bool) where
-    pub all-more : {x : Bool} → x ≡ all p (from b k (c - k)) → k < c → p (slotAt b k) ≡ true → x ≡ all p (from b (k + 1) (c - (k + 1)))
+    pub all-more : {x : Bool} → x ≡ all p (slotsFrom b k (c - k)) → k < c → p (slotAt b k) ≡ true → x ≡ all p (slotsFrom b (k + 1) (c - (k + 1)))
     unfolding all
-    all-more e h q = e ∙ ap (all p) (from-more h) ∙ ap (_&& all p (from b (k + 1) (c - (k + 1)))) q
+    all-more e h q = e ∙ ap (all p) (from-more h) ∙ ap (_&& all p (slotsFrom b (k + 1) (c - (k + 1)))) q
 
-    pub all-bad : {x : Bool} → x ≡ all p (from b k (c - k)) → k < c → p (slotAt b k) ≡ false → x ≡ false
+    pub all-bad : {x : Bool} → x ≡ all p (slotsFrom b k (c - k)) → k < c → p (slotAt b k) ≡ false → x ≡ false
     unfolding all
-    all-bad e h q = e ∙ ap (all p) (from-more h) ∙ ap (_&& all p (from b (k + 1) (c - (k + 1)))) q
+    all-bad e h q = e ∙ ap (all p) (from-more h) ∙ ap (_&& all p (slotsFrom b (k + 1) (c - (k + 1)))) q
 
-    pub all-end : {x : Bool} → x ≡ all p (from b k (c - k)) → c ≤ k → x ≡ true
+    pub all-end : {x : Bool} → x ≡ all p (slotsFrom b k (c - k)) → c ≤ k → x ≡ true
     unfolding all
     all-end e h = e ∙ ap (all p) (from-none h)
 
-    pub any-more : {x : Bool} → x ≡ any p (from b k (c - k)) → k < c → p (slotAt b k) ≡ false → x ≡ any p (from b (k + 1) (c - (k + 1)))
-    any-more e h q = e ∙ ap (any p) (from-more h) ∙ ap (_|| any p (from b (k + 1) (c - (k + 1)))) q
+    pub any-more : {x : Bool} → x ≡ any p (slotsFrom b k (c - k)) → k < c → p (slotAt b k) ≡ false → x ≡ any p (slotsFrom b (k + 1) (c - (k + 1)))
+    any-more e h q = e ∙ ap (any p) (from-more h) ∙ ap (_|| any p (slotsFrom b (k + 1) (c - (k + 1)))) q
 
-    pub any-met : {x : Bool} → x ≡ any p (from b k (c - k)) → k < c → p (slotAt b k) ≡ true → x ≡ true
-    any-met e h q = e ∙ ap (any p) (from-more h) ∙ ap (_|| any p (from b (k + 1) (c - (k + 1)))) q
+    pub any-met : {x : Bool} → x ≡ any p (slotsFrom b k (c - k)) → k < c → p (slotAt b k) ≡ true → x ≡ true
+    any-met e h q = e ∙ ap (any p) (from-more h) ∙ ap (_|| any p (slotsFrom b (k + 1) (c - (k + 1)))) q
 
-    pub any-end : {x : Bool} → x ≡ any p (from b k (c - k)) → c ≤ k → x ≡ false
+    pub any-end : {x : Bool} → x ≡ any p (slotsFrom b k (c - k)) → c ≤ k → x ≡ false
     any-end e h = e ∙ ap (any p) (from-none h)
 
   module _ (r : List ℕ → List ℕ → Bool) where
-    pub none-more : {x : Bool} → x ≡ noneTwice r (from b k (c - k)) → k < c → any (r (slotAt b k)) (from b (k + 1) (c - (k + 1))) ≡ false
-        → x ≡ noneTwice r (from b (k + 1) (c - (k + 1)))
+    pub none-more : {x : Bool} → x ≡ noneTwice r (slotsFrom b k (c - k)) → k < c → any (r (slotAt b k)) (slotsFrom b (k + 1) (c - (k + 1))) ≡ false
+        → x ≡ noneTwice r (slotsFrom b (k + 1) (c - (k + 1)))
     unfolding noneTwice
-    none-more e h q = e ∙ ap (noneTwice r) (from-more h) ∙ ap (λ t. not t && noneTwice r (from b (k + 1) (c - (k + 1)))) q
+    none-more e h q = e ∙ ap (noneTwice r) (from-more h) ∙ ap (λ t. not t && noneTwice r (slotsFrom b (k + 1) (c - (k + 1)))) q
 
-    pub none-bad : {x : Bool} → x ≡ noneTwice r (from b k (c - k)) → k < c → any (r (slotAt b k)) (from b (k + 1) (c - (k + 1))) ≡ true → x ≡ false
+    pub none-bad : {x : Bool} → x ≡ noneTwice r (slotsFrom b k (c - k)) → k < c → any (r (slotAt b k)) (slotsFrom b (k + 1) (c - (k + 1))) ≡ true → x ≡ false
     unfolding noneTwice
-    none-bad e h q = e ∙ ap (noneTwice r) (from-more h) ∙ ap (λ t. not t && noneTwice r (from b (k + 1) (c - (k + 1)))) q
+    none-bad e h q = e ∙ ap (noneTwice r) (from-more h) ∙ ap (λ t. not t && noneTwice r (slotsFrom b (k + 1) (c - (k + 1)))) q
 
-    pub none-end : {x : Bool} → x ≡ noneTwice r (from b k (c - k)) → c ≤ k → x ≡ true
+    pub none-end : {x : Bool} → x ≡ noneTwice r (slotsFrom b k (c - k)) → c ≤ k → x ≡ true
     unfolding noneTwice
     none-end e h = e ∙ ap (noneTwice r) (from-none h)
 
 -- no slot from k on passes the test
 pub any-none : (b : List ℕ) (c : ℕ) (p : List ℕ → Bool) (n k : ℕ) → c - k ≡ n → ((j : ℕ) → k ≤ j → j < c → p (slotAt b j) ≡ false)
-    → any p (from b k (c - k)) ≡ false
+    → any p (slotsFrom b k (c - k)) ≡ false
 any-none b c p zero k e h = any-end b k c p refl (omega arith)
 any-none b c p (suc n) k e h =
     any-more b k c p refl (omega arith) (h k (omega arith) (omega arith)) ∙ any-none b c p n (k + 1) (omega arith) (λ j a q. h j (omega arith) q)

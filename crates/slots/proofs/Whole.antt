@@ -14,7 +14,7 @@ use Rattle.text.specs.Event.{all}
 use Rattle.text.proofs.Pieces.{both}
 use Rattle.table.specs.Layout.{headerSize, slotSize, tableSize, capacityOf, countOf, slotSizeOf, firstSlotOf}
 use Rattle.table.specs.Sound.{isZero, hasHeader, capacityFits, slotsFit, countFits, othersAsAbove, slotSound, slotsSound, noIdTwice, noKeyTwice, laterZero, noneTwice, sound}
-use Rattle.slots.specs.Slots.{clash, from, headerSound}
+use Rattle.slots.specs.Slots.{clash, slotsFrom, headerSound}
 use Rattle.slots.proofs.Keys.{apart-is}
 
 -- ---- the header
@@ -89,18 +89,18 @@ module _ (b : List ℕ) where
           let i = both (leb 1 (capacityOf b)) (leb (capacityOf b) mostSlots) (d .0) in
           (omega (arith, leb-true (countOf b) (capacityOf b) (g .0)), omega (arith, leb-true (capacityOf b) mostSlots (i .1)), omega (arith, leb-true (tableSize (capacityOf b)) (length b) (f .0)))
 
-      module _ {c : ℕ} (p : c ≡ fieldAt b 4 4) {y : Bool} (k : y ≡ all slotSound (from b 0 c)) where
+      module _ {c : ℕ} (p : c ≡ fieldAt b 4 4) {y : Bool} (k : y ≡ all slotSound (slotsFrom b 0 c)) where
         slots-are : y ≡ slotsSound b
-        unfolding slotsSound from countOf
-        slots-are = k ∙ ap (λ n. all slotSound (from b 0 n)) p
+        unfolding slotsSound slotsFrom countOf
+        slots-are = k ∙ ap (λ n. all slotSound (slotsFrom b 0 n)) p
 
         pub slots-bad : y ≡ false → false ≡ sound b
         slots-bad f = sym (after-header ∙ ap (_&& (noIdTwice b && (noKeyTwice b && laterZero b))) (sym slots-are ∙ f))
 
-        module _ (f : y ≡ true) {z : Bool} (g : z ≡ noneTwice clash (from b 0 c)) where
+        module _ (f : y ≡ true) {z : Bool} (g : z ≡ noneTwice clash (slotsFrom b 0 c)) where
           apart-are : z ≡ (noIdTwice b && noKeyTwice b)
           unfolding countOf
-          apart-are = g ∙ ap (λ n. noneTwice clash (from b 0 n)) p ∙ sym (apart-is b (sym slots-are ∙ f))
+          apart-are = g ∙ ap (λ n. noneTwice clash (slotsFrom b 0 n)) p ∙ sym (apart-is b (sym slots-are ∙ f))
 
           after-slots : sound b ≡ (z && laterZero b)
           after-slots = after-header ∙ ap (_&& (noIdTwice b && (noKeyTwice b && laterZero b))) (sym slots-are ∙ f)

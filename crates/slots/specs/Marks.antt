@@ -9,7 +9,7 @@ use Rattle.wire.specs.Limits.{mostSlots}
 use Rattle.wire.specs.Field.{fieldAt}
 use Rattle.text.specs.Kinds.{classOf}
 use Rattle.table.specs.Layout.{slotAt, idIn, kindIn}
-use Rattle.slots.specs.Slots.{hasKeyIn, pubkeyIn, dBytesIn}
+use Rattle.slots.specs.Slots.{hasKeyIn, pubkeyBytes, dBytesIn}
 use Rattle.wire.specs.Bytes.{Bytes}
 
 -- the id's first bytes
@@ -22,7 +22,7 @@ lastOf d = fieldAt d (length d - 4) 4
 
 -- of a slot with a key: the last bytes of d and of the pubkey, and the kind; of any other its id's, which tells it from the others
 unfoldable pub keyMark : Bytes → ℕ
-keyMark s = cond (hasKeyIn (classOf (kindIn s))) (bitXor (bitXor (lastOf (dBytesIn s)) (lastOf (pubkeyIn s))) (kindIn s)) (idMark s)
+keyMark s = cond (hasKeyIn (classOf (kindIn s))) (bitXor (bitXor (lastOf (dBytesIn s)) (lastOf (pubkeyBytes s))) (kindIn s)) (idMark s)
 
 -- the rows hold the marks of slots 0 to c-1 of the table b
 pub record Marked (b : List ℕ) (c : ℕ) (ids keys : List ℕ) : Type 0 where

@@ -14,9 +14,9 @@ unfoldable pub shownAt : Bytes → ℕ → Shown
 shownAt b k = cond (eqb (shownRow b k) 0) (At (slotPlace k + textPlace) (lengthIn (slotAt b k))) (Refused (shownRow b k))
 
 -- the number of 01
-abbrev pub numberOf : Shown → ℕ
-numberOf (At place n) = 0
-numberOf (Refused r) = r
+abbrev pub shownNumber : Shown → ℕ
+shownNumber (At place n) = 0
+shownNumber (Refused r) = r
 
 -- and the value: the bytes of the table b; "a part handed back is empty" on a refusal
 abbrev pub bytesIn : Bytes → Shown → Bytes

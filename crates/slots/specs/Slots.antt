@@ -43,8 +43,8 @@ hasKeyIn Ephemeral = false
 hasKeyIn Addressable = true
 
 -- the public key, in hex
-unfoldable pub pubkeyIn : Bytes → Bytes
-pubkeyIn s = part (textIn s) pubkeyPlace hexLength
+unfoldable pub pubkeyBytes : Bytes → Bytes
+pubkeyBytes s = part (textIn s) pubkeyPlace hexLength
 
 -- d's escaped bytes
 unfoldable pub dBytesIn : Bytes → Bytes
@@ -53,7 +53,7 @@ dBytesIn s = part (textIn s) (dIn s .at) (dIn s .len)
 -- slot t has the key of slot s
 unfoldable pub sameKeyIn : Bytes → Bytes → Bool
 sameKeyIn s t =
-    eqb (kindIn t) (kindIn s) && (hasKeyIn (classOf (kindIn t)) && (sameBytes (pubkeyIn t) (pubkeyIn s) && sameBytes (dBytesIn t) (dBytesIn s)))
+    eqb (kindIn t) (kindIn s) && (hasKeyIn (classOf (kindIn t)) && (sameBytes (pubkeyBytes t) (pubkeyBytes s) && sameBytes (dBytesIn t) (dBytesIn s)))
 
 -- it has the one or the other
 unfoldable pub clash : Bytes → Bytes → Bool
@@ -61,8 +61,8 @@ clash s t = sameIdIn s t || sameKeyIn s t
 
 -- ---- the table b
 -- slots k to k + n - 1
-unfoldable pub from : (b : Bytes) (k n : ℕ) → List (List ℕ)
-from b k n = cells slotSize n (drop (slotPlace k) b)
+unfoldable pub slotsFrom : (b : Bytes) (k n : ℕ) → List (List ℕ)
+slotsFrom b k n = cells slotSize n (drop (slotPlace k) b)
 
 -- the clauses of "Sound: .." on the header
 unfoldable pub headerSound : Bytes → Bool

@@ -6,7 +6,7 @@ ghost use Rattle.text.specs.Event.{all};
 ghost use Rattle.text.specs.Kinds.{classOf};
 ghost use Rattle.table.specs.Layout.{textIn};
 ghost use Rattle.table.specs.Sound.{slotSound};
-ghost use Rattle.slots.specs.Slots.{dAgrees, agreesText, dBytesIn, from};
+ghost use Rattle.slots.specs.Slots.{dAgrees, agreesText, dBytesIn, slotsFrom};
 use crate::D_LENGTH_PLACE;
 use crate::D_OFFSET_PLACE;
 use crate::KIND_PLACE;
@@ -93,7 +93,7 @@ fn slot_sound(s: &[u8]) -> bool
 }
 
 pub(crate) fn slots_sound(table: &[u8], c: usize) -> bool
-    ensures { λ r. ⌜ r ≡ all slotSound (from (now (table .entry)) 0 c) ⌝ }
+    ensures { λ r. ⌜ r ≡ all slotSound (slotsFrom (now (table .entry)) 0 c) ⌝ }
 {
     let mut k = 0;
     while k < c {

@@ -5,7 +5,7 @@ ghost use Rattle.table.specs.Layout.{slotAt};
 ghost use Rattle.table.specs.Sound.{sound};
 ghost use Rattle.table.specs.Format.{formatRow, formatted, shownRow, shown};
 ghost use Rattle.slots.specs.Slots.{sameIdIn, sameKeyIn};
-ghost use Rattle.slots.specs.Shown.{shownAt, numberOf, bytesIn};
+ghost use Rattle.slots.specs.Shown.{shownAt, shownNumber, bytesIn};
 
 mod header;
 mod held;
@@ -138,7 +138,7 @@ pub fn format(table: &mut [u8], capacity: usize) -> u8
 // Where the text of a held slot stands in the table: row 11, then 14.
 pub fn shown_at(table: &[u8], slot: usize) -> Shown
     ensures { λ r. ⌜ r ≡ shownAt (now (table .entry)) slot ⌝ }
-    ensures { λ r. ⌜ numberOf r ≡ shownRow (now (table .entry)) slot ⌝ }
+    ensures { λ r. ⌜ shownNumber r ≡ shownRow (now (table .entry)) slot ⌝ }
     ensures { λ r. ⌜ bytesIn (now (table .entry)) r ≡ shown (now (table .entry)) slot ⌝ }
 {
     if !sound(table) {

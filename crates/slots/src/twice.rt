@@ -8,7 +8,7 @@ ghost use Rattle.text.specs.Kinds.{classOf};
 ghost use Rattle.law.specs.Lists.{any};
 ghost use Rattle.table.specs.Layout.{slotAt};
 ghost use Rattle.table.specs.Sound.{noneTwice};
-ghost use Rattle.slots.specs.Slots.{hasKeyIn, sameIdIn, sameKeyIn, clash, from};
+ghost use Rattle.slots.specs.Slots.{hasKeyIn, sameIdIn, sameKeyIn, clash, slotsFrom};
 ghost use Rattle.slots.specs.Marks.{idMark, lastOf, keyMark, Marked, Unlike};
 use crate::ID_PLACE;
 use crate::ID_SIZE;
@@ -116,7 +116,7 @@ fn maybe(ids: &[u32], keys: &[u32], c: usize, i: usize) -> bool
 fn again(table: &[u8], c: usize, ids: &[u32], keys: &[u32], i: usize) -> bool
     requires { ⌜ Marked (now table) c (now ids) (now keys) ⌝ }
     requires { ⌜ (c ≤ mostSlots) × (i < c) ⌝ }
-    ensures { λ r. ⌜ r ≡ any (clash (slotAt (now (table .entry)) i)) (from (now (table .entry)) (i + 1) (c - (i + 1))) ⌝ }
+    ensures { λ r. ⌜ r ≡ any (clash (slotAt (now (table .entry)) i)) (slotsFrom (now (table .entry)) (i + 1) (c - (i + 1))) ⌝ }
 {
     if !maybe(ids, keys, c, i) {
         return false;
@@ -137,7 +137,7 @@ fn again(table: &[u8], c: usize, ids: &[u32], keys: &[u32], i: usize) -> bool
 // Whether slots 0 to c-1 have no id and no key twice.
 pub(crate) fn apart(table: &[u8], c: usize) -> bool
     requires { ⌜ c ≤ mostSlots ⌝ }
-    ensures { λ r. ⌜ r ≡ noneTwice clash (from (now (table .entry)) 0 c) ⌝ }
+    ensures { λ r. ⌜ r ≡ noneTwice clash (slotsFrom (now (table .entry)) 0 c) ⌝ }
 {
     let mut ids = [0u32; wire::MOST_SLOTS];
     let mut keys = [0u32; wire::MOST_SLOTS];

@@ -13,7 +13,7 @@ use lib.Seq.{drop-cons, drop-drop, drop-nil, drop-append-le, getD-drop}
 use Rattle.wire.proofs.Laws.{tests}
 use Rattle.wire.specs.Bytes.{isControl}
 use Rattle.spell.specs.declared.Char.{Char}
-use Rattle.spell.specs.Spell.{hexVal, four, isPair, unicodeOf, pairOf, fourAt, shortOf, charOf, charsFrom, chars, utf8Of, bytesOf, joined, decode, isRefused, any}
+use Rattle.spell.specs.Spell.{hexVal, four, isPair, unicodeOf, pairOf, fourAt, shortOf, charOf, charsFrom, chars, utf8Of, charBytes, charsBytes, decode, isRefused, any}
 use Rattle.spell.specs.Inner.{Sized, leftOf, Within, Stepped}
 
 pub and-left : (a b : Bool) → (a && b) ≡ true → a ≡ true
@@ -90,8 +90,8 @@ module _ (n : ℕ) where
   unfolding utf8Of
   utf8-4 h k l = search tests
 
-pub bytes-some : (c : Char) → 1 ≤ length (bytesOf c)
-unfolding bytesOf utf8Of
+pub bytes-some : (c : Char) → 1 ≤ length (charBytes c)
+unfolding charBytes utf8Of
 bytes-some c =
     let P : List ℕ → Type 0 = λ l. 1 ≤ length l in
     either P (c .raw) (omega arith) (either P (ltb (c .code) 0x80) (omega arith) (either P (ltb (c .code) 0x800) (omega arith) (either P (ltb (c .code) 0x10000) (omega arith) (omega arith))))
@@ -102,8 +102,8 @@ utf8-few n =
     let P : List ℕ → Type 0 = λ l. length l ≤ 4 in
     either P (ltb n 0x80) (omega arith) (either P (ltb n 0x800) (omega arith) (either P (ltb n 0x10000) (omega arith) (omega arith)))
 
-bytes-few : (c : Char) → length (bytesOf c) ≤ 4
-unfolding bytesOf
+bytes-few : (c : Char) → length (charBytes c) ≤ 4
+unfolding charBytes
 bytes-few c = let P : List ℕ → Type 0 = λ l. length l ≤ 4 in either P (c .raw) (omega arith) (utf8-few (c .code))
 
 char-some : (l : List ℕ) → 1 ≤ charOf l .width
@@ -139,7 +139,7 @@ module _ (p : List ℕ) (i : ℕ) where
 -- one step over the decoded bytes
 module _ (p : List ℕ) (i k : ℕ) where
   pub left-over : length p ≤ i → leftOf p i k ≡ []
-  unfolding leftOf decode joined
+  unfolding leftOf decode charsBytes
   left-over h = rw (over p i h) (drop-nil k)
 
   pub begin : Within p i 0
@@ -149,38 +149,38 @@ module _ (p : List ℕ) (i k : ℕ) where
   within-few w = omega (arith, bytes-few (charOf (drop i p)))
 
   module _ (c : Char) (e : c ≡ charOf (drop i p)) (h : i < length p) (w : Within p i k) where
-    pub decode-turn : decode (drop i p) ≡ bytesOf c ++ decode (drop (i + c .width) p)
-    unfolding decode joined
+    pub decode-turn : decode (drop i p) ≡ charBytes c ++ decode (drop (i + c .width) p)
+    unfolding decode charsBytes
     decode-turn = rw (turn p i h c e)
 
-    below : k < length (bytesOf c)
+    below : k < length (charBytes c)
     below = rw e (w .below)
 
-    pub left-turn : leftOf p i k ≡ getD (bytesOf c) k 0 ∷ drop (suc k) (bytesOf c) ++ decode (drop (i + c .width) p)
+    pub left-turn : leftOf p i k ≡ getD (charBytes c) k 0 ∷ drop (suc k) (charBytes c) ++ decode (drop (i + c .width) p)
     unfolding leftOf
-    left-turn = let l = below in rw (decode-turn, drop-append-le k (bytesOf c) _ (omega arith), drop-cons (bytesOf c) k 0 l)
+    left-turn = let l = below in rw (decode-turn, drop-append-le k (charBytes c) _ (omega arith), drop-cons (charBytes c) k 0 l)
 
 -- an element of a list, where both are known by equations
 pub at-index : {l m : List ℕ} (k j : ℕ) {x : ℕ} → l ≡ m → k ≡ j → x ≡ getD m j 0 → x ≡ getD l k 0
 at-index k j e q f = f ∙ rw (e, q)
 
-pub left-some : (p : List ℕ) (i k : ℕ) → i < length p → Within p i k → leftOf p i k ≡ getD (bytesOf (charOf (drop i p))) k 0 ∷ drop (suc k) (bytesOf (charOf (drop i p))) ++ decode (drop (i + charOf (drop i p) .width) p)
+pub left-some : (p : List ℕ) (i k : ℕ) → i < length p → Within p i k → leftOf p i k ≡ getD (charBytes (charOf (drop i p))) k 0 ∷ drop (suc k) (charBytes (charOf (drop i p))) ++ decode (drop (i + charOf (drop i p) .width) p)
 left-some p i k h w = left-turn p i k (charOf (drop i p)) refl h w
 
-raw-bytes : (c : Char) → c .raw ≡ true → bytesOf c ≡ c .code ∷ []
-unfolding bytesOf
+raw-bytes : (c : Char) → c .raw ≡ true → charBytes c ≡ c .code ∷ []
+unfolding charBytes
 raw-bytes c e = rw e
 
-utf8-bytes : (c : Char) → c .raw ≡ false → bytesOf c ≡ utf8Of (c .code)
-unfolding bytesOf
+utf8-bytes : (c : Char) → c .raw ≡ false → charBytes c ≡ utf8Of (c .code)
+unfolding charBytes
 utf8-bytes c e = rw e
 
 -- the ways out of `advance`
 module _ (p : List ℕ) (i k : ℕ) (c : Char) (e : c ≡ charOf (drop i p)) (h : i < length p) (w : Within p i k) where
-  left-at : {l : List ℕ} → bytesOf c ≡ l → leftOf p i k ≡ getD l k 0 ∷ drop (suc k) l ++ decode (drop (i + c .width) p)
+  left-at : {l : List ℕ} → charBytes c ≡ l → leftOf p i k ≡ getD l k 0 ∷ drop (suc k) l ++ decode (drop (i + c .width) p)
   left-at q = rw q at (left-turn p i k c e h w)
 
-  below-at : {l : List ℕ} → bytesOf c ≡ l → k < length l
+  below-at : {l : List ℕ} → charBytes c ≡ l → k < length l
   below-at q = rw q at (below p i k c e h w)
 
   pub utf8-below : c .raw ≡ false → k < length (utf8Of (c .code))
@@ -294,10 +294,10 @@ four-none l h =
     let at : (n : ℕ) → 2 ≤ n → getD l n 0 ≡ 0 = λ n m. List·getD-eq-default l 0 (omega arith) in
     rw (at 2 (omega arith), at 3 (omega arith), at 4 (omega arith), at 5 (omega arith))
 
-char-fits : (l : List ℕ) → length (bytesOf (charOf l)) ≤ charOf l .width
-unfolding charOf unicodeOf bytesOf
+char-fits : (l : List ℕ) → length (charBytes (charOf l)) ≤ charOf l .width
+unfolding charOf unicodeOf charBytes
 char-fits l =
-    let P : Char → Type 0 = λ c. length (bytesOf c) ≤ c .width in
+    let P : Char → Type 0 = λ c. length (charBytes c) ≤ c .width in
     either P (eqb (getD l 0 0) 0x5c)
     (either P (eqb (getD l 1 0) 0x75)
     (either P (isPair (fourAt l 2) (getD l 6 0) (getD l 7 0) (fourAt l 8)) (omega (arith, utf8-few (pairOf (fourAt l 2) (fourAt l 8)))) (omega (arith, utf8-few (fourAt l 2))))
@@ -323,10 +323,10 @@ pair-long l u y v e = go (decLe 7 (length l))
     go (yes h) = h
     go (no h) = absurd (omega (arith, slash, List·getD-eq-default l 0 {n = 6} (omega arith)))
 
-char-there : (l : List ℕ) → 1 ≤ length l → length (bytesOf (charOf l)) ≤ length l
-unfolding charOf unicodeOf bytesOf utf8Of
+char-there : (l : List ℕ) → 1 ≤ length l → length (charBytes (charOf l)) ≤ length l
+unfolding charOf unicodeOf charBytes utf8Of
 char-there l h =
-    let P : Char → Type 0 = λ c. length (bytesOf c) ≤ length l in
+    let P : Char → Type 0 = λ c. length (charBytes c) ≤ length l in
     either P (eqb (getD l 0 0) 0x5c)
     (either P (eqb (getD l 1 0) 0x75)
     (choose P (isPair (fourAt l 2) (getD l 6 0) (getD l 7 0) (fourAt l 8))
@@ -339,12 +339,12 @@ char-there l h =
     single (yes m) = omega (arith, three-few (fourAt l 2) (four-few l 2))
     single (no m) = rw (four-none l (omega arith)) h
 
-decode-first : (l : List ℕ) → 1 ≤ length l → decode l ≡ bytesOf (charOf l) ++ decode (drop (charOf l .width) l)
-unfolding decode joined
+decode-first : (l : List ℕ) → 1 ≤ length l → decode l ≡ charBytes (charOf l) ++ decode (drop (charOf l .width) l)
+unfolding decode charsBytes
 decode-first l h = rw (first l h)
 
 pub decode-few : (l : List ℕ) → length (decode l) ≤ length l
-unfolding decode joined charsFrom
+unfolding decode charsBytes charsFrom
 decode-few l = go (length l) l (omega arith)
   where
     go : (n : ℕ) (l : List ℕ) → length l ≤ n → length (decode l) ≤ length l
@@ -355,5 +355,5 @@ decode-few l = go (length l) l (omega arith)
         let c = charOf (x ∷ l) in
         let t = drop (c .width) (x ∷ l) in
         let s : length t ≤ n = simp length-drop (omega (arith, char-some (x ∷ l))) in
-        rw (decode-first (x ∷ l) (omega arith), length-append (bytesOf c) (decode t))
+        rw (decode-first (x ∷ l) (omega arith), length-append (charBytes c) (decode t))
         (omega (arith, go n t s, length-drop (c .width) (x ∷ l), char-fits (x ∷ l), char-there (x ∷ l) (omega arith)))

@@ -8,7 +8,7 @@ use borrow.Author.Tests.{ne-eqb, eqb-true, eqb-false, leb-true, lt-leb, not-true
 use lib.Dec.{leb, eqb}
 use lib.ListN.{length, getD}
 use Rattle.wire.specs.Bytes.{isHex}
-use Rattle.spell.specs.Spell.{shortOf, charOf, chars, charsFrom, bytesOf, joined, decode, points, characterCount, all, isHexOf, notSlash}
+use Rattle.spell.specs.Spell.{shortOf, charOf, chars, charsFrom, charBytes, charsBytes, decode, points, characterCount, all, isHexOf, notSlash}
 use Rattle.wire.specs.Escape.{letterOf, escOne, escape}
 use Rattle.spell.proofs.Chars.{and-left, and-right, char-raw, char-short, first, choose, decode-few}
 
@@ -28,16 +28,16 @@ chars-short y l n =
     first (0x5c ∷ y ∷ l) (omega arith) ∙ rw (← e)
 
 pub decode-raw : (x : ℕ) (l : List ℕ) → (x ≡ 0x5c → ⊥) → decode (x ∷ l) ≡ x ∷ decode l
-unfolding decode joined bytesOf
+unfolding decode charsBytes charBytes
 decode-raw x l n = rw (chars-raw x l n)
 
 pub decode-short : (y : ℕ) (l : List ℕ) → (y ≡ 0x75 → ⊥) → decode (0x5c ∷ y ∷ l) ≡ shortOf y ∷ decode l
-unfolding decode joined bytesOf
+unfolding decode charsBytes charBytes
 decode-short y l n = rw (chars-short y l n)
 
 -- a spelling without a backslash decodes to itself
 pub decode-plain : (l : List ℕ) → all notSlash l ≡ true → decode l ≡ l
-unfolding all notSlash decode joined charsFrom
+unfolding all notSlash decode charsBytes charsFrom
 decode-plain [] e = refl
 decode-plain (x ∷ l) e =
     let n = eqb-false x 0x5c (not-true (eqb x 0x5c) (and-left (not (eqb x 0x5c)) (all notSlash l) e)) in
@@ -58,7 +58,7 @@ decode-one b l =
     choose P (eqb b 0x0c) (λ e. short 0x0c 0x66 e (λ q. omega arith) refl) (λ _. decode-raw b l (eqb-false b 0x5c n))))))))
 
 pub decode-escape : (v : List ℕ) → decode (escape v) ≡ v
-unfolding escape decode joined charsFrom
+unfolding escape decode charsBytes charsFrom
 decode-escape [] = refl
 decode-escape (b ∷ v) = decode-one b (escape v) ∙ ap (λ (t : List ℕ). b ∷ t) (decode-escape v)
 

@@ -6,7 +6,7 @@ use mathlib.Core.List.{[], _∷_}
 use lib.Dec.{ltb, eqb}
 use Rattle.wire.specs.Ascii.{ascii}
 use Rattle.wire.specs.Bytes.{sameBytes, isHex, those}
-use Rattle.spell.specs.Spell.{hexVal, unhex, four, fourAt, shortOf, isPair, pairOf, unicodeOf, charOf, charsFrom, utf8Of, bytesOf, joined, decode, isSurrogate, isRefused, any, refuses, points, characterCount, all, isHexOf}
+use Rattle.spell.specs.Spell.{hexVal, unhex, four, fourAt, shortOf, isPair, pairOf, unicodeOf, charOf, charsFrom, utf8Of, charBytes, charsBytes, decode, isSurrogate, isRefused, any, refuses, points, characterCount, all, isHexOf}
 use Rattle.wire.specs.Escape.{letterOf, escOne, escape}
 
 -- \" \\ \/ \b \f \n \r \t
@@ -19,7 +19,7 @@ short :
     × (decode (ascii "\\n") ≡ 0x0a ∷ [])
     × (decode (ascii "\\r") ≡ 0x0d ∷ [])
     × (decode (ascii "\\t") ≡ 0x09 ∷ [])
-unfolding decode joined charsFrom charOf unicodeOf isPair pairOf fourAt four hexVal shortOf bytesOf utf8Of
+unfolding decode charsBytes charsFrom charOf unicodeOf isPair pairOf fourAt four hexVal shortOf charBytes utf8Of
 short = (refl, refl, refl, refl, refl, refl, refl, refl)
 
 -- \u0061, \u00E9, \u20ac, the pair \uD834\uDD1E, and \u0000 between two letters
@@ -29,7 +29,7 @@ long :
     × (decode (ascii "\\u20ac") ≡ 0xe2 ∷ 0x82 ∷ 0xac ∷ [])
     × (decode (ascii "\\uD834\\uDD1E") ≡ 0xf0 ∷ 0x9d ∷ 0x84 ∷ 0x9e ∷ [])
     × (decode (ascii "a\\u0000b") ≡ 0x61 ∷ 0x00 ∷ 0x62 ∷ [])
-unfolding decode joined charsFrom charOf unicodeOf isPair pairOf fourAt four hexVal shortOf bytesOf utf8Of
+unfolding decode charsBytes charsFrom charOf unicodeOf isPair pairOf fourAt four hexVal shortOf charBytes utf8Of
 long = (refl, refl, refl, refl, refl)
 
 -- \u0000, \u001f, \u0008, \n\u000d; unpaired surrogates: high, low, high and a letter, high and \u0061, low and high; the pair; ab
@@ -57,7 +57,7 @@ hex :
     × (isHexOf 2 (ascii "9fa") ≡ false)
     × (isHexOf 2 (ascii "9") ≡ false)
     × (isHexOf 0 [] ≡ true)
-unfolding isHexOf all isHex decode joined charsFrom charOf unicodeOf isPair pairOf fourAt four hexVal shortOf bytesOf utf8Of
+unfolding isHexOf all isHex decode charsBytes charsFrom charOf unicodeOf isPair pairOf fourAt four hexVal shortOf charBytes utf8Of
 hex = (refl, refl, refl, refl, refl, refl, refl)
 
 -- an escape counts one, and so does what it stands for
@@ -66,7 +66,7 @@ counts :
     × (characterCount (0xc3 ∷ 0xa9 ∷ []) ≡ 1)
     × (characterCount (ascii "\\uD834\\uDD1Ea") ≡ 2)
     × (characterCount (0xf0 ∷ 0x9d ∷ 0x84 ∷ 0x9e ∷ 0x61 ∷ []) ≡ 2)
-unfolding characterCount points decode joined charsFrom charOf unicodeOf isPair pairOf fourAt four hexVal shortOf bytesOf utf8Of
+unfolding characterCount points decode charsBytes charsFrom charOf unicodeOf isPair pairOf fourAt four hexVal shortOf charBytes utf8Of
 counts = (refl, refl, refl, refl)
 
 -- d and \u0064, a\/b and a/b; a and aa
@@ -74,7 +74,7 @@ alike :
     (sameBytes (decode (ascii "d")) (decode (ascii "\\u0064")) ≡ true)
     × (sameBytes (decode (ascii "a\\/b")) (decode (ascii "a/b")) ≡ true)
     × (sameBytes (decode (ascii "a")) (decode (ascii "aa")) ≡ false)
-unfolding sameBytes decode joined charsFrom charOf unicodeOf isPair pairOf fourAt four hexVal shortOf bytesOf utf8Of
+unfolding sameBytes decode charsBytes charsFrom charOf unicodeOf isPair pairOf fourAt four hexVal shortOf charBytes utf8Of
 alike = (refl, refl, refl)
 
 -- the seven escapes, and all else verbatim

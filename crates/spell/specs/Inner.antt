@@ -7,7 +7,7 @@ use lib.ListN.{length, take, drop}
 use Rattle.wire.specs.Escape.{escOne, escape}
 use Rattle.spell.specs.declared.Char.{Char}
 use Rattle.spell.specs.declared.Step.{Step}
-use Rattle.spell.specs.Spell.{shortOf, charOf, bytesOf, decode}
+use Rattle.spell.specs.Spell.{shortOf, charOf, charBytes, decode}
 use Rattle.wire.specs.Bytes.{Bytes}
 
 -- a character's width and its code are within bounds, and the code of a raw one is a byte
@@ -27,7 +27,7 @@ leftOf p i k = drop k (decode (drop i p))
 
 -- k bytes are fewer than the character at i has
 pub record Within (p : List ℕ) (i k : ℕ) : Type 0 where
-  pub below : k < length (bytesOf (charOf (drop i p)))
+  pub below : k < length (charBytes (charOf (drop i p)))
 
 -- from i and k on the next byte is r's, and what is left after it begins at r's place
 pub record Stepped (p : List ℕ) (i k : ℕ) (r : Step) : Type 0 where

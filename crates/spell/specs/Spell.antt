@@ -73,16 +73,16 @@ utf8Of n =
     (cond (ltb n 0x10000) ((0xe0 + n / 0x1000) ∷ (0x80 + n / 0x40 % 0x40) ∷ (0x80 + n % 0x40) ∷ [])
     ((0xf0 + n / 0x40000) ∷ (0x80 + n / 0x1000 % 0x40) ∷ (0x80 + n / 0x40 % 0x40) ∷ (0x80 + n % 0x40) ∷ [])))
 
-unfoldable pub bytesOf : Char → Bytes
-bytesOf c = cond (c .raw) (c .code ∷ []) (utf8Of (c .code))
+unfoldable pub charBytes : Char → Bytes
+charBytes c = cond (c .raw) (c .code ∷ []) (utf8Of (c .code))
 
-unfoldable pub joined : List Char → Bytes
-joined [] = []
-joined (c ∷ cs) = bytesOf c ++ joined cs
+unfoldable pub charsBytes : List Char → Bytes
+charsBytes [] = []
+charsBytes (c ∷ cs) = charBytes c ++ charsBytes cs
 
 -- what a spelling decodes to
 unfoldable pub decode : Bytes → Bytes
-decode l = joined (chars l)
+decode l = charsBytes (chars l)
 
 -- row 4 of 01: an unpaired surrogate, or a character below U+0020 other than 08, 09, 0A, 0C, 0D
 abbrev pub isSurrogate : ℕ → Bool

@@ -20,12 +20,12 @@ use Rattle.spell.proofs.Laws.{HexDigit, digit, letter, hex-digit}
 use Rattle.shape.specs.Shape.{anyItem, allItems, countItems, count, isArrayOf}
 use Rattle.shape.specs.Shape as shape
 use Rattle.shape.specs.Rows.{outside, wrongTag, wrongTags}
-use Rattle.text.specs.Event.{all, isPlainByte, isString, isTag, isTags}
+use Rattle.text.specs.Event.{all, isPlainByte, isStringBytes, isTag, isTags}
 use Rattle.text.proofs.Pieces.{both, and-true}
 use Rattle.message.specs.declared.Span.{Span}
-use Rattle.message.specs.Lent.{bytesOf, isInside, isSpelled, string2, string4, string5, string7, value2, value4, value5, onValue, ownText}
+use Rattle.message.specs.Lent.{spanBytes, isInside, isSpelled, string2, string4, string5, string7, value2, value4, value5, onValue, ownText}
 use Rattle.message.specs.Lent as lent
-use Rattle.event.specs.Lent.{stringOf, stringsOf, tagOf, tagsOf, tagsIn, tagsAt}
+use Rattle.event.specs.Lent.{stringOf, stringsOf, tagOf, tagsOf, tagsIn, lentTagsAt}
 use Rattle.event.proofs.Walks.{Walk, last, more}
 use Rattle.utf8.proofs.States.{lead-low}
 use Rattle.event.proofs.Decoded.{plain-high}
@@ -46,8 +46,8 @@ hex-bounds (digit l h) = (l, omega arith)
 hex-bounds (letter l h) = (omega arith, h)
 
 -- lower-case hex is a string within the limits
-pub hex-string : (s : List ℕ) → spell.all isHex s ≡ true → isString s ≡ true
-unfolding isString isUtf8 all spell.all utf8From
+pub hex-string : (s : List ℕ) → spell.all isHex s ≡ true → isStringBytes s ≡ true
+unfolding isStringBytes isUtf8 all spell.all utf8From
 hex-string s e = and-true (all isPlainByte s) _ (plain s e) (utf8 s e)
   where
     bounds : (x : ℕ) (s : List ℕ) → spell.all isHex (x ∷ s) ≡ true → (0x30 ≤ x) × (x ≤ 0x66) × (spell.all isHex s ≡ true)
@@ -70,9 +70,9 @@ module _ {b : List ℕ} {p : Span} {v : List ℕ} (s : Spells b p v) where
   unfolding string2
   again2 = rw (s .inside, s .utf8)
 
-  pub again4 : isString v ≡ true → string4 b p ≡ false
+  pub again4 : isStringBytes v ≡ true → string4 b p ≡ false
   unfolding string4
-  again4 e = rw spelled (not-refused (bytesOf b p) (s .utf8) (s .spelling) (rw (s .says) e))
+  again4 e = rw spelled (not-refused (spanBytes b p) (s .utf8) (s .spelling) (rw (s .says) e))
 
   pub again5 : string5 b p ≡ false
   unfolding string5
@@ -84,24 +84,24 @@ module _ {b : List ℕ} {p : Span} {v : List ℕ} (s : Spells b p v) where
 
 -- ---- tags: from lo to hi the buffer is UTF-8
 module _ (b : List ℕ) (lo hi : ℕ) (clear : isUtf8 (part b lo (hi - lo)) ≡ true) where
-  string-again : (v : ℕ) (t : Json) (m : ℕ) → treeAt b 6 v ≡ got t m → lo ≤ v → m ≤ hi → shape.isString t ≡ true → isString (stringOf b t) ≡ true → refusedIn b t ≡ false
+  string-again : (v : ℕ) (t : Json) (m : ℕ) → treeAt b 6 v ≡ got t m → lo ≤ v → m ≤ hi → shape.isString t ≡ true → isStringBytes (stringOf b t) ≡ true → refusedIn b t ≡ false
   unfolding refusedIn
   string-again v t m w l h s e =
       let q = quoted b 5 v t m w s in
-      let f : isString (decode (part b (v + 1) (q .end - v - 2))) ≡ true = rw (q .is) at e in
+      let f : isStringBytes (decode (part b (v + 1) (q .end - v - 2))) ≡ true = rw (q .is) at e in
       let u = inner b lo hi v (q .end) clear l (omega (arith, ws-after b (q .end), q .after)) (q .string) in
       rw (q .is) (not-refused (part b (v + 1) (q .end - v - 2)) u (string-spelled b v (q .end) (q .string)) f)
 
   strings-again : {k i n : ℕ} {us : Items} → Walk (treeAt b 6) b k i us n → lo ≤ i → n ≤ hi → allItems (λ p t. shape.isString t) us ≡ true
-      → all isString (stringsOf b us) ≡ true → refusedItems b false us ≡ false
+      → all isStringBytes (stringsOf b us) ≡ true → refusedItems b false us ≡ false
   unfolding allItems refusedItems stringsOf all
   strings-again (last {i = i} {m = m} {n = n} {t = t} w q) l h s e =
       let a = both (shape.isString t) _ s in
-      let c = both (isString (stringOf b t)) _ e in
+      let c = both (isStringBytes (stringOf b t)) _ e in
       neither _ _ (string-again i t m w l (omega (arith, done-after b m n q)) (a .0) (c .0)) refl
   strings-again (more {i = i} {m = m} {j = j} {n = n} {t = t} w q y) l h s e =
       let a = both (shape.isString t) _ s in
-      let c = both (isString (stringOf b t)) _ e in
+      let c = both (isStringBytes (stringOf b t)) _ e in
       let x = string-after b 5 i t m w (a .0) in
       let z = more-after b m j q in
       let o = walk-after b shape.isString 6 (string-after b 5) y (a .1) in
@@ -152,12 +152,12 @@ tags-counted b (item p v t ts) s e =
     neither _ _ (tag-counted b t (a .0) (c .0)) (tags-counted b ts (a .1) (c .1))
 
 -- the array of the tags: rows 4 and 8
-pub tags-pass : (b : List ℕ) (at : ℕ) → value2 b at ≡ false → value5 lent.isTags b at ≡ false → isTags (tagsAt b at) ≡ true
+pub tags-pass : (b : List ℕ) (at : ℕ) → value2 b at ≡ false → value5 lent.isTagsShape b at ≡ false → isTags (lentTagsAt b at) ≡ true
     → (value4 b at ≡ false) × (onValue wrongTags (treeAt b depth at) ≡ false)
-unfolding value2 value4 value5 tagsAt isTags refusedIn countItems anyItem
+unfolding value2 value4 value5 lentTagsAt isTags refusedIn countItems anyItem
 tags-pass b at r2 r5 e = go (treeAt b depth at) refl r2 r5 e
   where
-    on : {t : Json} {n : ℕ} → Array b 7 at t n → isUtf8 (part b at (n - at)) ≡ true → lent.isTags t ≡ true → isTags (tagsIn b (got t n)) ≡ true
+    on : {t : Json} {n : ℕ} → Array b 7 at t n → isUtf8 (part b at (n - at)) ≡ true → lent.isTagsShape t ≡ true → isTags (tagsIn b (got t n)) ≡ true
         → (refusedIn b t ≡ false) × (wrongTags t ≡ false)
     on (bare h) u s e = (refl, refl)
     on {n = n} (full {us = us} h y) u s e =
@@ -166,9 +166,9 @@ tags-pass b at r2 r5 e = go (treeAt b depth at) refl r2 r5 e
         let c = tags-count b us in
         (tags-again b at n u y h (omega arith) s r, neither _ _ (inside 0 64 (count us) (omega arith) (omega (arith, leb-true k 64 p))) (tags-counted b us s r))
 
-    go : (g : Got Json) → treeAt b depth at ≡ g → ownText b at g ≡ false → not (onValue lent.isTags g) ≡ false → isTags (tagsIn b g) ≡ true
+    go : (g : Got Json) → treeAt b depth at ≡ g → ownText b at g ≡ false → not (onValue lent.isTagsShape g) ≡ false → isTags (tagsIn b g) ≡ true
         → (onValue (refusedIn b) g ≡ false) × (onValue wrongTags g ≡ false)
     go none w r2 r5 e = (refl, refl)
     go (got t n) w r2 r5 e =
-        let s = not-false (lent.isTags t) r5 in
+        let s = not-false (lent.isTagsShape t) r5 in
         on (array b (isArrayOf shape.isString) 7 at t n w s) (not-false (isUtf8 (part b at (n - at))) r2) s e

@@ -12,7 +12,7 @@ use lib.Seq.{take-append-seam}
 use Rattle.utf8.specs.Utf8.{utf8From, isUtf8}
 use Rattle.utf8.specs.declared.Want.the-variants.{Lead}
 use Rattle.utf8.proofs.States.{lead-low, utf8-append}
-use Rattle.json.specs.Grammar.{classOf, oneAt, tokenAt, startAt, nextAt}
+use Rattle.json.specs.Grammar.{inClass, oneAt, tokenAt, startAt, nextAt}
 use Rattle.json.specs.Tree.{Json, arr, Items, nil, item, Got, got, itemsAt, treeAt}
 use Rattle.json.specs.declared.Class.the-variants.{Space}
 use Rattle.json.specs.declared.Out.the-variants.{End, Bad}
@@ -22,28 +22,28 @@ use Rattle.json.proofs.Trees.{tree-open}
 use Rattle.rows.specs.Strings.{part}
 use Rattle.shape.specs.Shape.{allItems, isArrayOf}
 use Rattle.shape.specs.Shape as shape
-use Rattle.text.specs.Event.{Tag, quoted, membersText, tagText, tagsText, all, isPlainByte, isString, isTag, isTags}
+use Rattle.text.specs.Event.{Tag, quoted, membersText, tagText, tagsText, all, isPlainByte, isStringBytes, isTag, isTags}
 use Rattle.text.proofs.Pieces.{Spelt, left, right, tail, byte-is, both, spelt-inside}
 use Rattle.text.proofs.Strings.{utf8-escape}
 use Rattle.wire.specs.Escape.{escape}
 use Rattle.message.specs.Lent.{value2, value5}
 use Rattle.message.specs.Lent as lent
-use Rattle.event.specs.Lent.{stringOf, stringsOf, tagOf, tagsOf, tagsIn, tagsAt}
+use Rattle.event.specs.Lent.{stringOf, stringsOf, tagOf, tagsOf, tagsIn, lentTagsAt}
 use Rattle.table.specs.Demand3.{SpellsTags}
 use Rattle.table.proofs.Strings.{ws-none, string-read, string-says}
 
 -- no white space stands at n
 abbrev pub Tight : List ℕ → ℕ → Type 0
-Tight s n = classOf Space (getD s n 0) ≡ false
+Tight s n = inClass Space (getD s n 0) ≡ false
 
 -- ---- brackets and commas
 module _ (s : List ℕ) where
   pub token-is : (b at : ℕ) → getD s at 0 ≡ b → Tight s (at + 1) → tokenAt s b at ≡ End (at + 1)
-  unfolding tokenAt oneAt classOf
+  unfolding tokenAt oneAt inClass
   token-is b at e w = rw (eq-eqb (getD s at 0) b e) (ap End (ws-none s (at + 1) w))
 
   pub token-not : (b at : ℕ) → eqb (getD s at 0) b ≡ false → tokenAt s b at ≡ Bad
-  unfolding tokenAt oneAt classOf
+  unfolding tokenAt oneAt inClass
   token-not b at e = rw e
 
   pub next-more : (named : Bool) (n : ℕ) → getD s n 0 ≡ 44 → Tight s (n + 1) → nextAt s n named ≡ More (n + 1)
@@ -53,7 +53,7 @@ module _ (s : List ℕ) where
   next-done n e w = rw (token-not 0x2C n (rw e), token-is 0x5D n e w)
 
   array-none : (d at : ℕ) → getD s at 0 ≡ 91 → getD s (at + 1) 0 ≡ 93 → Tight s (at + 1 + 1) → treeAt s (suc d) at ≡ got (arr nil) (at + 1 + 1)
-  unfolding classOf
+  unfolding inClass
   array-none d at e f w =
       let z : startAt s at ≡ Empty (at + 1 + 1) false = rw (token-is 0x5B at e (rw f), token-is 0x5D (at + 1) f w) in
       tree-open s d at (Empty (at + 1 + 1) false) (sym z)
@@ -82,7 +82,7 @@ record Begins (l : List ℕ) : Type 0 where
   first : ℕ
   rest : List ℕ
   is : l ≡ first ∷ rest
-  dark : classOf Space first ≡ false
+  dark : inClass Space first ≡ false
   opens : eqb first 93 ≡ false
 
 begins-more : (l r : List ℕ) → Begins l → Begins (l ++ r)
@@ -102,7 +102,7 @@ module _ {A : Type 0} (print : A → List ℕ) (begins : (x : A) → Begins (pri
       (one : (x : A) (at n : ℕ) → good x ≡ true → Spelt s at (print x) n → Tight s n → Stands value mean ok at x n) where
     members-read : (x : A) (xs : List A) (f at n : ℕ) → all good (x ∷ xs) ≡ true → Spelt s at (membersText print (x ∷ xs)) n → Tight s n
         → length (membersText print (x ∷ xs)) ≤ f → StandAll s value means ok f at (x ∷ xs) n
-    unfolding membersText itemsAt allItems all classOf
+    unfolding membersText itemsAt allItems all inClass
     members-read x [] zero at n g a w h = absurd (omega (arith, length-append (print x) (93 ∷ [])))
     members-read x (y ∷ ys) zero at n g a w h = absurd (omega (arith, length-append (print x) (44 ∷ membersText print (y ∷ ys))))
     members-read x [] (suc f) at n g a w h =
@@ -125,17 +125,17 @@ module _ {A : Type 0} (print : A → List ℕ) (begins : (x : A) → Begins (pri
 
 -- ---- a string, a tag, the tags
 quoted-begins : (v : List ℕ) → Begins (quoted v)
-unfolding quoted classOf
+unfolding quoted inClass
 quoted-begins v = record { first = 34; rest = escape v ++ (34 ∷ []); is = refl; dark = refl; opens = refl }
 
 tag-begins : (t : Tag) → Begins (tagText t)
-unfolding tagText classOf
+unfolding tagText inClass
 tag-begins t = record { first = 91; rest = membersText quoted t; is = refl; dark = refl; opens = refl }
 
 -- with so many brackets open at once as they hold, and d more
 module _ (s : List ℕ) (d : ℕ) where
-  string-stands : (v : List ℕ) (at n : ℕ) → isString v ≡ true → Spelt s at (quoted v) n → Tight s n → Stands (treeAt s (suc d)) (stringOf s) shape.isString at v n
-  unfolding isString
+  string-stands : (v : List ℕ) (at n : ℕ) → isStringBytes v ≡ true → Spelt s at (quoted v) n → Tight s n → Stands (treeAt s (suc d)) (stringOf s) shape.isString at v n
+  unfolding isStringBytes
   string-stands v at n h a w = record { tree = _; there = string-read s d v at n (both (all isPlainByte v) _ h .0) a w; means = string-says s v at n a; fine = refl }
 
   tag-stands : (t : Tag) (at n : ℕ) → isTag t ≡ true → Spelt s at (tagText t) n → Tight s n → Stands (treeAt s (suc (suc d))) (tagOf s) (isArrayOf shape.isString) at t n
@@ -145,11 +145,11 @@ module _ (s : List ℕ) (d : ℕ) where
       let b = members-begin quoted quoted-begins v t in
       let g = both (leb (length (v ∷ t)) 16) _ (both (leb 1 (length (v ∷ t))) _ h .1) .1 in
       let l = spelt-inside s at (91 ∷ membersText quoted (v ∷ t)) n a (omega arith) in
-      let i = members-read quoted quoted-begins s (treeAt s (suc d)) (stringOf s) (stringsOf s) shape.isString isString refl (λ p v t ts. refl) string-stands v t (length s) (at + 1) n g (tail a) w (omega (arith, a .end)) in
+      let i = members-read quoted quoted-begins s (treeAt s (suc d)) (stringOf s) (stringsOf s) shape.isString isStringBytes refl (λ p v t ts. refl) string-stands v t (length s) (at + 1) n g (tail a) w (omega (arith, a .end)) in
       let e = begins-byte b (tail a) in
       record { tree = arr (i .items); there = array-many s (suc d) at n (i .items) (byte-is a) (rw e (b .dark)) (rw e (b .opens)) (i .there); means = i .means; fine = i .fine }
 
-  pub tags-read : (ts : List Tag) (at n : ℕ) → isTags ts ≡ true → Spelt s at (tagsText ts) n → Tight s n → Stands (treeAt s (suc (suc (suc d)))) (λ t. tagsIn s (got t n)) lent.isTags at ts n
+  pub tags-read : (ts : List Tag) (at n : ℕ) → isTags ts ≡ true → Spelt s at (tagsText ts) n → Tight s n → Stands (treeAt s (suc (suc (suc d)))) (λ t. tagsIn s (got t n)) lent.isTagsShape at ts n
   unfolding isTags tagsText tagsOf membersText allItems
   tags-read [] at n h a w =
       let z : at + 1 + 1 ≡ n = omega (arith, a .end) in
@@ -163,8 +163,8 @@ module _ (s : List ℕ) (d : ℕ) where
       record { tree = arr (i .items); there = array-many s (suc (suc d)) at n (i .items) (byte-is a) (rw e (b .dark)) (rw e (b .opens)) (i .there); means = i .means; fine = i .fine }
 
 -- ---- their bytes are UTF-8
-pub quoted-utf8 : (v : List ℕ) → isString v ≡ true → utf8From Lead (quoted v) ≡ true
-unfolding quoted isString isUtf8 utf8From
+pub quoted-utf8 : (v : List ℕ) → isStringBytes v ≡ true → utf8From Lead (quoted v) ≡ true
+unfolding quoted isStringBytes isUtf8 utf8From
 quoted-utf8 v h = lead-low 34 (escape v ++ (34 ∷ [])) (lit< tt) (utf8-append (escape v) (34 ∷ []) Lead (utf8-escape v ∙ both (all isPlainByte v) _ h .1) (lead-low 34 [] (lit< tt) refl))
 
 members-utf8 : {A : Type 0} (print : A → List ℕ) (good : A → Bool) → ((x : A) → good x ≡ true → utf8From Lead (print x) ≡ true) → (xs : List A) → all good xs ≡ true
@@ -178,7 +178,7 @@ members-utf8 print good one (x ∷ y ∷ ys) g =
 
 tag-utf8 : (t : Tag) → isTag t ≡ true → utf8From Lead (tagText t) ≡ true
 unfolding isTag tagText
-tag-utf8 t h = lead-low 91 (membersText quoted t) (lit< tt) (members-utf8 quoted isString quoted-utf8 t (both (leb (length t) 16) _ (both (leb 1 (length t)) _ h .1) .1))
+tag-utf8 t h = lead-low 91 (membersText quoted t) (lit< tt) (members-utf8 quoted isStringBytes quoted-utf8 t (both (leb (length t) 16) _ (both (leb 1 (length t)) _ h .1) .1))
 
 pub tags-utf8 : (ts : List Tag) → isTags ts ≡ true → isUtf8 (tagsText ts) ≡ true
 unfolding isTags tagsText isUtf8
@@ -186,7 +186,7 @@ tags-utf8 ts h = lead-low 91 (membersText tagText ts) (lit< tt) (members-utf8 ta
 
 -- the tags stand in s at a place, and a comma after them
 pub tags-spelled : (s : List ℕ) (ts : List Tag) (at n : ℕ) → isTags ts ≡ true → Spelt s at (tagsText ts) n → getD s n 0 ≡ 44 → SpellsTags s at ts
-unfolding value2 value5 tagsAt classOf
+unfolding value2 value5 lentTagsAt inClass
 tags-spelled s ts at n h a c =
     let r = tags-read s 5 ts at n h a (rw c) in
     let z : n - at ≡ length (tagsText ts) = omega (arith, a .end) in

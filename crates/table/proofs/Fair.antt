@@ -22,7 +22,7 @@ use Rattle.text.specs.Event.{serialise}
 use Rattle.text.proofs.Pieces.{both}
 use Rattle.message.specs.declared.Span.{Span}
 use Rattle.message.specs.declared.EventParts.{EventParts}
-use Rattle.message.specs.Lent.{bytesOf, isInside, isSpelled, isTags, string2, string5, string7, value2, value5, wrongNumber, time6, body2, body5, body6, body7, event2, event5, event7}
+use Rattle.message.specs.Lent.{spanBytes, isInside, isSpelled, isTagsShape, string2, string5, string7, value2, value5, wrongNumber, time6, body2, body5, body6, body7, event2, event5, event7}
 use Rattle.event.specs.Lent.{said, natural, eventOf, textOf}
 use Rattle.event.specs.Answer.{hexDigit, hexOf, hasId, offeredRow}
 use Rattle.event.proofs.Decoded.{or-neither}
@@ -69,8 +69,8 @@ hex-unhex (suc n) (x ∷ y ∷ l) e h =
 spells-of : (b : List ℕ) (p : Span) (v : List ℕ) → string2 b p ≡ false → string5 b p ≡ false → said b p ≡ v → Spells b p v
 unfolding string2 string5 isSpelled
 spells-of b p v e f d =
-    let (i, s) = both (isInside b p) (isSpelling (bytesOf b p)) (not-false _ f) in
-    record { inside = i; utf8 = not-false (isUtf8 (bytesOf b p)) (and-fails (isInside b p) _ i e); spelling = s; says = d }
+    let (i, s) = both (isInside b p) (isSpelling (spanBytes b p)) (not-false _ f) in
+    record { inside = i; utf8 = not-false (isUtf8 (spanBytes b p)) (and-fails (isInside b p) _ i e); spelling = s; says = d }
 
 kind-natural : (z : ℤ) → wrongNumber (pos 0) (pos 65535) z ≡ false → z ≡ pos (natural z)
 unfolding wrongNumber isWithin
@@ -84,7 +84,7 @@ module _ (b : List ℕ) (p : EventParts) (e : offeredRow b p ≡ 0) where
       let n = clean b p e in
       let s = not-false (isSpelled b (p .sig)) (or-neither (body5 b (p .body)) _ (or-neither (string5 b (p .id)) _ (n .not5) .1) .1) in
       let h = not-false _ (and-fails (isSpelled b (p .sig)) _ s (or-neither (body7 b (p .body)) _ (or-neither (string7 64 b (p .id)) _ (n .not7) .1) .1)) in
-      hex-unhex 64 (said b (p .sig)) (hex-length 128 (bytesOf b (p .sig)) h) (hex-all 128 (bytesOf b (p .sig)) h)
+      hex-unhex 64 (said b (p .sig)) (hex-length 128 (spanBytes b (p .sig)) h) (hex-all 128 (spanBytes b (p .sig)) h)
 
   tells-own : Tells b p (ofHeld (heldOf b p))
   unfolding heldOf eventOf event2 event5 body2 body5 body6 hasId textOf
@@ -97,7 +97,7 @@ module _ (b : List ℕ) (p : EventParts) (e : offeredRow b p ≡ 0) where
       let (i5, x5) = or-neither (string5 b (p .id)) _ (n .not5) in
       let (y5, g5) = or-neither (body5 b (p .body)) _ x5 in
       let (k5, z5) = or-neither (string5 b (p .body .pubkey)) _ y5 in
-      let (t5, c5) = or-neither (value5 isTags b (p .body .tags)) _ z5 in
+      let (t5, c5) = or-neither (value5 isTagsShape b (p .body .tags)) _ z5 in
       let (_, m6) = or-neither (time6 (p .body .«created_at»)) _ (n .not6) in
       let d = same-equal (said b (p .id)) (hexOf (digest (serialise (eventOf b (p .body))))) (rows b p e .2) in
       record {

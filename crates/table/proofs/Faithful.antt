@@ -11,7 +11,7 @@ use lib.ListN.{length, getD, drop}
 use borrow.Author.Tests.{ne-eqb, leb-false}
 use Rattle.text.specs.Kinds.{keyOf, isEphemeral}
 use Rattle.law.specs.Lists.{_∈_, any}
-use Rattle.law.specs.Table.{Verdict, refused, wasEphemeral, duplicate, older, stored, noRoom, firstOf, hasId, hasKeyNewer, lacksSlot, verdict, after}
+use Rattle.law.specs.Table.{Verdict, refused, wasEphemeral, duplicate, older, stored, noRoom, firstVerdict, hasId, hasKeyNewer, lacksSlot, verdict, after}
 use Rattle.law.specs.Table as law
 use Rattle.law.proofs.Machine.{Faithful}
 use Rattle.law.proofs.Lists.{either, store-from}
@@ -19,7 +19,7 @@ use Rattle.law.proofs.Sound.{after-stored, after-other, distinct-after}
 use Rattle.table.specs.Layout.{Fits, tableSize, capacityOf, slotBytes}
 use Rattle.table.specs.Events.{SignedEvent, Signature, tableEvents, signedEvents, ofHeld, classOfEvent, classOfText, view}
 use Rattle.table.specs.Sound.{sound}
-use Rattle.table.specs.Offer.{Offering, rowOf, isValid, offeredOf, judge, answerOf, verdictOn, answer, isStored, slotFor, countAfter, storedIn, next}
+use Rattle.table.specs.Offer.{Offering, offeringRow, isValid, offeredOf, judge, offeredBy, verdictOn, answer, isStored, slotFor, countAfter, storedIn, next}
 use Rattle.table.specs.Demand3.{verdictOf, relay}
 use Rattle.table.specs.Claims.{Unchanged, OtherBytes, BytesAfter}
 use Rattle.table.specs.declared.Offered.{Offered}
@@ -33,7 +33,7 @@ use Rattle.table.proofs.Good.{Good, fresh-good, fresh-view}
 use Rattle.table.proofs.Valid.{valid-fits, valid-hashed, valid-read, refused-row}
 
 -- ---- verdicts
-answer-stored : (r : ℕ) (v : Verdict) → isStored (answerOf r v) ≡ true → v ≡ stored
+answer-stored : (r : ℕ) (v : Verdict) → isStored (offeredBy r v) ≡ true → v ≡ stored
 answer-stored r refused e = absurd (false≢true e)
 answer-stored r wasEphemeral e = absurd (false≢true e)
 answer-stored r duplicate e = absurd (false≢true e)
@@ -53,14 +53,14 @@ stored-as (Refused r) = go (eqb r 12)
     go true = refl
     go false = refl
 
-first-said : (r : ℕ) (a i n l : Bool) → verdictOf (answerOf r (firstOf a i n l)) ≡ firstOf a i n l
+first-said : (r : ℕ) (a i n l : Bool) → verdictOf (offeredBy r (firstVerdict a i n l)) ≡ firstVerdict a i n l
 first-said r true i n l = refl
 first-said r false true n l = refl
 first-said r false false true l = refl
 first-said r false false false true = refl
 first-said r false false false false = refl
 
-first-stored : (a i n l : Bool) → firstOf a i n l ≡ stored → (a ≡ false) × (l ≡ false)
+first-stored : (a i n l : Bool) → firstVerdict a i n l ≡ stored → (a ≡ false) × (l ≡ false)
 first-stored true i n l e = absurd (false≢true (ap law.isStored e))
 first-stored false true n l e = absurd (false≢true (ap law.isStored e))
 first-stored false false true l e = absurd (false≢true (ap law.isStored e))
@@ -72,7 +72,7 @@ module _ (b : List ℕ) (o : Offering) where
   abbrev offered : SignedEvent
   offered = ofHeld (offeredOf o)
 
-  pub answer-invalid : isValid o ≡ false → answer b o ≡ Refused (rowOf o)
+  pub answer-invalid : isValid o ≡ false → answer b o ≡ Refused (offeringRow o)
   unfolding answer verdictOn judge verdict
   answer-invalid e = rw e
 
@@ -80,7 +80,7 @@ module _ (b : List ℕ) (o : Offering) where
   unfolding answer
   answer-unsound e s = rw (e, s)
 
-  pub answer-valid : isValid o ≡ true → sound b ≡ true → answer b o ≡ answerOf (rowOf o) (verdict signedEvents (capacityOf b) (view b) (some offered))
+  pub answer-valid : isValid o ≡ true → sound b ≡ true → answer b o ≡ offeredBy (offeringRow o) (verdict signedEvents (capacityOf b) (view b) (some offered))
   unfolding answer verdictOn judge
   answer-valid e s = rw (e, s)
 
@@ -107,7 +107,7 @@ module _ (b : List ℕ) (o : Offering) where
       go true true p q = record {
         valid = p;
         is-sound = q;
-        stores = answer-stored (rowOf o) (verdict signedEvents (capacityOf b) (view b) (some offered)) (sym (ap isStored (answer-valid p q)) ∙ e);
+        stores = answer-stored (offeringRow o) (verdict signedEvents (capacityOf b) (view b) (some offered)) (sym (ap isStored (answer-valid p q)) ∙ e);
       }
 
   module _ (s : Stores) where
@@ -185,12 +185,12 @@ module _ (b : List ℕ) (o : Offering) (g : Good b) where
       go true e =
           let x = offered b o in
           ap verdictOf (answer-valid b o e (g .is-sound))
-          ∙ first-said (rowOf o) (law.isEphemeral (signedEvents .classOf x)) (any (hasId signedEvents x) (view b))
+          ∙ first-said (offeringRow o) (law.isEphemeral (signedEvents .classOf x)) (any (hasId signedEvents x) (view b))
           (any (hasKeyNewer signedEvents x) (view b)) (lacksSlot signedEvents (capacityOf b) (view b) x)
           ∙ ap (verdict signedEvents (capacityOf b) (view b)) (sym (judge-valid b o e))
       go false e =
           ap verdictOf (answer-invalid b o e)
-          ∙ ap (λ t. cond t noRoom refused) (ne-eqb (rowOf o) 12 (λ q. omega (arith, refused-row o e)))
+          ∙ ap (λ t. cond t noRoom refused) (ne-eqb (offeringRow o) 12 (λ q. omega (arith, refused-row o e)))
           ∙ ap (verdict signedEvents (capacityOf b) (view b)) (sym (judge-invalid b o e))
 
   does : view (next b o) ≡ after signedEvents (capacityOf b) (view b) (judge o)

@@ -10,7 +10,7 @@ use native.Mathlib.Omega.{arith}
 use borrow.Author.Tests.{lt-ltb, le-ltb, le-leb, lt-leb, not-true}
 use lib.ListN.{length, getD}
 use Rattle.wire.specs.Bytes.{isControl}
-use Rattle.utf8.specs.Utf8.{next, utf8From, isUtf8}
+use Rattle.utf8.specs.Utf8.{nextWant, utf8From, isUtf8}
 use Rattle.utf8.specs.declared.Want.{Want}
 use Rattle.utf8.specs.declared.Want.the-variants.{Lead}
 use Rattle.utf8.specs.Abnf.{Octets, utf8-1, utf8-2, utf8-3-e0, utf8-3-e1, utf8-3-ed, utf8-3-ee, utf8-4-f0, utf8-4-f1, utf8-4-f4}
@@ -18,8 +18,8 @@ use Rattle.utf8.proofs.Abnf.{as-in-abnf}
 use Rattle.utf8.proofs.States.{Reached, lead-reached, next-reached, low-lead, byte-few}
 use Rattle.json.specs.Grammar.{isSpelling}
 use Rattle.spell.specs.declared.Char as spell
-use Rattle.spell.specs.Spell.{four, fourAt, shortOf, isPair, pairOf, chars, charsFrom, utf8Of, bytesOf, decode, isSurrogate, isRefused, any, refuses}
-use Rattle.text.specs.Event.{all, isPlainByte, isString}
+use Rattle.spell.specs.Spell.{four, fourAt, shortOf, isPair, pairOf, chars, charsFrom, utf8Of, charBytes, decode, isSurrogate, isRefused, any, refuses}
+use Rattle.text.specs.Event.{all, isPlainByte, isStringBytes}
 use Rattle.text.proofs.Pieces.{both}
 use Rattle.event.proofs.Decoded.{Short, Spelling, end, plain, short, code, is-spelling, chars-plain, chars-short, chars-one, chars-pair, decode-more, paired, six-lead}
 
@@ -125,18 +125,18 @@ record Fine (w : Want) (t : List ℕ) : Type 0 where
   plain : all isPlainByte t ≡ true
 
 step-plain : (x : ℕ) (l : List ℕ) → (x ≡ 0x5c → ⊥) → (w : Want) → Reached w → utf8From w (x ∷ l) ≡ true → Fine w (decode (x ∷ l))
-    → (utf8From (next w x) l ≡ true → Fine (next w x) (decode l) → refuses l ≡ false) → refuses (x ∷ l) ≡ false
-unfolding utf8From all bytesOf
+    → (utf8From (nextWant w x) l ≡ true → Fine (nextWant w x) (decode l) → refuses l ≡ false) → refuses (x ∷ l) ≡ false
+unfolding utf8From all charBytes
 step-plain x l n w s u f ih =
     let e = chars-plain x l n in
     let d = decode-more (x ∷ l) l e in
     let (p, q) = both (isPlainByte x) _ (rw d at (f .plain)) in
-    let v : utf8From (next w x) (decode l) ≡ true = rw d at (f .utf8) in
+    let v : utf8From (nextWant w x) (decode l) ≡ true = rw d at (f .utf8) in
     refuses-not (x ∷ l) l e (few-surrogate x (omega (arith, byte-few w x l s u))) (plain-control x p) (ih u (record { utf8 = v; plain = q }))
 
 step-short : (y : ℕ) (l : List ℕ) → Short y → (w : Want) → Reached w → utf8From w (0x5c ∷ y ∷ l) ≡ true → Fine w (decode (0x5c ∷ y ∷ l))
     → (utf8From Lead l ≡ true → Fine Lead (decode l) → refuses l ≡ false) → refuses (0x5c ∷ y ∷ l) ≡ false
-unfolding all bytesOf
+unfolding all charBytes
 step-short y l h w s u f ih =
     let (z, u₁) = low-lead w 0x5c (y ∷ l) s (omega arith) u in
     let u₂ = low-lead Lead y l lead-reached (h .low) u₁ .1 in
@@ -149,7 +149,7 @@ step-short y l h w s u f ih =
 -- a character of an escape, of a code point n, before m
 step-code : (l m : List ℕ) (n k : ℕ) (w : Want) → w ≡ Lead → chars l ≡ record { code = n; raw = false; width = k } ∷ chars m → Fine w (decode l)
     → (Fine Lead (decode m) → refuses m ≡ false) → refuses l ≡ false
-unfolding bytesOf
+unfolding charBytes
 step-code l m n k w z e f ih =
     let d = decode-more l m e in
     let (a, b) = code-utf8 n (decode m) (rw (d, z) at (f .utf8)) in
@@ -190,7 +190,7 @@ none-refused = refl
 
 longer : (k : ℕ) → Upto k → Upto (suc k)
 longer k ih l h end w v u f = none-refused
-longer k ih l h (plain {x = x} {l = m} y n s) w v u f = step-plain x m n w v u f (λ e g. ih m (omega arith) s (next w x) (next-reached w x v) e g)
+longer k ih l h (plain {x = x} {l = m} y n s) w v u f = step-plain x m n w v u f (λ e g. ih m (omega arith) s (nextWant w x) (next-reached w x v) e g)
 longer k ih l h (short {y = y} {l = m} t s) w v u f = step-short y m t w v u f (λ e g. ih m (omega arith) s Lead lead-reached e g)
 longer k ih l h (code {a = a} {b = b} {c = c} {d = d} {l = m} ha hb hc hd s) w v u f =
     step-escape a b c d ha hb hc hd w v s (λ i g t e j. ih i (omega arith) t Lead lead-reached e j) u f
@@ -204,8 +204,8 @@ upto zero = shortest
 upto (suc k) = longer k (upto k)
 
 -- the theorem
-pub not-refused : (l : List ℕ) → isUtf8 l ≡ true → isSpelling l ≡ true → isString (decode l) ≡ true → refuses l ≡ false
-unfolding isUtf8 isString
+pub not-refused : (l : List ℕ) → isUtf8 l ≡ true → isSpelling l ≡ true → isStringBytes (decode l) ≡ true → refuses l ≡ false
+unfolding isUtf8 isStringBytes
 not-refused l u s e =
     let (p, q) = both (all isPlainByte (decode l)) _ e in
     upto (length l) l (omega arith) (is-spelling l s) Lead lead-reached u (record { utf8 = q; plain = p })

@@ -19,13 +19,13 @@ use Rattle.digest.specs.Digest.{digest}
 use Rattle.shape.specs.Shape.{Word, event, req, close, other, opened}
 use Rattle.shape.specs.Rows.{treeRow, rootRow, messageRow}
 use Rattle.message.specs.Lent.{eventRow}
-use Rattle.message.specs.Read.{partsOf, inRoot, readOf}
+use Rattle.message.specs.Read.{messageParts, inRoot, readOf}
 use Rattle.message.specs.declared.EventParts.{EventParts}
 use Rattle.message.specs.declared.Message.the-variants as message
 use Rattle.message.proofs.Passes.{event-passes}
 use Rattle.event.specs.Lent.{said, textOf}
 use Rattle.event.specs.Answer.{orElse, isLarge, hexOf, hasId, offeredRow}
-use Rattle.table.specs.Offer.{Offering, asMessage, asParts, isEventWord, isEvent, messageOfferRow, rowOf, judge}
+use Rattle.table.specs.Offer.{Offering, asMessage, asParts, isEventWord, isEvent, messageOfferRow, offeringRow, judge}
 use Rattle.table.specs.Offer as offer
 use Rattle.table.specs.Claims.{OfferRows, MessageRows, EventRows, RowsInOrder}
 use Rattle.table.proofs.Valid.{refused-row}
@@ -41,9 +41,9 @@ or-next r s e = ap (λ t. cond t s r) (eq-eqb r 0 e)
 -- ---- any offer
 pub offer-rows : (b : List ℕ) (o : Offering) → OfferRows b o
 offer-rows b o = record {
-  early = λ e. let n : rowOf o ≢ 0 = eqb-false (rowOf o) 0 e in (omega arith, refused-row o e, answer-invalid b o e);
+  early = λ e. let n : offeringRow o ≢ 0 = eqb-false (offeringRow o) 0 e in (omega arith, refused-row o e, answer-invalid b o e);
   unsound = λ e s. answer-unsound b o e s;
-  judged = λ e s. let z : rowOf o ≡ 0 = eqb-true (rowOf o) 0 e in rw z at (answer-valid b o e s);
+  judged = λ e s. let z : offeringRow o ≡ 0 = eqb-true (offeringRow o) 0 e in rw z at (answer-valid b o e s);
 }
 
 -- ---- a message
@@ -79,7 +79,7 @@ event-first : (m : List ℕ) (p : EventParts) (g : Got Json) → inRoot m g ≡ 
 event-first m p none e = absurd (let z : _≡_ {A = ℕ} 0 1 = cc in omega arith)
 event-first m p (got t n) e = go (opened m t .first) e
   where
-    go : (w : Word) → partsOf m w (opened m t .rest) ≡ message.Event p → isEventWord w ≡ true
+    go : (w : Word) → messageParts m w (opened m t .rest) ≡ message.Event p → isEventWord w ≡ true
     go event e = refl
     go req e = absurd (let z : _≡_ {A = ℕ} 0 1 = cc in omega arith)
     go close e = absurd (let z : _≡_ {A = ℕ} 0 1 = cc in omega arith)

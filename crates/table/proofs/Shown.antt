@@ -43,7 +43,7 @@ slot-held b k h =
 -- ---- a sound slot's field has the time of its text
 pub time-of : (s : List ℕ) → slotSound s ≡ true → timeOfText (textIn s) ≡ signed (timeIn s)
 unfolding timeOfText
-time-of s ok = let (e, r) = sound-event s ok in ap events.timeIn r ∙ sym (sound-signed s ok e r)
+time-of s ok = let (e, r) = sound-event s ok in ap events.readTime r ∙ sym (sound-signed s ok e r)
 
 -- ---- a held slot of a sound table
 module _ (b : List ℕ) (ok : sound b ≡ true) (k : ℕ) (h : k < countOf b) where

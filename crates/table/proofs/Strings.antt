@@ -13,7 +13,7 @@ use lib.Seq.{take-append-seam}
 use Rattle.wire.specs.Bytes.{isControl}
 use Rattle.wire.specs.Escape.{letterOf, escOne, escape}
 use Rattle.wire.proofs.Escapes.{allowed-escaped}
-use Rattle.json.specs.Grammar.{classOf, oneAt, charAt, escapedAt, charsAt, isSpelling, stringAt, wsAt}
+use Rattle.json.specs.Grammar.{inClass, oneAt, charAt, escapedAt, charsAt, isSpelling, stringAt, wsAt}
 use Rattle.json.specs.Tree.{str, got, treeAt}
 use Rattle.json.specs.declared.Class.the-variants.{Plain, Short, Byte, Space}
 use Rattle.json.specs.declared.Out.the-variants.{End}
@@ -36,8 +36,8 @@ raw-high b e z = elim (decLt b 0x20) [
   | no h ↦ omega arith
 ]
 
-plain-class : (b : ℕ) → 0x20 ≤ b → (b ≡ 34 → ⊥) → (b ≡ 92 → ⊥) → classOf Plain b ≡ true
-unfolding classOf
+plain-class : (b : ℕ) → 0x20 ≤ b → (b ≡ 34 → ⊥) → (b ≡ 92 → ⊥) → inClass Plain b ≡ true
+unfolding inClass
 plain-class b h p q = elim (decLt b 34) [
   | yes l ↦ rw (le-leb 0x20 b h, le-leb b 0x21 (omega arith))
   | no l ↦ elim (decLt b 92) [
@@ -48,19 +48,19 @@ plain-class b h p q = elim (decLt b 34) [
 
 module _ (s : List ℕ) where
   -- ---- no white space stands at n
-  pub ws-none : (n : ℕ) → classOf Space (getD s n 0) ≡ false → wsAt s n ≡ n
+  pub ws-none : (n : ℕ) → inClass Space (getD s n 0) ≡ false → wsAt s n ≡ n
   ws-none n e = past-none Space s n e
 
   -- ---- the characters of an escaped string
-  lettered : (k i n : ℕ) → classOf Short k ≡ true → Spelt s i (92 ∷ k ∷ []) n → Char s i n
-  unfolding classOf
+  lettered : (k i n : ℕ) → inClass Short k ≡ true → Spelt s i (92 ∷ k ∷ []) n → Char s i n
+  unfolding inClass
   lettered k i n h a =
       let e = one-of s (Byte 0x5C) i (eq-eqb (getD s i 0) 92 (byte-is a)) in
       let z : i + 1 + 1 ≡ n = omega (arith, a .end) in
       short e (one-of s Short (i + 1) (rw (byte-is (tail a)) h) ∙ ap End z)
 
   one-char : (b k i n : ℕ) → Seven b k → k ≡ letterOf b → isPlainByte b ≡ true → Spelt s i (cond (eqb k 0) (b ∷ []) (92 ∷ k ∷ [])) n → Char s i n
-  unfolding classOf
+  unfolding inClass
   one-char b k i n bs z h a = lettered 98 i n refl a
   one-char b k i n tab z h a = lettered 116 i n refl a
   one-char b k i n lf z h a = lettered 110 i n refl a
@@ -81,7 +81,7 @@ module _ (s : List ℕ) where
 
   -- ---- with its quotes
   pub string-here : (v : List ℕ) (at n : ℕ) → all isPlainByte v ≡ true → Spelt s at (quoted v) n → stringAt s at ≡ End n
-  unfolding quoted stringAt classOf oneAt charAt escapedAt
+  unfolding quoted stringAt inClass oneAt charAt escapedAt
   string-here v at n h a =
       let m = at + 1 + length (escape v) in
       let c = left (escape v) (34 ∷ []) (tail a) in
@@ -92,7 +92,7 @@ module _ (s : List ℕ) where
       rw (byte-is a, e, q) (ap End z)
 
   -- its place in the tree, and what it says
-  pub string-read : (d : ℕ) (v : List ℕ) (at n : ℕ) → all isPlainByte v ≡ true → Spelt s at (quoted v) n → classOf Space (getD s n 0) ≡ false
+  pub string-read : (d : ℕ) (v : List ℕ) (at n : ℕ) → all isPlainByte v ≡ true → Spelt s at (quoted v) n → inClass Space (getD s n 0) ≡ false
       → treeAt s (suc d) at ≡ got (str (at + 1) (n - at - 2)) n
   string-read d v at n h a w = string-tree s at d n (string-here v at n h a) ∙ ap (got (str (at + 1) (n - at - 2))) (ws-none n w)
 

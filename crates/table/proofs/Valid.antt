@@ -27,7 +27,7 @@ use Rattle.event.specs.Answer.{orElse, isLarge, hexOf, hasId, offeredRow}
 use Rattle.event.proofs.Decoded.{or-neither}
 use Rattle.event.proofs.Fit.{lent-fit, and-fails}
 use Rattle.table.specs.Layout.{Fits}
-use Rattle.table.specs.Offer.{Offering, asMessage, asParts, isEvent, partsOf, messageOfferRow, rowOf, isValid, heldOf, offeredOf}
+use Rattle.table.specs.Offer.{Offering, asMessage, asParts, isEvent, partsOf, messageOfferRow, offeringRow, isValid, heldOf, offeredOf}
 use Rattle.table.proofs.Hex.{unhex-hex, unhex-length, unhex-bytes, digest-length, digest-bytes}
 
 -- ---- chains of tests
@@ -182,7 +182,7 @@ message-most s = cond-most 10 (row1 s) 1 _ (omega arith) (cond-most 10 (row2 s) 
     go none = omega arith
     go (got t n) = search (cond-most, lit≤, tt) depth 14
 
-pub refused-row : (o : Offering) → isValid o ≡ false → rowOf o ≤ 10
+pub refused-row : (o : Offering) → isValid o ≡ false → offeringRow o ≤ 10
 unfolding messageOfferRow
 refused-row (asParts b p) e = offered-most b p
 refused-row (asMessage m) e =

@@ -15,8 +15,8 @@ use Rattle.numeral.specs.Decimal.{digitsIn, digits, decimal}
 use Rattle.numeral.specs.Whole.{isWithin}
 use Rattle.utf8.specs.Utf8.{leadOf, utf8From, isUtf8}
 use Rattle.digest.specs.Block.{K, H0, words, schedule, round, rounds, chained, compress}
-use Rattle.digest.specs.Digest.{bytesOf, padding, padded, hashAfter, digestBytes, digest}
-use Rattle.text.specs.Event.{Event, quoted, membersText, tagText, tagsText, serialise, all, isPubkey, isTime, isTag, isTags, isString, isPlainByte, isFit}
+use Rattle.digest.specs.Digest.{bigEndian, padding, padded, hashAfter, digestBytes, digest}
+use Rattle.text.specs.Event.{Event, quoted, membersText, tagText, tagsText, serialise, all, isPubkey, isTime, isTag, isTags, isStringBytes, isPlainByte, isFit}
 use Rattle.text.specs.Kinds.{classOf}
 use Rattle.law.specs.Table.{regular, IdPremise, slotsNeeded}
 use Rattle.law.specs.Event as law
@@ -51,16 +51,16 @@ record Suits (e : Event) : Type 0 where
   size : length (serialise e) ≡ 80
 
 suits₀ : Suits (noted 0)
-unfolding isFit isPubkey isTime isTag isTags isString isPlainByte all isWithin utf8From leadOf isUtf8 isHex serialise quoted tagsText membersText tagText decimal digits digitsIn escape escOne letterOf
+unfolding isFit isPubkey isTime isTag isTags isStringBytes isPlainByte all isWithin utf8From leadOf isUtf8 isHex serialise quoted tagsText membersText tagText decimal digits digitsIn escape escOne letterOf
 suits₀ = record { fit = refl; size = refl }
 
 suits₁ : Suits (noted 1)
-unfolding isFit isPubkey isTime isTag isTags isString isPlainByte all isWithin utf8From leadOf isUtf8 isHex serialise quoted tagsText membersText tagText decimal digits digitsIn escape escOne letterOf
+unfolding isFit isPubkey isTime isTag isTags isStringBytes isPlainByte all isWithin utf8From leadOf isUtf8 isHex serialise quoted tagsText membersText tagText decimal digits digitsIn escape escOne letterOf
 suits₁ = record { fit = refl; size = refl }
 
 -- the first bytes of their ids, computed
 ids-begin : (getD (digest (serialise (noted 0))) 0 0 ≡ 0x3d) × (getD (digest (serialise (noted 1))) 0 0 ≡ 0x99)
-unfolding digest digestBytes hashAfter padded padding bytesOf compress chained rounds round schedule words H0 K serialise quoted tagsText membersText tagText decimal digits digitsIn escape escOne letterOf
+unfolding digest digestBytes hashAfter padded padding bigEndian compress chained rounds round schedule words H0 K serialise quoted tagsText membersText tagText decimal digits digitsIn escape escOne letterOf
 ids-begin = (refl, refl)
 
 ids-differ : digest (serialise (noted 0)) ≢ digest (serialise (noted 1))

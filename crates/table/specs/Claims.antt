@@ -29,7 +29,7 @@ use Rattle.law.specs.Demand3.{runOn, ExchangesOn}
 use Rattle.table.specs.Layout.{Held, Fits, slotSize, tableSize, slotPlace, countPlace, capacityOf, countOf, slotSizeOf, firstSlotOf, slotAt, isByte, idIn, timeIn, kindIn, lengthIn, dIn, textPlace, textIn, noSpan, dPlace, slotBytes}
 use Rattle.table.specs.Events.{SignedEvent, Signature, classOfText, timeOfText, tableEvents, signedEvents, inSlot, ofHeld, view}
 use Rattle.table.specs.Sound.{slotSound, sound}
-use Rattle.table.specs.Offer.{Offering, asMessage, asParts, isEvent, messageOfferRow, rowOf, isValid, isStored, judge, answerOf, answer, offeredOf, slotFor, next}
+use Rattle.table.specs.Offer.{Offering, asMessage, asParts, isEvent, messageOfferRow, offeringRow, isValid, isStored, judge, offeredBy, answer, offeredOf, slotFor, next}
 use Rattle.table.specs.Format.{formatRow, formatted, shownRow, shown}
 use Rattle.table.specs.Demand3.{relay, Fresh, Tells, AsParts}
 use Rattle.table.specs.declared.Offered.the-variants.{Refused}
@@ -56,9 +56,9 @@ pub record FormatRows (N : ℕ) (b : List ℕ) : Type 0 where
 -- "Where several hold, the lowest number is given": rows 1 to 10 first, whatever the table; then 11, before every verdict; and "Verdicts of an
 -- offer after row 11"
 pub record OfferRows (b : List ℕ) (o : Offering) : Type 0 where
-  pub early : isValid o ≡ false → (1 ≤ rowOf o) × (rowOf o ≤ 10) × (answer b o ≡ Refused (rowOf o))
+  pub early : isValid o ≡ false → (1 ≤ offeringRow o) × (offeringRow o ≤ 10) × (answer b o ≡ Refused (offeringRow o))
   pub unsound : isValid o ≡ true → sound b ≡ false → answer b o ≡ Refused 11
-  pub judged : isValid o ≡ true → sound b ≡ true → answer b o ≡ answerOf 0 (verdict signedEvents (capacityOf b) (view b) (some (ofHeld (offeredOf o))))
+  pub judged : isValid o ≡ true → sound b ≡ true → answer b o ≡ offeredBy 0 (verdict signedEvents (capacityOf b) (view b) (some (ofHeld (offeredOf o))))
 
 -- "Reading a message tests rows 1 to 8; offering one tests 1 to 12, .. and gives 5 also if it isn't an EVENT": 5 before 6 to 8, after 1 to 4
 pub record MessageRows (m : List ℕ) : Type 0 where

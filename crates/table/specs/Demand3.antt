@@ -12,8 +12,8 @@ use Rattle.text.specs.Event.{Tag, Event}
 use Rattle.text.specs.Read.{read, readText}
 use Rattle.message.specs.declared.Span.{Span}
 use Rattle.message.specs.declared.EventParts.{EventParts}
-use Rattle.message.specs.Lent.{bytesOf, isInside, isTags, value2, value5}
-use Rattle.event.specs.Lent.{said, tagsAt}
+use Rattle.message.specs.Lent.{spanBytes, isInside, isTagsShape, value2, value5}
+use Rattle.event.specs.Lent.{said, lentTagsAt}
 use Rattle.event.specs.Answer.{hexOf}
 use Rattle.law.specs.Table.{Verdict, refused, wasEphemeral, duplicate, older, stored, noRoom}
 use Rattle.law.specs.Demand3.{Machine, Demand3On}
@@ -28,15 +28,15 @@ use Rattle.table.specs.declared.Offered.the-variants.{Ephemeral, Duplica
 -- the part p of b spells the string v: "A string part is a place holding what stands between its quotes, as spelled"
 pub record Spells (b : List ℕ) (p : Span) (v : List ℕ) : Type 0 where
   pub inside : isInside b p ≡ true
-  pub utf8 : isUtf8 (bytesOf b p) ≡ true
-  pub spelling : isSpelling (bytesOf b p) ≡ true
+  pub utf8 : isUtf8 (spanBytes b p) ≡ true
+  pub spelling : isSpelling (spanBytes b p) ≡ true
   pub says : said b p ≡ v
 
 -- the tags ts stand in b, spelled as JSON
 pub record SpellsTags (b : List ℕ) (at : ℕ) (ts : List Tag) : Type 0 where
   pub utf8 : value2 b at ≡ false
-  pub array : value5 isTags b at ≡ false
-  pub says : tagsAt b at ≡ ts
+  pub array : value5 isTagsShape b at ≡ false
+  pub says : lentTagsAt b at ≡ ts
 
 -- parts "with the id, text and signature held there"
 pub record Tells (b : List ℕ) (p : EventParts) (s : SignedEvent) : Type 0 where

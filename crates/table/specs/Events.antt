@@ -31,16 +31,16 @@ classIn tooLarge = regular
 classIn wrongShape = regular
 classIn (read e) = classOfEvent e
 
-abbrev pub timeIn : Read → ℤ
-timeIn tooLarge = pos 0
-timeIn wrongShape = pos 0
-timeIn (read e) = e .time
+abbrev pub readTime : Read → ℤ
+readTime tooLarge = pos 0
+readTime wrongShape = pos 0
+readTime (read e) = e .time
 
 unfoldable pub classOfText : Bytes → Class Key
 classOfText t = classIn (readText t)
 
 unfoldable pub timeOfText : Bytes → ℤ
-timeOfText t = timeIn (readText t)
+timeOfText t = readTime (readText t)
 
 abbrev pub tableEvents : Events
 tableEvents = events Key sameKey classOfText timeOfText

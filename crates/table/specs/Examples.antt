@@ -10,10 +10,10 @@ use lib.ListN.{length, replicate}
 use Rattle.wire.specs.Bytes.{sameBytes, isHex}
 use Rattle.wire.specs.Escape.{letterOf, escOne, escape}
 use Rattle.numeral.specs.Decimal.{digitsIn, digits, decimal}
-use Rattle.numeral.specs.Whole.{isDigit, allDigits, valueFrom, isNatural, naturalOf, negativeOf, wholeOf, isWithin, answerOf}
+use Rattle.numeral.specs.Whole.{isDigit, allDigits, valueFrom, isNatural, naturalOf, negativeOf, wholeOf, isWithin, wholeAnswer}
 use Rattle.utf8.specs.Utf8.{leadOf, utf8From, isUtf8}
 use Rattle.text.specs.Event.{Event, quoted, membersText, tagText, tagsText, serialise, all, isPubkey, isTime, isPlainByte}
-use Rattle.text.specs.Read.{standsAt, closedAt, pairAt, byteOf, isRaw, bodyFrom, stringAt, membersAt, tagAt, tagsAt, runOf, timeAt, kindAt, pubkeyAt, fieldsAt, opened, readText}
+use Rattle.text.specs.Read.{standsAt, closedAt, pairAt, escapedByte, isRaw, bodyFrom, stringAt, textMembersAt, tagAt, tagsAt, runOf, timeAt, kindAt, pubkeyAt, fieldsAt, openedText, readText}
 use Rattle.text.specs.Kinds.{classOf, dOf, keyOf}
 use Rattle.law.specs.Table.{wasEphemeral, duplicate, older, stored, noRoom, verdict, after}
 use Rattle.table.specs.Layout.{idSize, sigSize, idPlace, sigPlace, timePlace, kindPlace, lengthPlace, dOffsetPlace, dLengthPlace, textPlace, slotSize}
@@ -53,14 +53,14 @@ verdicts :
     × (verdict signedEvents 2 held (some (entry 8 1 (made 1 (pos 9) 66))) ≡ noRoom)
     × (verdict signedEvents 2 held (some (entry 8 1 (made 30000 (pos 9) 67))) ≡ noRoom)
     × (verdict signedEvents 2 held (some (entry 8 1 (made 20000 (pos 9) 66))) ≡ wasEphemeral)
-unfolding verdict sameBytes letterOf escOne escape digitsIn digits decimal quoted membersText tagText tagsText serialise all isPubkey isTime isPlainByte classOfEvent classOfText timeOfText standsAt closedAt pairAt byteOf isRaw bodyFrom stringAt membersAt tagAt tagsAt runOf timeAt kindAt pubkeyAt fieldsAt opened readText classOf dOf keyOf isDigit allDigits valueFrom isNatural naturalOf negativeOf wholeOf isWithin answerOf leadOf utf8From isUtf8 isHex
+unfolding verdict sameBytes letterOf escOne escape digitsIn digits decimal quoted membersText tagText tagsText serialise all isPubkey isTime isPlainByte classOfEvent classOfText timeOfText standsAt closedAt pairAt escapedByte isRaw bodyFrom stringAt textMembersAt tagAt tagsAt runOf timeAt kindAt pubkeyAt fieldsAt openedText readText classOf dOf keyOf isDigit allDigits valueFrom isNatural naturalOf negativeOf wholeOf isWithin wholeAnswer leadOf utf8From isUtf8 isHex
 verdicts = (refl, refl, refl, refl, refl, refl)
 
 -- the newer tile takes the slot with its key
 replaced :
     after signedEvents 2 held (some (entry 8 1 (made 30000 (negsuc 0) 66)))
     ≡ entry 5 1 (made 1 (pos 9) 65) ∷ entry 8 1 (made 30000 (negsuc 0) 66) ∷ []
-unfolding after verdict sameBytes letterOf escOne escape digitsIn digits decimal quoted membersText tagText tagsText serialise all isPubkey isTime isPlainByte classOfEvent classOfText timeOfText standsAt closedAt pairAt byteOf isRaw bodyFrom stringAt membersAt tagAt tagsAt runOf timeAt kindAt pubkeyAt fieldsAt opened readText classOf dOf keyOf isDigit allDigits valueFrom isNatural naturalOf negativeOf wholeOf isWithin answerOf leadOf utf8From isUtf8 isHex
+unfolding after verdict sameBytes letterOf escOne escape digitsIn digits decimal quoted membersText tagText tagsText serialise all isPubkey isTime isPlainByte classOfEvent classOfText timeOfText standsAt closedAt pairAt escapedByte isRaw bodyFrom stringAt textMembersAt tagAt tagsAt runOf timeAt kindAt pubkeyAt fieldsAt openedText readText classOf dOf keyOf isDigit allDigits valueFrom isNatural naturalOf negativeOf wholeOf isWithin wholeAnswer leadOf utf8From isUtf8 isHex
 replaced = refl
 
 -- of two tiles of one time the lower id is newer, in three slots with room for one more event
@@ -68,7 +68,7 @@ ties :
     (verdict signedEvents 3 held (some (entry 6 1 (made 30000 (negsuc 7199) 66))) ≡ stored)
     × (verdict signedEvents 3 held (some (entry 8 1 (made 30000 (negsuc 7199) 66))) ≡ older)
     × (verdict signedEvents 3 held (some (entry 8 1 (made 1 (pos 9) 66))) ≡ stored)
-unfolding verdict sameBytes letterOf escOne escape digitsIn digits decimal quoted membersText tagText tagsText serialise all isPubkey isTime isPlainByte classOfEvent classOfText timeOfText standsAt closedAt pairAt byteOf isRaw bodyFrom stringAt membersAt tagAt tagsAt runOf timeAt kindAt pubkeyAt fieldsAt opened readText classOf dOf keyOf isDigit allDigits valueFrom isNatural naturalOf negativeOf wholeOf isWithin answerOf leadOf utf8From isUtf8 isHex
+unfolding verdict sameBytes letterOf escOne escape digitsIn digits decimal quoted membersText tagText tagsText serialise all isPubkey isTime isPlainByte classOfEvent classOfText timeOfText standsAt closedAt pairAt escapedByte isRaw bodyFrom stringAt textMembersAt tagAt tagsAt runOf timeAt kindAt pubkeyAt fieldsAt openedText readText classOf dOf keyOf isDigit allDigits valueFrom isNatural naturalOf negativeOf wholeOf isWithin wholeAnswer leadOf utf8From isUtf8 isHex
 ties = (refl, refl, refl)
 
 -- ---- the bounds of formatting: "capacity outside 1..64"; "formatting tests 14 before 13"; one slot is 4,224 bytes with the header, 64 are 269,328

@@ -56,13 +56,13 @@ partsOf m = partsIn (readOf m)
 unfoldable pub messageOfferRow : Bytes → Row
 messageOfferRow m = orElse (textRow m) (cond (isEvent m) (orElse (messageRow m) (offeredRow m (partsOf m))) 5)
 
-abbrev pub rowOf : Offering → ℕ
-rowOf (asMessage m) = messageOfferRow m
-rowOf (asParts b p) = offeredRow b p
+abbrev pub offeringRow : Offering → ℕ
+offeringRow (asMessage m) = messageOfferRow m
+offeringRow (asParts b p) = offeredRow b p
 
 -- "A valid event is one offered, as a message or as parts, that none of rows 1 to 10 refuses."
 abbrev pub isValid : Offering → Bool
-isValid o = eqb (rowOf o) 0
+isValid o = eqb (offeringRow o) 0
 
 -- the event of parts, with its id and signature as bytes
 unfoldable pub heldOf : Bytes → EventParts → Held
@@ -77,13 +77,13 @@ judge o = cond (isValid o) (some (ofHeld (offeredOf o))) none
 
 -- ---- the answer
 -- 01's number of a verdict that has one, and the row r that refused the offer
-abbrev pub answerOf : ℕ → Verdict → Offered
-answerOf r refused = Refused r
-answerOf r wasEphemeral = Ephemeral
-answerOf r duplicate = Duplicate
-answerOf r older = Older
-answerOf r stored = Stored
-answerOf r noRoom = Refused 12
+abbrev pub offeredBy : ℕ → Verdict → Offered
+offeredBy r refused = Refused r
+offeredBy r wasEphemeral = Ephemeral
+offeredBy r duplicate = Duplicate
+offeredBy r older = Older
+offeredBy r stored = Stored
+offeredBy r noRoom = Refused 12
 
 -- "Verdicts of an offer after row 11": law/Table, `verdict`
 unfoldable pub verdictOn : Bytes → Offering → Verdict
@@ -91,15 +91,15 @@ verdictOn b o = verdict signedEvents (capacityOf b) (view b) (judge o)
 
 -- rows 1 to 10, then 11, then the verdict
 unfoldable pub answer : Bytes → Offering → Offered
-answer b o = cond (isValid o && not (sound b)) (Refused 11) (answerOf (rowOf o) (verdictOn b o))
+answer b o = cond (isValid o && not (sound b)) (Refused 11) (offeredBy (offeringRow o) (verdictOn b o))
 
 -- the number of 01
-abbrev pub numberOf : Offered → ℕ
-numberOf Ephemeral = 0
-numberOf Duplicate = 0
-numberOf Older = 0
-numberOf Stored = 0
-numberOf (Refused r) = r
+abbrev pub offerNumber : Offered → ℕ
+offerNumber Ephemeral = 0
+offerNumber Duplicate = 0
+offerNumber Older = 0
+offerNumber Stored = 0
+offerNumber (Refused r) = r
 
 abbrev pub isStored : Offered → Bool
 isStored Ephemeral = false

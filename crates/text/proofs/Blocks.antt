@@ -16,7 +16,7 @@ use Rattle.wire.specs.Escape.{letterOf}
 use Rattle.wire.proofs.Escapes.{allowed-escaped}
 use Rattle.text.specs.Event.{isPlainByte}
 use Rattle.text.specs.Read.{isRaw, bodyFrom}
-use Rattle.text.specs.Inner.Parts.{endOf, Passes, Raws}
+use Rattle.text.specs.Inner.Parts.{gotEnd, Passes, Raws}
 use Rattle.text.proofs.Ways.{body-go}
 
 -- ---- a byte that stands as it is: what the code tests, and that the string goes on after it
@@ -57,14 +57,14 @@ unfolding isRaw isPlainByte letterOf
 plain x e = (λ q. false≢true (rw q at e), λ q. false≢true (rw q at e))
 
 pass : (s : List ℕ) (i n : ℕ) → i + n ≤ length s → ((j : ℕ) → j < n → isRaw (getD s (i + j) 0) ≡ true)
-    → endOf (bodyFrom false i (drop i s)) ≡ endOf (bodyFrom false (i + n) (drop (i + n) s))
-pass s i zero h f = ap (λ (j : ℕ). endOf (bodyFrom false j (drop j s))) (let z : i ≡ i + 0 = omega arith in z)
+    → gotEnd (bodyFrom false i (drop i s)) ≡ gotEnd (bodyFrom false (i + n) (drop (i + n) s))
+pass s i zero h f = ap (λ (j : ℕ). gotEnd (bodyFrom false j (drop j s))) (let z : i ≡ i + 0 = omega arith in z)
 pass s i (suc n) h f =
     let e = f n (omega arith) in
     let (p, q) = plain (getD s (i + n) 0) e in
     pass s i n (omega arith) (λ j l. f j (omega arith))
     ∙ body-go false s (i + n) (omega arith) false (rw (ne-eqb _ 34 p, ne-eqb _ 92 q, e))
-    ∙ ap (λ (j : ℕ). endOf (bodyFrom false j (drop j s))) (let z : i + n + 1 ≡ i + suc n = omega arith in z)
+    ∙ ap (λ (j : ℕ). gotEnd (bodyFrom false j (drop j s))) (let z : i + n + 1 ≡ i + suc n = omega arith in z)
 
 pub pass-on : {s : List ℕ} {at i n : ℕ} → Passes s at i → Raws s i n → i + 32 ≤ length s → (m : ℕ) → m ≤ n → Passes s at (i + m)
 pass-on {s} {at} {i} {n} p r h m l = record {

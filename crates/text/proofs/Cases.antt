@@ -12,7 +12,7 @@ use Rattle.wire.specs.Escape.{letterOf, escOne, escape}
 use Rattle.numeral.specs.Decimal.{digitsIn, digits, decimal}
 use Rattle.numeral.specs.Whole.{isWithin}
 use Rattle.utf8.specs.Utf8.{isUtf8, utf8From, leadOf}
-use Rattle.text.specs.Event.{Tag, Event, quoted, membersText, tagText, tagsText, serialise, all, isPubkey, isTime, isPlainByte, isString, isTag, isTags, isFit}
+use Rattle.text.specs.Event.{Tag, Event, quoted, membersText, tagText, tagsText, serialise, all, isPubkey, isTime, isPlainByte, isStringBytes, isTag, isTags, isFit}
 use Rattle.text.specs.Read.{tooLarge, read, readText}
 use Rattle.text.specs.Kinds.{classOf, dOf, addressable, keyOf}
 use Rattle.text.specs.declared.Class.the-variants.{Regular, Replaceable, Ephemeral, Addressable}
@@ -38,7 +38,7 @@ abbrev pub xs : ℕ → Event
 xs n = record { pubkey = A; time = pos 0; kind = 0; tags = []; content = replicate n 120 }
 
 pub one-text : (serialise one ≡ oneText) × (length oneText ≡ 100) × (isFit one ≡ true)
-unfolding letterOf escOne escape digitsIn digits decimal quoted membersText tagText tagsText serialise all isHex isPubkey isTime isPlainByte isString isTag isTags isFit isWithin isUtf8 utf8From leadOf
+unfolding letterOf escOne escape digitsIn digits decimal quoted membersText tagText tagsText serialise all isHex isPubkey isTime isPlainByte isStringBytes isTag isTags isFit isWithin isUtf8 utf8From leadOf
 one-text = (refl, refl, refl)
 
 pub one-read : readText oneText ≡ read one
@@ -61,7 +61,7 @@ utf8-xs zero = refl
 utf8-xs (suc n) = utf8-xs n
 
 fit-xs : (n : ℕ) → isFit (xs n) ≡ true
-unfolding isFit isHex isPubkey isTime isWithin isTags isString all
+unfolding isFit isHex isPubkey isTime isWithin isTags isStringBytes all
 fit-xs n = and-true (all isPlainByte (replicate n 120)) (isUtf8 (replicate n 120)) (plain-xs n) (utf8-xs n)
 
 pub xs-length : (n : ℕ) → length (serialise (xs n)) ≡ 80 + n

@@ -14,13 +14,13 @@ use mir.Val.{toZ, ofZ}
 use mir.ValLaws.{toZ-ofZ}
 use borrow.Author.Tests.{le-leb, lt-leb, eq-eqb, ne-eqb, eqb-true, ltb-true, not-false}
 use Rattle.wire.specs.Field.{unsigned}
-use Rattle.numeral.specs.Whole.{wholeOf, isWithin, answerOf}
+use Rattle.numeral.specs.Whole.{wholeOf, isWithin, wholeAnswer}
 use Rattle.numeral.specs.Whole as numeral
 use Rattle.numeral.specs.declared.Whole.{Whole}
 use Rattle.numeral.specs.declared.Whole.the-variants.{Value, Large, Malformed}
 use Rattle.text.specs.Event.{opening, closing, comma, isPubkey, isTime, isKind}
 use Rattle.text.specs.Read.{Got, none, got, bind, standsAt, closedAt, runOf, timeOf, kindOf, timeAt, kindAt, pubkeyAt}
-use Rattle.text.specs.Inner.Parts.{timeIn, kindIn, isGot, opens}
+use Rattle.text.specs.Inner.Parts.{timeGot, kindGot, isGot, opens}
 use Rattle.text.specs.declared.Time.the-variants as time
 use Rattle.text.specs.declared.Kind.the-variants as kind
 use Rattle.text.proofs.Numbers.{run-split}
@@ -36,8 +36,8 @@ module _ (s : List ℕ) (at b x : ℕ) (e : x ≡ getD s at 0) where
   stands-other h = rw (ne-eqb (getD s at 0) b (λ q. h (e ∙ q)))
 
 -- ---- what a number read by `numeral` says
-value-told : (w : numeral.Read) (z : ℤ) → answerOf w ≡ Value z → (w ≡ numeral.whole z) × (isTime z ≡ true)
-unfolding answerOf isTime
+value-told : (w : numeral.Spelled) (z : ℤ) → wholeAnswer w ≡ Value z → (w ≡ numeral.whole z) × (isTime z ≡ true)
+unfolding wholeAnswer isTime
 value-told numeral.malformed z e = absurd (let z : _≡_ {A = ℕ} 0 1 = cc in omega arith)
 value-told (numeral.whole y) z e = go (isTime y) refl e
   where
@@ -49,8 +49,8 @@ large-kind : (k n : ℕ) → isTime (pos k) ≡ false → cond (isKind k) (got k
 unfolding isTime isWithin
 large-kind k n h = let l = ltb-true 9007199254740991 k (not-false (ltb 9007199254740991 k) h) in rw (lt-leb k 65535 (omega arith))
 
-large-told : (w : numeral.Read) (n : ℕ) → answerOf w ≡ Large → (timeOf w n ≡ none) × (kindOf w n ≡ none)
-unfolding answerOf isTime
+large-told : (w : numeral.Spelled) (n : ℕ) → wholeAnswer w ≡ Large → (timeOf w n ≡ none) × (kindOf w n ≡ none)
+unfolding wholeAnswer isTime
 large-told numeral.malformed n e = (refl, refl)
 large-told (numeral.whole y) n e = go (isTime y) refl e
   where
@@ -62,8 +62,8 @@ large-told (numeral.whole y) n e = go (isTime y) refl e
     go true h e = absurd (let z : _≡_ {A = ℕ} 0 1 = cc in omega arith)
     go false h e = (rw h, kind-none y h)
 
-malformed-told : (w : numeral.Read) (n : ℕ) → answerOf w ≡ Malformed → (timeOf w n ≡ none) × (kindOf w n ≡ none)
-unfolding answerOf isTime
+malformed-told : (w : numeral.Spelled) (n : ℕ) → wholeAnswer w ≡ Malformed → (timeOf w n ≡ none) × (kindOf w n ≡ none)
+unfolding wholeAnswer isTime
 malformed-told numeral.malformed n e = (refl, refl)
 malformed-told (numeral.whole y) n e = go (isTime y) e
   where
@@ -112,77 +112,77 @@ module _ (s : List ℕ) (at n : ℕ) (e : n ≡ at + length (runOf (drop at s)))
 
   -- no comma
   module _ (h : length s ≤ n) where
-    pub time-past : time.Not ≡ timeIn (closedAt s comma (timeAt s) at)
-    time-past = ap timeIn (sym (go (wholeOf (runOf (drop at s))) time-told))
+    pub time-past : time.Not ≡ timeGot (closedAt s comma (timeAt s) at)
+    time-past = ap timeGot (sym (go (wholeOf (runOf (drop at s))) time-told))
       where
         small : (z : ℤ) (t : Bool) → timeAt s at ≡ cond t (got z n) none → closedAt s comma (timeAt s) at ≡ none
         small z true q = closed-past s at n (timeAt s) z q h
         small z false q = closed-none s at n (timeAt s) q
 
-        go : (w : numeral.Read) → timeAt s at ≡ timeOf w n → closedAt s comma (timeAt s) at ≡ none
+        go : (w : numeral.Spelled) → timeAt s at ≡ timeOf w n → closedAt s comma (timeAt s) at ≡ none
         go numeral.malformed q = closed-none s at n (timeAt s) q
         go (numeral.whole z) q = small z (isTime z) q
 
-    pub kind-past : kind.Not ≡ kindIn (closedAt s comma (kindAt s) at)
-    kind-past = ap kindIn (sym (go (wholeOf (runOf (drop at s))) kind-told))
+    pub kind-past : kind.Not ≡ kindGot (closedAt s comma (kindAt s) at)
+    kind-past = ap kindGot (sym (go (wholeOf (runOf (drop at s))) kind-told))
       where
         small : (k : ℕ) (t : Bool) → kindAt s at ≡ cond t (got k n) none → closedAt s comma (kindAt s) at ≡ none
         small k true q = closed-past s at n (kindAt s) k q h
         small k false q = closed-none s at n (kindAt s) q
 
-        go : (w : numeral.Read) → kindAt s at ≡ kindOf w n → closedAt s comma (kindAt s) at ≡ none
+        go : (w : numeral.Spelled) → kindAt s at ≡ kindOf w n → closedAt s comma (kindAt s) at ≡ none
         go numeral.malformed q = closed-none s at n (kindAt s) q
         go (numeral.whole (negsuc k)) q = closed-none s at n (kindAt s) q
         go (numeral.whole (pos k)) q = small k (isKind k) q
 
   -- r is what the bytes up to it spell
-  module _ (h : n < length s) (r : Whole) (f : r ≡ answerOf (wholeOf (take (n - at) (drop at s)))) where
+  module _ (h : n < length s) (r : Whole) (f : r ≡ wholeAnswer (wholeOf (take (n - at) (drop at s)))) where
     run-taken : take (n - at) (drop at s) ≡ runOf (drop at s)
     run-taken =
         let l : List ℕ = drop at s in
         let z : length (runOf l) ≡ n - at = omega arith in
         ap (take (n - at)) (run-split l) ∙ take-at (runOf l) (drop (length (runOf l)) l) (n - at) z
 
-    read : answerOf (wholeOf (runOf (drop at s))) ≡ r
-    read = sym (f ∙ ap (λ (l : List ℕ). answerOf (wholeOf l)) run-taken)
+    read : wholeAnswer (wholeOf (runOf (drop at s))) ≡ r
+    read = sym (f ∙ ap (λ (l : List ℕ). wholeAnswer (wholeOf l)) run-taken)
 
-    pub time-large : r ≡ Large → time.Not ≡ timeIn (closedAt s comma (timeAt s) at)
-    time-large g = ap timeIn (sym (closed-none s at n (timeAt s) (time-told ∙ large-told (wholeOf (runOf (drop at s))) n (read ∙ g) .0)))
+    pub time-large : r ≡ Large → time.Not ≡ timeGot (closedAt s comma (timeAt s) at)
+    time-large g = ap timeGot (sym (closed-none s at n (timeAt s) (time-told ∙ large-told (wholeOf (runOf (drop at s))) n (read ∙ g) .0)))
 
-    pub time-malformed : r ≡ Malformed → time.Not ≡ timeIn (closedAt s comma (timeAt s) at)
-    time-malformed g = ap timeIn (sym (closed-none s at n (timeAt s) (time-told ∙ malformed-told (wholeOf (runOf (drop at s))) n (read ∙ g) .0)))
+    pub time-malformed : r ≡ Malformed → time.Not ≡ timeGot (closedAt s comma (timeAt s) at)
+    time-malformed g = ap timeGot (sym (closed-none s at n (timeAt s) (time-told ∙ malformed-told (wholeOf (runOf (drop at s))) n (read ∙ g) .0)))
 
-    pub kind-large : r ≡ Large → kind.Not ≡ kindIn (closedAt s comma (kindAt s) at)
-    kind-large g = ap kindIn (sym (closed-none s at n (kindAt s) (kind-told ∙ large-told (wholeOf (runOf (drop at s))) n (read ∙ g) .1)))
+    pub kind-large : r ≡ Large → kind.Not ≡ kindGot (closedAt s comma (kindAt s) at)
+    kind-large g = ap kindGot (sym (closed-none s at n (kindAt s) (kind-told ∙ large-told (wholeOf (runOf (drop at s))) n (read ∙ g) .1)))
 
-    pub kind-malformed : r ≡ Malformed → kind.Not ≡ kindIn (closedAt s comma (kindAt s) at)
-    kind-malformed g = ap kindIn (sym (closed-none s at n (kindAt s) (kind-told ∙ malformed-told (wholeOf (runOf (drop at s))) n (read ∙ g) .1)))
+    pub kind-malformed : r ≡ Malformed → kind.Not ≡ kindGot (closedAt s comma (kindAt s) at)
+    kind-malformed g = ap kindGot (sym (closed-none s at n (kindAt s) (kind-told ∙ malformed-told (wholeOf (runOf (drop at s))) n (read ∙ g) .1)))
 
     module _ (z : ℤ) (g : r ≡ Value z) where
       value : (wholeOf (runOf (drop at s)) ≡ numeral.whole z) × (isTime z ≡ true)
       value = value-told (wholeOf (runOf (drop at s))) z (read ∙ g)
 
-      pub time-is : mag z < 2 ^ 63 → time.Is (toZ w64 (ofZ w64 z)) (n + 1) ≡ timeIn (closedAt s comma (timeAt s) at)
+      pub time-is : mag z < 2 ^ 63 → time.Is (toZ w64 (ofZ w64 z)) (n + 1) ≡ timeGot (closedAt s comma (timeAt s) at)
       time-is l =
           let q : timeAt s at ≡ got z n = time-told ∙ rw (value .0, value .1) in
-          rw (toZ-ofZ w64 z (record { sfits = l })) (ap timeIn (sym (closed-got s at n (timeAt s) z q (here h))))
+          rw (toZ-ofZ w64 z (record { sfits = l })) (ap timeGot (sym (closed-got s at n (timeAt s) z q (here h))))
 
       -- u is z as a number of 64 bits
       module _ (l : mag z < 2 ^ 63) (u : ℕ) (k : u ≡ unsigned (toZ w64 (ofZ w64 z))) where
         bits : u ≡ unsigned z
         bits = k ∙ ap unsigned (toZ-ofZ w64 z (record { sfits = l }))
 
-        pub kind-over : 65535 < u → kind.Not ≡ kindIn (closedAt s comma (kindAt s) at)
+        pub kind-over : 65535 < u → kind.Not ≡ kindGot (closedAt s comma (kindAt s) at)
         unfolding unsigned
-        kind-over o = ap kindIn (sym (closed-none s at n (kindAt s) (kind-told ∙ ap (λ (w : numeral.Read). kindOf w n) (value .0) ∙ go z bits o)))
+        kind-over o = ap kindGot (sym (closed-none s at n (kindAt s) (kind-told ∙ ap (λ (w : numeral.Spelled). kindOf w n) (value .0) ∙ go z bits o)))
           where
             go : (z : ℤ) → u ≡ unsigned z → 65535 < u → kindOf (numeral.whole z) n ≡ none
             go (negsuc j) b o = refl
             go (pos j) b o = let c : u ≡ j = b in rw (lt-leb j 65535 (omega arith))
 
-        pub kind-is : u ≤ 65535 → kind.Is u (n + 1) ≡ kindIn (closedAt s comma (kindAt s) at)
+        pub kind-is : u ≤ 65535 → kind.Is u (n + 1) ≡ kindGot (closedAt s comma (kindAt s) at)
         unfolding unsigned
-        kind-is o = ap kindIn (sym (closed-got s at n (kindAt s) u (kind-told ∙ ap (λ (w : numeral.Read). kindOf w n) (value .0) ∙ go z l bits o) (here h)))
+        kind-is o = ap kindGot (sym (closed-got s at n (kindAt s) u (kind-told ∙ ap (λ (w : numeral.Spelled). kindOf w n) (value .0) ∙ go z l bits o) (here h)))
           where
             go : (z : ℤ) → mag z < 2 ^ 63 → u ≡ unsigned z → u ≤ 65535 → kindOf (numeral.whole z) n ≡ got u n
             go (negsuc j) l b o = absurd (omega arith)

@@ -8,8 +8,8 @@ use lib.Dec.{eqb, leb}
 use lib.ListN.{length, getD}
 use borrow.Author.Tests.{le-leb, eqb-true, leb-true}
 use Rattle.wire.specs.Limits.{mostTags, mostStrings}
-use Rattle.text.specs.Event.{Tag, quoted, membersText, tagText, tagsText, all, isString, isTag, isTags}
-use Rattle.text.specs.Read.{Got, none, got, bind, cons, follow, stringAt, membersAt, tagAt, tagsAt}
+use Rattle.text.specs.Event.{Tag, quoted, membersText, tagText, tagsText, all, isStringBytes, isTag, isTags}
+use Rattle.text.specs.Read.{Got, none, got, bind, cons, follow, stringAt, textMembersAt, tagAt, tagsAt}
 use Rattle.text.proofs.Pieces.{Spelt, Piece, Exact, both, and-true, join, byte-is, byte-at, tail, left, right}
 use Rattle.text.proofs.Strings.{string-exact}
 
@@ -40,20 +40,20 @@ module _ {A : Type 0} (print : A → List ℕ) (ok : A → Bool) (s : List ℕ) 
     few = omega (arith, a .few);
   }
 
-  members-same : (k at : ℕ) (xs : List A) (n : ℕ) → membersAt one s k at ≡ got xs n → Members print ok s k at xs n
-  unfolding membersAt membersText all
+  members-same : (k at : ℕ) (xs : List A) (n : ℕ) → textMembersAt one s k at ≡ got xs n → Members print ok s k at xs n
+  unfolding textMembersAt membersText all
   members-same zero at xs n q = absurd (let z : _≡_ {A = ℕ} 0 1 = cc in omega arith)
   members-same (suc k) at xs n q = go (one at) refl q (λ m ys. members-same k (m + 1) ys n)
     where
-      go : (g : Got A) → one at ≡ g → (bind g λ x m. follow x (getD s m 0) m (membersAt one s k (m + 1))) ≡ got xs n
-          → ((m : ℕ) (ys : List A) → membersAt one s k (m + 1) ≡ got ys n → Members print ok s k (m + 1) ys n) → Members print ok s (suc k) at xs n
+      go : (g : Got A) → one at ≡ g → (bind g λ x m. follow x (getD s m 0) m (textMembersAt one s k (m + 1))) ≡ got xs n
+          → ((m : ℕ) (ys : List A) → textMembersAt one s k (m + 1) ≡ got ys n → Members print ok s k (m + 1) ys n) → Members print ok s (suc k) at xs n
       go none e q ih = absurd (let z : _≡_ {A = ℕ} 0 1 = cc in omega arith)
       go (got x m) e q ih = next (eqb (getD s m 0) 44) (eqb (getD s m 0) 93) refl refl q
         where
           next : (a b : Bool) → eqb (getD s m 0) 44 ≡ a → eqb (getD s m 0) 93 ≡ b
-              → cond a (cons x (membersAt one s k (m + 1))) (cond b (got (x ∷ []) (m + 1)) none) ≡ got xs n → Members print ok s (suc k) at xs n
+              → cond a (cons x (textMembersAt one s k (m + 1))) (cond b (got (x ∷ []) (m + 1)) none) ≡ got xs n → Members print ok s (suc k) at xs n
           next true b ea eb r =
-              let u = uncons x (membersAt one s k (m + 1)) xs n r in
+              let u = uncons x (textMembersAt one s k (m + 1)) xs n r in
               rw (u .is) (one-more k at m x (u .rest) n (exact .same at x m e) (eqb-true (getD s m 0) 44 ea) (ih m (u .rest) (u .was)))
           next false true ea eb r =
               let zx : xs ≡ x ∷ [] = cc in
@@ -68,8 +68,8 @@ module _ {A : Type 0} (print : A → List ℕ) (ok : A → Bool) (s : List ℕ) 
               })
           next false false ea eb r = absurd (let z : _≡_ {A = ℕ} 0 1 = cc in omega arith)
 
-  members-back : (k at : ℕ) (xs : List A) (n : ℕ) → Members print ok s k at xs n → membersAt one s k at ≡ got xs n
-  unfolding membersAt membersText all
+  members-back : (k at : ℕ) (xs : List A) (n : ℕ) → Members print ok s k at xs n → textMembersAt one s k at ≡ got xs n
+  unfolding textMembersAt membersText all
   members-back zero at xs n a = absurd (omega (arith, a .some, a .few))
   members-back (suc k) at [] n a = absurd (omega (arith, a .some))
   members-back (suc k) at (x ∷ []) n a =
@@ -92,9 +92,9 @@ module _ (s : List ℕ) where
   unfolding tagAt tagText isTag
   tag-same at x n q = go (eqb (getD s at 0) 91) refl q
     where
-      go : (t : Bool) → eqb (getD s at 0) 91 ≡ t → cond t (membersAt (stringAt s) s mostStrings (at + 1)) none ≡ got x n → Piece tagText isTag s at x n
+      go : (t : Bool) → eqb (getD s at 0) 91 ≡ t → cond t (textMembersAt (stringAt s) s mostStrings (at + 1)) none ≡ got x n → Piece tagText isTag s at x n
       go true e r =
-          let a = members-same quoted isString s (stringAt s) (string-exact s) mostStrings (at + 1) x n r in
+          let a = members-same quoted isStringBytes s (stringAt s) (string-exact s) mostStrings (at + 1) x n r in
           record {
             is = join {p = 91 ∷ []} (byte-at s at 91 (omega arith) (eqb-true (getD s at 0) 91 e)) (a .is);
             fine = simp (a .fine, le-leb 1 (length x) (a .some), le-leb (length x) mostStrings (a .few));
@@ -104,10 +104,10 @@ module _ (s : List ℕ) where
   tag-back : (at : ℕ) (x : Tag) (n : ℕ) → Piece tagText isTag s at x n → tagAt s at ≡ got x n
   unfolding tagAt tagText isTag
   tag-back at x n a =
-      let h = both (leb 1 (length x)) (leb (length x) mostStrings && all isString x) (a .fine) in
-      let k = both (leb (length x) mostStrings) (all isString x) (h .1) in
+      let h = both (leb 1 (length x)) (leb (length x) mostStrings && all isStringBytes x) (a .fine) in
+      let k = both (leb (length x) mostStrings) (all isStringBytes x) (h .1) in
       rw (byte-is (a .is))
-      (members-back quoted isString s (stringAt s) (string-exact s) mostStrings (at + 1) x n
+      (members-back quoted isStringBytes s (stringAt s) (string-exact s) mostStrings (at + 1) x n
       (record { is = tail (a .is); fine = k .1; some = leb-true 1 (length x) (h .0); few = leb-true (length x) mostStrings (k .0) }))
 
   pub tag-exact : Exact tagText isTag s (tagAt s)
@@ -119,7 +119,7 @@ module _ (s : List ℕ) where
   tags-same at x n q = go (eqb (getD s at 0) 91) (eqb (getD s (at + 1) 0) 93) refl refl q
     where
       go : (t u : Bool) → eqb (getD s at 0) 91 ≡ t → eqb (getD s (at + 1) 0) 93 ≡ u
-          → cond t (cond u (got [] (at + 2)) (membersAt (tagAt s) s mostTags (at + 1))) none ≡ got x n → Piece tagsText isTags s at x n
+          → cond t (cond u (got [] (at + 2)) (textMembersAt (tagAt s) s mostTags (at + 1))) none ≡ got x n → Piece tagsText isTags s at x n
       go true true e f r =
           let zx : x ≡ [] = cc in
           let zn : n ≡ at + 2 = cc in

@@ -10,11 +10,11 @@ use lib.Seq.{drop-drop}
 use borrow.Author.Tests.{ne-eqb, eqb-true}
 use Rattle.wire.specs.Escape.{letterOf, escOne, escape}
 use Rattle.wire.specs.Limits.{mostTags, mostStrings}
-use Rattle.text.specs.Event.{Tag, quoted, membersText, tagText, isPlainByte, all, isString, isTag}
-use Rattle.text.specs.Read.{Got, none, got, standsAt, bodyFrom, cons, membersAt, tagAt, tagsAt}
+use Rattle.text.specs.Event.{Tag, quoted, membersText, tagText, isPlainByte, all, isStringBytes, isTag}
+use Rattle.text.specs.Read.{Got, none, got, standsAt, bodyFrom, cons, textMembersAt, tagAt, tagsAt}
 use Rattle.text.specs.Kinds.{isNamedD, second}
-use Rattle.text.specs.Answer.{spanOf, dSpan}
-use Rattle.text.specs.Inner.Parts.{endOf, foundOf, lookOf, spanAfter, taggedOf}
+use Rattle.text.specs.Answer.{spanBehind, dSpan}
+use Rattle.text.specs.Inner.Parts.{gotEnd, foundOf, lookOf, spanAfter, taggedOf}
 use Rattle.text.specs.declared.Out.the-variants.{End, Bad}
 use Rattle.text.specs.declared.Found.{Found}
 use Rattle.text.specs.declared.Found.the-variants as found
@@ -105,17 +105,17 @@ data Second (s : List ℕ) (b : ℕ) (t : Tag) : Bool → Type 0 where
   present : (w : List ℕ) → second t ≡ w → bodyFrom false (b + 2) (drop (b + 2) s) ≡ got w (b + 2 + length (escape w) + 1) → Second s b t true
 
 module _ (s : List ℕ) (i n : ℕ) where
-  after-name : (t : Tag) → drop i s ≡ tagText ((100 ∷ []) ∷ t) ++ drop n s → all isString t ≡ true → Second s (i + 4) ((100 ∷ []) ∷ t) (standsAt s (44 ∷ 34 ∷ []) (i + 4))
-  unfolding tagText escape escOne letterOf all isString
+  after-name : (t : Tag) → drop i s ≡ tagText ((100 ∷ []) ∷ t) ++ drop n s → all isStringBytes t ≡ true → Second s (i + 4) ((100 ∷ []) ∷ t) (standsAt s (44 ∷ 34 ∷ []) (i + 4))
+  unfolding tagText escape escOne letterOf all isStringBytes
   after-name t e f = go t f (sym (drop-drop 4 i s) ∙ ap (drop 4) (e ∙ ap (_∷_ 91) (members-begin (100 ∷ []) t (drop n s))))
     where
-      go : (t : Tag) → all isString t ≡ true → drop (i + 4) s ≡ after t ++ drop n s → Second s (i + 4) ((100 ∷ []) ∷ t) (standsAt s (44 ∷ 34 ∷ []) (i + 4))
+      go : (t : Tag) → all isStringBytes t ≡ true → drop (i + 4) s ≡ after t ++ drop n s → Second s (i + 4) ((100 ∷ []) ∷ t) (standsAt s (44 ∷ 34 ∷ []) (i + 4))
       go [] f h = rw (stands-begins s (44 ∷ 34 ∷ []) (i + 4) (93 ∷ drop n s) h) (absent refl)
       go (w ∷ t) f h =
           let r : List ℕ = after t ++ drop n s in
           let l : drop (i + 4) s ≡ 44 ∷ 34 ∷ (escape w ++ (34 ∷ r)) = h ∙ ap (_∷_ 44) (members-begin w t (drop n s)) in
           let b : drop (i + 4 + 2) s ≡ escape w ++ (34 ∷ r) = sym (drop-drop 2 (i + 4) s) ∙ ap (drop 2) l in
-          let g = both (isString w) (all isString t) f in
+          let g = both (isStringBytes w) (all isStringBytes t) f in
           rw (stands-begins s (44 ∷ 34 ∷ []) (i + 4) (44 ∷ 34 ∷ (escape w ++ (34 ∷ r))) l)
           (present w refl (rw b (body-back w r (i + 4 + 2) (both (all isPlainByte w) _ (g .0) .0))))
 
@@ -128,25 +128,25 @@ module _ (s : List ℕ) (i n : ℕ) where
       let z = eqb-true x 100 d in
       let a = tag-exact s .same i ((100 ∷ []) ∷ t) n (rw z at e) in
       let l = length ((100 ∷ []) ∷ t) in
-      let g = both (leb 1 l) (leb l mostStrings && (isString (100 ∷ []) && all isString t)) (a .fine) in
-      let f = both (leb l mostStrings) (isString (100 ∷ []) && all isString t) (g .1) in
-      rw z (after-name t (a .is .is) (both (isString (100 ∷ [])) (all isString t) (f .1) .1))
+      let g = both (leb 1 l) (leb l mostStrings && (isStringBytes (100 ∷ []) && all isStringBytes t)) (a .fine) in
+      let f = both (leb l mostStrings) (isStringBytes (100 ∷ []) && all isStringBytes t) (g .1) in
+      rw z (after-name t (a .is .is) (both (isStringBytes (100 ∷ [])) (all isStringBytes t) (f .1) .1))
 
 -- ---- the ways out of `second_at`
-span-none : (j : ℕ) (l : List ℕ) → length l ≡ 0 → found.At 0 0 ≡ foundOf (spanOf j l)
+span-none : (j : ℕ) (l : List ℕ) → length l ≡ 0 → found.At 0 0 ≡ foundOf (spanBehind j l)
 span-none j [] e = refl
 span-none j (x ∷ l) e = absurd (omega arith)
 
-span-some : (j k : ℕ) (l : List ℕ) → k ≡ length l → (k ≡ 0 → ⊥) → found.At j k ≡ foundOf (spanOf j l)
+span-some : (j k : ℕ) (l : List ℕ) → k ≡ length l → (k ≡ 0 → ⊥) → found.At j k ≡ foundOf (spanBehind j l)
 span-some j k [] f h = absurd (h f)
 span-some j k (x ∷ l) f h = rw f
 
-gone : {s : List ℕ} {b : ℕ} {t : Tag} {x : Bool} (j : ℕ) → Second s b t x → x ≡ false → found.At 0 0 ≡ foundOf (spanOf j (escape (second t)))
+gone : {s : List ℕ} {b : ℕ} {t : Tag} {x : Bool} (j : ℕ) → Second s b t x → x ≡ false → found.At 0 0 ≡ foundOf (spanBehind j (escape (second t)))
 unfolding escape
 gone j (absent e) q = rw e
 gone j (present w e f) q = absurd (let z : _≡_ {A = ℕ} 0 1 = cc in omega arith)
 
-there : {s : List ℕ} {b : ℕ} {t : Tag} {x : Bool} → Second s b t x → x ≡ true → endOf (bodyFrom false (b + 2) (drop (b + 2) s)) ≡ End (b + 2 + length (escape (second t)) + 1)
+there : {s : List ℕ} {b : ℕ} {t : Tag} {x : Bool} → Second s b t x → x ≡ true → gotEnd (bodyFrom false (b + 2) (drop (b + 2) s)) ≡ End (b + 2 + length (escape (second t)) + 1)
 there (absent e) q = absurd (let z : _≡_ {A = ℕ} 0 1 = cc in omega arith)
 there (present w e f) q = rw (f, e)
 
@@ -155,16 +155,16 @@ ends e = cc
 
 module _ (s : List ℕ) (i : ℕ) where
   abbrev Is : Found → Type 0
-  Is r = (t : Tag) (n : ℕ) → tagAt s i ≡ got t n → isNamedD t ≡ true → r ≡ foundOf (spanOf (i + 6) (escape (second t)))
+  Is r = (t : Tag) (n : ℕ) → tagAt s i ≡ got t n → isNamedD t ≡ true → r ≡ foundOf (spanBehind (i + 6) (escape (second t)))
 
   pub second-none : standsAt s (44 ∷ 34 ∷ []) (i + 4) ≡ false → Is (found.At 0 0)
   second-none h t n e d = gone (i + 6) (second-told s i n t e d) h
 
   module _ (h : standsAt s (44 ∷ 34 ∷ []) (i + 4) ≡ true) where
-    pub second-bad : endOf (bodyFrom false (i + 4 + 2) (drop (i + 4 + 2) s)) ≡ Bad → Is (found.At 0 0)
+    pub second-bad : gotEnd (bodyFrom false (i + 4 + 2) (drop (i + 4 + 2) s)) ≡ Bad → Is (found.At 0 0)
     second-bad b t n e d = let z : End _ ≡ Bad = sym (there (second-told s i n t e d) h) ∙ b in absurd (let y : _≡_ {A = ℕ} 0 1 = cc in omega arith)
 
-    module _ (m : ℕ) (b : endOf (bodyFrom false (i + 4 + 2) (drop (i + 4 + 2) s)) ≡ End m) where
+    module _ (m : ℕ) (b : gotEnd (bodyFrom false (i + 4 + 2) (drop (i + 4 + 2) s)) ≡ End m) where
       size : (t : Tag) (n : ℕ) → tagAt s i ≡ got t n → isNamedD t ≡ true → m - 1 - (i + 4 + 2) ≡ length (escape (second t))
       size t n e d = let z = ends (sym (there (second-told s i n t e d) h) ∙ b) in omega arith
 
@@ -197,34 +197,34 @@ unfolding dSpan
 pass i n (found.At a l) t ts e = refl
 pass i n found.Not t ts e = rw e (go (isNamedD t))
   where
-    go : (b : Bool) → cond b (spanOf (i + 6) (escape (second t))) (dSpan (i + length (tagText t) + 1) ts)
-        ≡ spanAfter (cond b (foundOf (spanOf (i + 6) (escape (second t)))) found.Not) (i + length (tagText t) + 1) ts
+    go : (b : Bool) → cond b (spanBehind (i + 6) (escape (second t))) (dSpan (i + length (tagText t) + 1) ts)
+        ≡ spanAfter (cond b (foundOf (spanBehind (i + 6) (escape (second t)))) found.Not) (i + length (tagText t) + 1) ts
     go true = refl
     go false = refl
 
 module _ (s : List ℕ) (k i : ℕ) (d : Found) where
-  pub tags-out : k ≤ 0 → taggedOf d i (membersAt (tagAt s) s k i) ≡ tagged.Bad
+  pub tags-out : k ≤ 0 → taggedOf d i (textMembersAt (tagAt s) s k i) ≡ tagged.Bad
   tags-out h = ap (taggedOf d i) (members-out (tagAt s) s k i h)
 
-  pub tags-bad : Bad ≡ endOf (tagAt s i) → taggedOf d i (membersAt (tagAt s) s k i) ≡ tagged.Bad
+  pub tags-bad : Bad ≡ gotEnd (tagAt s i) → taggedOf d i (textMembersAt (tagAt s) s k i) ≡ tagged.Bad
   tags-bad q = ap (taggedOf d i) (members-bad (tagAt s) s k i (end-bad (tagAt s i) q))
 
-  module _ (n b : ℕ) (h : 0 < k) (q : End n ≡ endOf (tagAt s i)) (e : b ≡ getD s n 0) where
-    pub tags-wrong : (b ≡ 44 → ⊥) → (b ≡ 93 → ⊥) → taggedOf d i (membersAt (tagAt s) s k i) ≡ tagged.Bad
+  module _ (n b : ℕ) (h : 0 < k) (q : End n ≡ gotEnd (tagAt s i)) (e : b ≡ getD s n 0) where
+    pub tags-wrong : (b ≡ 44 → ⊥) → (b ≡ 93 → ⊥) → taggedOf d i (textMembersAt (tagAt s) s k i) ≡ tagged.Bad
     tags-wrong f g = let x = end-got (tagAt s i) n q in ap (taggedOf d i) (members-wrong (tagAt s) s k i n (x .it) h (x .is) b e f g)
 
     module _ (r : Found) (look : Looked s i d r) where
-      pub tags-more : b ≡ 44 → taggedOf d i (membersAt (tagAt s) s k i) ≡ taggedOf r (n + 1) (membersAt (tagAt s) s (k - 1) (n + 1))
+      pub tags-more : b ≡ 44 → taggedOf d i (textMembersAt (tagAt s) s k i) ≡ taggedOf r (n + 1) (textMembersAt (tagAt s) s (k - 1) (n + 1))
       tags-more f =
           let x = end-got (tagAt s i) n q in
           let z = tag-exact s .same i (x .it) n (x .is) .is .end in
-          ap (taggedOf d i) (members-more (tagAt s) s k i n (x .it) h (x .is) b e f) ∙ rw (look (x .it) n (x .is)) (go (x .it) z (membersAt (tagAt s) s (k - 1) (n + 1)))
+          ap (taggedOf d i) (members-more (tagAt s) s k i n (x .it) h (x .is) b e f) ∙ rw (look (x .it) n (x .is)) (go (x .it) z (textMembersAt (tagAt s) s (k - 1) (n + 1)))
         where
           go : (t : Tag) → n ≡ i + length (tagText t) → (g : Got (List Tag)) → taggedOf d i (cons t g) ≡ taggedOf (lookOf i d t) (n + 1) g
           go t z none = refl
           go t z (got ts m) = rw (pass i n d t ts z)
 
-      pub tags-done : (b ≡ 44 → ⊥) → b ≡ 93 → taggedOf d i (membersAt (tagAt s) s k i) ≡ taggedOf r 0 (got [] (n + 1))
+      pub tags-done : (b ≡ 44 → ⊥) → b ≡ 93 → taggedOf d i (textMembersAt (tagAt s) s k i) ≡ taggedOf r 0 (got [] (n + 1))
       unfolding dSpan
       tags-done f g =
           let x = end-got (tagAt s i) n q in
@@ -245,6 +245,6 @@ module _ (s : List ℕ) (at b : ℕ) (e : b ≡ getD s at 0) where
     unfolding tagsAt dSpan
     tags-empty g = let z : at + 1 + 1 ≡ at + 2 = omega arith in rw (← e, h, ← f, g, z)
 
-    pub tags-open : (c ≡ 93 → ⊥) → taggedOf found.Not (at + 1) (membersAt (tagAt s) s mostTags (at + 1)) ≡ taggedOf found.Not (at + 1) (tagsAt s at)
+    pub tags-open : (c ≡ 93 → ⊥) → taggedOf found.Not (at + 1) (textMembersAt (tagAt s) s mostTags (at + 1)) ≡ taggedOf found.Not (at + 1) (tagsAt s at)
     unfolding tagsAt
     tags-open g = rw (← e, h, ← f, ne-eqb c 93 g)

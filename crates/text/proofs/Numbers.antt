@@ -65,7 +65,7 @@ pub time-same : (s : List ℕ) (at : ℕ) (z : ℤ) (n : ℕ) → timeAt s at �
 unfolding timeAt
 time-same s at z n q = go (wholeOf (runOf (drop at s))) refl q
   where
-    go : (w : numeral.Read) → wholeOf (runOf (drop at s)) ≡ w → timeOf w (at + length (runOf (drop at s))) ≡ got z n → Piece decimal isTime s at z n
+    go : (w : numeral.Spelled) → wholeOf (runOf (drop at s)) ≡ w → timeOf w (at + length (runOf (drop at s))) ≡ got z n → Piece decimal isTime s at z n
     go numeral.malformed e q = absurd (let z : _≡_ {A = ℕ} 0 1 = cc in omega arith)
     go (numeral.whole y) e q = small (isTime y) refl q
       where
@@ -85,7 +85,7 @@ pub kind-same : (s : List ℕ) (at k n : ℕ) → kindAt s at ≡ got k n → Pi
 unfolding kindAt decimal
 kind-same s at k n q = go (wholeOf (runOf (drop at s))) refl q
   where
-    go : (w : numeral.Read) → wholeOf (runOf (drop at s)) ≡ w → kindOf w (at + length (runOf (drop at s))) ≡ got k n → Piece digits isKind s at k n
+    go : (w : numeral.Spelled) → wholeOf (runOf (drop at s)) ≡ w → kindOf w (at + length (runOf (drop at s))) ≡ got k n → Piece digits isKind s at k n
     go numeral.malformed e q = absurd (let z : _≡_ {A = ℕ} 0 1 = cc in omega arith)
     go (numeral.whole (negsuc y)) e q = absurd (let z : _≡_ {A = ℕ} 0 1 = cc in omega arith)
     go (numeral.whole (pos y)) e q = small (isKind y) refl q

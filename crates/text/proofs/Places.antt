@@ -16,7 +16,7 @@ use Rattle.wire.specs.Limits.{mostText, hexLength}
 use Rattle.text.specs.Event.{Tag, Event, quoted, membersText, tagText, tagsText, opening, closing, comma, bracket, serialise, all, isPubkey}
 use Rattle.text.specs.Read.{Read, tooLarge, wrongShape, read, readText, IsTextOf}
 use Rattle.text.specs.Kinds.{isNamedD, second, dOf}
-use Rattle.text.specs.Answer.{Span, spanOf, dSpan, tagsPlace, contentPlace, textOf, answerOf}
+use Rattle.text.specs.Answer.{Span, spanBehind, dSpan, tagsPlace, contentPlace, textParts, textAnswerOf}
 use Rattle.text.specs.declared.Text.{Text}
 use Rattle.text.specs.declared.TextAnswer.the-variants as answer
 use Rattle.wire.proofs.Escapes.{plain}
@@ -31,11 +31,11 @@ use Rattle.text.proofs.Named.{after, members-begin}
 abbrev pub bytesAt : List ℕ → Span → List ℕ
 bytesAt s p = take (p .len) (drop (p .at) s)
 
-span-stands : (s : List ℕ) (i : ℕ) (l r : List ℕ) → drop i s ≡ l ++ r → bytesAt s (spanOf i l) ≡ l
+span-stands : (s : List ℕ) (i : ℕ) (l r : List ℕ) → drop i s ≡ l ++ r → bytesAt s (spanBehind i l) ≡ l
 span-stands s i [] r e = refl
 span-stands s i (x ∷ l) r e = ap (take (length (x ∷ l))) e ∙ take-append-seam (x ∷ l) r
 
-second-stands : (s : List ℕ) (i : ℕ) (t : Tag) (r : List ℕ) → isNamedD t ≡ true → drop i s ≡ tagText t ++ r → bytesAt s (spanOf (i + 6) (escape (second t))) ≡ escape (second t)
+second-stands : (s : List ℕ) (i : ℕ) (t : Tag) (r : List ℕ) → isNamedD t ≡ true → drop i s ≡ tagText t ++ r → bytesAt s (spanBehind (i + 6) (escape (second t))) ≡ escape (second t)
 unfolding tagText escape escOne letterOf
 second-stands s i [] r d e = absurd (false≢true d)
 second-stands s i ([] ∷ t) r d e = absurd (false≢true d)
@@ -50,18 +50,18 @@ unfolding dSpan dOf membersText escape
 named-stands s i [] n a = refl
 named-stands s i (t ∷ []) n a = go (isNamedD t) refl
   where
-    go : (b : Bool) → isNamedD t ≡ b → bytesAt s (cond b (spanOf (i + 6) (escape (second t))) (spanOf (i + length (tagText t) + 1) [])) ≡ escape (cond b (second t) [])
+    go : (b : Bool) → isNamedD t ≡ b → bytesAt s (cond b (spanBehind (i + 6) (escape (second t))) (spanBehind (i + length (tagText t) + 1) [])) ≡ escape (cond b (second t) [])
     go true d = second-stands s i t (drop (i + length (tagText t)) s) d (left (tagText t) (93 ∷ []) a .is)
     go false d = refl
 named-stands s i (t ∷ u ∷ ts) n a = go (isNamedD t) refl (named-stands s (i + length (tagText t) + 1) (u ∷ ts) n)
   where
     go : (b : Bool) → isNamedD t ≡ b
         → (Spelt s (i + length (tagText t) + 1) (membersText tagText (u ∷ ts)) n → bytesAt s (dSpan (i + length (tagText t) + 1) (u ∷ ts)) ≡ escape (dOf (u ∷ ts)))
-        → bytesAt s (cond b (spanOf (i + 6) (escape (second t))) (dSpan (i + length (tagText t) + 1) (u ∷ ts))) ≡ escape (cond b (second t) (dOf (u ∷ ts)))
+        → bytesAt s (cond b (spanBehind (i + 6) (escape (second t))) (dSpan (i + length (tagText t) + 1) (u ∷ ts))) ≡ escape (cond b (second t) (dOf (u ∷ ts)))
     go true d ih = second-stands s i t (drop (i + length (tagText t)) s) d (left (tagText t) (44 ∷ membersText tagText (u ∷ ts)) a .is)
     go false d ih = ih (tail (right (tagText t) (44 ∷ membersText tagText (u ∷ ts)) a))
 
-span-len : (i : ℕ) (l : List ℕ) → spanOf i l .len ≡ length l
+span-len : (i : ℕ) (l : List ℕ) → spanBehind i l .len ≡ length l
 span-len i [] = refl
 span-len i (x ∷ l) = refl
 
@@ -71,12 +71,12 @@ d-length i [] = refl
 d-length i (t ∷ ts) = go (isNamedD t) (d-length (i + length (tagText t) + 1) ts)
   where
     go : (b : Bool) → dSpan (i + length (tagText t) + 1) ts .len ≡ length (escape (dOf ts))
-        → (cond b (spanOf (i + 6) (escape (second t))) (dSpan (i + length (tagText t) + 1) ts)) .len ≡ length (escape (cond b (second t) (dOf ts)))
+        → (cond b (spanBehind (i + 6) (escape (second t))) (dSpan (i + length (tagText t) + 1) ts)) .len ≡ length (escape (cond b (second t) (dOf ts)))
     go true ih = span-len (i + 6) (escape (second t))
     go false ih = ih
 
 -- both 0 if it is empty
-span-none : (i : ℕ) (l : List ℕ) → spanOf i l .len ≡ 0 → spanOf i l .at ≡ 0
+span-none : (i : ℕ) (l : List ℕ) → spanBehind i l .len ≡ 0 → spanBehind i l .at ≡ 0
 span-none i [] e = refl
 span-none i (x ∷ l) e = absurd (omega arith)
 
@@ -86,8 +86,8 @@ d-none i [] e = refl
 d-none i (t ∷ ts) e = go (isNamedD t) (d-none (i + length (tagText t) + 1) ts) e
   where
     go : (b : Bool) → (dSpan (i + length (tagText t) + 1) ts .len ≡ 0 → dSpan (i + length (tagText t) + 1) ts .at ≡ 0)
-        → (cond b (spanOf (i + 6) (escape (second t))) (dSpan (i + length (tagText t) + 1) ts)) .len ≡ 0
-        → (cond b (spanOf (i + 6) (escape (second t))) (dSpan (i + length (tagText t) + 1) ts)) .at ≡ 0
+        → (cond b (spanBehind (i + 6) (escape (second t))) (dSpan (i + length (tagText t) + 1) ts)) .len ≡ 0
+        → (cond b (spanBehind (i + 6) (escape (second t))) (dSpan (i + length (tagText t) + 1) ts)) .at ≡ 0
     go true ih e = span-none (i + 6) (escape (second t)) e
     go false ih e = ih e
 
@@ -172,13 +172,13 @@ module _ (t : List ℕ) (e : Event) (a : IsTextOf t e) where
   unfolding serialise
   pubkey-stands = rw hex at (spelt-take (amid t opening (e .pubkey) _ 4 (sym (a .same)) refl))
 
-  pub tags-stand : take (length (tagsText (e .tags))) (drop (textOf e .tags) t) ≡ tagsText (e .tags)
+  pub tags-stand : take (length (tagsText (e .tags))) (drop (textParts e .tags) t) ≡ tagsText (e .tags)
   tags-stand = spelt-take tags-spelt
 
-  pub content-stands : take (textOf e .«content_len») (drop (textOf e .content) t) ≡ escape (e .content)
+  pub content-stands : take (textParts e .«content_len») (drop (textParts e .content) t) ≡ escape (e .content)
   content-stands = spelt-take content-spelt
 
-  pub d-stands : take (textOf e .«d_len») (drop (textOf e .d) t) ≡ escape (dOf (e .tags))
+  pub d-stands : take (textParts e .«d_len») (drop (textParts e .d) t) ≡ escape (dOf (e .tags))
   unfolding tagsText
   d-stands = named-stands t (tagsPlace e + 1) (e .tags) (tagsPlace e + length (tagsText (e .tags))) (tail tags-spelt)
 
@@ -196,19 +196,19 @@ module _ (t : List ℕ) (e : Event) (a : IsTextOf t e) where
       let z : serialise e ≡ (91 ∷ 48 ∷ 44 ∷ []) ++ (k ++ r) = simp append-assoc in
       part-amid t (91 ∷ 48 ∷ 44 ∷ []) k r 3 66 (sym (a .same) ∙ z) refl (simp length-append (omega arith)) ∙ ap (λ (v : List ℕ). 34 ∷ (v ++ (34 ∷ []))) (sym key-itself)
 
-  pub tags-part : part t (textOf e .tags) (textOf e .content - 2 - textOf e .tags) ≡ tagsText (e .tags)
-  tags-part = let z : textOf e .content - 2 - textOf e .tags ≡ length (tagsText (e .tags)) = omega arith in rw z tags-stand
+  pub tags-part : part t (textParts e .tags) (textParts e .content - 2 - textParts e .tags) ≡ tagsText (e .tags)
+  tags-part = let z : textParts e .content - 2 - textParts e .tags ≡ length (tagsText (e .tags)) = omega arith in rw z tags-stand
 
-  pub content-part : part t (textOf e .content - 1) (textOf e .«content_len» + 2) ≡ quoted (e .content)
+  pub content-part : part t (textParts e .content - 1) (textParts e .«content_len» + 2) ≡ quoted (e .content)
   unfolding serialise
   content-part =
       let h = hex in
       let p : List ℕ = front e ++ (tagsText (e .tags) ++ comma) in
       let z : serialise e ≡ p ++ (quoted (e .content) ++ bracket) = simp append-assoc in
-      part-amid t p (quoted (e .content)) bracket (textOf e .content - 1) (textOf e .«content_len» + 2) (sym (a .same) ∙ z) (simp length-append (omega arith)) (quoted-length (e .content))
+      part-amid t p (quoted (e .content)) bracket (textParts e .content - 1) (textParts e .«content_len» + 2) (sym (a .same) ∙ z) (simp length-append (omega arith)) (quoted-length (e .content))
 
   -- d lies in the text
-  pub d-inside : textOf e .d + textOf e .«d_len» ≤ length t
+  pub d-inside : textParts e .d + textParts e .«d_len» ≤ length t
   d-inside =
       let p = dSpan (tagsPlace e + 1) (e .tags) in
       let l : min (p .len) (length t - p .at) ≡ p .len =
@@ -220,7 +220,7 @@ module _ (t : List ℕ) (e : Event) (a : IsTextOf t e) where
       inside i (suc k) n l z = omega arith
 
 -- ---- the answer to a text that was read, and that its parts can be taken
-pub read-told : (r : Read) (x : Text) → answer.Read x ≡ answerOf r → (e : Event) × (r ≡ read e) × (x ≡ textOf e)
+pub read-told : (r : Read) (x : Text) → answer.Read x ≡ textAnswerOf r → (e : Event) × (r ≡ read e) × (x ≡ textParts e)
 read-told tooLarge x q = absurd (let z : _≡_ {A = ℕ} 0 1 = cc in omega arith)
 read-told wrongShape x q = absurd (let z : _≡_ {A = ℕ} 0 1 = cc in omega arith)
 read-told (read e) x q = (e, refl, cc)
@@ -230,7 +230,7 @@ pub record Bounds (t : List ℕ) (x : Text) : Type 0 where
   pub ends : x .content + x .«content_len» + 2 ≡ length t
   pub small : length t ≤ mostText
 
-pub bounds : (t : List ℕ) (x : Text) → answer.Read x ≡ answerOf (readText t) → Bounds t x
+pub bounds : (t : List ℕ) (x : Text) → answer.Read x ≡ textAnswerOf (readText t) → Bounds t x
 bounds t x w =
     let (e, r, q) = read-told (readText t) x w in
     let a = read-same t e r in

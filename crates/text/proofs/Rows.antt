@@ -12,9 +12,9 @@ use borrow.Author.Tests.{eq-eqb, eqb-true, ltb-true}
 use Rattle.numeral.specs.Decimal.{digits, decimal}
 use Rattle.wire.specs.Limits.{hexLength}
 use Rattle.wire.specs.Bytes.{isHex}
-use Rattle.text.specs.Event.{Tag, quoted, tagsText, closing, comma, bracket, all, isPubkey, isTime, isKind, isTags, isString}
+use Rattle.text.specs.Event.{Tag, quoted, tagsText, closing, comma, bracket, all, isPubkey, isTime, isKind, isTags, isStringBytes}
 use Rattle.text.specs.Read.{Got, none, got, bind, standsAt, closedAt, pairAt, stringAt, tagsAt, timeAt, kindAt, pubkeyAt, Fields, fieldsAt}
-use Rattle.text.specs.Inner.Parts.{noZero}
+use Rattle.text.specs.Inner.Parts.{noZeroByte}
 use Rattle.text.proofs.Pieces.{Spelt, Piece, Exact, both, and-true, spelt, join, left, right, byte-is, byte-at, tail, spelt-inside}
 use Rattle.text.proofs.Strings.{string-exact}
 use Rattle.text.proofs.Lists.{tags-exact}
@@ -22,12 +22,12 @@ use Rattle.text.proofs.Numbers.{time-same, time-back, kind-same, kind-b
 
 -- ---- fixed bytes
 module _ (s : List ℕ) where
-  pub stands-same : (w : List ℕ) (at : ℕ) → noZero w ≡ true → standsAt s w at ≡ true → Spelt s at w (at + length w)
+  pub stands-same : (w : List ℕ) (at : ℕ) → noZeroByte w ≡ true → standsAt s w at ≡ true → Spelt s at w (at + length w)
   unfolding standsAt
   stands-same [] at z e = record { is = (let q : at + 0 ≡ at = omega arith in rw q); end = refl }
   stands-same (b ∷ w) at z e =
       let h = both (eqb (getD s at 0) b) (standsAt s w (at + 1)) e in
-      let k = both (ltb 0 b) (noZero w) z in
+      let k = both (ltb 0 b) (noZeroByte w) z in
       let q : at + 1 + length w ≡ at + length (b ∷ w) = omega arith in
       rw (← q) (join {p = b ∷ []} (byte-at s at b (ltb-true 0 b (k .0)) (eqb-true (getD s at 0) b (h .0))) (stands-same w (at + 1) (k .1) (h .1)))
 
@@ -37,7 +37,7 @@ module _ (s : List ℕ) where
   stands-back (b ∷ w) at n a =
       and-true (eqb (getD s at 0) b) (standsAt s w (at + 1)) (eq-eqb (getD s at 0) b (byte-is a)) (stands-back w (at + 1) n (tail a))
 
-  pub stands-inside : (b : ℕ) (w : List ℕ) (at : ℕ) → noZero (b ∷ w) ≡ true → standsAt s (b ∷ w) at ≡ true → at + length (b ∷ w) ≤ length s
+  pub stands-inside : (b : ℕ) (w : List ℕ) (at : ℕ) → noZeroByte (b ∷ w) ≡ true → standsAt s (b ∷ w) at ≡ true → at + length (b ∷ w) ≤ length s
   stands-inside b w at z e = spelt-inside s at (b ∷ w) (at + length (b ∷ w)) (stands-same (b ∷ w) at z e) (omega arith)
 
 -- ---- the pubkey
@@ -109,7 +109,7 @@ pair-exact {A} {B} p q ok fine s f g ef eg = record { same = λ at z m r. one at
         )
 
 -- f is exact where w follows
-pub closed-exact : {A : Type 0} (p : A → List ℕ) (ok : A → Bool) (s w : List ℕ) (f : ℕ → Got A) → noZero w ≡ true
+pub closed-exact : {A : Type 0} (p : A → List ℕ) (ok : A → Bool) (s w : List ℕ) (f : ℕ → Got A) → noZeroByte w ≡ true
     → ((at : ℕ) (x : A) (n : ℕ) → f at ≡ got x n → Piece p ok s at x n)
     → ((at : ℕ) (x : A) (n : ℕ) → Piece p ok s at x n → Spelt s n w (n + length w) → f at ≡ got x n)
     → Exact (λ (x : A). p x ++ w) ok s (closedAt s w f)
@@ -142,7 +142,7 @@ fieldsText x =
     ++ ((decimal (x .1 .0) ++ comma) ++ ((digits (x .1 .1 .0) ++ comma) ++ ((tagsText (x .1 .1 .1 .0) ++ comma) ++ (quoted (x .1 .1 .1 .1) ++ bracket))))
 
 abbrev pub fieldsFit : Fields → Bool
-fieldsFit x = isPubkey (x .0) && (isTime (x .1 .0) && (isKind (x .1 .1 .0) && (isTags (x .1 .1 .1 .0) && isString (x .1 .1 .1 .1))))
+fieldsFit x = isPubkey (x .0) && (isTime (x .1 .0) && (isKind (x .1 .1 .0) && (isTags (x .1 .1 .1 .0) && isStringBytes (x .1 .1 .1 .1))))
 
 module _ (s : List ℕ) where
   pub pubkey-closed : Exact (λ (k : List ℕ). k ++ closing) isPubkey s (closedAt s closing (pubkeyAt s))
@@ -157,8 +157,8 @@ module _ (s : List ℕ) where
   pub tags-closed : Exact (λ (ts : List Tag). tagsText ts ++ comma) isTags s (closedAt s comma (tagsAt s))
   tags-closed = closed-exact tagsText isTags s comma (tagsAt s) refl (tags-exact s .same) (λ at x n a _. tags-exact s .back at x n a)
 
-  pub content-closed : Exact (λ (v : List ℕ). quoted v ++ bracket) isString s (closedAt s bracket (stringAt s))
-  content-closed = closed-exact quoted isString s bracket (stringAt s) refl (string-exact s .same) (λ at x n a _. string-exact s .back at x n a)
+  pub content-closed : Exact (λ (v : List ℕ). quoted v ++ bracket) isStringBytes s (closedAt s bracket (stringAt s))
+  content-closed = closed-exact quoted isStringBytes s bracket (stringAt s) refl (string-exact s .same) (λ at x n a _. string-exact s .back at x n a)
 
   pub fields-exact : Exact fieldsText fieldsFit s (fieldsAt s)
   unfolding fieldsAt

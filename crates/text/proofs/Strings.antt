@@ -7,13 +7,13 @@ use native.Mathlib.Omega.{arith}
 use lib.Dec.{eqb}
 use lib.ListN.{length, getD, take, drop, length-append, take-append-drop}
 use borrow.Author.Tests.{eq-eqb, ne-eqb, eqb-true, eqb-false}
-use Rattle.utf8.specs.Utf8.{isUtf8, utf8From, next}
+use Rattle.utf8.specs.Utf8.{isUtf8, utf8From, nextWant}
 use Rattle.utf8.specs.declared.Want.{Want}
 use Rattle.utf8.proofs.States.{Reached, lead-reached, next-reached, low-next, low-stuck, utf8-cut}
 use Rattle.wire.specs.Escape.{letterOf, escOne, escape}
-use Rattle.text.specs.Event.{quoted, isPlainByte, all, isString}
+use Rattle.text.specs.Event.{quoted, isPlainByte, all, isStringBytes}
 use Rattle.text.specs.declared.Move.the-variants.{Go, Stop, Refuse}
-use Rattle.text.specs.Read.{Got, none, got, byteOf, isRaw, push, bodyFrom, checked, stringAt}
+use Rattle.text.specs.Read.{Got, none, got, escapedByte, isRaw, pushBytes, bodyFrom, checked, stringAt}
 use Rattle.text.proofs.Pieces.{Spelt, Piece, Exact, both, and-true, spelt, join, byte-is, byte-at, tail}
 
 -- the seven bytes that have an escape, each with its letter, and the others
@@ -50,8 +50,8 @@ pick-letter {c} {k} {b} {z} p ne f = go (eqb c k) refl
     go true e = rw (eqb-true c k e) (letter p ne)
     go false e = f
 
-lettered : (c : ℕ) → Letter c (byteOf c)
-unfolding byteOf
+lettered : (c : ℕ) → Letter c (escapedByte c)
+unfolding escapedByte
 lettered c =
     pick-letter lf (λ e. omega arith)
     (pick-letter quote (λ e. omega arith)
@@ -71,17 +71,17 @@ known slash ne = (refl, refl, refl)
 known (other p q) ne = absurd (ne refl)
 
 -- ---- written, then read
-push-nil : (g : Got (List ℕ)) → push [] g ≡ g
+push-nil : (g : Got (List ℕ)) → pushBytes [] g ≡ g
 push-nil none = refl
 push-nil (got v n) = refl
 
 module _ (i : ℕ) (l : List ℕ) where
-  two : (b : ℕ) → push [] (push (b ∷ []) (bodyFrom false (i + 1 + 1) l)) ≡ push (b ∷ []) (bodyFrom false (i + 2) l)
-  two b = let e : i + 1 + 1 ≡ i + 2 = omega arith in push-nil (push (b ∷ []) (bodyFrom false (i + 1 + 1) l)) ∙ rw e
+  two : (b : ℕ) → pushBytes [] (pushBytes (b ∷ []) (bodyFrom false (i + 1 + 1) l)) ≡ pushBytes (b ∷ []) (bodyFrom false (i + 2) l)
+  two b = let e : i + 1 + 1 ≡ i + 2 = omega arith in push-nil (pushBytes (b ∷ []) (bodyFrom false (i + 1 + 1) l)) ∙ rw e
 
   one-back : (b k : ℕ) → Seven b k → k ≡ letterOf b → isPlainByte b ≡ true
-      → bodyFrom false i (cond (eqb k 0) (b ∷ []) (92 ∷ k ∷ []) ++ l) ≡ push (b ∷ []) (bodyFrom false (i + length (cond (eqb k 0) (b ∷ []) (92 ∷ k ∷ []))) l)
-  unfolding bodyFrom byteOf isRaw
+      → bodyFrom false i (cond (eqb k 0) (b ∷ []) (92 ∷ k ∷ []) ++ l) ≡ pushBytes (b ∷ []) (bodyFrom false (i + length (cond (eqb k 0) (b ∷ []) (92 ∷ k ∷ []))) l)
+  unfolding bodyFrom escapedByte isRaw
   one-back b k bs z h = two 8
   one-back b k tab z h = two 9
   one-back b k lf z h = two 10
@@ -99,7 +99,7 @@ body-back (b ∷ v) r i h =
     let z : i + length (escOne b) + length (escape v) + 1 ≡ i + length (escOne b ++ escape v) + 1 = rw length-append (omega arith) in
     rw append-assoc
     (one-back i (escape v ++ (34 ∷ r)) b (letterOf b) (seven b) refl (hh .0)
-    ∙ ap (push (b ∷ [])) (body-back v r (i + length (escOne b)) (hh .1)) ∙ ap (got (b ∷ v)) z)
+    ∙ ap (pushBytes (b ∷ [])) (body-back v r (i + length (escOne b)) (hh .1)) ∙ ap (got (b ∷ v)) z)
 
 pub escape-once : (u v : List ℕ) → all isPlainByte u ≡ true → all isPlainByte v ≡ true → escape u ≡ escape v → u ≡ v
 escape-once u v f g e =
@@ -113,7 +113,7 @@ record Unpushed (p : List ℕ) (g : Got (List ℕ)) (v : List ℕ) (n : ℕ) : T
   was : g ≡ got rest n
   is : v ≡ p ++ rest
 
-unpush : (p : List ℕ) (g : Got (List ℕ)) (v : List ℕ) (n : ℕ) → push p g ≡ got v n → Unpushed p g v n
+unpush : (p : List ℕ) (g : Got (List ℕ)) (v : List ℕ) (n : ℕ) → pushBytes p g ≡ got v n → Unpushed p g v n
 unpush p none v n e = absurd (let z : _≡_ {A = ℕ} 0 1 = cc in omega arith)
 unpush p (got w m) v n e = record { rest = w; was = ap (got w) (let z : m ≡ n = cc in z); is = (let z : p ++ w ≡ v = cc in sym z) }
 
@@ -140,7 +140,7 @@ more {e} {i} {x} {l} {w} {n} b k ke p f a = record {
 
 module _ (x i : ℕ) (l v : List ℕ) (n : ℕ) (ih : (f : Bool) (w : List ℕ) (m : ℕ) → bodyFrom f (i + 1) l ≡ got w m → Body f (i + 1) l w m) where
   after : (b : ℕ) → Letter x b
-      → (elim (cond (eqb b 0) Refuse (Go false)) as (λ _. Got (List ℕ)) [ Go f ↦ push (b ∷ []) (bodyFrom f (i + 1) l) | Stop ↦ got [] (i + 1) | Refuse ↦ none ]) ≡ got v n
+      → (elim (cond (eqb b 0) Refuse (Go false)) as (λ _. Got (List ℕ)) [ Go f ↦ pushBytes (b ∷ []) (bodyFrom f (i + 1) l) | Stop ↦ got [] (i + 1) | Refuse ↦ none ]) ≡ got v n
       → Body true i (x ∷ l) v n
   after b no-letter q = absurd (let z : _≡_ {A = ℕ} 0 1 = cc in omega arith)
   after b (letter s ne) q =
@@ -149,7 +149,7 @@ module _ (x i : ℕ) (l v : List ℕ) (n : ℕ) (ih : (f : Bool) (w : List ℕ) 
       rw (u .is) (more b x (k .0) (rw (ne-eqb x 0 ne)) (k .2) (ih false (u .rest) n (u .was)))
 
   raw : (a b : Bool) → isPlainByte x ≡ a → eqb (letterOf x) 0 ≡ b
-      → (elim (cond (a && b) (Go false) Refuse) as (λ _. Got (List ℕ)) [ Go f ↦ push (x ∷ []) (bodyFrom f (i + 1) l) | Stop ↦ got [] (i + 1) | Refuse ↦ none ]) ≡ got v n
+      → (elim (cond (a && b) (Go false) Refuse) as (λ _. Got (List ℕ)) [ Go f ↦ pushBytes (x ∷ []) (bodyFrom f (i + 1) l) | Stop ↦ got [] (i + 1) | Refuse ↦ none ]) ≡ got v n
       → Body false i (x ∷ l) v n
   raw false b ea eb q = absurd (let z : _≡_ {A = ℕ} 0 1 = cc in omega arith)
   raw true false ea eb q = absurd (let z : _≡_ {A = ℕ} 0 1 = cc in omega arith)
@@ -158,7 +158,7 @@ module _ (x i : ℕ) (l v : List ℕ) (n : ℕ) (ih : (f : Bool) (w : List ℕ) 
       rw (u .is) (more x 0 (sym (eqb-true (letterOf x) 0 eb)) refl ea (ih false (u .rest) n (u .was)))
 
   plain : (a c : Bool) → eqb x 34 ≡ a → eqb x 92 ≡ c
-      → (elim (cond a Stop (cond c (Go true) (cond (isRaw x) (Go false) Refuse))) as (λ _. Got (List ℕ)) [ Go f ↦ push (cond c [] (x ∷ [])) (bodyFrom f (i + 1) l) | Stop ↦ got [] (i + 1) | Refuse ↦ none ]) ≡ got v n
+      → (elim (cond a Stop (cond c (Go true) (cond (isRaw x) (Go false) Refuse))) as (λ _. Got (List ℕ)) [ Go f ↦ pushBytes (cond c [] (x ∷ [])) (bodyFrom f (i + 1) l) | Stop ↦ got [] (i + 1) | Refuse ↦ none ]) ≡ got v n
       → Body false i (x ∷ l) v n
   unfolding escape all isRaw
   plain true c ea ec q =
@@ -173,7 +173,7 @@ module _ (x i : ℕ) (l v : List ℕ) (n : ℕ) (ih : (f : Bool) (w : List ℕ) 
 body-same : (l : List ℕ) (e : Bool) (i : ℕ) (v : List ℕ) (n : ℕ) → bodyFrom e i l ≡ got v n → Body e i l v n
 unfolding bodyFrom
 body-same [] e i v n q = absurd (let z : _≡_ {A = ℕ} 0 1 = cc in omega arith)
-body-same (x ∷ l) true i v n q = after x i l v n (λ f. body-same l f (i + 1)) (byteOf x) (lettered x) q
+body-same (x ∷ l) true i v n q = after x i l v n (λ f. body-same l f (i + 1)) (escapedByte x) (lettered x) q
 body-same (x ∷ l) false i v n q = plain x i l v n (λ f. body-same l f (i + 1)) (eqb x 34) (eqb x 92) refl refl q
 
 pub body-spelt : (s : List ℕ) (i : ℕ) (v : List ℕ) (n : ℕ) → bodyFrom false i (drop i s) ≡ got v n → Spelt s i (escape v ++ (34 ∷ [])) n
@@ -184,12 +184,12 @@ body-spelt s i v n q =
 
 -- ---- UTF-8: a string is well formed as it is spelt where it is as it is meant
 module _ (l : List ℕ) where
-  esc-utf8 : (b k : ℕ) → b < 128 → k < 128 → (w : Want) → Reached w → utf8From (next (next w 92) k) l ≡ utf8From (next w b) l
+  esc-utf8 : (b k : ℕ) → b < 128 → k < 128 → (w : Want) → Reached w → utf8From (nextWant (nextWant w 92) k) l ≡ utf8From (nextWant w b) l
   esc-utf8 b k p q Want.Lead h = rw (low-next 92 (omega arith), low-next k q, low-next b p)
   esc-utf8 b k p q (Want.Tail lo hi m) h = rw (low-stuck {lo = lo} {hi = hi} {n = m} 92 (omega arith) h, low-stuck {lo = lo} {hi = hi} {n = m} b p h)
   esc-utf8 b k p q Want.Bad h = refl
 
-  one-utf8 : (b k : ℕ) → Seven b k → (w : Want) → Reached w → utf8From w (cond (eqb k 0) (b ∷ []) (92 ∷ k ∷ []) ++ l) ≡ utf8From (next w b) l
+  one-utf8 : (b k : ℕ) → Seven b k → (w : Want) → Reached w → utf8From w (cond (eqb k 0) (b ∷ []) (92 ∷ k ∷ []) ++ l) ≡ utf8From (nextWant w b) l
   unfolding utf8From
   one-utf8 b k bs w h = esc-utf8 8 98 (omega arith) (omega arith) w h
   one-utf8 b k tab w h = esc-utf8 9 116 (omega arith) (omega arith) w h
@@ -203,7 +203,7 @@ module _ (l : List ℕ) where
 from-escape : (v : List ℕ) (w : Want) → Reached w → utf8From w (escape v) ≡ utf8From w v
 unfolding escape escOne utf8From
 from-escape [] w h = refl
-from-escape (b ∷ v) w h = one-utf8 (escape v) b (letterOf b) (seven b) w h ∙ from-escape v (next w b) (next-reached w b h)
+from-escape (b ∷ v) w h = one-utf8 (escape v) b (letterOf b) (seven b) w h ∙ from-escape v (nextWant w b) (next-reached w b h)
 
 pub utf8-escape : (v : List ℕ) → isUtf8 (escape v) ≡ isUtf8 v
 unfolding isUtf8
@@ -220,7 +220,7 @@ body-utf8 s at v n u q e =
 
 -- ---- the whole string, with its quotes
 abbrev String : List ℕ → ℕ → List ℕ → ℕ → Type 0
-String s at v n = Piece quoted isString s at v n
+String s at v n = Piece quoted isStringBytes s at v n
 
 unchecked : (g : Got (List ℕ)) (v : List ℕ) (n : ℕ) → checked g ≡ got v n → (g ≡ got v n) × (isUtf8 v ≡ true)
 unchecked none v n e = absurd (let z : _≡_ {A = ℕ} 0 1 = cc in omega arith)
@@ -231,7 +231,7 @@ unchecked (got w m) v n e = go (isUtf8 w) refl e
     go false u q = absurd (let z : _≡_ {A = ℕ} 0 1 = cc in omega arith)
 
 string-same : (s : List ℕ) (at : ℕ) (v : List ℕ) (n : ℕ) → stringAt s at ≡ got v n → String s at v n
-unfolding stringAt quoted isString
+unfolding stringAt quoted isStringBytes
 string-same s at v n q = go (eqb (getD s at 0) 34) refl q
   where
     go : (t : Bool) → eqb (getD s at 0) 34 ≡ t → cond t (checked (bodyFrom false (at + 1) (drop (at + 1) s))) none ≡ got v n → String s at v n
@@ -244,7 +244,7 @@ string-same s at v n q = go (eqb (getD s at 0) 34) refl q
     go false e q = absurd (let z : _≡_ {A = ℕ} 0 1 = cc in omega arith)
 
 string-back : (s : List ℕ) (at : ℕ) (v : List ℕ) (n : ℕ) → String s at v n → stringAt s at ≡ got v n
-unfolding stringAt quoted isString
+unfolding stringAt quoted isStringBytes
 string-back s at v n a =
     let h = both (all isPlainByte v) (isUtf8 v) (a .fine) in
     let b = tail (a .is) in
@@ -252,5 +252,5 @@ string-back s at v n a =
     let z : at + 1 + length (escape v) + 1 ≡ n = omega (arith, b .end, length-append (escape v) (34 ∷ [])) in
     rw (eq-eqb (getD s at 0) 34 (byte-is (a .is)), e, body-back v (drop n s) (at + 1) (h .0), h .1, z)
 
-pub string-exact : (s : List ℕ) → Exact quoted isString s (stringAt s)
+pub string-exact : (s : List ℕ) → Exact quoted isStringBytes s (stringAt s)
 string-exact s = record { same = string-same s; back = string-back s }

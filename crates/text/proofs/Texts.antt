@@ -12,9 +12,9 @@ use Rattle.wire.specs.Escape.{escape}
 use Rattle.numeral.specs.Decimal.{digits, decimal}
 use Rattle.wire.specs.Limits.{mostText}
 use Rattle.text.specs.Event.{Tag, quoted, tagsText, opening, closing, comma, isPubkey}
-use Rattle.text.specs.Read.{Got, none, got, bind, standsAt, closedAt, pairAt, stringAt, tagsAt, timeAt, kindAt, pubkeyAt, fieldsAt, opened, Read, tooLarge, wrongShape, read, readText}
-use Rattle.text.specs.Answer.{dSpan, answerOf, numberOf, rowOf}
-use Rattle.text.specs.Inner.Parts.{endOf, timeIn, kindIn, isGot, opens, taggedOf, restAt, restOf}
+use Rattle.text.specs.Read.{Got, none, got, bind, standsAt, closedAt, pairAt, stringAt, tagsAt, timeAt, kindAt, pubkeyAt, fieldsAt, openedText, Read, tooLarge, wrongShape, read, readText}
+use Rattle.text.specs.Answer.{dSpan, textAnswerOf, textNumber, textReadRow}
+use Rattle.text.specs.Inner.Parts.{gotEnd, timeGot, kindGot, isGot, opens, taggedOf, restAt, restOf}
 use Rattle.text.specs.declared.Out.the-variants.{End, Bad}
 use Rattle.text.specs.declared.Time.the-variants as time
 use Rattle.text.specs.declared.Kind.the-variants as kind
@@ -76,7 +76,7 @@ quotes : (t : List ℕ) (at : ℕ) (v : List ℕ) (n : ℕ) → stringAt t at �
 unfolding quoted
 quotes t at v n e = omega (arith, string-exact t .same at v n e .is .end, length-append (escape v) (34 ∷ []))
 
-pub string-long : (t : List ℕ) (at n : ℕ) → End n ≡ endOf (stringAt t at) → at + 2 ≤ n
+pub string-long : (t : List ℕ) (at n : ℕ) → End n ≡ gotEnd (stringAt t at) → at + 2 ≤ n
 string-long t at n b = let v = end-got (stringAt t at) n b in omega (arith, quotes t at (v .it) n (v .is))
 
 module _ (t : List ℕ) (at : ℕ) where
@@ -102,11 +102,11 @@ module _ (t : List ℕ) (at : ℕ) where
       shut : closedAt t comma (tagsAt t) at ≡ got (ts .it) (m + 1)
       shut = shut-got t 44 at (tagsAt t) (ts .it) m (ts .is) (stands-byte t m 44 x e h)
 
-      pub rest-string : Bad ≡ endOf (stringAt t (m + 1)) → Told
+      pub rest-string : Bad ≡ gotEnd (stringAt t (m + 1)) → Told
       unfolding restAt
       rest-string b = no-rest (second-none _ _ at (ts .it) (m + 1) shut (shut-none t 93 (m + 1) (stringAt t) (end-bad (stringAt t (m + 1)) b)))
 
-      module _ (n : ℕ) (b : End n ≡ endOf (stringAt t (m + 1))) (y : ℕ) (f : y ≡ getD t n 0) where
+      module _ (n : ℕ) (b : End n ≡ gotEnd (stringAt t (m + 1))) (y : ℕ) (f : y ≡ getD t n 0) where
         pub rest-bracket : (y ≡ 93 → ⊥) → Told
         unfolding restAt
         rest-bracket g =
@@ -131,19 +131,19 @@ module _ (t : List ℕ) (at : ℕ) where
               rw (rest-is, eq-eqb (n + 1) (length t) k, ← z, c, ts .place, ts .size)
 
 -- ---- what the parts say
-time-got : (g : Got ℤ) (z : ℤ) (n : ℕ) → time.Is z n ≡ timeIn g → g ≡ got z n
+time-got : (g : Got ℤ) (z : ℤ) (n : ℕ) → time.Is z n ≡ timeGot g → g ≡ got z n
 time-got none z n e = absurd (let z : _≡_ {A = ℕ} 0 1 = cc in omega arith)
 time-got (got y m) z n e = cc
 
-time-none : (g : Got ℤ) → time.Not ≡ timeIn g → g ≡ none
+time-none : (g : Got ℤ) → time.Not ≡ timeGot g → g ≡ none
 time-none none e = refl
 time-none (got y m) e = absurd (let z : _≡_ {A = ℕ} 0 1 = cc in omega arith)
 
-kind-got : (g : Got ℕ) (k n : ℕ) → kind.Is k n ≡ kindIn g → g ≡ got k n
+kind-got : (g : Got ℕ) (k n : ℕ) → kind.Is k n ≡ kindGot g → g ≡ got k n
 kind-got none k n e = absurd (let z : _≡_ {A = ℕ} 0 1 = cc in omega arith)
 kind-got (got y m) k n e = cc
 
-kind-none : (g : Got ℕ) → kind.Not ≡ kindIn g → g ≡ none
+kind-none : (g : Got ℕ) → kind.Not ≡ kindGot g → g ≡ none
 kind-none none e = refl
 kind-none (got y m) e = absurd (let z : _≡_ {A = ℕ} 0 1 = cc in omega arith)
 
@@ -165,32 +165,32 @@ rest-told l at (got x n) c cl d dl e = go (eqb n l) refl e
     go false q e = absurd (let z : _≡_ {A = ℕ} 0 1 = cc in omega arith)
 
 -- ---- the whole text: the answer, and its number
-number-is : (r : Read) → numberOf (answerOf r) ≡ rowOf r
+number-is : (r : Read) → textNumber (textAnswerOf r) ≡ textReadRow r
 number-is tooLarge = refl
 number-is wrongShape = refl
 number-is (read e) = refl
 
 module _ (t : List ℕ) where
   abbrev Answers : TextAnswer → Type 0
-  Answers x = (x ≡ answerOf (readText t)) × (numberOf x ≡ rowOf (readText t))
+  Answers x = (x ≡ textAnswerOf (readText t)) × (textNumber x ≡ textReadRow (readText t))
 
-  told : {x : TextAnswer} → x ≡ answerOf (readText t) → Answers x
-  told e = (e, ap numberOf e ∙ number-is (readText t))
+  told : {x : TextAnswer} → x ≡ textAnswerOf (readText t) → Answers x
+  told e = (e, ap textNumber e ∙ number-is (readText t))
 
   pub text-large : mostText < length t → Answers answer.TooLarge
   unfolding readText
-  text-large h = let e : answer.TooLarge ≡ answerOf (readText t) = rw (lt-leb (length t) mostText h) in told e
+  text-large h = let e : answer.TooLarge ≡ textAnswerOf (readText t) = rw (lt-leb (length t) mostText h) in told e
 
   module _ (h : length t ≤ mostText) where
     abbrev Wrong : Type 0
     Wrong = Answers answer.WrongShape
 
-    wrong : opened t ≡ none → Wrong
+    wrong : openedText t ≡ none → Wrong
     unfolding readText
-    wrong e = let w : answer.WrongShape ≡ answerOf (readText t) = rw (le-leb (length t) mostText h, e) in told w
+    wrong e = let w : answer.WrongShape ≡ textAnswerOf (readText t) = rw (le-leb (length t) mostText h, e) in told w
 
     pub text-opening : opens t ≡ false → Wrong
-    unfolding opens opened fieldsAt
+    unfolding opens openedText fieldsAt
     text-opening e = wrong (go (standsAt t opening 0) (closedAt t closing (pubkeyAt t) 4) refl e)
       where
         go : (b : Bool) (g : Got (List ℕ)) → closedAt t closing (pubkeyAt t) 4 ≡ g → (b && isGot g) ≡ false → cond b (fieldsAt t 4) none ≡ none
@@ -216,30 +216,30 @@ module _ (t : List ℕ) where
           go true false c ea eb ec q = absurd (false≢true q)
           go false b c ea eb ec q = absurd (false≢true q)
 
-      pub text-time : time.Not ≡ timeIn (closedAt t comma (timeAt t) 70) → Wrong
-      unfolding opened fieldsAt
+      pub text-time : time.Not ≡ timeGot (closedAt t comma (timeAt t) 70) → Wrong
+      unfolding openedText fieldsAt
       text-time a = wrong (rw (key .first) (second-none _ _ 4 (key .it) 70 (key .is) (first-none _ _ 70 (time-none (closedAt t comma (timeAt t) 70) a))))
 
-      module _ (z : ℤ) (a : ℕ) (ea : time.Is z a ≡ timeIn (closedAt t comma (timeAt t) 70)) where
+      module _ (z : ℤ) (a : ℕ) (ea : time.Is z a ≡ timeGot (closedAt t comma (timeAt t) 70)) where
         zs : closedAt t comma (timeAt t) 70 ≡ got z a
         zs = time-got (closedAt t comma (timeAt t) 70) z a ea
 
-        pub text-kind : kind.Not ≡ kindIn (closedAt t comma (kindAt t) a) → Wrong
-        unfolding opened fieldsAt
+        pub text-kind : kind.Not ≡ kindGot (closedAt t comma (kindAt t) a) → Wrong
+        unfolding openedText fieldsAt
         text-kind b =
             wrong (rw (key .first)
             (second-none _ _ 4 (key .it) 70 (key .is) (second-none _ _ 70 z a zs (first-none _ _ a (kind-none (closedAt t comma (kindAt t) a) b)))))
 
-        module _ (k b : ℕ) (eb : kind.Is k b ≡ kindIn (closedAt t comma (kindAt t) a)) where
+        module _ (k b : ℕ) (eb : kind.Is k b ≡ kindGot (closedAt t comma (kindAt t) a)) where
           ks : closedAt t comma (kindAt t) a ≡ got k b
           ks = kind-got (closedAt t comma (kindAt t) a) k b eb
 
-          fields-none : restAt t b ≡ none → opened t ≡ none
-          unfolding opened fieldsAt restAt
+          fields-none : restAt t b ≡ none → openedText t ≡ none
+          unfolding openedText fieldsAt restAt
           fields-none r = rw (key .first) (second-none _ _ 4 (key .it) 70 (key .is) (second-none _ _ 70 z a zs (second-none _ _ a k b ks r)))
 
-          fields-got : (x : List Tag × List ℕ) (n : ℕ) → restAt t b ≡ got x n → opened t ≡ got (key .it, (z, (k, x))) n
-          unfolding opened fieldsAt restAt
+          fields-got : (x : List Tag × List ℕ) (n : ℕ) → restAt t b ≡ got x n → openedText t ≡ got (key .it, (z, (k, x))) n
+          unfolding openedText fieldsAt restAt
           fields-got x n r =
               rw (key .first) (both-got _ _ 4 (key .it) 70 (z, (k, x)) n (key .is) (both-got _ _ 70 z a (k, x) n zs (both-got _ _ a k b x n ks r)))
 
@@ -250,7 +250,7 @@ module _ (t : List ℕ) where
               long : (x : List Tag × List ℕ) (n : ℕ) (f : Bool) → eqb n (length t) ≡ f → restAt t b ≡ got x n
                   → rest.Bad ≡ cond f (rest.Is (b + length (tagsText (x .0)) + 2) (length (escape (x .1))) (dSpan (b + 1) (x .0) .at) (dSpan (b + 1) (x .0) .len)) rest.Bad → Wrong
               long x n true ef r q = absurd (let z : _≡_ {A = ℕ} 0 1 = cc in omega arith)
-              long x n false ef r q = let w : answer.WrongShape ≡ answerOf (readText t) = rw (le-leb (length t) mostText h, fields-got x n r, ef) in told w
+              long x n false ef r q = let w : answer.WrongShape ≡ textAnswerOf (readText t) = rw (le-leb (length t) mostText h, fields-got x n r, ef) in told w
 
               go : (g : Got (List Tag × List ℕ)) → restAt t b ≡ g → rest.Bad ≡ restOf (length t) b g → Wrong
               go none r q = wrong (fields-none r)
@@ -264,6 +264,6 @@ module _ (t : List ℕ) where
               let za = time-closed t .same 70 z a zs .is .end in
               let kb = kind-closed t .same a k b ks .is .end in
               let p : 72 + length (decimal z) + length (digits k) ≡ b = omega (arith, za, kb, length-append (decimal z) comma, length-append (digits k) comma) in
-              let e : answer.Read (record { time = z; kind = k; tags = b; content = c; «content_len» = cl; d = d; «d_len» = dl }) ≡ answerOf (readText t) =
+              let e : answer.Read (record { time = z; kind = k; tags = b; content = c; «content_len» = cl; d = d; «d_len» = dl }) ≡ textAnswerOf (readText t) =
               rw (le-leb (length t) mostText h, fields-got (r .it) (length t) (r .is), eq-eqb (length t) (length t) refl, p, r .content, r .content-len, r .place, r .size) in
               told e

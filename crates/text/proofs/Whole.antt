@@ -8,7 +8,7 @@ use lib.Dec.{eqb, leb}
 use lib.IntN.{ℤ, pos, negsuc}
 use lib.ListN.{length}
 use borrow.Author.Tests.{le-leb, leb-true}
-use Rattle.utf8.specs.Utf8.{leadOf, next, ends, utf8From, isUtf8}
+use Rattle.utf8.specs.Utf8.{leadOf, nextWant, ends, utf8From, isUtf8}
 use Rattle.utf8.specs.declared.Want.{Want}
 use Rattle.utf8.specs.declared.Want.the-variants.{Lead, Tail, Bad}
 use Rattle.wire.specs.Escape.{escape}
@@ -16,9 +16,9 @@ use Rattle.wire.specs.Bytes.{isHex}
 use Rattle.wire.specs.Limits.{mostText, hexLength, mostTags, mostStrings}
 use Rattle.numeral.specs.Decimal.{digits, decimal}
 use Rattle.numeral.proofs.Digits.{digits-one, digits-split, by-digits}
-use Rattle.text.specs.Event.{Tag, Event, quoted, membersText, tagText, tagsText, opening, closing, comma, bracket, serialise, all, isPlainByte, isPubkey, isString, isTag, isTags, isFit}
+use Rattle.text.specs.Event.{Tag, Event, quoted, membersText, tagText, tagsText, opening, closing, comma, bracket, serialise, all, isPlainByte, isPubkey, isStringBytes, isTag, isTags, isFit}
 use Rattle.text.specs.Read.{wrongShape, readText}
-use Rattle.text.specs.Answer.{answerOf, numberOf, rowOf}
+use Rattle.text.specs.Answer.{textAnswerOf, textNumber, textReadRow}
 use Rattle.text.specs.declared.TextAnswer.the-variants as answer
 use Rattle.text.proofs.Pieces.{both}
 use Rattle.text.proofs.Strings.{utf8-escape}
@@ -47,10 +47,10 @@ unfolding utf8From
 from [] Lead r e = refl
 from [] (Tail lo hi n) r e = absurd (false≢true e)
 from [] Bad r e = absurd (false≢true e)
-from (x ∷ v) w r e = from v (next w x) r e
+from (x ∷ v) w r e = from v (nextWant w x) r e
 
-string : (v : List ℕ) → isString v ≡ true → Whole (quoted v)
-unfolding quoted isString isUtf8
+string : (v : List ℕ) → isStringBytes v ≡ true → Whole (quoted v)
+unfolding quoted isStringBytes isUtf8
 string v h =
     low 34 (escape v ++ (34 ∷ [])) (omega arith)
     (two (escape v) (34 ∷ []) (record { on = λ r. from (escape v) Lead r (utf8-escape v ∙ both (all isPlainByte v) (isUtf8 v) h .1) }) (one 34 (omega arith)))
@@ -66,8 +66,8 @@ members print ok f (x ∷ y ∷ ys) h =
 tag : (t : Tag) → isTag t ≡ true → Whole (tagText t)
 unfolding tagText isTag
 tag t h =
-    let k = both (leb (length t) mostStrings) (all isString t) (both (leb 1 (length t)) (leb (length t) mostStrings && all isString t) h .1) in
-    low 91 (membersText quoted t) (omega arith) (members quoted isString string t (k .1))
+    let k = both (leb (length t) mostStrings) (all isStringBytes t) (both (leb 1 (length t)) (leb (length t) mostStrings && all isStringBytes t) h .1) in
+    low 91 (membersText quoted t) (omega arith) (members quoted isStringBytes string t (k .1))
 
 tags : (ts : List Tag) → isTags ts ≡ true → Whole (tagsText ts)
 unfolding tagsText isTags
@@ -124,7 +124,7 @@ unfolding isUtf8 utf8From
 serialise-utf8 e h = ap (utf8From Lead) (sym (append-nil (serialise e))) ∙ text e h .on []
 
 pub text-not : (t : List ℕ) → length t ≤ mostText → isUtf8 t ≡ false →
-    (answer.WrongShape ≡ answerOf (readText t)) × (numberOf answer.WrongShape ≡ rowOf (readText t))
+    (answer.WrongShape ≡ textAnswerOf (readText t)) × (textNumber answer.WrongShape ≡ textReadRow (readText t))
 text-not t h u =
     let w : readText t ≡ wrongShape = wrong-shape t .1 (h, λ e f s. false≢true (sym u ∙ ap isUtf8 (sym s) ∙ serialise-utf8 e f)) in
-    (ap answerOf (sym w), ap rowOf (sym w))
+    (ap textAnswerOf (sym w), ap textReadRow (sym w))

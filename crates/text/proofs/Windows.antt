@@ -8,7 +8,7 @@ use native.Mathlib.Omega.{arith}
 use lib.Dec.{eqb, ltb, leb}
 use lib.ListN.{length, getD, drop}
 use borrow.Author.Tests.{le-leb, lt-leb, lt-ltb, ne-eqb, leb-true, leb-false, ltb-true, ltb-false}
-use Rattle.utf8.specs.Utf8.{leadOf, next, ends, utf8From, isUtf8}
+use Rattle.utf8.specs.Utf8.{leadOf, nextWant, ends, utf8From, isUtf8}
 use Rattle.utf8.specs.declared.Want.{Want}
 use Rattle.utf8.specs.declared.Want.the-variants.{Lead, Tail, Bad}
 use Rattle.utf8.proofs.Laws.{turn, over, bad}
@@ -173,7 +173,7 @@ module _ (c b a x : ℕ) where
       go (one-more p e) = within any (no-more {c = b} {b = a} {a = x} (omega arith) p (rw (lt-leb 0xc2 x (omega arith)) e))
       go (two-more p) = within any (one-more {c = b} {b = a} {a = x} (omega arith) (rw (lt-leb 0xe0 x (omega arith), le-leb 0xf0 a p)))
 
-  at-tail : {lo hi n : ℕ} → Wide lo hi a → Left n c b a → Told (isWrong c b a x) (next (Tail lo hi n) x) b a x
+  at-tail : {lo hi n : ℕ} → Wide lo hi a → Left n c b a → Told (isWrong c b a x) (nextWant (Tail lo hi n) x) b a x
   unfolding isWrong
   at-tail {lo} {hi} {n} w l = rw (left-wants l, or-none (ltb x 0x80 || ltb 0xbf x), w .is x) (go (ltb x lo) (ltb hi x) refl refl)
     where
@@ -185,7 +185,7 @@ module _ (c b a x : ℕ) where
           let (p, q) = or-false _ _ (or-false _ _ z .0) in
           is-right (tailed l (ltb-false x 0x80 p) (ltb-false 0xbf x q))
 
-  step : {w : Want} → Fits w c b a → Told (isWrong c b a x) (next w x) b a x
+  step : {w : Want} → Fits w c b a → Told (isWrong c b a x) (nextWant w x) b a x
   step (between p q r) = at-lead p q r
   step (within w l) = at-tail w l
 
@@ -214,12 +214,12 @@ seen-more {u} {s} {i} {c} {b} {a} {wrong} o h t e = go wrong (o .fits) (o .same)
     go true f q = record { want = Lead; fits = λ z. absurd (false≢true (sym z)); same = q }
     go false f q = on t (rw (← e) at (step c b a x (f refl)))
       where
-        m : u ≡ utf8From (next (o .want) x) (drop (i + 1) s)
-        m = q ∙ turn (o .want) s i h (next (o .want) x) refl
+        m : u ≡ utf8From (nextWant (o .want) x) (drop (i + 1) s)
+        m = q ∙ turn (o .want) s i h (nextWant (o .want) x) refl
 
-        on : (t : Bool) → Told t (next (o .want) x) b a x → Seen u s (i + 1) b a x t
+        on : (t : Bool) → Told t (nextWant (o .want) x) b a x → Seen u s (i + 1) b a x t
         on true r = record { want = Bad; fits = λ z. absurd (false≢true (sym z)); same = m ∙ rw (r .wrong refl) (bad (drop (i + 1) s)) }
-        on false r = record { want = next (o .want) x; fits = r .right; same = m }
+        on false r = record { want = nextWant (o .want) x; fits = r .right; same = m }
 
 pub seen-all : {u : Bool} {s : List ℕ} {i c b a : ℕ} {wrong : Bool} → Seen u s i c b a wrong → length s ≤ i → (t : Bool) → t ≡ wantsTail c b a → not (wrong || t) ≡ u
 seen-all {u} {s} {i} {c} {b} {a} {wrong} o h t e = go wrong (o .fits) (o .same)

@@ -19,14 +19,14 @@ pub record Span : Type 0 where
   pub len : ℕ
 
 -- both 0 for no bytes
-abbrev pub spanOf : ℕ → Bytes → Span
-spanOf i [] = record { at = 0; len = 0 }
-spanOf i (x ∷ l) = record { at = i; len = length (x ∷ l) }
+abbrev pub spanBehind : ℕ → Bytes → Span
+spanBehind i [] = record { at = 0; len = 0 }
+spanBehind i (x ∷ l) = record { at = i; len = length (x ∷ l) }
 
 -- d's escaped bytes, where the first of the tags stands at i: six bytes after its tag's bracket
 unfoldable pub dSpan : ℕ → List Tag → Span
-dSpan i [] = spanOf i []
-dSpan i (t ∷ ts) = cond (isNamedD t) (spanOf (i + 6) (escape (second t))) (dSpan (i + length (tagText t) + 1) ts)
+dSpan i [] = spanBehind i []
+dSpan i (t ∷ ts) = cond (isNamedD t) (spanBehind (i + 6) (escape (second t))) (dSpan (i + length (tagText t) + 1) ts)
 
 -- after [0,"PUBKEY",TIME,KIND,
 abbrev pub tagsPlace : Event → ℕ
@@ -36,8 +36,8 @@ tagsPlace e = 72 + length (decimal (e .time)) + length (digits (e .kind))
 abbrev pub contentPlace : Event → ℕ
 contentPlace e = tagsPlace e + length (tagsText (e .tags)) + 2
 
-abbrev pub textOf : Event → Text
-textOf e = record {
+abbrev pub textParts : Event → Text
+textParts e = record {
   time = e .time;
   kind = e .kind;
   tags = tagsPlace e;
@@ -47,19 +47,19 @@ textOf e = record {
   «d_len» = dSpan (tagsPlace e + 1) (e .tags) .len;
 }
 
-abbrev pub answerOf : Read → TextAnswer
-answerOf tooLarge = answer.TooLarge
-answerOf wrongShape = answer.WrongShape
-answerOf (read e) = answer.Read (textOf e)
+abbrev pub textAnswerOf : Read → TextAnswer
+textAnswerOf tooLarge = answer.TooLarge
+textAnswerOf wrongShape = answer.WrongShape
+textAnswerOf (read e) = answer.Read (textParts e)
 
 -- the number of 01
-abbrev pub numberOf : TextAnswer → ℕ
-numberOf (answer.Read x) = 0
-numberOf answer.TooLarge = 9
-numberOf answer.WrongShape = 5
+abbrev pub textNumber : TextAnswer → ℕ
+textNumber (answer.Read x) = 0
+textNumber answer.TooLarge = 9
+textNumber answer.WrongShape = 5
 
 -- and of what reading gives: "refused by 9 if over 4,096 bytes, else by 5"
-abbrev pub rowOf : Read → ℕ
-rowOf tooLarge = 9
-rowOf wrongShape = 5
-rowOf (read e) = 0
+abbrev pub textReadRow : Read → ℕ
+textReadRow tooLarge = 9
+textReadRow wrongShape = 5
+textReadRow (read e) = 0

@@ -79,15 +79,15 @@ isKind k = leb k mostSmall
 unfoldable pub isPlainByte : ℕ → Bool
 isPlainByte b = not (isControl b)
 
-unfoldable pub isString : Bytes → Bool
-isString v = all isPlainByte v && isUtf8 v
+unfoldable pub isStringBytes : Bytes → Bool
+isStringBytes v = all isPlainByte v && isUtf8 v
 
 unfoldable pub isTag : Tag → Bool
-isTag t = leb 1 (length t) && (leb (length t) mostStrings && all isString t)
+isTag t = leb 1 (length t) && (leb (length t) mostStrings && all isStringBytes t)
 
 unfoldable pub isTags : List Tag → Bool
 isTags ts = leb (length ts) mostTags && all isTag ts
 
 -- an event within the limits, but for its text's length
 unfoldable pub isFit : Event → Bool
-isFit e = isPubkey (e .pubkey) && (isTime (e .time) && (isKind (e .kind) && (isTags (e .tags) && isString (e .content))))
+isFit e = isPubkey (e .pubkey) && (isTime (e .time) && (isKind (e .kind) && (isTags (e .tags) && isStringBytes (e .content))))

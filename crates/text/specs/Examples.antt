@@ -8,7 +8,7 @@ use Rattle.wire.specs.Bytes.{those}
 use Rattle.wire.specs.Escape.{letterOf}
 use Rattle.utf8.specs.Utf8.{isUtf8, utf8From, leadOf}
 use Rattle.text.specs.Event.{isPlainByte}
-use Rattle.text.specs.Read.{none, got, byteOf, isRaw, bodyFrom, stringAt}
+use Rattle.text.specs.Read.{none, got, escapedByte, isRaw, bodyFrom, stringAt}
 use Rattle.text.specs.Kinds.{classOf, dOf}
 use Rattle.text.specs.declared.Class.the-variants.{Regular, Replaceable, Ephemeral, Addressable}
 
@@ -20,12 +20,12 @@ unfolding isRaw isPlainByte letterOf
 never-raw = refl
 
 -- ---- after a backslash: " \ b f n r t, and what they stand for
-letters : those (λ c. not (eqb (byteOf c) 0)) 256 ≡ 34 ∷ 92 ∷ 98 ∷ 102 ∷ 110 ∷ 114 ∷ 116 ∷ []
-unfolding byteOf
+letters : those (λ c. not (eqb (escapedByte c) 0)) 256 ≡ 34 ∷ 92 ∷ 98 ∷ 102 ∷ 110 ∷ 114 ∷ 116 ∷ []
+unfolding escapedByte
 letters = refl
 
-stand-for : map byteOf (34 ∷ 92 ∷ 98 ∷ 102 ∷ 110 ∷ 114 ∷ 116 ∷ []) ≡ 0x22 ∷ 0x5c ∷ 0x08 ∷ 0x0c ∷ 0x0a ∷ 0x0d ∷ 0x09 ∷ []
-unfolding byteOf
+stand-for : map escapedByte (34 ∷ 92 ∷ 98 ∷ 102 ∷ 110 ∷ 114 ∷ 116 ∷ []) ≡ 0x22 ∷ 0x5c ∷ 0x08 ∷ 0x0c ∷ 0x0a ∷ 0x0d ∷ 0x09 ∷ []
+unfolding escapedByte
 stand-for = refl
 
 -- the string of ,"\\\"n"] at 1 is \"n and ends before the bracket; "\/", "\u0041" and a raw 09 are no spellings of the text; / and 7F stand as they are
@@ -35,7 +35,7 @@ strings :
     × (stringAt (ascii "\"\\u0041\"") 0 ≡ none)
     × (stringAt (34 ∷ 9 ∷ 34 ∷ []) 0 ≡ none)
     × (stringAt (34 ∷ 47 ∷ 127 ∷ 34 ∷ []) 0 ≡ got (47 ∷ 127 ∷ []) 4)
-unfolding stringAt bodyFrom byteOf isRaw isPlainByte letterOf isUtf8 utf8From leadOf
+unfolding stringAt bodyFrom escapedByte isRaw isPlainByte letterOf isUtf8 utf8From leadOf
 strings = (refl, refl, refl, refl, refl)
 
 -- ---- both sides of each border of the kinds

@@ -41,8 +41,8 @@ pairAt f g at = bind (f at) λ x n. bind (g n) λ y m. got (x, y) m
 
 -- ---- strings
 -- the byte that a letter after a backslash stands for, and 0 for no such letter
-unfoldable pub byteOf : ℕ → ℕ
-byteOf c =
+unfoldable pub escapedByte : ℕ → ℕ
+escapedByte c =
     cond (eqb c 110) 0x0a
     (cond (eqb c 34) 0x22 (cond (eqb c 92) 0x5c (cond (eqb c 114) 0x0d (cond (eqb c 116) 0x09 (cond (eqb c 98) 0x08 (cond (eqb c 102) 0x0c 0))))))
 
@@ -52,22 +52,22 @@ isRaw x = isPlainByte x && eqb (letterOf x) 0
 
 -- what the byte x does, after a backslash or not
 abbrev pub moveOf : Bool → ℕ → Move
-moveOf true x = cond (eqb (byteOf x) 0) Refuse (Go false)
+moveOf true x = cond (eqb (escapedByte x) 0) Refuse (Go false)
 moveOf false x = cond (eqb x 34) Stop (cond (eqb x 92) (Go true) (cond (isRaw x) (Go false) Refuse))
 
 -- what it adds to the string
 abbrev pub saidOf : Bool → ℕ → Bytes
-saidOf true x = byteOf x ∷ []
+saidOf true x = escapedByte x ∷ []
 saidOf false x = cond (eqb x 92) [] (x ∷ [])
 
-abbrev pub push : Bytes → Got (List ℕ) → Got (List ℕ)
-push p none = none
-push p (got v n) = got (p ++ v) n
+abbrev pub pushBytes : Bytes → Got (List ℕ) → Got (List ℕ)
+pushBytes p none = none
+pushBytes p (got v n) = got (p ++ v) n
 
 -- a string after its opening quote, with the closing one; the list stands at i
 unfoldable pub bodyFrom : (e : Bool) (i : ℕ) (l : Bytes) → Got (List ℕ)
 bodyFrom e i [] = none
-bodyFrom e i (x ∷ l) = elim (moveOf e x) [ Go f ↦ push (saidOf e x) (bodyFrom f (i + 1) l) | Stop ↦ got [] (i + 1) | Refuse ↦ none ]
+bodyFrom e i (x ∷ l) = elim (moveOf e x) [ Go f ↦ pushBytes (saidOf e x) (bodyFrom f (i + 1) l) | Stop ↦ got [] (i + 1) | Refuse ↦ none ]
 
 abbrev pub checked : Got (List ℕ) → Got (List ℕ)
 checked none = none
@@ -85,16 +85,16 @@ cons x (got xs n) = got (x ∷ xs) n
 abbrev pub follow : {A : Type 0} (x : A) (b n : ℕ) (more : Got (List A)) → Got (List A)
 follow x b n more = cond (eqb b 44) (cons x more) (cond (eqb b 93) (got (x ∷ []) (n + 1)) none)
 
-unfoldable pub membersAt : {A : Type 0} (one : ℕ → Got A) (s : Bytes) (k : ℕ) (at : Place) → Got (List A)
-membersAt one s zero at = none
-membersAt one s (suc k) at = bind (one at) λ x n. follow x (getD s n 0) n (membersAt one s k (n + 1))
+unfoldable pub textMembersAt : {A : Type 0} (one : ℕ → Got A) (s : Bytes) (k : ℕ) (at : Place) → Got (List A)
+textMembersAt one s zero at = none
+textMembersAt one s (suc k) at = bind (one at) λ x n. follow x (getD s n 0) n (textMembersAt one s k (n + 1))
 
 unfoldable pub tagAt : Bytes → Place → Got Tag
-tagAt s at = cond (eqb (getD s at 0) 91) (membersAt (stringAt s) s mostStrings (at + 1)) none
+tagAt s at = cond (eqb (getD s at 0) 91) (textMembersAt (stringAt s) s mostStrings (at + 1)) none
 
 -- or none at all
 unfoldable pub tagsAt : Bytes → Place → Got (List Tag)
-tagsAt s at = cond (eqb (getD s at 0) 91) (cond (eqb (getD s (at + 1) 0) 93) (got [] (at + 2)) (membersAt (tagAt s) s mostTags (at + 1))) none
+tagsAt s at = cond (eqb (getD s at 0) 91) (cond (eqb (getD s (at + 1) 0) 93) (got [] (at + 2)) (textMembersAt (tagAt s) s mostTags (at + 1))) none
 
 -- ---- numbers
 -- the bytes before the next comma
@@ -102,11 +102,11 @@ unfoldable pub runOf : Bytes → Bytes
 runOf [] = []
 runOf (x ∷ l) = cond (eqb x 44) [] (x ∷ runOf l)
 
-abbrev pub timeOf : numeral.Read → ℕ → Got ℤ
+abbrev pub timeOf : numeral.Spelled → ℕ → Got ℤ
 timeOf numeral.malformed n = none
 timeOf (numeral.whole z) n = cond (isTime z) (got z n) none
 
-abbrev pub kindOf : numeral.Read → ℕ → Got ℕ
+abbrev pub kindOf : numeral.Spelled → ℕ → Got ℕ
 kindOf numeral.malformed n = none
 kindOf (numeral.whole (negsuc k)) n = none
 kindOf (numeral.whole (pos k)) n = cond (isKind k) (got k n) none
@@ -134,8 +134,8 @@ fieldsAt s =
     pairAt (closedAt s closing (pubkeyAt s))
     (pairAt (closedAt s comma (timeAt s)) (pairAt (closedAt s comma (kindAt s)) (pairAt (closedAt s comma (tagsAt s)) (closedAt s bracket (stringAt s)))))
 
-abbrev pub eventOf : Fields → Event
-eventOf x = record { pubkey = x .0; time = x .1 .0; kind = x .1 .1 .0; tags = x .1 .1 .1 .0; content = x .1 .1 .1 .1 }
+abbrev pub eventOfFields : Fields → Event
+eventOfFields x = record { pubkey = x .0; time = x .1 .0; kind = x .1 .1 .0; tags = x .1 .1 .1 .0; content = x .1 .1 .1 .1 }
 
 -- refused by row 9 or row 5, or read
 pub data Read : Type 0 where
@@ -145,14 +145,14 @@ pub data Read : Type 0 where
 -- the text ends after its event
 abbrev pub ending : Bytes → Got Fields → Read
 ending t none = wrongShape
-ending t (got x n) = cond (eqb n (length t)) (read (eventOf x)) wrongShape
+ending t (got x n) = cond (eqb n (length t)) (read (eventOfFields x)) wrongShape
 
-unfoldable pub opened : Bytes → Got Fields
-opened t = cond (standsAt t opening 0) (fieldsAt t (length opening)) none
+unfoldable pub openedText : Bytes → Got Fields
+openedText t = cond (standsAt t opening 0) (fieldsAt t (length opening)) none
 
 -- refused by 9 if over 4,096 bytes, else by 5 if it isn't byte for byte the serialisation of an event within these limits
 unfoldable pub readText : Bytes → Read
-readText t = cond (leb (length t) mostText) (ending t (opened t)) tooLarge
+readText t = cond (leb (length t) mostText) (ending t (openedText t)) tooLarge
 
 -- t is the serialisation of e, an event within these limits
 pub record IsTextOf (t : List ℕ) (e : Event) : Type 0 where

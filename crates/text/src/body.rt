@@ -5,12 +5,12 @@ ghost use Prim.Native.Nat.{_+_, _≤_};
 ghost use lib.ListN.{length, drop};
 ghost use Rattle.utf8.specs.Utf8.{isUtf8};
 ghost use Rattle.text.specs.Read.{standsAt, isRaw, bodyFrom, stringAt};
-ghost use Rattle.text.specs.Inner.Parts.{endOf, isLetter, Passes, Raws, noZero};
+ghost use Rattle.text.specs.Inner.Parts.{gotEnd, isLetter, Passes, Raws, noZeroByte};
 use crate::Out;
 
 // Whether the bytes of `w` stand at a place.
 pub(crate) fn stands(s: &[u8], at: usize, w: &[u8]) -> bool
-    requires { ⌜ noZero (now w) ≡ true ⌝ }
+    requires { ⌜ noZeroByte (now w) ≡ true ⌝ }
     ensures { λ r. ⌜ r ≡ standsAt (now (s .entry)) (now (w .entry)) at ⌝ }
 {
     let mut i = at;
@@ -106,7 +106,7 @@ pub(crate) fn past_escapes(s: &[u8], at: usize) -> usize
 // The place after the closing quote of a string whose opening quote stands before `at`. Bytes go one at a time until 16 in a row stood as they
 // are: short strings, and escapes close to each other, are faster so.
 pub(crate) fn body_end(s: &[u8], at: usize) -> Out
-    ensures { λ r. ⌜ r ≡ endOf (bodyFrom false at (drop at (now (s .entry)))) ⌝ }
+    ensures { λ r. ⌜ r ≡ gotEnd (bodyFrom false at (drop at (now (s .entry)))) ⌝ }
 {
     let mut i = at;
     let mut run: usize = 0;
@@ -139,7 +139,7 @@ pub(crate) fn body_end(s: &[u8], at: usize) -> Out
 // A string with its quotes. In a text that is UTF-8 each string is.
 pub(crate) fn string_end(s: &[u8], at: usize) -> Out
     requires { ⌜ isUtf8 (now s) ≡ true ⌝ }
-    ensures { λ r. ⌜ r ≡ endOf (stringAt (now (s .entry)) at) ⌝ }
+    ensures { λ r. ⌜ r ≡ gotEnd (stringAt (now (s .entry)) at) ⌝ }
 {
     if wire::byte(s, at) != b'"' {
         return Out::Bad;

@@ -2,7 +2,7 @@
 ghost use mathlib.Core.Path.{_≡_};
 ghost use Rattle.text.specs.Read.{readText};
 ghost use Rattle.text.specs.Kinds.{classOf};
-ghost use Rattle.text.specs.Answer.{answerOf, numberOf, rowOf};
+ghost use Rattle.text.specs.Answer.{textAnswerOf, textNumber, textReadRow};
 
 mod body;
 mod octets;
@@ -107,8 +107,8 @@ pub fn class_of(kind: u16) -> Class
 
 // A text read back alone.
 pub fn read_text(t: &[u8]) -> TextAnswer
-    ensures { λ r. ⌜ r ≡ answerOf (readText (now (t .entry))) ⌝ }
-    ensures { λ r. ⌜ numberOf r ≡ rowOf (readText (now (t .entry))) ⌝ }
+    ensures { λ r. ⌜ r ≡ textAnswerOf (readText (now (t .entry))) ⌝ }
+    ensures { λ r. ⌜ textNumber r ≡ textReadRow (readText (now (t .entry))) ⌝ }
 {
     if wire::MOST_TEXT < t.len() {
         return TextAnswer::TooLarge;

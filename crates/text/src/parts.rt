@@ -9,8 +9,8 @@ ghost use Rattle.utf8.specs.Utf8.{isUtf8};
 ghost use Rattle.text.specs.Event.{Tag, comma, isPubkey};
 ghost use Rattle.text.specs.Read.{got, closedAt, tagAt, tagsAt, runOf, timeAt, kindAt};
 ghost use Rattle.text.specs.Kinds.{isNamedD, second};
-ghost use Rattle.text.specs.Answer.{spanOf};
-ghost use Rattle.text.specs.Inner.Parts.{endOf, timeIn, kindIn, opens, foundOf, lookOf, taggedOf, restAt, restOf};
+ghost use Rattle.text.specs.Answer.{spanBehind};
+ghost use Rattle.text.specs.Inner.Parts.{gotEnd, timeGot, kindGot, opens, foundOf, lookOf, taggedOf, restAt, restOf};
 use crate::Found;
 use crate::Kind;
 use crate::Out;
@@ -24,7 +24,7 @@ pub(crate) const MOST_KIND: u64 = wire::MOST_SMALL as u64;
 // 1 to 16 strings between brackets.
 pub(crate) fn tag_end(s: &[u8], at: usize) -> Out
     requires { ⌜ isUtf8 (now s) ≡ true ⌝ }
-    ensures { λ r. ⌜ r ≡ endOf (tagAt (now (s .entry)) at) ⌝ }
+    ensures { λ r. ⌜ r ≡ gotEnd (tagAt (now (s .entry)) at) ⌝ }
 {
     if wire::byte(s, at) != b'[' {
         return Out::Bad;
@@ -55,7 +55,7 @@ pub(crate) fn tag_end(s: &[u8], at: usize) -> Out
 // The second string of a tag named d.
 pub(crate) fn second_at(s: &[u8], i: usize) -> Found
     requires { ⌜ i + 4 ≤ length (now s) ⌝ }
-    ensures { λ r. ⌜ ((t : Tag) (n : ℕ) → tagAt (now (s .entry)) i ≡ got t n → isNamedD t ≡ true → r ≡ foundOf (spanOf (i + 6) (escape (second t)))) ⌝ }
+    ensures { λ r. ⌜ ((t : Tag) (n : ℕ) → tagAt (now (s .entry)) i ≡ got t n → isNamedD t ≡ true → r ≡ foundOf (spanBehind (i + 6) (escape (second t)))) ⌝ }
 {
     let a = i + 4;
     if !body::stands(s, a, b",\"") {
@@ -149,7 +149,7 @@ pub(crate) fn next_comma(s: &[u8], at: usize) -> usize
 }
 
 pub(crate) fn time_at(s: &[u8], at: usize) -> Time
-    ensures { λ r. ⌜ r ≡ timeIn (closedAt (now (s .entry)) comma (timeAt (now (s .entry))) at) ⌝ }
+    ensures { λ r. ⌜ r ≡ timeGot (closedAt (now (s .entry)) comma (timeAt (now (s .entry))) at) ⌝ }
 {
     let n = next_comma(s, at);
     if s.len() <= n {
@@ -163,7 +163,7 @@ pub(crate) fn time_at(s: &[u8], at: usize) -> Time
 }
 
 pub(crate) fn kind_at(s: &[u8], at: usize) -> Kind
-    ensures { λ r. ⌜ r ≡ kindIn (closedAt (now (s .entry)) comma (kindAt (now (s .entry))) at) ⌝ }
+    ensures { λ r. ⌜ r ≡ kindGot (closedAt (now (s .entry)) comma (kindAt (now (s .entry))) at) ⌝ }
 {
     let n = next_comma(s, at);
     if s.len() <= n {

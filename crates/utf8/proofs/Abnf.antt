@@ -10,7 +10,7 @@ use borrow.Author.Tests.{le-leb, lt-leb, le-ltb, leb-true, leb-false, ltb-false}
 use lib.Dec.{leb, ltb, eqb, eqb·suc-zero}
 use Rattle.utf8.specs.declared.Want.{Want}
 use Rattle.utf8.specs.declared.Want.the-variants.{Lead, Tail, Bad}
-use Rattle.utf8.specs.Utf8.{leadOf, next, ends, utf8From, isUtf8}
+use Rattle.utf8.specs.Utf8.{leadOf, nextWant, ends, utf8From, isUtf8}
 use Rattle.utf8.specs.Abnf.{Range, Octets, none, utf8-1, utf8-2, utf8-3-e0, utf8-3-e1, utf8-3-ed, utf8-3-ee, utf8-4-f0, utf8-4-f1, utf8-4-f4, AsInAbnf}
 
 -- what a first octet of each range wants next
@@ -36,10 +36,10 @@ module _ {a : ℕ} where
   lead-f1 r = rw (lt-leb a 0x7f (omega arith), lt-leb a 0xc1 (omega arith), lt-leb a 0xdf (omega arith), lt-leb a 0xe0 (omega arith), lt-leb a 0xec (omega arith), lt-leb a 0xed (omega arith), lt-leb a 0xef (omega arith), lt-leb a 0xf0 (omega arith), le-leb a 0xf3 (r .high))
 
 -- an octet of the range that is wanted, the last one or not
-tail-last : {lo hi x : ℕ} → Range lo hi x → next (Tail lo hi 0) x ≡ Lead
+tail-last : {lo hi x : ℕ} → Range lo hi x → nextWant (Tail lo hi 0) x ≡ Lead
 tail-last {lo} {hi} {x} r = rw (le-ltb x lo (r .low), le-ltb hi x (r .high))
 
-tail-more : {lo hi x : ℕ} (n : ℕ) → Range lo hi x → next (Tail lo hi (suc n)) x ≡ Tail 0x80 0xbf n
+tail-more : {lo hi x : ℕ} (n : ℕ) → Range lo hi x → nextWant (Tail lo hi (suc n)) x ≡ Tail 0x80 0xbf n
 tail-more {lo} {hi} {x} n r = rw (le-ltb x lo (r .low), le-ltb hi x (r .high), eqb·suc-zero n, sub-one)
 
 accepts : {s : List ℕ} → Octets s → utf8From Lead s ≡ true
@@ -69,7 +69,7 @@ pick : (u v : Want) (s : List ℕ) {R : Type 0} (b : Bool) → (b ≡ true → A
 pick u v s true f g a = f refl a
 pick u v s false f g a = g refl a
 
-tail-back : (lo hi n x : ℕ) (s : List ℕ) → After (next (Tail lo hi n) x) s → Tails lo hi n (x ∷ s)
+tail-back : (lo hi n x : ℕ) (s : List ℕ) → After (nextWant (Tail lo hi n) x) s → Tails lo hi n (x ∷ s)
 tail-back lo hi n x s a =
     pick _ _ s (ltb x lo) (λ _ z. absurd z) (λ l. pick _ _ s (ltb hi x) (λ _ z. absurd z) (λ h. go n (record { low = ltb-false x lo l; high = ltb-false hi x h }))) a
   where
@@ -123,7 +123,7 @@ lead-back x s a =
     only : {lo : ℕ} → leb x lo ≡ false → leb x (suc lo) ≡ true → x ≡ suc lo
     only {lo} n e = omega (arith, leb-false x lo n, leb-true x (suc lo) e)
 
-back : (w : Want) (x : ℕ) (s : List ℕ) → After (next w x) s → After w (x ∷ s)
+back : (w : Want) (x : ℕ) (s : List ℕ) → After (nextWant w x) s → After w (x ∷ s)
 back Lead x s a = lead-back x s a
 back (Tail lo hi n) x s a = tail-back lo hi n x s a
 back Bad x s a = a
@@ -136,7 +136,7 @@ derives w [] e = ended w e
     ended Lead e = none
     ended (Tail lo hi n) e = absurd (let z : _≡_ {A = ℕ} 0 1 = cc in omega arith)
     ended Bad e = absurd (let z : _≡_ {A = ℕ} 0 1 = cc in omega arith)
-derives w (x ∷ s) e = back w x s (derives (next w x) s e)
+derives w (x ∷ s) e = back w x s (derives (nextWant w x) s e)
 
 pub as-in-abnf : AsInAbnf
 unfolding isUtf8

@@ -12,12 +12,12 @@ use lib.Seq.{drop-cons}
 use Rattle.utf8.specs.declared.Want.{Want}
 use Rattle.utf8.specs.declared.Want.the-variants.{Lead, Tail, Bad}
 use Rattle.utf8.specs.Inner.{Passed}
-use Rattle.utf8.specs.Utf8.{leadOf, utf8From, next, ends}
+use Rattle.utf8.specs.Utf8.{leadOf, utf8From, nextWant, ends}
 
 pub ruleset tests = (lt-ltb, le-ltb, le-leb, lt-leb, eq-eqb, ne-eqb)
 
 module _ (w : Want) (s : List ℕ) (i : ℕ) where
-  pub turn : i < length s → (v : Want) → v ≡ next w (getD s i 0) → utf8From w (drop i s) ≡ utf8From v (drop (i + 1) s)
+  pub turn : i < length s → (v : Want) → v ≡ nextWant w (getD s i 0) → utf8From w (drop i s) ≡ utf8From v (drop (i + 1) s)
   unfolding utf8From
   turn h v e = rw (e, add-one, drop-cons s i 0)
 
@@ -45,7 +45,7 @@ module _ (s : List ℕ) (i : ℕ) where
   ]
 
   -- an octet that nothing follows, where w is no end
-  pub stuck : (w : Want) → ends w ≡ false → next w (getD s i 0) ≡ Bad → utf8From w (drop i s) ≡ false
+  pub stuck : (w : Want) → ends w ≡ false → nextWant w (getD s i 0) ≡ Bad → utf8From w (drop i s) ≡ false
   stuck w e n = elim (decLt i (length s)) [
     | yes l ↦ turn w s i l Bad (sym n) ∙ bad (drop (i + 1) s)
     | no l ↦ over w s i (omega arith) ∙ e

@@ -11,7 +11,7 @@ use borrow.Author.Tests.{lt-ltb, le-ltb, le-leb, lt-leb}
 use lib.Dec.{lit≤}
 use Rattle.utf8.specs.declared.Want.{Want}
 use Rattle.utf8.specs.declared.Want.the-variants.{Lead, Tail, Bad}
-use Rattle.utf8.specs.Utf8.{leadOf, utf8From, next, ends}
+use Rattle.utf8.specs.Utf8.{leadOf, utf8From, nextWant, ends}
 use Rattle.utf8.proofs.Laws.{bad}
 
 pub data Reached : Want → Type 0 where
@@ -23,7 +23,7 @@ cond-reached : (t : Bool) {v w : Want} → Reached v → Reached w → Reached (
 cond-reached true p q = p
 cond-reached false p q = q
 
-pub next-reached : (w : Want) (x : ℕ) → Reached w → Reached (next w x)
+pub next-reached : (w : Want) (x : ℕ) → Reached w → Reached (nextWant w x)
 unfolding leadOf
 next-reached Lead x h = search (cond-reached, lead-reached, tail-reached, bad-reached, lit≤, tt) depth 14
 next-reached (Tail lo hi n) x h = search (cond-reached, lead-reached, tail-reached, bad-reached, lit≤, tt) depth 14
@@ -33,11 +33,11 @@ pub never-bad : {A : Type 0} (t : List ℕ) → utf8From Bad t ≡ true → A
 never-bad t e = let f = bad t in absurd (let z : _≡_ {A = ℕ} 0 1 = cc in omega arith)
 
 -- a byte below 80: where a character may begin it is one, and within a character nothing follows it
-pub low-next : (x : ℕ) → x < 0x80 → next Lead x ≡ Lead
+pub low-next : (x : ℕ) → x < 0x80 → nextWant Lead x ≡ Lead
 unfolding leadOf
 low-next x h = rw (le-leb x 0x7f (omega arith))
 
-pub low-stuck : {lo hi n : ℕ} (x : ℕ) → x < 0x80 → Reached (Tail lo hi n) → next (Tail lo hi n) x ≡ Bad
+pub low-stuck : {lo hi n : ℕ} (x : ℕ) → x < 0x80 → Reached (Tail lo hi n) → nextWant (Tail lo hi n) x ≡ Bad
 low-stuck {lo} x h (tail-reached l k) = rw (lt-ltb x lo (omega arith))
 
 pub lead-low : (x : ℕ) (t : List ℕ) → x < 0x80 → utf8From Lead t ≡ true → utf8From Lead (x ∷ t) ≡ true
@@ -51,7 +51,7 @@ low-lead (Tail lo hi n) x t r h e = never-bad t (rw (low-stuck {lo = lo} {hi = h
 low-lead Bad x t r h e = never-bad t e
 
 -- one that is wanted takes the scan back to the beginning of a character, any other to where nothing will do
-pub low-turn : {w : Want} (x : ℕ) → x < 0x80 → Reached w → ((w ≡ Lead) × (next w x ≡ Lead)) ⊎ (next w x ≡ Bad)
+pub low-turn : {w : Want} (x : ℕ) → x < 0x80 → Reached w → ((w ≡ Lead) × (nextWant w x ≡ Lead)) ⊎ (nextWant w x ≡ Bad)
 low-turn x h lead-reached = inl (refl, low-next x h)
 low-turn x h (tail-reached {n = n} l k) = inr (low-stuck {n = n} x h (tail-reached l k))
 low-turn x h bad-reached = inr refl
@@ -95,10 +95,10 @@ ends-lead Bad e = absurd (let z : _≡_ {A = ℕ} 0 1 = cc in omega arith)
 pub utf8-append : (p q : List ℕ) (w : Want) → utf8From w p ≡ true → utf8From Lead q ≡ true → utf8From w (p ++ q) ≡ true
 unfolding utf8From
 utf8-append [] q w e f = rw (ends-lead w e) f
-utf8-append (x ∷ p) q w e f = utf8-append p q (next w x) e f
+utf8-append (x ∷ p) q w e f = utf8-append p q (nextWant w x) e f
 
 -- a text around a byte below 80: what stands before it and what stands behind it
 pub utf8-cut : (p : List ℕ) (x : ℕ) (q : List ℕ) (w : Want) → Reached w → x < 0x80 → utf8From w (p ++ (x ∷ q)) ≡ true → (utf8From w p ≡ true) × (utf8From Lead q ≡ true)
 unfolding utf8From
 utf8-cut [] x q w r h e = let (z, u) = low-lead w x q r h e in (rw z, u)
-utf8-cut (y ∷ p) x q w r h e = utf8-cut p x q (next w y) (next-reached w y r) h e
+utf8-cut (y ∷ p) x q w r h e = utf8-cut p x q (nextWant w y) (next-reached w y r) h e

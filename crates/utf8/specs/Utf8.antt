@@ -22,10 +22,10 @@ leadOf x =
     (cond (leb x 0xf4) (Tail 0x80 0x8f 2) Bad)))))))))
 
 -- what is wanted after the octet x, where w was wanted
-abbrev pub next : Want → ℕ → Want
-next Lead x = leadOf x
-next (Tail lo hi n) x = cond (ltb x lo) Bad (cond (ltb hi x) Bad (cond (eqb n 0) Lead (Tail 0x80 0xbf (n - 1))))
-next Bad x = Bad
+abbrev pub nextWant : Want → ℕ → Want
+nextWant Lead x = leadOf x
+nextWant (Tail lo hi n) x = cond (ltb x lo) Bad (cond (ltb hi x) Bad (cond (eqb n 0) Lead (Tail 0x80 0xbf (n - 1))))
+nextWant Bad x = Bad
 
 -- a text ends where a character may begin
 abbrev pub ends : Want → Bool
@@ -35,7 +35,7 @@ ends Bad = false
 
 unfoldable pub utf8From : Want → Bytes → Bool
 utf8From w [] = ends w
-utf8From w (x ∷ s) = utf8From (next w x) s
+utf8From w (x ∷ s) = utf8From (nextWant w x) s
 
 -- UTF8-octets
 unfoldable pub isUtf8 : Bytes → Bool

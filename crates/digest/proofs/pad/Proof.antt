@@ -6,26 +6,26 @@ use mathlib.Core.List.{_∷_, [], _++_, append-assoc}
 use Prim.Native.Nat.{_≤_, _+_, _-_}
 use native.Mathlib.Numerals.{add-one}
 use lib.ListN.{length, take, replicate, length-set}
-use Rattle.digest.specs.Digest.{zeros, bytesOf, padding}
+use Rattle.digest.specs.Digest.{zeros, bigEndian, padding}
 use Rattle.digest.proofs.Laws.{filled, begun}
 use Rattle.digest.proofs.pad.Statement.{statement}
 use Rattle.digest.proofs.pad.Tie as tie
 
 abbrev Inv-loop : tie.InvT-loop
 Inv-loop total bits z p₀ i₀ p i =
-    (take (z + 1 + i) p ≡ ((0x80 ∷ []) ++ replicate z 0) ++ bytesOf bits i) × (length p ≡ 72) × (i ≤ 8)
+    (take (z + 1 + i) p ≡ ((0x80 ∷ []) ++ replicate z 0) ++ bigEndian bits i) × (length p ≡ 72) × (i ≤ 8)
 
 abbrev μ-loop : tie.MeasureT-loop
 μ-loop total bits z p₀ i₀ p i = 8 - i
 
 loop-holds : tie.Need-loop-holds Inv-loop μ-loop
-unfolding bytesOf
+unfolding bigEndian
 loop-holds c =
     let z = zeros (c .args .total) in
     (begun z (z + 1 + 0) (omega arith) (omega arith), refl, search needs)
 
 loop-again : tie.Need-loop-again Inv-loop μ-loop
-unfolding bytesOf
+unfolding bigEndian
 loop-again c =
     let l = c .before .loop in
     let z = zeros (c .before .before .args .total) in (

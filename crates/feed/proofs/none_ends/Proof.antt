@@ -2,7 +2,7 @@
 use mathlib.Core.Path.{_≡_}
 use mathlib.Core.Bool.{true}
 use Prim.Native.Nat.{_-_, _≤_}
-use Rattle.feed.specs.Inner.{NoEnd}
+use Rattle.feed.specs.Inner.{NoEndFrom}
 use Rattle.feed.proofs.Lines.{none-first, none-turn}
 use borrow.Author.Needs.{needs}
 use native.Mathlib.Omega.{arith}
@@ -10,7 +10,7 @@ use Rattle.feed.proofs.none_ends.Statement.{statement}
 use Rattle.feed.proofs.none_ends.Tie as tie
 
 abbrev Inv-loop : tie.InvT-loop
-Inv-loop piece i none₀ k₀ none k = (k ≤ 32) × (none ≡ true → NoEnd piece i k)
+Inv-loop piece i none₀ k₀ none k = (k ≤ 32) × (none ≡ true → NoEndFrom piece i k)
 
 abbrev μ-loop : tie.MeasureT-loop
 μ-loop piece i none₀ k₀ none k = 32 - k

@@ -18,15 +18,15 @@ use Rattle.table.specs.Sound.{sound}
 use Rattle.table.proofs.Bytes.{clauses}
 use Rattle.table.proofs.Lists.{entry-in}
 use Rattle.query.specs.Filter.{Filter, filterOf}
-use Rattle.query.specs.Answer.{among, from, matchesSlot, meant, answerTo, filtersRow, listingRow, listed, listedRow, numberOf}
+use Rattle.query.specs.Answer.{among, numbersFrom, matchesSlot, meant, answerTo, filtersRow, listingRow, listed, listedRow, listingNumber}
 use Rattle.query.specs.Claims.{AllPass}
 use Rattle.query.specs.declared.Listing.{Listing}
 use Rattle.query.specs.declared.Listing.the-variants.{Count, Refused}
 use Rattle.query.proofs.Sorting.{from-among}
 use Rattle.query.proofs.Lent.{filters-pass}
 use Rattle.matching.specs.Inner.Hits.{hitAt, Filled}
-use Rattle.matching.specs.Inner.Pass.{taken}
-use Rattle.matching.specs.Inner.Order.{over, told, toldRow}
+use Rattle.matching.specs.Inner.Pass.{passTaken}
+use Rattle.matching.specs.Inner.Order.{laidOver, told, toldRow}
 use Rattle.matching.proofs.order.Pass.{Agrees}
 use Rattle.matching.proofs.order.Turns.{taken-answers}
 
@@ -65,14 +65,14 @@ of-parts e w = rw e at w
 module _ (b m : List ℕ) (fs : List FilterParts) where
   -- the bytes h say what the first j filters match
   abbrev pub Asked : List ℕ → ℕ → Type 0
-  Asked h j = Agrees (hitAt h) (matchesSlot b) (from 0 (countOf b)) 0 (map (filterOf m) (take j fs))
+  Asked h j = Agrees (hitAt h) (matchesSlot b) (numbersFrom 0 (countOf b)) 0 (map (filterOf m) (take j fs))
 
   pub asked-more : (h out : List ℕ) (j c : ℕ) (z : FilterParts) → c ≡ countOf b → length fs ≡ 4 → j < 4 → Asked h j
       → Filled b (filterOf m (getD fs j z)) j c h out → Asked out (j + 1)
   asked-more h out j c z e l v a w =
       let n : length (map (filterOf m) (take j fs)) ≡ j = length-map (take j fs) (filterOf m) ∙ length-take j fs ∙ omega arith in
       let y : 0 + length (map (filterOf m) (take j fs)) ≡ j = omega arith in
-      let r = agrees-more (matchesSlot b) (from 0 (countOf b)) (hitAt h) (hitAt out) 0 (map (filterOf m) (take j fs)) (filterOf m (getD fs j z))
+      let r = agrees-more (matchesSlot b) (numbersFrom 0 (countOf b)) (hitAt h) (hitAt out) 0 (map (filterOf m) (take j fs)) (filterOf m (getD fs j z))
       (λ i s p q. w .others i s (omega arith) (λ x. absurd (omega arith)))
       (λ s i. ap (λ (k : ℕ). hitAt out k s) y ∙ w .here s (let t = from-among 0 (countOf b) s i in omega arith)) a in
       rw (← more) at r
@@ -83,18 +83,18 @@ module _ (b m : List ℕ) (fs : List FilterParts) where
           ap (λ k. map (filterOf m) (take k fs)) y ∙ ap (map (filterOf m)) (take-suc fs j z (omega arith)) ∙ map-append (filterOf m) (take j fs) (getD fs j z ∷ [])
 
   module _ (n : ℕ) where
-    pub taken-is : (h : List ℕ) (j : ℕ) → j ≤ n → n ≤ j → Asked h j → taken b h fs n ≡ answerTo b m fs n
+    pub taken-is : (h : List ℕ) (j : ℕ) → j ≤ n → n ≤ j → Asked h j → passTaken b h fs n ≡ answerTo b m fs n
     unfolding meant
     taken-is h j p q a = let e : j ≡ n = omega arith in taken-answers b h m fs n (rw e at a)
 
-    pub as-told : (h row out : List ℕ) (r : Listing) → taken b h fs n ≡ answerTo b m fs n → (r ≡ told (taken b h fs n) row) × (out ≡ toldRow (taken b h fs n) row)
+    pub as-told : (h row out : List ℕ) (r : Listing) → passTaken b h fs n ≡ answerTo b m fs n → (r ≡ told (passTaken b h fs n) row) × (out ≡ toldRow (passTaken b h fs n) row)
         → (r ≡ told (answerTo b m fs n) row) × (out ≡ toldRow (answerTo b m fs n) row)
     as-told h row out r e (p, q) = (p ∙ ap (λ t. told t row) e, q ∙ ap (λ t. toldRow t row) e)
 
     -- ---- the ways out: the answer, its number, the row
     module _ (row : List ℕ) where
       abbrev Listed : Listing → List ℕ → Type 0
-      Listed r out = (r ≡ listed b m fs n row) × ((numberOf r ≡ listingRow b m fs n row) × (out ≡ listedRow b m fs n row))
+      Listed r out = (r ≡ listed b m fs n row) × ((listingNumber r ≡ listingRow b m fs n row) × (out ≡ listedRow b m fs n row))
 
       pub filters-refuse : (r : ℕ) → r ≡ filtersRow m fs n → r ≢ 0 → Listed (Refused r) row
       unfolding listed listedRow listingRow
@@ -106,11 +106,11 @@ module _ (b m : List ℕ) (fs : List FilterParts) where
         not-sound e = rw (passed, e) (refl, (refl, refl))
 
         pub answers-rest : sound b ≡ true → (r : Listing) (out : List ℕ) → r ≡ told (answerTo b m fs n) row → out ≡ toldRow (answerTo b m fs n) row → Listed r out
-        unfolding listed listedRow listingRow told toldRow over
+        unfolding listed listedRow listingRow told toldRow laidOver
         answers-rest e r out p q = rw (passed, e, p, q) (go (ltb (length row) (length (answerTo b m fs n))))
           where
             go : (t : Bool) → (cond t (Refused 13) (Count (length (answerTo b m fs n))) ≡ cond (eqb (cond t 13 0) 0) (Count (length (answerTo b m fs n))) (Refused (cond t 13 0)))
-                × ((numberOf (cond t (Refused 13) (Count (length (answerTo b m fs n)))) ≡ cond t 13 0)
-                × (cond t row (over (answerTo b m fs n) row) ≡ cond (eqb (cond t 13 0) 0) (over (answerTo b m fs n) row) row))
+                × ((listingNumber (cond t (Refused 13) (Count (length (answerTo b m fs n)))) ≡ cond t 13 0)
+                × (cond t row (laidOver (answerTo b m fs n) row) ≡ cond (eqb (cond t 13 0) 0) (laidOver (answerTo b m fs n) row) row))
             go true = (refl, (refl, refl))
             go false = (refl, (refl, refl))

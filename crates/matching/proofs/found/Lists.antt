@@ -17,7 +17,7 @@ use Rattle.shape.specs.Shape.{anyItem, allItems, countItems, count, isArrayOf}
 use Rattle.shape.specs.Rows.{wrongList}
 use Rattle.message.specs.declared.Listed.{Listed}
 use Rattle.message.specs.declared.Listed.the-variants.{Absent, At}
-use Rattle.message.specs.Lists.{firstOf, nextOf}
+use Rattle.message.specs.Lists.{startElement, nextOf}
 use Rattle.message.specs.Lent.{value5, onValue, valueAt}
 use Rattle.message.proofs.Facts.{and-true, or-not}
 use Rattle.message.proofs.Elements.{group-of, Listing, end, one}
@@ -109,7 +109,7 @@ module _ {X : Type 0} (w : ℕ) (f g : Json → Bool) (means : List ℕ → List
   -- where the value at v is such an array of 1 to 16
   pub going-start : (v : ℕ) (row : List ℕ) (at : ℕ) {x : Listed} → ((r : List ℕ) → means (part r at 0) ≡ []) → ((ts : Items) (n : ℕ) → treeAt m depth v ≡ got (arr ts) n → saysAll ts ≡ whole)
       → value5 (isArrayOf f) m v ≡ false → onValue (onArray (anyItem (λ q u. g u))) (valueAt m v) ≡ false → onValue wrongList (valueAt m v) ≡ false
-      → x ≡ placed (firstOf (startAt m v)) → Going row at row x 0
+      → x ≡ placed (startElement (startAt m v)) → Going row at row x 0
   unfolding value5
   going-start v row at {x} z s e c d q = go (treeAt m depth v) refl e c d
     where

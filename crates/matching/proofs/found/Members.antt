@@ -20,7 +20,7 @@ use Rattle.json.specs.declared.Kind.the-variants.{Str, Num, Word, None}
 use Rattle.json.specs.declared.Start.{Start}
 use Rattle.json.specs.declared.Start.the-variants.{Leaf, Empty, Many}
 use Rattle.json.proofs.Trees.{tree-open}
-use Rattle.numeral.specs.Whole.{wholeOf, answerOf, isWithin}
+use Rattle.numeral.specs.Whole.{wholeOf, wholeAnswer, isWithin}
 use Rattle.numeral.specs.declared.Whole.{Whole}
 use Rattle.numeral.specs.declared.Whole.the-variants.{Value, Large, Malformed}
 use Rattle.rows.specs.Strings.{spelledAt}
@@ -28,8 +28,8 @@ use Rattle.shape.specs.Shape.{anyItem, isArrayOf, isString, isNumber}
 use Rattle.shape.specs.Rows.{wrongList, wrongSmall}
 use Rattle.message.specs.declared.Listed.{Listed}
 use Rattle.message.specs.declared.Listed.the-variants.{Absent, At}
-use Rattle.message.specs.Lists.{firstOf, nextOf}
-use Rattle.message.specs.Parts.{valueOf, numberOf}
+use Rattle.message.specs.Lists.{startElement, nextOf}
+use Rattle.message.specs.Parts.{wholeValue, numberSpelled}
 use Rattle.message.specs.Lent.{value5, onValue, valueAt, someSmall}
 use Rattle.message.proofs.Walks.{never, bind-got}
 use Rattle.event.specs.Lent.{natural, stringOf, stringsOf, tagOf}
@@ -59,7 +59,7 @@ none-wrong (got (arr ts) m) = none-of ts
 none-wrong (got (obj ts) m) = refl
 
 module _ (m : List ℕ) (v : ℕ) where
-  pub strings-start : (row : List ℕ) (at : ℕ) {x : Listed} → value5 (isArrayOf isString) m v ≡ false → onValue wrongList (valueAt m v) ≡ false → x ≡ placed (firstOf (startAt m v)) → Strings m v row at row x 0
+  pub strings-start : (row : List ℕ) (at : ℕ) {x : Listed} → value5 (isArrayOf isString) m v ≡ false → onValue wrongList (valueAt m v) ≡ false → x ≡ placed (startElement (startAt m v)) → Strings m v row at row x 0
   unfolding spelledBy
   strings-start row at e d q =
       going-start 2 isString (λ u. false) (spelledBy m) (stringOf m) (stringsOf m) m (stringsIn m (treeAt m depth v)) v row at (λ r. refl) (λ ts n tr. sym (rw tr refl)) e (none-wrong (treeAt m depth v)) d q
@@ -93,14 +93,14 @@ module _ (m : List ℕ) (v : ℕ) where
 
 -- ---- the number at a place
 module _ (s : List ℕ) (d v : ℕ) (t : Json) (k : ℕ) where
-  number-says : treeAt s (suc d) v ≡ got t k → isNumber t ≡ true → smallAt s v ≡ natural (numberOf s t)
+  number-says : treeAt s (suc d) v ≡ got t k → isNumber t ≡ true → smallAt s v ≡ natural (numberSpelled s t)
   unfolding smallAt
   number-says e h = on (startAt s v) (sym (tree-open s d v (startAt s v) refl) ∙ e)
     where
-      same : (u : Json) (j x : ℕ) → got u j ≡ got t k → x ≡ natural (numberOf s u) → x ≡ natural (numberOf s t)
-      same u j x q r = let z : u ≡ t = cc in r ∙ ap (λ y. natural (numberOf s y)) z
+      same : (u : Json) (j x : ℕ) → got u j ≡ got t k → x ≡ natural (numberSpelled s u) → x ≡ natural (numberSpelled s t)
+      same u j x q r = let z : u ≡ t = cc in r ∙ ap (λ y. natural (numberSpelled s y)) z
 
-      leaf : (c : Kind) → onLeaf s v c ≡ got t k → smallOf s v c ≡ natural (numberOf s t)
+      leaf : (c : Kind) → onLeaf s v c ≡ got t k → smallOf s v c ≡ natural (numberSpelled s t)
       leaf (Str n) q = same _ _ _ q refl
       leaf (Num n) q = same _ _ _ q refl
       leaf (Word n) q = same _ _ _ q refl
@@ -110,22 +110,22 @@ module _ (s : List ℕ) (d v : ℕ) (t : Json) (k : ℕ) where
       other true us j q = let z : obj us ≡ t = cc in absurd (false≢true (ap isNumber z ∙ h))
       other false us j q = let z : arr us ≡ t = cc in absurd (false≢true (ap isNumber z ∙ h))
 
-      on : (r : Start) → groupAt (treeAt s d) s v r ≡ got t k → smallOf s v (scalarAt s v) ≡ natural (numberOf s t)
+      on : (r : Start) → groupAt (treeAt s d) s v r ≡ got t k → smallOf s v (scalarAt s v) ≡ natural (numberSpelled s t)
       on Leaf q = leaf (scalarAt s v) q
       on (Empty n named) q = other named nil _ q
       on (Many i named) q = let (us, j, w, r) = bind-got (itemsAt (treeAt s d) s named (length s) i) _ q in other named us j r
 
-within-natural : (w : Whole) → not (isWithin w (pos 0) (pos mostSmall)) ≡ false → pos (natural (valueOf w)) ≡ valueOf w
+within-natural : (w : Whole) → not (isWithin w (pos 0) (pos mostSmall)) ≡ false → pos (natural (wholeValue w)) ≡ wholeValue w
 unfolding isWithin
 within-natural (Value (pos n)) e = refl
 within-natural (Value (negsuc n)) e = absurd (false≢true (sym e))
 within-natural Large e = absurd (false≢true (sym e))
 within-natural Malformed e = absurd (false≢true (sym e))
 
-small-says : (s : List ℕ) (v : ℕ) (t : Json) (k : ℕ) → treeAt s 7 v ≡ got t k → isNumber t ≡ true → wrongSmall s t ≡ false → pos (smallAt s v) ≡ numberOf s t
+small-says : (s : List ℕ) (v : ℕ) (t : Json) (k : ℕ) → treeAt s 7 v ≡ got t k → isNumber t ≡ true → wrongSmall s t ≡ false → pos (smallAt s v) ≡ numberSpelled s t
 unfolding wrongSmall
 small-says s v (word a n) k e h w = absurd (false≢true h)
-small-says s v (num a n) k e h w = ap pos (number-says s 6 v (num a n) k e h) ∙ within-natural (answerOf (wholeOf (part s a n))) w
+small-says s v (num a n) k e h w = ap pos (number-says s 6 v (num a n) k e h) ∙ within-natural (wholeAnswer (wholeOf (part s a n))) w
 small-says s v (str a n) k e h w = absurd (false≢true h)
 small-says s v (arr ts) k e h w = absurd (false≢true h)
 small-says s v (obj ts) k e h w = absurd (false≢true h)
@@ -137,31 +137,31 @@ pub small-is : (s : List ℕ) (at : ℕ) {o p : Kind} → o ≡ scalarAt s at �
 unfolding smallAt
 small-is s at e q = ap (smallOf s at) (sym q ∙ e)
 
-pub small-none : (s : List ℕ) (at n : ℕ) → n < at → smallFrom (answerOf (wholeOf (part s at (n - at)))) ≡ 0
-unfolding wholeOf answerOf
-small-none s at n h = let z : n - at ≡ 0 = omega arith in ap (λ (k : ℕ). smallFrom (answerOf (wholeOf (part s at k)))) z
+pub small-none : (s : List ℕ) (at n : ℕ) → n < at → smallFrom (wholeAnswer (wholeOf (part s at (n - at)))) ≡ 0
+unfolding wholeOf wholeAnswer
+small-none s at n h = let z : n - at ≡ 0 = omega arith in ap (λ (k : ℕ). smallFrom (wholeAnswer (wholeOf (part s at k)))) z
 
 -- ---- numbers
 abbrev pub Numbers : List ℕ → ℕ → List ℕ → ℕ → List ℕ → Listed → ℕ → Type 0
 Numbers m v before at row x n =
-    Going 1 isNumber (wrongSmall m) numbersBy (numberOf m) (numbersOf m) m (numbersIn m (treeAt m depth v)) before at row x n
+    Going 1 isNumber (wrongSmall m) numbersBy (numberSpelled m) (numbersOf m) m (numbersIn m (treeAt m depth v)) before at row x n
 
 module _ (m : List ℕ) (v : ℕ) where
   pub numbers-start : (row : List ℕ) (at : ℕ) {x : Listed} → value5 (isArrayOf isNumber) m v ≡ false → onValue (someSmall m) (valueAt m v) ≡ false → onValue wrongList (valueAt m v) ≡ false
-      → x ≡ placed (firstOf (startAt m v)) → Numbers m v row at row x 0
+      → x ≡ placed (startElement (startAt m v)) → Numbers m v row at row x 0
   unfolding numbersBy
   numbers-start row at e c d q =
-      going-start 1 isNumber (wrongSmall m) numbersBy (numberOf m) (numbersOf m) m (numbersIn m (treeAt m depth v)) v row at (λ r. refl) (λ ts n tr. sym (rw tr refl)) e c d q
+      going-start 1 isNumber (wrongSmall m) numbersBy (numberSpelled m) (numbersOf m) m (numbersIn m (treeAt m depth v)) v row at (λ r. refl) (λ ts n tr. sym (rw tr refl)) e c d q
 
   module _ {before : List ℕ} {at : ℕ} {row : List ℕ} {x : Listed} {n : ℕ} (k : Numbers m v before at row x n) where
     pub numbers-none : n < 16 → x ≡ Absent → Finds numbersBy (numbersIn m (treeAt m depth v)) 16 before at n row
-    numbers-none h e = going-none 1 isNumber (wrongSmall m) numbersBy (numberOf m) (numbersOf m) m (numbersIn m (treeAt m depth v)) refl (λ p w t ts. refl) k (omega arith) e
+    numbers-none h e = going-none 1 isNumber (wrongSmall m) numbersBy (numberSpelled m) (numbersOf m) m (numbersIn m (treeAt m depth v)) refl (λ p w t ts. refl) k (omega arith) e
 
     pub numbers-full : 16 ≤ n → Finds numbersBy (numbersIn m (treeAt m depth v)) 16 before at n row
     numbers-full h =
         let s = k .size in
         let f = k .few in
-        going-full 1 isNumber (wrongSmall m) numbersBy (numberOf m) (numbersOf m) m (numbersIn m (treeAt m depth v)) refl (λ p w t ts. refl) k (omega arith) (omega arith)
+        going-full 1 isNumber (wrongSmall m) numbersBy (numberSpelled m) (numbersOf m) m (numbersIn m (treeAt m depth v)) refl (λ p w t ts. refl) k (omega arith) (omega arith)
 
     pub numbers-next : {i a : ℕ} {y : Listed} → x ≡ At i → a ≡ smallAt m i → y ≡ placed (nextOf m i) → at + 16 ≤ length before → n < 16
         → Numbers m v before at (set row (at + n) a) y (n + 1)
@@ -169,7 +169,7 @@ module _ (m : List ℕ) (v : ℕ) where
         let s = k .size in
         let lg = k .long in
         let in-row : at + n < length row = omega arith in
-        going-more 1 isNumber (wrongSmall m) numbersBy (numberOf m) (numbersOf m) m (numbersIn m (treeAt m depth v)) refl (λ p w t ts. refl) k e nx (omega arith)
+        going-more 1 isNumber (wrongSmall m) numbersBy (numberSpelled m) (numbersOf m) m (numbersIn m (treeAt m depth v)) refl (λ p w t ts. refl) k e nx (omega arith)
         (take-past at row (at + n) a (omega arith))
         (length-set row (at + n) a)
         (λ t j tr ft gt.

@@ -18,11 +18,11 @@ use Rattle.json.specs.declared.Start.{Start}
 use Rattle.json.specs.declared.Next.{Next}
 use Rattle.json.specs.declared.Next.the-variants.{More, Done, Wrong}
 use Rattle.rows.specs.Strings.{spelledAt}
-use Rattle.shape.specs.Shape.{anyItem, allItems, countItems, count, nameAt, isString, isArrayOf, isLetter, isCondition, filterMember, noneTwice, isFilter}
-use Rattle.shape.specs.Rows.{outside, wrongList, filterCount, filterCounts}
+use Rattle.shape.specs.Shape.{anyItem, allItems, countItems, count, nameAt, isString, isArrayOf, isLetter, isCondition, filterMember, noNameTwice, isFilter}
+use Rattle.shape.specs.Rows.{outside, wrongList, wrongFilter, filterCounts}
 use Rattle.message.specs.declared.Listed.{Listed}
 use Rattle.message.specs.declared.Listed.the-variants.{Absent, At}
-use Rattle.message.specs.Lists.{within}
+use Rattle.message.specs.Lists.{openWithin}
 use Rattle.message.specs.Parts.{membersAt}
 use Rattle.message.specs.Lent.{value5, onValue, valueAt}
 use Rattle.message.proofs.Walks.{Walk, last, more, deeper}
@@ -33,7 +33,7 @@ use Rattle.event.specs.Lent.{tagOf}
 use Rattle.query.specs.Filter.{Condition, stringsIn, conditionsOf, conditionsIn}
 use Rattle.matching.specs.declared.Needed.{Needed}
 use Rattle.matching.specs.Inner.Found.{spelledBy, conditionBy}
-use Rattle.matching.specs.Inner.Finds.{Finds, FindsConditions, firstNamed, moreNamed, nextNamed, valuePlace, letterOf}
+use Rattle.matching.specs.Inner.Finds.{Finds, FindsConditions, firstNamed, moreNamed, nextNamed, valuePlace, conditionLetter}
 use Rattle.matching.proofs.found.Lists.{take-past}
 
 -- ---- the place of the first name that is left; each name is followed by its value and then by the next name
@@ -43,13 +43,13 @@ firstName (item p v t ts) = At p
 
 pub data Named (s : List ℕ) : Items → Type 0 where
   end : Named s nil
-  one : {p v m : ℕ} {t : Json} {ts : Items} → headAt s p true ≡ End v → treeAt s within v ≡ got t m → nextNamed s v ≡ firstName ts → Named s ts → Named s (item p v t ts)
+  one : {p v m : ℕ} {t : Json} {ts : Items} → headAt s p true ≡ End v → treeAt s openWithin v ≡ got t m → nextNamed s v ≡ firstName ts → Named s ts → Named s (item p v t ts)
 
 walk-name : {value : ℕ → Got Json} {s : List ℕ} {f i : ℕ} {ts : Items} {n : ℕ} → Walk value s true f i ts n → At i ≡ firstName ts
 walk-name (last h w q) = refl
 walk-name (more h w q r) = refl
 
-walk-named : {s : List ℕ} {f i : ℕ} {ts : Items} {n : ℕ} → Walk (treeAt s within) s true f i ts n → Named s ts
+walk-named : {s : List ℕ} {f i : ℕ} {ts : Items} {n : ℕ} → Walk (treeAt s openWithin) s true f i ts n → Named s ts
 unfolding nextNamed
 walk-named {s} (last {v = v} h w q) = let e : nextNamed s v ≡ Absent = rw (w, q) refl in one h w e end
 walk-named {s} (more {v = v} {ts = ts} h w q r) = let e : nextNamed s v ≡ firstName ts = rw (w, q) (walk-name r) in one h w e (walk-named r)
@@ -142,16 +142,16 @@ letter-some w e = letter (getD w 1 0) (and-true (eqb (getD w 0 0) 35) _ (and-tru
         go false s = leb-true 65 b (and-true (leb 65 b) _ (either (leb 97 b && leb b 122) _ q s) .0)
 
 -- what a condition's name says
-no-condition : (w : List ℕ) → letterOf w ≡ 0 → isCondition w ≡ false
-unfolding letterOf
+no-condition : (w : List ℕ) → conditionLetter w ≡ 0 → isCondition w ≡ false
+unfolding conditionLetter
 no-condition w l = go (isCondition w) refl l
   where
     go : (b : Bool) → isCondition w ≡ b → cond b (getD w 1 0) 0 ≡ 0 → b ≡ false
     go true q r = absurd (let h = letter-some w q in omega (arith, h, r))
     go false q r = refl
 
-is-condition : (w : List ℕ) {c : ℕ} → letterOf w ≡ c → (c ≡ 0 → ⊥) → (isCondition w ≡ true) × (getD w 1 0 ≡ c)
-unfolding letterOf
+is-condition : (w : List ℕ) {c : ℕ} → conditionLetter w ≡ c → (c ≡ 0 → ⊥) → (isCondition w ≡ true) × (getD w 1 0 ≡ c)
+unfolding conditionLetter
 is-condition w {c} l z = go (isCondition w) refl l
   where
     go : (b : Bool) → isCondition w ≡ b → cond b (getD w 1 0) 0 ≡ c → (b ≡ true) × (getD w 1 0 ≡ c)
@@ -190,7 +190,7 @@ passing-start m v row list s o q =
       first = q ∙ f;
       few = omega (arith, items-few g);
       inside = λ q w t i. i;
-      room = omega (arith, ltb-false 4 (countItems (λ p t. isCondition (nameAt m p)) (o .items)) (or-not (ltb (countItems (λ p t. isCondition (nameAt m p)) (o .items)) 0) _ (or-not (anyItem (filterCount m) (o .items)) _ (o .counts) .1) .1));
+      room = omega (arith, ltb-false 4 (countItems (λ p t. isCondition (nameAt m p)) (o .items)) (or-not (ltb (countItems (λ p t. isCondition (nameAt m p)) (o .items)) 0) _ (or-not (anyItem (wrongFilter m) (o .items)) _ (o .counts) .1) .1));
       size = s;
       below = tt;
       is = sym (rw (o .tree) refl);
@@ -224,7 +224,7 @@ module _ {m : List ℕ} {v : ℕ} {before row : List ℕ} {list : List Needed} {
   -- the member at p, whose value stands at w
   module _ {p w : ℕ} (e : x ≡ At p) (ew : w ≡ valuePlace m p) where
     -- no condition
-    pub passing-other : {y : Listed} → y ≡ nextNamed m w → letterOf (nameAt m p) ≡ 0 → Passing m v before row list n y (k + 1)
+    pub passing-other : {y : Listed} → y ≡ nextNamed m w → conditionLetter (nameAt m p) ≡ 0 → Passing m v before row list n y (k + 1)
     unfolding countItems
     passing-other {y} nx l = go (g .us) (g .named) (sym (g .first) ∙ e) (g .few) (g .inside) (g .room) (g .is)
       where
@@ -251,7 +251,7 @@ module _ {m : List ℕ} {v : ℕ} {before row : List ℕ} {list : List Needed} {
             }
 
     -- a condition
-    module _ {c : ℕ} (lt : letterOf (nameAt m p) ≡ c) (nz : c ≡ 0 → ⊥) where
+    module _ {c : ℕ} (lt : conditionLetter (nameAt m p) ≡ c) (nz : c ≡ 0 → ⊥) where
       pub passing-list : (n < 4) × (value5 (isArrayOf isString) m w ≡ false) × (onValue wrongList (valueAt m w) ≡ false)
       unfolding countItems
       passing-list = go (g .us) (g .named) (sym (g .first) ∙ e) (g .inside) (g .room)
@@ -315,6 +315,6 @@ module _ {m : List ℕ} {v : ℕ} {before row : List ℕ} {list : List Needed} {
                 long = fd .long ∙ g .long;
               }
 
-pub letter-says : (m : List ℕ) (p : ℕ) {s : List ℕ} {c : ℕ} → c ≡ letterOf (decode s) → s ≡ spelledAt m p → c ≡ letterOf (nameAt m p)
+pub letter-says : (m : List ℕ) (p : ℕ) {s : List ℕ} {c : ℕ} → c ≡ conditionLetter (decode s) → s ≡ spelledAt m p → c ≡ conditionLetter (nameAt m p)
 unfolding nameAt
-letter-says m p e q = e ∙ ap (λ (y : List ℕ). letterOf (decode y)) q
+letter-says m p e q = e ∙ ap (λ (y : List ℕ). conditionLetter (decode y)) q

@@ -23,7 +23,7 @@ use Rattle.shape.specs.Rows.{wrongList, filterCounts}
 use Rattle.message.specs.declared.Listed.{Listed}
 use Rattle.message.specs.declared.Listed.the-variants.{Absent, At}
 use Rattle.message.specs.declared.FilterParts.{FilterParts}
-use Rattle.message.specs.Lists.{within}
+use Rattle.message.specs.Lists.{openWithin}
 use Rattle.message.specs.Lent.{value5, onValue, valueAt, someSmall, inList, filterRow}
 use Rattle.message.proofs.Checked.{ids-are, authors-are, kinds-are, conditions-are}
 use Rattle.query.specs.Filter.{ifListed, stringsIn, numbersIn, conditionsIn, filterOf}
@@ -32,7 +32,7 @@ use Rattle.matching.specs.declared.Members.the-variants as members
 use Rattle.matching.specs.declared.Needed.{Needed}
 use Rattle.matching.specs.declared.Known.{Known}
 use Rattle.matching.specs.Inner.Found.{given, spelledBy, numbersBy, conditionBy, filterBy}
-use Rattle.matching.specs.Inner.Finds.{Finds, FindsMembers, FindsConditions, reach, firstNamed, moreNamed, nextNamed, valuePlace, letterOf}
+use Rattle.matching.specs.Inner.Finds.{Finds, FindsMembers, FindsConditions, reach, firstNamed, moreNamed, nextNamed, valuePlace, conditionLetter}
 use Rattle.matching.proofs.found.Objects.{part-same, take-shorter}
 
 -- ---- a name
@@ -50,8 +50,8 @@ module _ (x : ℕ) where
   pub letter-none : x < 65 → false ≡ isLetter x
   letter-none h = rw (lt-leb 97 x (omega arith), lt-leb 65 x h) refl
 
-pub not-two : (w : List ℕ) {n : ℕ} → n ≡ length w → (n ≡ 2 → ⊥) → 0 ≡ letterOf w
-unfolding letterOf isCondition
+pub not-two : (w : List ℕ) {n : ℕ} → n ≡ length w → (n ≡ 2 → ⊥) → 0 ≡ conditionLetter w
+unfolding conditionLetter isCondition
 not-two w e z =
     let h : length w ≡ 2 → ⊥ = λ y. z (e ∙ y) in
     sym (rw (ne-eqb (length w) 2 h) refl)
@@ -62,22 +62,22 @@ module _ (w : List ℕ) {n : ℕ} (e : n ≡ length w) (two : n ≡ 2) {d o : Li
       let h : length d ≤ length w = omega arith in
       puts-whole (omega arith) p .1 ∙ ap (λ (x : List ℕ). w ++ x) (drop-of-length-le d {i = length w} h) ∙ append-nil w
 
-  pub not-hash : (getD o 0 0 ≡ 35 → ⊥) → 0 ≡ letterOf w
-  unfolding letterOf isCondition
+  pub not-hash : (getD o 0 0 ≡ 35 → ⊥) → 0 ≡ conditionLetter w
+  unfolding conditionLetter isCondition
   not-hash z =
       let q : getD w 0 0 ≡ 35 → ⊥ = λ y. z (ap (λ (x : List ℕ). getD x 0 0) same-two ∙ y) in
       sym (rw (sym e ∙ two, ne-eqb (getD w 0 0) 35 q) refl)
 
   module _ (h : getD o 0 0 ≡ 35) {b : Bool} (i : b ≡ isLetter (getD o 1 0)) where
-    pub no-letter : b ≡ false → 0 ≡ letterOf w
-    unfolding letterOf isCondition
+    pub no-letter : b ≡ false → 0 ≡ conditionLetter w
+    unfolding conditionLetter isCondition
     no-letter z =
         let q : getD w 0 0 ≡ 35 = ap (λ (x : List ℕ). getD x 0 0) (sym same-two) ∙ h in
         let f : isLetter (getD w 1 0) ≡ false = ap (λ (x : List ℕ). isLetter (getD x 1 0)) (sym same-two) ∙ sym i ∙ z in
         sym (rw (sym e ∙ two, q, f) refl)
 
-    pub the-letter : b ≡ true → getD o 1 0 ≡ letterOf w
-    unfolding letterOf isCondition
+    pub the-letter : b ≡ true → getD o 1 0 ≡ conditionLetter w
+    unfolding conditionLetter isCondition
     the-letter z =
         let q : getD w 0 0 ≡ 35 = ap (λ (x : List ℕ). getD x 0 0) (sym same-two) ∙ h in
         let f : isLetter (getD w 1 0) ≡ true = ap (λ (x : List ℕ). isLetter (getD x 1 0)) (sym same-two) ∙ sym i ∙ z in
@@ -90,7 +90,7 @@ first-is m at e q = ap firstNamed (sym q ∙ e)
 pub first-many : (m : List ℕ) (at : ℕ) {x : Start} {i : ℕ} {b c : Bool} → x ≡ startAt m at → x ≡ Many i b → b ≡ c → firstNamed (Many i c) ≡ firstNamed (startAt m at)
 first-many m at {i = i} e q r = ap firstNamed (sym (q ∙ ap (Many i) r) ∙ e)
 
-pub next-bad : (m : List ℕ) (at : ℕ) {o p : Out} → o ≡ endOf (treeAt m within at) → o ≡ p → case p (λ n. moreNamed (nextAt m n true)) Absent ≡ nextNamed m at
+pub next-bad : (m : List ℕ) (at : ℕ) {o p : Out} → o ≡ endOf (treeAt m openWithin at) → o ≡ p → case p (λ n. moreNamed (nextAt m n true)) Absent ≡ nextNamed m at
 unfolding nextNamed
 next-bad m at e q = ap (λ (z : Out). case z (λ n. moreNamed (nextAt m n true)) Absent) (sym q ∙ e)
 

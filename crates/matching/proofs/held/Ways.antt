@@ -23,8 +23,8 @@ use Rattle.text.specs.Read.{read, readText}
 use Rattle.text.specs.Answer.{tagsPlace}
 use Rattle.text.proofs.Pieces.{and-true}
 use Rattle.text.proofs.RoundTrip.{read-same}
-use Rattle.message.specs.Lent.{isTags, value5}
-use Rattle.event.specs.Lent.{tagsAt}
+use Rattle.message.specs.Lent.{isTagsShape, value5}
+use Rattle.event.specs.Lent.{lentTagsAt}
 use Rattle.event.specs.Answer.{hexOf}
 use Rattle.event.proofs.Answers.{hex-whole}
 use Rattle.table.specs.Layout.{isByte, slotSize, countOf, slotAt, idIn, textIn, timeIn, kindIn, lengthIn}
@@ -74,11 +74,11 @@ module _ (t : List ℕ) (time : ℤ) (kind : ℕ) (m row : List ℕ) (f : Known)
   placeOf = 72 + length (decimal time) + length (digits kind)
 
   abbrev allHold : Bool
-  allHold = all (conditionHolds (tagsAt t placeOf)) (map (conditionBy m row) (take (f .n) (f .conditions)))
+  allHold = all (conditionHolds (lentTagsAt t placeOf)) (map (conditionBy m row) (take (f .n) (f .conditions)))
 
   pub no-conditions : f .n ≡ 0 → true ≡ allHold
   unfolding all
-  no-conditions e = sym (ap (λ n. all (conditionHolds (tagsAt t placeOf)) (map (conditionBy m row) (take n (f .conditions)))) e)
+  no-conditions e = sym (ap (λ n. all (conditionHolds (lentTagsAt t placeOf)) (map (conditionBy m row) (take n (f .conditions)))) e)
 
   pub place-few : SFits w64 time → {d : ℕ} → d ≡ length (decimal (toZ w64 (ofZ w64 time))) → d ≤ 20
   place-few g e = let q = decimal-20 time (g .sfits) in let z = ap (λ x. length (decimal x)) (toZ-ofZ g) in omega arith
@@ -87,11 +87,11 @@ module _ (t : List ℕ) (time : ℤ) (kind : ℕ) (m row : List ℕ) (f : Known)
     place-is : 72 + d + n ≡ placeOf
     place-is = ap₂ (λ x y. 72 + x + y) (p ∙ ap (λ x. length (decimal x)) (toZ-ofZ g)) q
 
-    pub array-there : value5 isTags t placeOf ≡ false → value5 isTags t (72 + d + n) ≡ false
-    array-there h = ap (value5 isTags t) place-is ∙ h
+    pub array-there : value5 isTagsShape t placeOf ≡ false → value5 isTagsShape t (72 + d + n) ≡ false
+    array-there h = ap (value5 isTagsShape t) place-is ∙ h
 
-    pub conditions-hold : {r : Bool} → r ≡ all (conditionHolds (tagsAt t (72 + d + n))) (map (conditionBy m row) (take (f .n) (f .conditions))) → r ≡ allHold
-    conditions-hold e = e ∙ ap (λ x. all (conditionHolds (tagsAt t x)) (map (conditionBy m row) (take (f .n) (f .conditions)))) place-is
+    pub conditions-hold : {r : Bool} → r ≡ all (conditionHolds (lentTagsAt t (72 + d + n))) (map (conditionBy m row) (take (f .n) (f .conditions))) → r ≡ allHold
+    conditions-hold e = e ∙ ap (λ x. all (conditionHolds (lentTagsAt t x)) (map (conditionBy m row) (take (f .n) (f .conditions)))) place-is
 
 pub kind-few : (y : ℕ) → y < 2 ^ 64 → {n : ℕ} → n ≡ length (digits y) → n ≤ 20
 kind-few y h e = let q = digits-20 y h in omega arith
@@ -141,8 +141,8 @@ module _ (b : List ℕ) (ok : sound b ≡ true) (k : ℕ) (h : k < countOf b) (m
       tags-are : SpellsTags (textIn (slotAt b k)) (tagsPlace event) (event .tags)
       tags-are = tags-said (textIn (slotAt b k)) event (read-same (textIn (slotAt b k)) event reads)
 
-      pub tags-there : value5 isTags t (72 + length (decimal (toZ w64 (ofZ w64 time))) + length (digits y)) ≡ false
-      tags-there = ap₂ (value5 isTags) text-is place-there ∙ tags-are .array
+      pub tags-there : value5 isTagsShape t (72 + length (decimal (toZ w64 (ofZ w64 time))) + length (digits y)) ≡ false
+      tags-there = ap₂ (value5 isTagsShape) text-is place-there ∙ tags-are .array
 
       module _ {r₁ : Bool} (e₁ : r₁ ≡ isListed (given (spelledBy m) row (f .ids)) (hexOf (idIn s))) (n₁ : not r₁ ≡ false)
           {p : List ℕ} (ep : p ≡ part t 4 64) {r₂ : Bool} (e₂ : r₂ ≡ fieldsHold (filterBy m row f) (decode p) (toZ w64 (ofZ w64 time)) y) where
@@ -158,10 +158,10 @@ module _ (b : List ℕ) (ok : sound b ≡ true) (k : ℕ) (h : k < countOf b) (m
         fields-differ n = fields-no (filterBy m row f) _ event (id-test e₁) n₁ fields-test n ∙ sym matched-is
 
         pub tags-decide : not r₂ ≡ false → {r : Bool}
-            → r ≡ all (conditionHolds (tagsAt t (72 + length (decimal (toZ w64 (ofZ w64 time))) + length (digits y)))) (map (conditionBy m row) (take (f .n) (f .conditions)))
+            → r ≡ all (conditionHolds (lentTagsAt t (72 + length (decimal (toZ w64 (ofZ w64 time))) + length (digits y)))) (map (conditionBy m row) (take (f .n) (f .conditions)))
             → r ≡ Answer
         unfolding filterBy
         tags-decide n e =
             all-are (filterBy m row f) _ event (id-test e₁) n₁ fields-test n
-            (e ∙ ap (λ v. all (conditionHolds v) (map (conditionBy m row) (take (f .n) (f .conditions)))) (ap₂ tagsAt text-is place-there ∙ tags-are .says))
+            (e ∙ ap (λ v. all (conditionHolds v) (map (conditionBy m row) (take (f .n) (f .conditions)))) (ap₂ lentTagsAt text-is place-there ∙ tags-are .says))
             ∙ sym matched-is

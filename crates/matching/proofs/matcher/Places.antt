@@ -6,7 +6,7 @@ use mathlib.Core.List.{List}
 use Rattle.json.specs.Grammar.{startAt}
 use Rattle.json.specs.Tree.{Items, nil, item}
 use Rattle.message.specs.declared.Listed.{Listed}
-use Rattle.message.specs.Lists.{firstOf}
+use Rattle.message.specs.Lists.{startElement}
 use Rattle.message.proofs.Elements.{Group, firstPlace, Listing, array-listing}
 use Rattle.matching.specs.Inner.Steps.{placed}
 
@@ -14,5 +14,5 @@ use Rattle.matching.specs.Inner.Steps.{placed}
 abbrev pub firstLeft : Items → Listed
 firstLeft ts = placed (firstPlace ts)
 
-pub all-left : {s : List ℕ} {at : ℕ} {ts : Items} {n : ℕ} → Group s at false ts n → (placed (firstOf (startAt s at)) ≡ firstLeft ts) × Listing s ts
+pub all-left : {s : List ℕ} {at : ℕ} {ts : Items} {n : ℕ} → Group s at false ts n → (placed (startElement (startAt s at)) ≡ firstLeft ts) × Listing s ts
 all-left g = let (f, l) = array-listing g in (ap placed f, l)

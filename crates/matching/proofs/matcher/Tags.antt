@@ -6,7 +6,7 @@ use Prim.Native.Nat.{ℕ, zero, suc, _+_, _-_, _≤_}
 use native.Mathlib.Omega.{arith}
 use lib.ListN.{length}
 use Rattle.wire.specs.Bytes.{part, sameBytes}
-use Rattle.spell.specs.Spell.{charsFrom, joined, decode}
+use Rattle.spell.specs.Spell.{charsFrom, charsBytes, decode}
 use Rattle.json.specs.Grammar.{case, stringAt, startAt}
 use Rattle.json.specs.Tree.{Json, word, num, str, arr, obj, Items, nil, item, Got, none, got, depth, treeAt}
 use Rattle.json.specs.declared.Out.{Out}
@@ -15,24 +15,24 @@ use Rattle.rows.specs.Strings.{spelledAt}
 use Rattle.shape.specs.Shape.{countItems, count, isArrayOf, isString}
 use Rattle.message.specs.declared.Listed.{Listed}
 use Rattle.message.specs.declared.Listed.the-variants.{Absent, At}
-use Rattle.message.specs.Lists.{firstOf, nextOf}
-use Rattle.message.specs.Lent.{isTags, onValue, value5}
+use Rattle.message.specs.Lists.{startElement, nextOf}
+use Rattle.message.specs.Lent.{isTagsShape, onValue, value5}
 use Rattle.message.proofs.Walks.{deeper}
 use Rattle.message.proofs.Elements.{group-of, firstPlace, firstIn, first-in, items-few, Listing, end, one, array-listing}
-use Rattle.event.specs.Lent.{stringOf, stringsOf, tagOf, tagsOf, tagsIn, tagsAt}
+use Rattle.event.specs.Lent.{stringOf, stringsOf, tagOf, tagsOf, tagsIn, lentTagsAt}
 use Rattle.event.proofs.Strings.{spelled-says}
 use Rattle.law.specs.Lists.{any}
 use Rattle.query.specs.Filter.{Condition}
 use Rattle.query.specs.Match.{isMember, tagFits, conditionHolds}
-use Rattle.matching.specs.Inner.Steps.{placed, asked, spanOf, secondFrom, secondOf, fitsBy}
+use Rattle.matching.specs.Inner.Steps.{placed, asked, secondSpan, secondFrom, secondOf, fitsBy}
 use Rattle.matching.specs.declared.Second.{Second}
 use Rattle.matching.specs.declared.Second.the-variants.{Is, Not}
 use Rattle.matching.proofs.matcher.Places.{firstLeft, all-left}
 
 -- ---- the second string
 module _ (b : List ℕ) (v : ℕ) (t : Json) (m : ℕ) (w : treeAt b 7 v ≡ got t m) where
-  span-says : (ms : List (List ℕ)) → fitsBy b ms (spanOf b (At v)) ≡ isMember ms (stringOf b t)
-  unfolding spelledAt decode charsFrom joined
+  span-says : (ms : List (List ℕ)) → fitsBy b ms (secondSpan b (At v)) ≡ isMember ms (stringOf b t)
+  unfolding spelledAt decode charsFrom charsBytes
   span-says ms = go (stringAt b v) refl ∙ ap (isMember ms) (spelled-says b v t m w)
     where
       go : (o : Out) → stringAt b v ≡ o → fitsBy b ms (case o (λ n. Is (v + 1) (n - v - 2)) (Is 0 0)) ≡ isMember ms (decode (spelledAt b v))
@@ -54,7 +54,7 @@ module _ (b : List ℕ) (x : ℕ) (ms : List (List ℕ)) where
   listed-fits nil l = refl
   listed-fits (item p i u nil) (one w n l) = rw (n, cond-same (sameBytes (decode (spelledAt b i)) (x ∷ [])) Not) refl
   listed-fits (item p i u (item q j v ts)) (one w n (one w₂ n₂ l)) =
-      rw (n, spelled-says b i u _ w) (and-cond (sameBytes (stringOf b u) (x ∷ [])) (isMember ms (stringOf b v)) (spanOf b (At j)) b ms (span-says b j v _ w₂ ms))
+      rw (n, spelled-says b i u _ w) (and-cond (sameBytes (stringOf b u) (x ∷ [])) (isMember ms (stringOf b v)) (secondSpan b (At j)) b ms (span-says b j v _ w₂ ms))
 
   pub second-fits : (v : ℕ) (t : Json) (m : ℕ) → treeAt b 7 v ≡ got t m → tagFits (asked x ms) (tagOf b t) ≡ fitsBy b ms (secondOf b v x)
   unfolding secondOf
@@ -69,7 +69,7 @@ module _ (b : List ℕ) (x : ℕ) (ms : List (List ℕ)) where
 
 -- ---- the ways out of the function on a tag
 module _ (b : List ℕ) (v l : ℕ) where
-  pub second-at : {x y : Listed} → x ≡ placed (firstOf (startAt b v)) → x ≡ y → secondFrom b l y ≡ secondOf b v l
+  pub second-at : {x y : Listed} → x ≡ placed (startElement (startAt b v)) → x ≡ y → secondFrom b l y ≡ secondOf b v l
   unfolding secondOf
   second-at p q = ap (secondFrom b l) (sym q ∙ p)
 
@@ -79,24 +79,24 @@ module _ (b : List ℕ) (l : ℕ) where
     told = q ∙ ap (λ (y : List ℕ). sameBytes (decode y) (l ∷ [])) p
 
     pub name-no : not r ≡ true → Not ≡ secondFrom b l (At i)
-    name-no e = go r e ∙ ap (λ (y : Bool). cond y (spanOf b (placed (nextOf b i))) Not) told
+    name-no e = go r e ∙ ap (λ (y : Bool). cond y (secondSpan b (placed (nextOf b i))) Not) told
       where
-        go : (r : Bool) → not r ≡ true → Not ≡ cond r (spanOf b (placed (nextOf b i))) Not
+        go : (r : Bool) → not r ≡ true → Not ≡ cond r (secondSpan b (placed (nextOf b i))) Not
         go true e = absurd (let z : _≡_ {A = ℕ} 0 1 = cc in omega arith)
         go false e = refl
 
-    pub name-yes : not r ≡ false → spanOf b (placed (nextOf b i)) ≡ secondFrom b l (At i)
-    name-yes e = go r e ∙ ap (λ (y : Bool). cond y (spanOf b (placed (nextOf b i))) Not) told
+    pub name-yes : not r ≡ false → secondSpan b (placed (nextOf b i)) ≡ secondFrom b l (At i)
+    name-yes e = go r e ∙ ap (λ (y : Bool). cond y (secondSpan b (placed (nextOf b i))) Not) told
       where
-        go : (r : Bool) → not r ≡ false → spanOf b (placed (nextOf b i)) ≡ cond r (spanOf b (placed (nextOf b i))) Not
+        go : (r : Bool) → not r ≡ false → secondSpan b (placed (nextOf b i)) ≡ cond r (secondSpan b (placed (nextOf b i))) Not
         go true e = refl
         go false e = absurd (let z : _≡_ {A = ℕ} 0 1 = cc in omega arith)
 
 module _ (b : List ℕ) where
-  pub span-at : (i : ℕ) {x y : Listed} → x ≡ placed (nextOf b i) → x ≡ y → spanOf b y ≡ spanOf b (placed (nextOf b i))
-  span-at i p q = ap (spanOf b) (sym q ∙ p)
+  pub span-at : (i : ℕ) {x y : Listed} → x ≡ placed (nextOf b i) → x ≡ y → secondSpan b y ≡ secondSpan b (placed (nextOf b i))
+  span-at i p q = ap (secondSpan b) (sym q ∙ p)
 
-  pub span-is : (j : ℕ) {o p : Out} → o ≡ stringAt b j → o ≡ p → case p (λ n. Is (j + 1) (n - j - 2)) (Is 0 0) ≡ spanOf b (At j)
+  pub span-is : (j : ℕ) {o p : Out} → o ≡ stringAt b j → o ≡ p → case p (λ n. Is (j + 1) (n - j - 2)) (Is 0 0) ≡ secondSpan b (At j)
   span-is j p q = ap (λ (o : Out). case o (λ n. Is (j + 1) (n - j - 2)) (Is 0 0)) (sym q ∙ p)
 
 -- what the answer says of the list
@@ -114,14 +114,14 @@ pub record Going (b : List ℕ) (tags : ℕ) (c : Condition) (k : ℕ) (x : List
   pub listing : Listing b us
   pub here : x ≡ firstLeft us
   pub few : count us + k ≤ length b
-  pub is : conditionHolds (tagsAt b tags) c ≡ any (tagFits c) (tagsOf b us)
+  pub is : conditionHolds (lentTagsAt b tags) c ≡ any (tagFits c) (tagsOf b us)
 
 module _ (b : List ℕ) (tags : ℕ) (c : Condition) where
-  pub going-start : value5 isTags b tags ≡ false → {x : Listed} → x ≡ placed (firstOf (startAt b tags)) → Going b tags c 0 x
-  unfolding value5 tagsAt
+  pub going-start : value5 isTagsShape b tags ≡ false → {x : Listed} → x ≡ placed (startElement (startAt b tags)) → Going b tags c 0 x
+  unfolding value5 lentTagsAt
   going-start e {x} z = go (treeAt b depth tags) refl e
     where
-      array : (t : Json) (n : ℕ) → treeAt b depth tags ≡ got t n → not (isTags t) ≡ false → Going b tags c 0 x
+      array : (t : Json) (n : ℕ) → treeAt b depth tags ≡ got t n → not (isTagsShape t) ≡ false → Going b tags c 0 x
       array (word a k) n w q = absurd (let y : _≡_ {A = ℕ} 0 1 = cc in omega arith)
       array (num a k) n w q = absurd (let y : _≡_ {A = ℕ} 0 1 = cc in omega arith)
       array (str a k) n w q = absurd (let y : _≡_ {A = ℕ} 0 1 = cc in omega arith)
@@ -131,34 +131,34 @@ module _ (b : List ℕ) (tags : ℕ) (c : Condition) where
           let (f, l) = all-left g in
           record { us = ts; listing = l; here = z ∙ f; few = omega (arith, items-few g); is = rw w }
 
-      go : (g : Got Json) → treeAt b depth tags ≡ g → not (onValue isTags g) ≡ false → Going b tags c 0 x
+      go : (g : Got Json) → treeAt b depth tags ≡ g → not (onValue isTagsShape g) ≡ false → Going b tags c 0 x
       go none w q = absurd (let y : _≡_ {A = ℕ} 0 1 = cc in omega arith)
       go (got t n) w q = array t n w q
 
 module _ {b : List ℕ} {tags : ℕ} {c : Condition} {k : ℕ} where
-  pub going-none : {x : Listed} → Going b tags c k x → x ≡ Absent → false ≡ conditionHolds (tagsAt b tags) c
+  pub going-none : {x : Listed} → Going b tags c k x → x ≡ Absent → false ≡ conditionHolds (lentTagsAt b tags) c
   unfolding tagsOf
   going-none {x} g e = go (g .us) (sym (g .here) ∙ e) (g .is)
     where
-      go : (us : Items) → firstLeft us ≡ Absent → conditionHolds (tagsAt b tags) c ≡ any (tagFits c) (tagsOf b us) → false ≡ conditionHolds (tagsAt b tags) c
+      go : (us : Items) → firstLeft us ≡ Absent → conditionHolds (lentTagsAt b tags) c ≡ any (tagFits c) (tagsOf b us) → false ≡ conditionHolds (lentTagsAt b tags) c
       go nil q i = sym i
       go (item p v t ts) q i = absurd (let y : _≡_ {A = ℕ} 0 1 = cc in omega arith)
 
-  pub going-spent : {x : Listed} → Going b tags c k x → length b ≤ k → false ≡ conditionHolds (tagsAt b tags) c
+  pub going-spent : {x : Listed} → Going b tags c k x → length b ≤ k → false ≡ conditionHolds (lentTagsAt b tags) c
   unfolding tagsOf countItems
   going-spent {x} g h = go (g .us) (g .few) (g .is)
     where
-      go : (us : Items) → count us + k ≤ length b → conditionHolds (tagsAt b tags) c ≡ any (tagFits c) (tagsOf b us) → false ≡ conditionHolds (tagsAt b tags) c
+      go : (us : Items) → count us + k ≤ length b → conditionHolds (lentTagsAt b tags) c ≡ any (tagFits c) (tagsOf b us) → false ≡ conditionHolds (lentTagsAt b tags) c
       go nil q i = sym i
       go (item p v t ts) q i = absurd (omega arith)
 
   -- one tag: it fits, or the others are left
   module _ {x : Listed} {v : ℕ} (g : Going b tags c k x) (e : x ≡ At v) where
-    pub going-hit : fitsBy b (c .members) (secondOf b v (c .letter)) ≡ true → true ≡ conditionHolds (tagsAt b tags) c
+    pub going-hit : fitsBy b (c .members) (secondOf b v (c .letter)) ≡ true → true ≡ conditionHolds (lentTagsAt b tags) c
     unfolding tagsOf
     going-hit f = go (g .us) (g .listing) (sym (g .here) ∙ e) (g .is)
       where
-        go : (us : Items) → Listing b us → firstLeft us ≡ At v → conditionHolds (tagsAt b tags) c ≡ any (tagFits c) (tagsOf b us) → true ≡ conditionHolds (tagsAt b tags) c
+        go : (us : Items) → Listing b us → firstLeft us ≡ At v → conditionHolds (lentTagsAt b tags) c ≡ any (tagFits c) (tagsOf b us) → true ≡ conditionHolds (lentTagsAt b tags) c
         go nil l q i = absurd (let y : _≡_ {A = ℕ} 0 1 = cc in omega arith)
         go (item p w t ts) (one a n l) q i =
             let z : w ≡ v = cc in
@@ -169,7 +169,7 @@ module _ {b : List ℕ} {tags : ℕ} {c : Condition} {k : ℕ} where
     unfolding tagsOf countItems
     going-miss {y} m f = go (g .us) (g .listing) (sym (g .here) ∙ e) (g .few) (g .is)
       where
-        go : (us : Items) → Listing b us → firstLeft us ≡ At v → count us + k ≤ length b → conditionHolds (tagsAt b tags) c ≡ any (tagFits c) (tagsOf b us) → Going b tags c (k + 1) y
+        go : (us : Items) → Listing b us → firstLeft us ≡ At v → count us + k ≤ length b → conditionHolds (lentTagsAt b tags) c ≡ any (tagFits c) (tagsOf b us) → Going b tags c (k + 1) y
         go nil l q s i = absurd (let z : _≡_ {A = ℕ} 0 1 = cc in omega arith)
         go (item p w t ts) (one a n l) q s i =
             let z : w ≡ v = cc in

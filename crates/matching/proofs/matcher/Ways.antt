@@ -20,7 +20,7 @@ use Rattle.message.specs.declared.Bound.{Bound}
 use Rattle.message.specs.declared.Bound.the-variants.{Number}
 use Rattle.spell.specs.Spell.{decode}
 use Rattle.message.specs.declared.EventParts.{EventParts}
-use Rattle.event.specs.Lent.{natural, said, tagsAt, eventOf}
+use Rattle.event.specs.Lent.{natural, said, lentTagsAt, eventOf}
 use Rattle.law.specs.Lists.{any}
 use Rattle.query.specs.Filter.{Filter}
 use Rattle.query.specs.Match.{sameNumber, isListed, kindListed, sinceHolds, untilHolds, conditionHolds, matches}
@@ -87,9 +87,9 @@ module _ {x : Bound} {z : ℤ} (t : ℤ) (e : x ≡ Number z) (fz : SFits w64 z)
   until-is h = sym (ap (λ (y : Bound). untilHolds y t) e ∙ ap not (sym (ap₂ ltZ (toZ-ofZ w64 z fz) (toZ-ofZ w64 t ft)) ∙ h))
 
 -- ---- the conditions
-pub condition-test : (b m : List ℕ) (tags l : ℕ) {r : Bool} {s q : List ℕ} → r ≡ conditionHolds (tagsAt b tags) (asked l (spelledBy m s)) → s ≡ q
-    → conditionHolds (tagsAt b tags) (asked l (spelledBy m q)) ≡ r
-condition-test b m tags l e p = sym (e ∙ ap (λ (y : List ℕ). conditionHolds (tagsAt b tags) (asked l (spelledBy m y))) p)
+pub condition-test : (b m : List ℕ) (tags l : ℕ) {r : Bool} {s q : List ℕ} → r ≡ conditionHolds (lentTagsAt b tags) (asked l (spelledBy m s)) → s ≡ q
+    → conditionHolds (lentTagsAt b tags) (asked l (spelledBy m q)) ≡ r
+condition-test b m tags l e p = sym (e ∙ ap (λ (y : List ℕ). conditionHolds (lentTagsAt b tags) (asked l (spelledBy m y))) p)
 
 module _ {A B : Type 0} (p : B → Bool) (f : A → B) (n : ℕ) (l : List A) where
   abbrev pub Rest : ℕ → Type 0
@@ -188,6 +188,6 @@ module _ (m row b : List ℕ) (f : Known) (p : EventParts) where
       e ∙ ap₂ (λ (y : List ℕ) (t : ℤ). fieldsHold (filterBy m row f) (decode y) t j) q (toZ-ofZ w64 (p .body .«created_at») ft)
       ∙ ap (fieldsHold (filterBy m row f) (said b (p .body .pubkey)) (p .body .«created_at»)) (k ∙ ap natural (toZ-ofZ w64 (p .body .kind) fk))
 
-  pub conditions-test : {r : Bool} → r ≡ all (conditionHolds (tagsAt b (p .body .tags))) (map (conditionBy m row) (take (f .n) (f .conditions))) → r ≡ all (conditionHolds (eventOf b (p .body) .tags)) (filterBy m row f .conditions)
+  pub conditions-test : {r : Bool} → r ≡ all (conditionHolds (lentTagsAt b (p .body .tags))) (map (conditionBy m row) (take (f .n) (f .conditions))) → r ≡ all (conditionHolds (eventOf b (p .body) .tags)) (filterBy m row f .conditions)
   unfolding eventOf filterBy
   conditions-test e = e

@@ -15,11 +15,11 @@ use Rattle.json.specs.declared.Start.{Start}
 use Rattle.json.specs.declared.Start.the-variants.{Leaf, Empty, Many}
 use Rattle.json.specs.declared.Next.{Next}
 use Rattle.json.specs.declared.Next.the-variants.{More, Done, Wrong}
-use Rattle.numeral.specs.Whole.{wholeOf, answerOf}
+use Rattle.numeral.specs.Whole.{wholeOf, wholeAnswer}
 use Rattle.numeral.specs.declared.Whole.{Whole}
 use Rattle.shape.specs.Shape.{isCondition}
-use Rattle.message.specs.Parts.{valueOf}
-use Rattle.message.specs.Lists.{within}
+use Rattle.message.specs.Parts.{wholeValue}
+use Rattle.message.specs.Lists.{openWithin}
 use Rattle.message.specs.declared.Listed.{Listed}
 use Rattle.message.specs.declared.Listed.the-variants.{Absent, At}
 use Rattle.event.specs.Lent.{natural}
@@ -75,11 +75,11 @@ pub record FindsConditions (m : List ℕ) (l : Listed) (before : List ℕ) (list
 
 -- ---- the number at a place, if it is not negative; otherwise 0
 abbrev pub smallFrom : Whole → ℕ
-smallFrom w = natural (valueOf w)
+smallFrom w = natural (wholeValue w)
 
 abbrev pub smallOf : (s : Bytes) (at : Place) (x : Kind) → ℕ
 smallOf s at (Str n) = 0
-smallOf s at (Num n) = smallFrom (answerOf (wholeOf (part s at (n - at))))
+smallOf s at (Num n) = smallFrom (wholeAnswer (wholeOf (part s at (n - at))))
 smallOf s at (Word n) = 0
 smallOf s at None = 0
 
@@ -99,11 +99,11 @@ moreNamed (Done n) = Absent
 moreNamed Wrong = Absent
 
 unfoldable pub nextNamed : Bytes → ℕ → Listed
-nextNamed s v = case (endOf (treeAt s within v)) (λ n. moreNamed (nextAt s n true)) Absent
+nextNamed s v = case (endOf (treeAt s openWithin v)) (λ n. moreNamed (nextAt s n true)) Absent
 
 abbrev pub valuePlace : Bytes → ℕ → ℕ
 valuePlace s p = case (headAt s p true) (λ v. v) 0
 
 -- the letter of a condition's name; 0 of another name
-unfoldable pub letterOf : Bytes → ℕ
-letterOf w = cond (isCondition w) (getD w 1 0) 0
+unfoldable pub conditionLetter : Bytes → ℕ
+conditionLetter w = cond (isCondition w) (getD w 1 0) 0

@@ -9,7 +9,7 @@ use Rattle.message.specs.declared.Bound.the-variants.{Absent, Number}
 use Rattle.message.specs.declared.FilterParts.{FilterParts}
 use Rattle.event.specs.Lent.{natural}
 use Rattle.table.specs.Layout.{countOf}
-use Rattle.query.specs.Answer.{from, newestFirst, newerSlot}
+use Rattle.query.specs.Answer.{numbersFrom, newestFirst, newerSlot}
 use Rattle.matching.specs.Inner.Hits.{hitAt}
 
 -- how many more matches a filter takes, once it has met a slot
@@ -48,5 +48,5 @@ unfoldable pub rooms : (c n : ℕ) (fs : List FilterParts) → List ℕ
 rooms c n fs = map (roomFor c) (take n fs) ++ replicate (4 - n) 0
 
 -- the slots of the table b that the first n filters take, where the bytes h say what matches
-unfoldable pub taken : (b h : List ℕ) (fs : List FilterParts) (n : ℕ) → List ℕ
-taken b h fs n = pass (hitAt h) (rooms (countOf b) n fs) (newestFirst (newerSlot b) (from 0 (countOf b)))
+unfoldable pub passTaken : (b h : List ℕ) (fs : List FilterParts) (n : ℕ) → List ℕ
+passTaken b h fs n = pass (hitAt h) (rooms (countOf b) n fs) (newestFirst (newerSlot b) (numbersFrom 0 (countOf b)))

@@ -11,7 +11,7 @@ use Rattle.message.specs.declared.Listed.{Listed}
 use Rattle.message.specs.declared.Listed.the-variants.{Absent, At}
 use Rattle.message.specs.declared.Element.{Element}
 use Rattle.message.specs.declared.Element.the-variants as element
-use Rattle.message.specs.Lists.{firstOf, nextOf}
+use Rattle.message.specs.Lists.{startElement, nextOf}
 use Rattle.query.specs.Filter.{Filter, Condition}
 use Rattle.query.specs.Match.{isMember, isListed, kindListed, sinceHolds, untilHolds}
 use Rattle.matching.specs.declared.Second.{Second}
@@ -28,16 +28,16 @@ abbrev pub asked : ℕ → List (List ℕ) → Condition
 asked x ms = record { letter = x; members = ms }
 
 -- the second string of the tag at a place, if its first is the letter
-abbrev pub spanOf : Bytes → Listed → Second
-spanOf b Absent = Not
-spanOf b (At j) = case (stringAt b j) (λ n. Is (j + 1) (n - j - 2)) (Is 0 0)
+abbrev pub secondSpan : Bytes → Listed → Second
+secondSpan b Absent = Not
+secondSpan b (At j) = case (stringAt b j) (λ n. Is (j + 1) (n - j - 2)) (Is 0 0)
 
 abbrev pub secondFrom : (b : Bytes) (x : ℕ) (x′ : Listed) → Second
 secondFrom b x Absent = Not
-secondFrom b x (At i) = cond (sameBytes (decode (spelledAt b i)) (x ∷ [])) (spanOf b (placed (nextOf b i))) Not
+secondFrom b x (At i) = cond (sameBytes (decode (spelledAt b i)) (x ∷ [])) (secondSpan b (placed (nextOf b i))) Not
 
 unfoldable pub secondOf : (b : Bytes) (v x : ℕ) → Second
-secondOf b v x = secondFrom b x (placed (firstOf (startAt b v)))
+secondOf b v x = secondFrom b x (placed (startElement (startAt b v)))
 
 -- it is in the list
 abbrev pub fitsBy : (b : Bytes) (ms : List (List ℕ)) (x : Second) → Bool

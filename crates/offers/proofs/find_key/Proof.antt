@@ -4,13 +4,13 @@ use Prim.Native.Nat.{_+_, _-_, _≤_}
 use native.Mathlib.Nat.{sub-zero, zero-add}
 use borrow.Author.Needs.{needs}
 use Rattle.law.specs.Lists.{find}
-use Rattle.slots.specs.Slots.{sameKeyIn, from}
+use Rattle.slots.specs.Slots.{sameKeyIn, slotsFrom}
 use Rattle.offers.proofs.First.{find-more, find-met, find-end}
 use Rattle.offers.proofs.find_key.Statement.{statement}
 use Rattle.offers.proofs.find_key.Tie as tie
 
 abbrev Inv-loop : tie.InvT-loop
-Inv-loop table c new last k₀ k = (k ≤ c) × (find (sameKeyIn new) (from table 0 c) ≡ k + find (sameKeyIn new) (from table k (c - k)))
+Inv-loop table c new last k₀ k = (k ≤ c) × (find (sameKeyIn new) (slotsFrom table 0 c) ≡ k + find (sameKeyIn new) (slotsFrom table k (c - k)))
 
 abbrev μ-loop : tie.MeasureT-loop
 μ-loop table c new last k₀ k = c - k

@@ -3,7 +3,7 @@ use mathlib.Core.Path.{_≡_}
 use native.Mathlib.Omega.{arith}
 use borrow.Author.Needs.{needs}
 use lib.ListN.{length}
-use Rattle.relay.specs.Inner.{Ready, Stands, waiting}
+use Rattle.relay.specs.Inner.{Ready, Stands, waitingFrom}
 use Rattle.relay.proofs.feed_chunk.Statement.{statement}
 use Rattle.relay.proofs.feed_chunk.Tie as tie
 
@@ -12,7 +12,7 @@ Inv-loop table₀ line₀ n chunk out₀ p₀ table line out p =
     Ready table line out × Stands chunk out p × (length table ≡ length table₀) × (length line ≡ length line₀) × (length out ≡ length out₀)
 
 abbrev μ-loop : tie.MeasureT-loop
-μ-loop table₀ line₀ n chunk out₀ p₀ table line out p = waiting chunk p
+μ-loop table₀ line₀ n chunk out₀ p₀ table line out p = waitingFrom chunk p
 
 pub feed-chunk-spec : {M : Type 1} → statement M
 feed-chunk-spec =

@@ -17,8 +17,8 @@ use Rattle.digest.specs.Digest.{digest}
 use Rattle.text.specs.Event.{Event, serialise, isFit, all}
 use Rattle.text.specs.Read.{read, readText}
 use Rattle.message.specs.Parts.{memberOf, membersOf, spanIn, spanOf}
-use Rattle.message.specs.Read.{firstOf, readOf, namedOf}
-use Rattle.message.specs.Lent.{bytesOf, string2, string4, string5, string7, event2, event4, event5, event7, body6, body8}
+use Rattle.message.specs.Read.{firstItem, readOf, namedOf}
+use Rattle.message.specs.Lent.{spanBytes, string2, string4, string5, string7, event2, event4, event5, event7, body6, body8}
 use Rattle.message.specs.declared.Span.{Span}
 use Rattle.message.specs.declared.Body.{Body}
 use Rattle.message.specs.declared.EventParts.{EventParts}
@@ -26,7 +26,7 @@ use Rattle.message.specs.declared.ReqParts.{ReqParts}
 use Rattle.message.specs.declared.Message.the-variants as message
 use Rattle.message.specs.declared.Named.the-variants as names
 use Rattle.event.specs.Lent.{said, textOf}
-use Rattle.event.specs.Answer.{hexOf, isLarge, serialised, serialisedRow, numberOf, valueOf}
+use Rattle.event.specs.Answer.{hexOf, isLarge, serialised, serialisedRow, writtenNumber, writtenLength}
 use Rattle.event.specs.declared.Written.{Written}
 use Rattle.event.specs.declared.Written.the-variants as sent
 use Rattle.law.specs.Lists.{_∈_, any}
@@ -41,7 +41,7 @@ use Rattle.table.specs.Offer as offers
 use Rattle.table.specs.Offer.{Offering, asMessage, answer, next}
 use Rattle.table.specs.declared.Offered.the-variants.{Stored, Refused}
 use Rattle.query.specs.Filter.{Filter}
-use Rattle.query.specs.Answer.{answerList, filtersAt}
+use Rattle.query.specs.Answer.{answerList, filtersMeant}
 use Rattle.query.specs.Claims.{Lowest}
 use Rattle.wire.specs.Ascii.{ascii}
 use Rattle.reply.specs.Replies as replies
@@ -60,15 +60,15 @@ openedIn m (got t n) = opened m t
 abbrev pub wordIn : Bytes → Word
 wordIn m = openedIn m (root m) .first
 
-abbrev pub restIn : Bytes → Items
-restIn m = openedIn m (root m) .rest
+abbrev pub restItems : Bytes → Items
+restItems m = openedIn m (root m) .rest
 
 -- where an EVENT's id field stands, and a REQ's subscription id
 abbrev pub idField : Bytes → Span
-idField m = spanIn (memberOf m idName (membersOf (firstOf (restIn m))))
+idField m = spanIn (memberOf m idName (membersOf (firstItem (restItems m))))
 
 abbrev pub subscriptionField : Bytes → Span
-subscriptionField m = spanOf (firstOf (restIn m))
+subscriptionField m = spanOf (firstItem (restItems m))
 
 -- ---- a message is refused by one of rows 1 to 8, or it is read
 abbrev pub Covered : Type 0
@@ -88,7 +88,7 @@ LateWord = (m : List ℕ) → 6 ≤ messageRow m → wordIn m ≢ other
 abbrev pub LateEvent : Type 0
 LateEvent = (b m : List ℕ) → 6 ≤ messageRow m → wordIn m ≡ event →
     (repliesTo b m
-    ≡ cond (isHexOf hexLength (bytesOf m (idField m))) (ok (said m (idField m)) false (reasonOf (messageRow m))) (notice (reasonOf (messageRow m)))
+    ≡ cond (isHexOf hexLength (spanBytes m (idField m))) (ok (said m (idField m)) false (reasonOf (messageRow m))) (notice (reasonOf (messageRow m)))
     ∷ [])
     × (tableAfter b m ≡ b)
 
@@ -96,7 +96,7 @@ LateEvent = (b m : List ℕ) → 6 ≤ messageRow m → wordIn m ≡ event →
 abbrev pub LateRequest : Type 0
 LateRequest = (b m : List ℕ) → 6 ≤ messageRow m → wordIn m ≡ req →
     (repliesTo b m
-    ≡ cond (wrongSubscription m (firstOf (restIn m))) (notice (reasonOf (messageRow m))) (closed (said m (subscriptionField m)) (reasonOf (messageRow m)))
+    ≡ cond (wrongSubscription m (firstItem (restItems m))) (notice (reasonOf (messageRow m))) (closed (said m (subscriptionField m)) (reasonOf (messageRow m)))
     ∷ [])
     × (tableAfter b m ≡ b)
 
@@ -135,8 +135,8 @@ pub data Shows (b sub : List ℕ) : List ℕ → List Reply → Type 0 where
 abbrev pub ReadRequest : Type 0
 ReadRequest = (b m : List ℕ) (r : ReqParts) → readOf m ≡ message.Req r → sound b ≡ true →
     (es : List Reply)
-    × Shows b (said m (r .subscription)) (answerList b (filtersAt m (r .filters))) es
-    × (length es ≡ length (answerList b (filtersAt m (r .filters))))
+    × Shows b (said m (r .subscription)) (answerList b (filtersMeant m (r .filters))) es
+    × (length es ≡ length (answerList b (filtersMeant m (r .filters))))
     × (repliesTo b m ≡ es ++ (eose (said m (r .subscription)) ∷ []))
     × (tableAfter b m ≡ b)
 
@@ -189,8 +189,8 @@ Overlong = (b m : List ℕ) → mostMessage < length m → (repliesTo b m ≡ no
 
 -- ---- the program
 -- "over a fresh table of 8 slots"
-abbrev pub Fresh : Type 0
-Fresh = (sound freshTable ≡ true) × (capacityOf freshTable ≡ 8) × (view freshTable ≡ []) × (length freshTable ≡ tableSize 8)
+abbrev pub FreshTable : Type 0
+FreshTable = (sound freshTable ≡ true) × (capacityOf freshTable ≡ 8) × (view freshTable ≡ []) × (length freshTable ≡ tableSize 8)
 
 -- each message finds the table that the last one left
 abbrev pub tableFrom : Bytes → List (List ℕ) → Bytes
@@ -233,12 +233,12 @@ abbrev pub StaysSound : Type 0
 StaysSound = (ms : List (List ℕ)) → sound (tableFrom freshTable ms) ≡ true
 
 -- what it holds is what demand 3 gives for the lines as offers, if no line lacks room and the id premise holds
-abbrev pub offersOf : List (List ℕ) → List (Offer tableEvents)
-offersOf ms = judged tableEvents Signature relay (map asMessage ms)
+abbrev pub offersIn : List (List ℕ) → List (Offer tableEvents)
+offersIn ms = judged tableEvents Signature relay (map asMessage ms)
 
 abbrev pub ProgramSettles : Type 0
-ProgramSettles = (ms : List (List ℕ)) → IdPremise tableEvents (offersOf ms) → NoneLacksOn tableEvents Signature relay freshTable (map asMessage ms) →
-    Settled tableEvents (map (signature.event tableEvents Signature) (view (tableFrom freshTable ms))) (offersOf ms)
+ProgramSettles = (ms : List (List ℕ)) → IdPremise tableEvents (offersIn ms) → NoneLacksOn tableEvents Signature relay freshTable (map asMessage ms) →
+    Settled tableEvents (map (signature.event tableEvents Signature) (view (tableFrom freshTable ms))) (offersIn ms)
 
 -- ---- a reply given as lent parts (specs/Lent): proved in proofs/Lent
 abbrev pub lentText : Bytes → ReplyParts → Bytes
@@ -306,13 +306,13 @@ ReplyFits = (b : List ℕ) (q : ReplyParts) (out : List ℕ) → (replyRow b q o
 -- what a call answers, and the output o afterwards, that row r refuses or that writes the text t: "Output is written from its start, and its
 -- rest stays. A refusal carries its number and no other value .., and every lent buffer stays as found."
 pub record WritesOr (row : ℕ) (t out : List ℕ) (w : Written) (o : List ℕ) : Type 0 where
-  pub number : numberOf w ≡ row
+  pub number : writtenNumber w ≡ row
   pub wrote : row ≡ 0 → w ≡ sent.Wrote (length t)
-  pub value : row ≡ 0 → valueOf w ≡ length t
+  pub value : row ≡ 0 → writtenLength w ≡ length t
   pub begins : row ≡ 0 → take (length t) o ≡ t
   pub rest : row ≡ 0 → drop (length t) o ≡ drop (length t) out
   pub as-long : length o ≡ length out
-  pub refused : row ≢ 0 → (w ≡ sent.Refused row) × (valueOf w ≡ 0) × (o ≡ out)
+  pub refused : row ≢ 0 → (w ≡ sent.Refused row) × (writtenLength w ≡ 0) × (o ≡ out)
 
 abbrev pub RepliedMeans : Type 0
 RepliedMeans = (b : List ℕ) (q : ReplyParts) (out : List ℕ) → WritesOr (replyRow b q out) (lentText b q) out (replied b q out) (repliedOut b q out)
@@ -320,12 +320,12 @@ RepliedMeans = (b : List ℕ) (q : ReplyParts) (out : List ℕ) → WritesOr (re
 -- ---- the number and value of other answers: "A refusal carries its number and no other value"
 abbrev pub SerialisedNumber : Type 0
 SerialisedNumber = (b : List ℕ) (p : Body) (out : List ℕ) →
-    (numberOf (serialised b p out) ≡ serialisedRow b p out)
-    × (serialisedRow b p out ≡ 0 → valueOf (serialised b p out) ≡ length (textOf b p))
-    × (serialisedRow b p out ≢ 0 → valueOf (serialised b p out) ≡ 0)
+    (writtenNumber (serialised b p out) ≡ serialisedRow b p out)
+    × (serialisedRow b p out ≡ 0 → writtenLength (serialised b p out) ≡ length (textOf b p))
+    × (serialisedRow b p out ≢ 0 → writtenLength (serialised b p out) ≡ 0)
 
 -- of an offer, the row of a refusal, and 0 for a verdict
 abbrev pub OfferedNumber : Type 0
 OfferedNumber = (b : List ℕ) (o : Offering) →
-    ((r : ℕ) → 1 ≤ r → (offers.numberOf (answer b o) ≡ r) ↔ (answer b o ≡ Refused r))
-    × ((offers.numberOf (answer b o) ≡ 0) ↔ ((r : ℕ) → answer b o ≢ Refused r))
+    ((r : ℕ) → 1 ≤ r → (offers.offerNumber (answer b o) ≡ r) ↔ (answer b o ≡ Refused r))
+    × ((offers.offerNumber (answer b o) ≡ 0) ↔ ((r : ℕ) → answer b o ≢ Refused r))

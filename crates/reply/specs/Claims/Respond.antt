@@ -16,14 +16,14 @@ use Rattle.event.specs.Answer.{hexOf}
 use Rattle.law.specs.Lists.{_∈_, any}
 use Rattle.table.specs.Layout.{capacityOf, countOf, slotAt, idIn, sigIn, textIn}
 use Rattle.table.specs.Sound.{sound}
-use Rattle.query.specs.Answer.{answerList, filtersAt}
+use Rattle.query.specs.Answer.{answerList, filtersMeant}
 use Rattle.query.specs.Claims.{Lowest}
 use Rattle.reply.specs.Replies.{event, eose, replyText}
 use Rattle.reply.specs.declared.ReplyParts.the-variants as parts
 use Rattle.reply.specs.Program.{repliesTo, tableAfter, replyLine, output}
 use Rattle.reply.specs.Claims.Replies.{PartsHold, WritesOr}
 use Rattle.reply.specs.Respond.{response, respondRow, responded, respondedOut, respondedTable, slotText, slotLine, slotEventRow, slotEvent, slotEventOut, joined, fitting, slotLines, fittingText, eventsRow, sentEvents, sentEventsOut, sentNumber, sentBytes, sentSlots}
-use Rattle.reply.specs.Feed.{State, start, kept, isEnd, afterBytes, saidBy, saidLast, stateOf, before, usedOf, turnText, turnState, turnRow, turned, turnTable, turnLine, turnOut, turnedNumber, turnedUsed, turnedLine, turnedBytes, mostLine}
+use Rattle.reply.specs.Feed.{State, start, kept, isEnd, afterBytes, saidBy, saidLast, feedState, before, usedOf, turnText, turnState, turnRow, turned, turnTable, turnLine, turnOut, turnedNumber, turnedUsed, turnedLine, turnedBytes, mostLine}
 
 -- ---- one message answered
 -- row 13, "lent output .. too short", and no other
@@ -49,7 +49,7 @@ Enough = (b m out : List ℕ) → enoughFor (capacityOf b) ≤ length out → re
 abbrev pub OneByOne : Type 0
 OneByOne = (b m : List ℕ) (r : ReqParts) → readOf m ≡ message.Req r → sound b ≡ true →
     response b m
-    ≡ joined (slotLines b (said m (r .subscription)) (answerList b (filtersAt m (r .filters)))) ++ replyLine (eose (said m (r .subscription)))
+    ≡ joined (slotLines b (said m (r .subscription)) (answerList b (filtersMeant m (r .filters)))) ++ replyLine (eose (said m (r .subscription)))
 
 -- of a held slot there is an EVENT, and its line is the EVENT and 0A
 abbrev pub SlotTextIs : Type 0
@@ -132,8 +132,8 @@ pub record TurnIs (b line : List ℕ) (n : ℕ) (piece : List ℕ) : Type 0 wher
   pub progress : piece ≢ [] → 1 ≤ usedOf piece
   pub says : turnText b line n piece ≡ cond (any isEnd piece) (response b (kept (take n (kept line) ++ before piece))) []
   -- what the turn leaves of the piece is fed to the state that it leaves
-  pub goes-on : saidBy (stateOf b line n) piece ≡ turnText b line n piece ++ saidBy (turnState b line n piece) (drop (usedOf piece) piece)
-  pub state : afterBytes (stateOf b line n) piece ≡ afterBytes (turnState b line n piece) (drop (usedOf piece) piece)
+  pub goes-on : saidBy (feedState b line n) piece ≡ turnText b line n piece ++ saidBy (turnState b line n piece) (drop (usedOf piece) piece)
+  pub state : afterBytes (feedState b line n) piece ≡ afterBytes (turnState b line n piece) (drop (usedOf piece) piece)
 
 abbrev pub TurnMeans : Type 0
 TurnMeans = (b line : List ℕ) (n : ℕ) (piece : List ℕ) → TurnIs b line n piece
@@ -149,7 +149,7 @@ pub record TurnedIs (b line : List ℕ) (n : ℕ) (piece out : List ℕ) : Type 
   pub used : turnRow b line n piece out ≡ 0 → turnedUsed (turned b line n piece out) ≡ usedOf piece
   pub bytes : turnRow b line n piece out ≡ 0 → turnedBytes (turned b line n piece out) ≡ length (turnText b line n piece)
   pub is-state : turnRow b line n piece out ≡ 0 →
-      stateOf (turnTable b line n piece out) (turnLine b line n piece out) (turnedLine (turned b line n piece out)) ≡ turnState b line n piece
+      feedState (turnTable b line n piece out) (turnLine b line n piece out) (turnedLine (turned b line n piece out)) ≡ turnState b line n piece
   pub begins : turnRow b line n piece out ≡ 0 → take (length (turnText b line n piece)) (turnOut b line n piece out) ≡ turnText b line n piece
   pub rest : turnRow b line n piece out ≡ 0 →
       drop (length (turnText b line n piece)) (turnOut b line n piece out) ≡ drop (length (turnText b line n piece)) out

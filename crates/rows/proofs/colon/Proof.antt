@@ -2,12 +2,12 @@
 use borrow.Author.Needs.{needs}
 use borrow.Author.Tests.{eq-eqb, ne-eqb}
 use lib.ListN.{List·getD-eq-default}
-use Rattle.json.specs.Grammar.{classOf, oneAt, tokenAt}
+use Rattle.json.specs.Grammar.{inClass, oneAt, tokenAt}
 use Rattle.rows.proofs.colon.Statement.{statement}
 use Rattle.rows.proofs.colon.Tie as tie
 
 pub colon-spec : {M : Type 1} → statement M
-unfolding tokenAt oneAt classOf
+unfolding tokenAt oneAt inClass
 colon-spec =
     tie.close
     (tie.spec

@@ -4,7 +4,7 @@ use native.Mathlib.Omega.{arith}
 use borrow.Author.Needs.{needs}
 use borrow.Author.Tests.{not-true, not-false}
 use Rattle.wire.specs.Bytes.{sameBytes, part}
-use Rattle.slots.specs.Slots.{pubkeyIn}
+use Rattle.slots.specs.Slots.{pubkeyBytes}
 use Rattle.slots.proofs.Keys.{other-kinds, no-key, other-pubkey, d-decides}
 use Rattle.slots.proofs.same_key.Statement.{statement}
 use Rattle.slots.proofs.same_key.Tie as tie
@@ -18,7 +18,7 @@ returns-2 c =
     (c .before .before .if1 .left) (c .before .keyed .ensures) (not-true _ (c .if2 .taken))
 
 returns-3 : tie.Need-returns-3
-unfolding pubkeyIn
+unfolding pubkeyBytes
 returns-3 c =
     let c5 = c .before .before .before .before .before in
     let c10 = c5 .before .before .before .before .before in
@@ -30,7 +30,7 @@ returns-3 c =
     (not-true _ (c .if3 .taken))
 
 returns-4 : tie.Need-returns-4
-unfolding pubkeyIn
+unfolding pubkeyBytes
 returns-4 c =
     let c5 = c .before .before .before .before .before in
     let c10 = c5 .before .before .before .before .before in

@@ -8,9 +8,9 @@ use lib.IntN.{ℤ}
 use lib.ListN.{length, getD, drop}
 use Rattle.wire.specs.Escape.{escape}
 use Rattle.text.specs.Event.{Tag, closing, comma, bracket, opening, tagsText}
-use Rattle.text.specs.Read.{Got, none, got, byteOf, isRaw, bodyFrom, standsAt, closedAt, pairAt, pubkeyAt, tagsAt, stringAt}
+use Rattle.text.specs.Read.{Got, none, got, escapedByte, isRaw, bodyFrom, standsAt, closedAt, pairAt, pubkeyAt, tagsAt, stringAt}
 use Rattle.text.specs.Kinds.{isNamedD, second}
-use Rattle.text.specs.Answer.{Span, spanOf, dSpan}
+use Rattle.text.specs.Answer.{Span, spanBehind, dSpan}
 use Rattle.text.specs.declared.Out.{Out}
 use Rattle.text.specs.declared.Out.the-variants as out
 use Rattle.text.specs.declared.Time.{Time}
@@ -25,32 +25,32 @@ use Rattle.text.specs.declared.Rest.{Rest}
 use Rattle.text.specs.declared.Rest.the-variants as rest
 use Rattle.wire.specs.Bytes.{Bytes, Place}
 
-abbrev pub endOf : {A : Type 0} → Got A → Out
-endOf none = out.Bad
-endOf (got x n) = out.End n
+abbrev pub gotEnd : {A : Type 0} → Got A → Out
+gotEnd none = out.Bad
+gotEnd (got x n) = out.End n
 
 -- a letter that stands for a byte after a backslash
 abbrev pub isLetter : ℕ → Bool
-isLetter c = not (eqb (byteOf c) 0)
+isLetter c = not (eqb (escapedByte c) 0)
 
 -- ---- bytes of a string that stand as they are
 -- the string goes on from i as it does from r
 pub record Passes (s : List ℕ) (i r : ℕ) : Type 0 where
   pub from : i ≤ r
-  pub same : endOf (bodyFrom false i (drop i s)) ≡ endOf (bodyFrom false r (drop r s))
+  pub same : gotEnd (bodyFrom false i (drop i s)) ≡ gotEnd (bodyFrom false r (drop r s))
 
 -- n bytes of the 32 from i on, each of which stands as it is
 pub record Raws (s : List ℕ) (i n : ℕ) : Type 0 where
   pub few : n ≤ 32
   pub all : (j : ℕ) → j < n → isRaw (getD s (i + j) 0) ≡ true
 
-abbrev pub timeIn : Got ℤ → Time
-timeIn none = time.Not
-timeIn (got z n) = time.Is z n
+abbrev pub timeGot : Got ℤ → Time
+timeGot none = time.Not
+timeGot (got z n) = time.Is z n
 
-abbrev pub kindIn : Got ℕ → Kind
-kindIn none = kind.Not
-kindIn (got k n) = kind.Is k n
+abbrev pub kindGot : Got ℕ → Kind
+kindGot none = kind.Not
+kindGot (got k n) = kind.Is k n
 
 abbrev pub isGot : {A : Type 0} → Got A → Bool
 isGot none = false
@@ -60,9 +60,9 @@ isGot (got x n) = true
 unfoldable pub opens : Bytes → Bool
 opens t = standsAt t opening 0 && isGot (closedAt t closing (pubkeyAt t) 4)
 
-abbrev pub noZero : Bytes → Bool
-noZero [] = true
-noZero (b ∷ w) = ltb 0 b && noZero w
+abbrev pub noZeroByte : Bytes → Bool
+noZeroByte [] = true
+noZeroByte (b ∷ w) = ltb 0 b && noZeroByte w
 
 -- ---- d: what is known once the tags before it are passed
 abbrev pub foundOf : Span → Found
@@ -71,7 +71,7 @@ foundOf p = found.At (p .at) (p .len)
 -- the tag t stands at i
 abbrev pub lookOf : (i : ℕ) (x : Found) (t : Tag) → Found
 lookOf i (found.At a l) t = found.At a l
-lookOf i found.Not t = cond (isNamedD t) (foundOf (spanOf (i + 6) (escape (second t)))) found.Not
+lookOf i found.Not t = cond (isNamedD t) (foundOf (spanBehind (i + 6) (escape (second t)))) found.Not
 
 -- the tags ts stand at i
 abbrev pub spanAfter : (x : Found) (i : ℕ) (ts : List Tag) → Span

@@ -6,7 +6,7 @@ use native.Mathlib.Omega.{arith}
 use native.Mathlib.Numerals.{add-one}
 use lib.ListN.{length, take, drop, length-set, length-replicate}
 use lib.Seq.{take-all}
-use Rattle.digest.specs.Block.{words, next, schedule}
+use Rattle.digest.specs.Block.{words, nextWord, schedule}
 use Rattle.digest.proofs.Laws.{filled, next-take, word-part}
 use Rattle.digest.proofs.block.expand.Statement.{statement}
 use Rattle.digest.proofs.block.expand.Tie as tie
@@ -49,7 +49,7 @@ unfolding schedule
 loop2-again c =
     let d = c .before .before .before in
     let l = d .before .before .before .loop2 in
-    let e : c .wrapping-add-u323 .result ≡ next (l .w) (l .k) =
+    let e : c .wrapping-add-u323 .result ≡ nextWord (l .w) (l .k) =
     simp (
       c .wrapping-add-u323 .ensures,
       c .before .wrapping-add-u322 .ensures,

@@ -1,11 +1,11 @@
 -- Each range is tested as the definition has it.
 use borrow.Author.Needs.{needs}
-use Rattle.json.specs.Grammar.{classOf}
+use Rattle.json.specs.Grammar.{inClass}
 use Rattle.json.proofs.classes.hex_digit.Statement.{statement}
 use Rattle.json.proofs.classes.hex_digit.Tie as tie
 
 pub hex-digit-spec : {M : Type 1} → statement M
-unfolding classOf
+unfolding inClass
 hex-digit-spec =
     tie.close
     (tie.spec

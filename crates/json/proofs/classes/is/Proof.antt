@@ -1,12 +1,12 @@
 -- Each class is tested as the definition has it.
 use borrow.Author.Needs.{needs}
-use Rattle.json.specs.Grammar.{classOf}
+use Rattle.json.specs.Grammar.{inClass}
 use Rattle.json.proofs.Bytes.{tests}
 use Rattle.json.proofs.classes.is.Statement.{statement}
 use Rattle.json.proofs.classes.is.Tie as tie
 
 pub is-spec : {M : Type 1} → statement M
-unfolding classOf
+unfolding inClass
 is-spec =
     tie.close
     (tie.spec

@@ -6,16 +6,16 @@ use native.Mathlib.Decide.{decLe}
 use native.Mathlib.Omega.{arith}
 use borrow.Author.Tests.{le-leb, lt-leb, eq-eqb, ne-eqb}
 use lib.Dec.{leb, eqb}
-use Rattle.json.specs.Grammar.{classOf}
+use Rattle.json.specs.Grammar.{inClass}
 use Rattle.json.specs.declared.Class.the-variants.{Plain}
 use Rattle.json.proofs.classes.own.Statement.{statement}
 use Rattle.json.proofs.classes.own.Tie as tie
 
-ranges : (b : ℕ) → ((leb 32 b && not (eqb b 34)) && not (eqb b 92)) ≡ classOf Plain b
-unfolding classOf
+ranges : (b : ℕ) → ((leb 32 b && not (eqb b 34)) && not (eqb b 92)) ≡ inClass Plain b
+unfolding inClass
 ranges b = go (decLe 32 b) (decLe b 33) (decLe 35 b) (decLe b 91) (decLe 93 b)
   where
-    go : Dec (32 ≤ b) → Dec (b ≤ 33) → Dec (35 ≤ b) → Dec (b ≤ 91) → Dec (93 ≤ b) → ((leb 32 b && not (eqb b 34)) && not (eqb b 92)) ≡ classOf Plain b
+    go : Dec (32 ≤ b) → Dec (b ≤ 33) → Dec (35 ≤ b) → Dec (b ≤ 91) → Dec (93 ≤ b) → ((leb 32 b && not (eqb b 34)) && not (eqb b 92)) ≡ inClass Plain b
     go (no x) y z v w = rw (lt-leb 32 b (omega arith), lt-leb 35 b (omega arith), lt-leb 93 b (omega arith))
     go (yes x) (yes y) z v w = rw (le-leb 32 b x, le-leb b 33 y, ne-eqb b 34 (omega arith), ne-eqb b 92 (omega arith))
     go (yes x) (no y) (no z) v w =

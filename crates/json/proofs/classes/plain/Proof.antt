@@ -6,13 +6,13 @@ use native.Mathlib.Omega.{arith}
 use borrow.Author.Needs.{needs}
 use borrow.Author.Tests.{le-leb, lt-leb}
 use lib.Dec.{leb}
-use Rattle.json.specs.Grammar.{within, classOf}
+use Rattle.json.specs.Grammar.{isBetween, inClass}
 use Rattle.json.specs.declared.Class.the-variants.{Plain}
 use Rattle.json.proofs.classes.plain.Statement.{statement}
 use Rattle.json.proofs.classes.plain.Tie as tie
 
-high : (b : ℕ) → 93 ≤ b → leb 93 b ≡ classOf Plain b
-unfolding classOf
+high : (b : ℕ) → 93 ≤ b → leb 93 b ≡ inClass Plain b
+unfolding inClass
 high b h = rw (le-leb 32 b (omega arith), lt-leb b 33 (omega arith), le-leb 35 b (omega arith), lt-leb b 91 (omega arith))
 
 or-middle : (a x c : Bool) → x ≡ true → x ≡ a || (x || c)
@@ -23,13 +23,13 @@ or-first : (y x c : Bool) → x ≡ false → c ≡ false → y ≡ y || (x || c
 or-first true x c e f = refl
 or-first false x c e f = rw (e, f)
 
-middle : (b : ℕ) → within 35 91 b ≡ true → within 35 91 b ≡ classOf Plain b
-unfolding classOf
-middle b e = or-middle (within 32 33 b) (within 35 91 b) (leb 93 b) e
+middle : (b : ℕ) → isBetween 35 91 b ≡ true → isBetween 35 91 b ≡ inClass Plain b
+unfolding inClass
+middle b e = or-middle (isBetween 32 33 b) (isBetween 35 91 b) (leb 93 b) e
 
-low : (b : ℕ) → within 35 91 b ≡ false → b < 93 → within 32 33 b ≡ classOf Plain b
-unfolding classOf
-low b e h = or-first (within 32 33 b) (within 35 91 b) (leb 93 b) e (lt-leb 93 b h)
+low : (b : ℕ) → isBetween 35 91 b ≡ false → b < 93 → isBetween 32 33 b ≡ inClass Plain b
+unfolding inClass
+low b e h = or-first (isBetween 32 33 b) (isBetween 35 91 b) (leb 93 b) e (lt-leb 93 b h)
 
 pub plain-spec : {M : Type 1} → statement M
 plain-spec =

@@ -5,7 +5,7 @@ use Prim.Native.Nat.{_-_, _<_}
 use native.Mathlib.Omega.{arith}
 use borrow.Author.Needs.{needs}
 use lib.ListN.{length, getD}
-use Rattle.json.specs.Grammar.{classOf, past}
+use Rattle.json.specs.Grammar.{inClass, past}
 use Rattle.json.proofs.Bytes.{class-within, past-more, past-none}
 use Rattle.json.proofs.classes.skip.Statement.{statement}
 use Rattle.json.proofs.classes.skip.Tie as tie
@@ -20,11 +20,11 @@ abbrev μ-loop : tie.MeasureT-loop
 turn : (c : tie.Then1 Inv-loop μ-loop) →
     let a = c .before .before .before .before .before .args in
     let i = c .before .before .before .loop .i in
-    (classOf (a .class) (getD (a .s .now) i 0) ≡ true) × (i < length (a .s .now))
+    (inClass (a .class) (getD (a .s .now) i 0) ≡ true) × (i < length (a .s .now))
 turn c =
     let d = c .before .before .before .before .before in
     let i = c .before .before .before .loop .i in
-    let e : classOf (d .args .class) (getD (d .args .s .now) i 0) ≡ true =
+    let e : inClass (d .args .class) (getD (d .args .s .now) i 0) ≡ true =
     rw (← c .before .before .byte .ensures, ← c .before .is .ensures) (c .if1 .taken) in
     (e, class-within (d .args .class) (d .args .s .now) i (d .pre) e)
 

@@ -1,14 +1,14 @@
 -- A digit and the run from it on is the run from it on.
 use mathlib.Core.Path.{refl, ap, sym, _∙_}
 use borrow.Author.Needs.{needs}
-use Rattle.json.specs.Grammar.{classOf, oneAt, digitsAt}
+use Rattle.json.specs.Grammar.{inClass, oneAt, digitsAt}
 use Rattle.json.specs.declared.Out.the-variants.{End}
 use Rattle.json.proofs.Bytes.{digits-are}
 use Rattle.json.proofs.leaves.digits.Statement.{statement}
 use Rattle.json.proofs.leaves.digits.Tie as tie
 
 pub digits-spec : {M : Type 1} → statement M
-unfolding classOf oneAt digitsAt
+unfolding inClass oneAt digitsAt
 digits-spec =
     tie.close
     (tie.spec

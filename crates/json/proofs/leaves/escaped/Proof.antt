@@ -1,12 +1,12 @@
 -- A backslash, then u and four digits, else one of eight: each way is the calls' answers.
 use mathlib.Core.Path.{_∙_}
 use borrow.Author.Needs.{needs}
-use Rattle.json.specs.Grammar.{classOf, escapedAt}
+use Rattle.json.specs.Grammar.{inClass, escapedAt}
 use Rattle.json.proofs.leaves.escaped.Statement.{statement}
 use Rattle.json.proofs.leaves.escaped.Tie as tie
 
 pub escaped-spec : {M : Type 1} → statement M
-unfolding classOf escapedAt
+unfolding inClass escapedAt
 escaped-spec =
     tie.close
     (tie.spec

@@ -1,12 +1,12 @@
 -- An e, a sign if there is one, and digits: each way is the calls' answers.
 use mathlib.Core.Path.{refl, _∙_}
 use borrow.Author.Needs.{needs}
-use Rattle.json.specs.Grammar.{classOf, expAt}
+use Rattle.json.specs.Grammar.{inClass, expAt}
 use Rattle.json.proofs.leaves.exp.Statement.{statement}
 use Rattle.json.proofs.leaves.exp.Tie as tie
 
 pub exp-spec : {M : Type 1} → statement M
-unfolding classOf expAt
+unfolding inClass expAt
 exp-spec =
     tie.close
     (tie.spec

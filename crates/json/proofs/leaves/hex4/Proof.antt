@@ -1,12 +1,12 @@
 -- Four digits one after the other: each way is the calls' answers.
 use mathlib.Core.Path.{_∙_}
 use borrow.Author.Needs.{needs}
-use Rattle.json.specs.Grammar.{classOf, hexAt}
+use Rattle.json.specs.Grammar.{inClass, hexAt}
 use Rattle.json.proofs.leaves.hex4.Statement.{statement}
 use Rattle.json.proofs.leaves.hex4.Tie as tie
 
 pub hex4-spec : {M : Type 1} → statement M
-unfolding classOf hexAt
+unfolding inClass hexAt
 hex4-spec =
     tie.close
     (tie.spec

@@ -1,7 +1,7 @@
 -- What stands there decides; a number of no bytes is none.
 use borrow.Author.Needs.{needs}
 use mathlib.Core.Path.{sym, ap, _∙_}
-use Rattle.numeral.specs.Whole.{wholeOf, answerOf}
+use Rattle.numeral.specs.Whole.{wholeOf, wholeAnswer}
 use Rattle.matching.specs.Inner.Finds.{smallFrom}
 use Rattle.matching.proofs.found.Members.{small-is, small-none}
 use Rattle.matching.proofs.found.small_at.Statement.{statement}
@@ -11,7 +11,7 @@ returns : tie.Need-returns
 returns c = sym (small-none (c .before .before .before .before .before .before .args .m .now) _ _ (c .if1 .taken)) ∙ small-is _ _ (c .before .before .before .before .scalar .ensures) (c .before .before .n .given .1)
 
 returns-3 : tie.Need-returns-3
-returns-3 c = c .small-from .ensures ∙ ap smallFrom (c .before .read-whole .ensures ∙ ap (λ p. answerOf (wholeOf p)) (c .before .before .piece .ensures)) ∙ small-is _ _ (c .before .before .before .before .before .before .before .scalar .ensures) (c .before .before .before .before .before .n .given .1)
+returns-3 c = c .small-from .ensures ∙ ap smallFrom (c .before .read-whole .ensures ∙ ap (λ p. wholeAnswer (wholeOf p)) (c .before .before .piece .ensures)) ∙ small-is _ _ (c .before .before .before .before .before .before .before .scalar .ensures) (c .before .before .before .before .before .n .given .1)
 
 pub small-at-spec : {M : Type 1} → statement M
 small-at-spec =

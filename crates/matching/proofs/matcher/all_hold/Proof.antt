@@ -3,7 +3,7 @@ use mathlib.Core.List.{map}
 use Prim.Native.Nat.{_-_, _≤_}
 use lib.ListN.{length, take, drop}
 use Rattle.text.specs.Event.{all}
-use Rattle.event.specs.Lent.{tagsAt}
+use Rattle.event.specs.Lent.{lentTagsAt}
 use Rattle.query.specs.Match.{conditionHolds}
 use Rattle.matching.specs.Inner.Found.{conditionBy}
 use native.Mathlib.Nat.{sub-zero}
@@ -14,7 +14,7 @@ use Rattle.matching.proofs.matcher.all_hold.Statement.{statement}
 use Rattle.matching.proofs.matcher.all_hold.Tie as tie
 
 abbrev Inv-loop : tie.InvT-loop
-Inv-loop b tags m row n cs i₀ i = (i ≤ 4) × (all (conditionHolds (tagsAt b tags)) (map (conditionBy m row) (take n cs)) ≡ all (conditionHolds (tagsAt b tags)) (map (conditionBy m row) (take (n - i) (drop i cs))))
+Inv-loop b tags m row n cs i₀ i = (i ≤ 4) × (all (conditionHolds (lentTagsAt b tags)) (map (conditionBy m row) (take n cs)) ≡ all (conditionHolds (lentTagsAt b tags)) (map (conditionBy m row) (take (n - i) (drop i cs))))
 
 abbrev μ-loop : tie.MeasureT-loop
 μ-loop b tags m row n cs i₀ i = 4 - i

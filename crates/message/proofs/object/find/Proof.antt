@@ -10,7 +10,7 @@ use Rattle.json.specs.Tree.{itemsAt, treeAt}
 use Rattle.json.specs.declared.Start.the-variants.{Leaf, Empty, Many}
 use Rattle.json.specs.declared.Next.the-variants.{More, Done, Wrong}
 use Rattle.json.proofs.Trees.{foldGot, fold-gone, fold-unnamed, fold-bad, fold-next}
-use Rattle.message.specs.Lists.{within}
+use Rattle.message.specs.Lists.{openWithin}
 use Rattle.message.specs.Parts.{membersAt}
 use Rattle.message.specs.Inner.{noMembers, foundIn}
 use Rattle.message.proofs.Found.{by, fold-open}
@@ -19,7 +19,7 @@ use Rattle.message.proofs.object.find.Tie as tie
 
 abbrev Inv-loop : tie.InvT-loop
 Inv-loop s at event none first named a₀ i₀ k₀ a i k =
-    foldGot (by s event) noMembers a (itemsAt (treeAt s within) s true (length s - k) i) ≡ foundIn s event (membersAt s at)
+    foldGot (by s event) noMembers a (itemsAt (treeAt s openWithin) s true (length s - k) i) ≡ foundIn s event (membersAt s at)
 
 abbrev μ-loop : tie.MeasureT-loop
 μ-loop s at event none first named a₀ i₀ k₀ a i k = length s - k

@@ -1,10 +1,10 @@
 use borrow.Author.Needs.{needs}
-use Rattle.message.specs.Inner.{kept}
+use Rattle.message.specs.Inner.{keptPlace}
 use Rattle.message.proofs.object.keep.Statement.{statement}
 use Rattle.message.proofs.object.keep.Tie as tie
 
 pub keep-spec : {M : Type 1} → statement M
-unfolding kept
+unfolding keptPlace
 keep-spec =
     tie.close
     (tie.spec (λ c. search needs) (λ c. search needs) (λ c κs. search needs)

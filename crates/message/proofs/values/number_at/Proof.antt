@@ -2,12 +2,12 @@ use borrow.Author.Needs.{needs}
 use mathlib.Core.Path.{_∙_}
 use mir.Syntax.{w64}
 use mir.ValLaws.{toZ-ofZ}
-use Rattle.message.specs.Inner.{numberAt}
+use Rattle.message.specs.Inner.{numberLeaf}
 use Rattle.message.proofs.values.number_at.Statement.{statement}
 use Rattle.message.proofs.values.number_at.Tie as tie
 
 pub number-at-spec : {M : Type 1} → statement M
-unfolding numberAt
+unfolding numberLeaf
 number-at-spec =
     tie.close
     (tie.spec (λ c κs. search needs) (λ c. search needs) (λ c. search needs) (λ c κs. search needs)

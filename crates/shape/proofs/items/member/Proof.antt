@@ -1,10 +1,10 @@
-use Rattle.shape.specs.Inner.{memberOf}
+use Rattle.shape.specs.Inner.{memberItem}
 use borrow.Author.Needs.{needs}
 use Rattle.shape.proofs.items.member.Statement.{statement}
 use Rattle.shape.proofs.items.member.Tie as tie
 
 pub member-spec : {M : Type 1} → statement M
-unfolding memberOf
+unfolding memberItem
 member-spec =
     tie.close
     (tie.spec (λ c κs. search needs) (λ c κs. search needs) (λ c. simp (c .before .name-slot .ensures, c .name-row .ensures)))

@@ -1,10 +1,10 @@
-use Rattle.shape.specs.Inner.{stringRow}
+use Rattle.shape.specs.Inner.{stringFormRow}
 use borrow.Author.Needs.{needs}
 use Rattle.shape.proofs.scalar.string_row.Statement.{statement}
 use Rattle.shape.proofs.scalar.string_row.Tie as tie
 
 pub string-row-spec : {M : Type 1} → statement M
-unfolding stringRow
+unfolding stringFormRow
 string-row-spec =
     tie.close
     (tie.spec (λ c κs. search needs) (λ c κs. search needs) (λ c. simp (← c .before .refused .ensures, c .if1 .taken))

@@ -6,13 +6,13 @@ use borrow.Author.Needs.{needs}
 use borrow.Author.Tests.{not-true, not-false}
 use Rattle.text.specs.Event.{all}
 use Rattle.table.specs.Sound.{slotSound}
-use Rattle.slots.specs.Slots.{from}
+use Rattle.slots.specs.Slots.{slotsFrom}
 use Rattle.slots.proofs.Walk.{all-more, all-bad, all-end}
 use Rattle.slots.proofs.held.slots_sound.Statement.{statement}
 use Rattle.slots.proofs.held.slots_sound.Tie as tie
 
 abbrev Inv-loop : tie.InvT-loop
-Inv-loop table c k₀ k = (k ≤ c) × (all slotSound (from table 0 c) ≡ all slotSound (from table k (c - k)))
+Inv-loop table c k₀ k = (k ≤ c) × (all slotSound (slotsFrom table 0 c) ≡ all slotSound (slotsFrom table k (c - k)))
 
 abbrev μ-loop : tie.MeasureT-loop
 μ-loop table c k₀ k = c - k

@@ -6,14 +6,14 @@ use borrow.Author.Needs.{needs}
 use borrow.Author.Tests.{not-true}
 use Rattle.law.specs.Lists.{any}
 use Rattle.table.specs.Layout.{slotAt}
-use Rattle.slots.specs.Slots.{clash, from}
+use Rattle.slots.specs.Slots.{clash, slotsFrom}
 use Rattle.slots.proofs.Walk.{any-more, any-met, any-end}
 use Rattle.slots.proofs.Marks.{clash-id, clash-key, clash-none, none-alike}
 use Rattle.slots.proofs.twice.again.Statement.{statement}
 use Rattle.slots.proofs.twice.again.Tie as tie
 
 abbrev Inv-loop : tie.InvT-loop
-Inv-loop table c ids keys i j₀ j = (i + 1 ≤ j) × (j ≤ c) × (any (clash (slotAt table i)) (from table (i + 1) (c - (i + 1))) ≡ any (clash (slotAt table i)) (from table j (c - j)))
+Inv-loop table c ids keys i j₀ j = (i + 1 ≤ j) × (j ≤ c) × (any (clash (slotAt table i)) (slotsFrom table (i + 1) (c - (i + 1))) ≡ any (clash (slotAt table i)) (slotsFrom table j (c - j)))
 
 abbrev μ-loop : tie.MeasureT-loop
 μ-loop table c ids keys i j₀ j = c - j

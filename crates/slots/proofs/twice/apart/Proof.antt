@@ -4,14 +4,14 @@ use Prim.Native.Nat.{_-_, _≤_}
 use native.Mathlib.Nat.{sub-zero}
 use borrow.Author.Needs.{needs}
 use Rattle.table.specs.Sound.{noneTwice}
-use Rattle.slots.specs.Slots.{clash, from}
+use Rattle.slots.specs.Slots.{clash, slotsFrom}
 use Rattle.slots.specs.Marks.{Marked}
 use Rattle.slots.proofs.Walk.{none-more, none-bad, none-end}
 use Rattle.slots.proofs.twice.apart.Statement.{statement}
 use Rattle.slots.proofs.twice.apart.Tie as tie
 
 abbrev Inv-loop : tie.InvT-loop
-Inv-loop table c ids keys i₀ i = (i ≤ c) × Marked table c ids keys × (noneTwice clash (from table 0 c) ≡ noneTwice clash (from table i (c - i)))
+Inv-loop table c ids keys i₀ i = (i ≤ c) × Marked table c ids keys × (noneTwice clash (slotsFrom table 0 c) ≡ noneTwice clash (slotsFrom table i (c - i)))
 
 abbrev μ-loop : tie.MeasureT-loop
 μ-loop table c ids keys i₀ i = c - i

@@ -3,14 +3,14 @@ use mathlib.Core.Path.{sym, ap, _∙_}
 use borrow.Author.Needs.{needs}
 use Rattle.wire.specs.Bytes.{part}
 use Rattle.table.specs.Layout.{kindIn}
-use Rattle.slots.specs.Slots.{pubkeyIn}
+use Rattle.slots.specs.Slots.{pubkeyBytes}
 use Rattle.slots.specs.Marks.{lastOf}
 use Rattle.slots.proofs.Marks.{mark-keyed, mark-plain}
 use Rattle.slots.proofs.twice.key_mark.Statement.{statement}
 use Rattle.slots.proofs.twice.key_mark.Tie as tie
 
 returns : tie.Need-returns
-unfolding kindIn pubkeyIn
+unfolding kindIn pubkeyBytes
 returns c =
     let d = c .before .before .before in
     let k = d .before .before .before in

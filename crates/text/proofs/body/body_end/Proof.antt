@@ -7,13 +7,13 @@ use borrow.Author.Needs.{needs}
 use borrow.Author.Tests.{not-true, not-false}
 use lib.ListN.{length, drop}
 use Rattle.text.specs.Read.{bodyFrom}
-use Rattle.text.specs.Inner.Parts.{endOf}
+use Rattle.text.specs.Inner.Parts.{gotEnd}
 use Rattle.text.proofs.Ways.{body-over, body-pair, body-unknown, body-quote, body-stuck, body-raw}
 use Rattle.text.proofs.body.body_end.Statement.{statement}
 use Rattle.text.proofs.body.body_end.Tie as tie
 
 abbrev Inv-loop : tie.InvT-loop
-Inv-loop s at i₀ run₀ i run = (run < 16) × (endOf (bodyFrom false at (drop at s)) ≡ endOf (bodyFrom false i (drop i s)))
+Inv-loop s at i₀ run₀ i run = (run < 16) × (gotEnd (bodyFrom false at (drop at s)) ≡ gotEnd (bodyFrom false i (drop i s)))
 
 abbrev μ-loop : tie.MeasureT-loop
 μ-loop s at i₀ run₀ i run = length s - i

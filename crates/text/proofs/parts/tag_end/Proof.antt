@@ -2,15 +2,15 @@
 use mathlib.Core.Path.{_≡_, sym, _∙_}
 use native.Mathlib.Omega.{arith}
 use borrow.Author.Needs.{needs}
-use Rattle.text.specs.Read.{stringAt, tagAt, membersAt}
-use Rattle.text.specs.Inner.Parts.{endOf}
+use Rattle.text.specs.Read.{stringAt, tagAt, textMembersAt}
+use Rattle.text.specs.Inner.Parts.{gotEnd}
 use Rattle.text.proofs.Pieces.{in-text}
 use Rattle.text.proofs.Ways.{tag-other, tag-open, turn-out, turn-bad, turn-more, turn-done, turn-wrong}
 use Rattle.text.proofs.parts.tag_end.Statement.{statement}
 use Rattle.text.proofs.parts.tag_end.Tie as tie
 
 abbrev Inv-loop : tie.InvT-loop
-Inv-loop s at i₀ k₀ i k = endOf (membersAt (stringAt s) s k i) ≡ endOf (tagAt s at)
+Inv-loop s at i₀ k₀ i k = gotEnd (textMembersAt (stringAt s) s k i) ≡ gotEnd (tagAt s at)
 
 abbrev μ-loop : tie.MeasureT-loop
 μ-loop s at i₀ k₀ i k = k

@@ -3,7 +3,7 @@ use mathlib.Core.Path.{_≡_, sym, _∙_}
 use Prim.Native.Nat.{_+_}
 use native.Mathlib.Omega.{arith}
 use borrow.Author.Needs.{needs}
-use Rattle.text.specs.Read.{tagAt, tagsAt, membersAt}
+use Rattle.text.specs.Read.{tagAt, tagsAt, textMembersAt}
 use Rattle.text.specs.Inner.Parts.{taggedOf}
 use Rattle.text.specs.declared.Found.the-variants.{Not}
 use Rattle.text.proofs.Pieces.{in-text}
@@ -12,7 +12,7 @@ use Rattle.text.proofs.parts.tags_end.Statement.{statement}
 use Rattle.text.proofs.parts.tags_end.Tie as tie
 
 abbrev Inv-loop : tie.InvT-loop
-Inv-loop s at i₀ d₀ k₀ i d k = taggedOf d i (membersAt (tagAt s) s k i) ≡ taggedOf Not (at + 1) (tagsAt s at)
+Inv-loop s at i₀ d₀ k₀ i d k = taggedOf d i (textMembersAt (tagAt s) s k i) ≡ taggedOf Not (at + 1) (tagsAt s at)
 
 abbrev μ-loop : tie.MeasureT-loop
 μ-loop s at i₀ d₀ k₀ i d k = k
