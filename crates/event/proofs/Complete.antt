@@ -10,12 +10,13 @@ use Rattle.json.specs.declared.Out.{Out}
 use Rattle.json.specs.declared.Out.the-variants.{Bad}
 use Rattle.message.specs.declared.Body.{Body}
 use Rattle.message.specs.declared.EventParts.{EventParts}
-use Rattle.message.specs.Lent.{lowest, onValue, isTagsShape, string5, value5, body2, body4, body5, body6, body7, body8, bodyRow, event2, event4, event5, event7, eventRow}
+use Rattle.message.specs.Lent.{onValue, isTagsShape, string5, value5, body2, body4, body5, body6, body7, body8, bodyRow, event2, event4, event5, event7, eventRow}
+use Rattle.message.specs.Inner.{lowestBy}
 use Rattle.event.specs.Inner.{firstOut, firstTag}
 use Rattle.event.proofs.Decoded.{or-neither}
 
 -- row 5 does not hold where no row does
-five : (r2 r4 r5 r6 r7 r8 : Bool) → lowest r2 r4 r5 r6 r7 r8 ≡ 0 → r5 ≡ false
+five : (r2 r4 r5 r6 r7 r8 : Bool) → lowestBy r2 r4 r5 r6 r7 r8 ≡ 0 → r5 ≡ false
 five true r4 r5 r6 r7 r8 e = absurd (omega arith)
 five false true r5 r6 r7 r8 e = absurd (omega arith)
 five false false true r6 r7 r8 e = absurd (omega arith)

@@ -41,7 +41,8 @@ use Rattle.text.specs.Read.{read, readText}
 use Rattle.text.proofs.RoundTrip.{read-back, serialise-once}
 use Rattle.message.specs.declared.Span.{Span}
 use Rattle.message.specs.declared.Body.{Body}
-use Rattle.message.specs.Lent.{lowest, isInside, isSpelled, string2, string4, string5, string7, wrongNumber, value2, value4, value5, onValue, ownText, body2, body4, body5, body6, body7, body8, bodyRow}
+use Rattle.message.specs.Lent.{isInside, isSpelled, string2, string4, string5, string7, wrongNumber, value2, value4, value5, onValue, ownText, body2, body4, body5, body6, body7, body8, bodyRow}
+use Rattle.message.specs.Inner.{lowestBy}
 use Rattle.message.specs.Lent as lent
 use Rattle.message.proofs.Walks.{never, bind-got}
 use Rattle.event.specs.Lent.{said, stringOf, stringsOf, tagOf, tagsOf, tagsIn, lentTagsAt, natural, eventOf, textOf}
@@ -370,7 +371,7 @@ passed : (b : List ℕ) (p : Body) → bodyRow b p ≡ 0 → Passed b p
 unfolding bodyRow
 passed b p e = go (body2 b p) (body4 b p) (body5 b p) (body6 p) (body7 b p) (body8 b p) refl refl refl refl refl refl e
   where
-    go : (r2 r4 r5 r6 r7 r8 : Bool) → body2 b p ≡ r2 → body4 b p ≡ r4 → body5 b p ≡ r5 → body6 p ≡ r6 → body7 b p ≡ r7 → body8 b p ≡ r8 → lowest r2 r4 r5 r6 r7 r8 ≡ 0 → Passed b p
+    go : (r2 r4 r5 r6 r7 r8 : Bool) → body2 b p ≡ r2 → body4 b p ≡ r4 → body5 b p ≡ r5 → body6 p ≡ r6 → body7 b p ≡ r7 → body8 b p ≡ r8 → lowestBy r2 r4 r5 r6 r7 r8 ≡ 0 → Passed b p
     go true r4 r5 r6 r7 r8 a b c d e f z = absurd (omega arith)
     go false true r5 r6 r7 r8 a b c d e f z = absurd (omega arith)
     go false false true r6 r7 r8 a b c d e f z = absurd (omega arith)

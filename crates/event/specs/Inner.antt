@@ -5,7 +5,7 @@ use mathlib.Core.Path.{_≡_}
 use mathlib.Core.List.{List, _++_}
 use lib.ListN.{length, take}
 use Rattle.json.specs.Grammar.{case, startAt}
-use Rattle.json.specs.Tree.{Json, Items, Got, got, endOf, treeAt, depth}
+use Rattle.json.specs.Tree.{Json, Items, Got, got, endOf}
 use Rattle.json.specs.declared.Out.{Out}
 use Rattle.json.specs.declared.Out.the-variants.{End, Bad}
 use Rattle.json.specs.declared.Start.{Start}
@@ -15,6 +15,7 @@ use Rattle.numeral.specs.Decimal.{digits, decimal}
 use Rattle.text.specs.Event.{opening, closing, comma, bracket, quoted, membersText, tagText, tagsText}
 use Rattle.message.specs.declared.Body.{Body}
 use Rattle.message.specs.declared.EventParts.{EventParts}
+use Rattle.message.specs.Lent.{valueAt}
 use Rattle.event.specs.declared.Written.{Written}
 use Rattle.event.specs.Lent.{said, natural, stringOf, stringsOf, tagOf, tagsOf, lentTagsAt, textOf}
 use Rattle.event.specs.Answer.{answered, offeredRow}
@@ -67,7 +68,7 @@ firstOut (Many first true) = Bad
 firstOut (Many first false) = End first
 
 unfoldable pub firstTag : Bytes → Place → Out
-firstTag b at = case (endOf (treeAt b depth at)) (λ n. firstOut (startAt b at)) Bad
+firstTag b at = case (endOf (valueAt b at)) (λ n. firstOut (startAt b at)) Bad
 
 -- the rows of an offer are tested: what that answers, and where none holds, the text at the start of a buffer
 pub record Tested (b : List ℕ) (p : EventParts) (r : Written) (t : List ℕ) : Type 0 where

@@ -2,12 +2,13 @@
 use Prim.Native.Nat.{ℕ}
 use mathlib.Core.List.{List, [], _∷_}
 use lib.IntN.{ℤ, pos, negsuc}
-use Rattle.json.specs.Tree.{Json, word, num, str, arr, obj, Items, nil, item, Got, none, got, treeAt, depth}
+use Rattle.json.specs.Tree.{Json, Items, nil, item, Got, none, got, ofString, ofArray}
 use Rattle.rows.specs.Strings.{part}
 use Rattle.spell.specs.Spell.{decode}
 use Rattle.text.specs.Event.{Tag, Event, serialise}
 use Rattle.message.specs.declared.Span.{Span}
 use Rattle.message.specs.declared.Body.{Body}
+use Rattle.message.specs.Lent.{valueAt}
 use Rattle.wire.specs.Bytes.{Bytes, Place}
 
 -- what a string part decodes to
@@ -16,22 +17,14 @@ said b p = decode (part b (p .start) (p .len))
 
 -- ---- the tags at a place; what is no string, no tag or no array of them counts as empty
 abbrev pub stringOf : Bytes → Json → Bytes
-stringOf b (word a n) = []
-stringOf b (num a n) = []
-stringOf b (str a n) = decode (part b a n)
-stringOf b (arr ts) = []
-stringOf b (obj ts) = []
+stringOf b t = ofString [] (λ a n. decode (part b a n)) t
 
 unfoldable pub stringsOf : Bytes → Items → Tag
 stringsOf b nil = []
 stringsOf b (item p v t ts) = stringOf b t ∷ stringsOf b ts
 
 abbrev pub tagOf : Bytes → Json → Tag
-tagOf b (word a n) = []
-tagOf b (num a n) = []
-tagOf b (str a n) = []
-tagOf b (arr ts) = stringsOf b ts
-tagOf b (obj ts) = []
+tagOf b t = ofArray [] (stringsOf b) t
 
 unfoldable pub tagsOf : Bytes → Items → List Tag
 tagsOf b nil = []
@@ -39,14 +32,10 @@ tagsOf b (item p v t ts) = tagOf b t ∷ tagsOf b ts
 
 abbrev pub tagsIn : Bytes → Got Json → List Tag
 tagsIn b none = []
-tagsIn b (got (word a n) m) = []
-tagsIn b (got (num a n) m) = []
-tagsIn b (got (str a n) m) = []
-tagsIn b (got (arr ts) m) = tagsOf b ts
-tagsIn b (got (obj ts) m) = []
+tagsIn b (got t n) = ofArray [] (tagsOf b) t
 
 unfoldable pub lentTagsAt : Bytes → Place → List Tag
-lentTagsAt b at = tagsIn b (treeAt b depth at)
+lentTagsAt b at = tagsIn b (valueAt b at)
 
 -- a kind is not negative
 abbrev pub natural : ℤ → ℕ

@@ -16,10 +16,11 @@ use Rattle.message.specs.declared.EventParts.{EventParts}
 use Rattle.message.specs.declared.FilterParts.{FilterParts}
 use Rattle.message.specs.declared.Listed.{Listed}
 use Rattle.message.specs.declared.Listed.the-variants.{At}
-use Rattle.message.specs.Lent.{lowest, onValue, valueAt, isTagsShape, string5, value2, value4, value5, time6, small6, someHex, someSmall, body5, body6, body8, event2, event4, event5, event7, eventRow, inList, inBound, filter2, filter4, filter5, filter6, filter7, filter8, filterRow}
+use Rattle.message.specs.Lent.{onValue, valueAt, isTagsShape, string5, value2, value4, value5, time6, small6, someHex, someSmall, body5, body6, body8, event2, event4, event5, event7, eventRow, inList, inBound, filter2, filter4, filter5, filter6, filter7, filter8, filterRow}
+use Rattle.message.specs.Inner.{lowestBy}
 use Rattle.message.proofs.Facts.{or-not, In, all-in, any-in}
 
-pub none-holds : (r2 r4 r5 r6 r7 r8 : Bool) → lowest r2 r4 r5 r6 r7 r8 ≡ 0 → (r2 ≡ false) × (r4 ≡ false) × (r5 ≡ false) × (r6 ≡ false) × (r7 ≡ false) × (r8 ≡ false)
+pub none-holds : (r2 r4 r5 r6 r7 r8 : Bool) → lowestBy r2 r4 r5 r6 r7 r8 ≡ 0 → (r2 ≡ false) × (r4 ≡ false) × (r5 ≡ false) × (r6 ≡ false) × (r7 ≡ false) × (r8 ≡ false)
 none-holds true r4 r5 r6 r7 r8 e = absurd (omega arith)
 none-holds false true r5 r6 r7 r8 e = absurd (omega arith)
 none-holds false false true r6 r7 r8 e = absurd (omega arith)

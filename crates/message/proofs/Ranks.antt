@@ -1,4 +1,4 @@
--- The lowest row as a number: the least of two such numbers is the lowest row that holds on either side; and the rows of one part, by its
+-- The lowestBy row as a number: the least of two such numbers is the lowestBy row that holds on either side; and the rows of one part, by its
 -- tests in the order of the code.
 use mathlib.Core.Path.{_≡_, refl, sym, ap, _∙_}
 use mathlib.Core.List.{List}
@@ -30,9 +30,9 @@ use Rattle.message.specs.declared.Listed.{Listed}
 use Rattle.message.specs.declared.Listed.the-variants as listed
 use Rattle.shape.specs.declared.Sort.{Sort}
 use Rattle.shape.specs.declared.Sort.the-variants.{Tags, Hexes, Smalls, Filter}
-use Rattle.message.specs.Lent.{lowest, lowerRow, spanBytes, isInside, isSpelled, string2, string4, string5, string7, subscription8, onValue, valueAt, value2, value4, value5, wrongNumber, time6, small6, inList, inBound, body2, body4, body5, body6, body7, body8, event2, event4, event5, event7, eventRow, filter2, filter4, filter5, filter6, filter7, filter8, filterRow}
+use Rattle.message.specs.Lent.{lowerRow, spanBytes, isInside, isSpelled, string2, string4, string5, string7, subscription8, onValue, valueAt, value2, value4, value5, wrongNumber, time6, small6, inList, inBound, body2, body4, body5, body6, body7, body8, event2, event4, event5, event7, eventRow, filter2, filter4, filter5, filter6, filter7, filter8, filterRow}
 use Rattle.shape.specs.Values.{ownText, fits, sort6, sort7, sort8, sortRow, gotRow, valueRow}
-use Rattle.message.specs.Inner.{rank, rowTold, rankOf, LowestRank, ValueRank, ListRank}
+use Rattle.message.specs.Inner.{lowestBy, rank, rowTold, rankOf, LowestRank, ValueRank, ListRank}
 
 -- ---- joined by the least: row 2 here, the others as in a message
 first : (a b : Bool) (x y : ℕ) → 2 ≤ x → 2 ≤ y → min (cond a 2 x) (cond b 2 y) ≡ cond (a || b) 2 (min x y)
@@ -70,8 +70,8 @@ both q v w = rw q (join v w)
 pub said : {x : ℕ} {a b c d e f a′ b′ c′ d′ e′ f′ : Bool} → a ≡ a′ → b ≡ b′ → c ≡ c′ → d ≡ d′ → e ≡ e′ → f ≡ f′ → LowestRank x a b c d e f → LowestRank x a′ b′ c′ d′ e′ f′
 said p q r s t u w = rw (p, q, r, s, t, u) at w
 
--- a rank and the lowest row go in step: seven pairs
-in-step : (P : ℕ → ℕ → Type 0) → P 2 2 → P 4 4 → P 5 5 → P 6 6 → P 7 7 → P 8 8 → P 9 0 → (a b c d e f : Bool) → P (rank a b c d e f) (lowest a b c d e f)
+-- a rank and the lowestBy row go in step: seven pairs
+in-step : (P : ℕ → ℕ → Type 0) → P 2 2 → P 4 4 → P 5 5 → P 6 6 → P 7 7 → P 8 8 → P 9 0 → (a b c d e f : Bool) → P (rank a b c d e f) (lowestBy a b c d e f)
 unfolding rank
 in-step P p₂ p₄ p₅ p₆ p₇ p₈ p₉ true b c d e f = p₂
 in-step P p₂ p₄ p₅ p₆ p₇ p₈ p₉ false true c d e f = p₄
@@ -81,13 +81,13 @@ in-step P p₂ p₄ p₅ p₆ p₇ p₈ p₉ false false false false true f = p�
 in-step P p₂ p₄ p₅ p₆ p₇ p₈ p₉ false false false false false true = p₈
 in-step P p₂ p₄ p₅ p₆ p₇ p₈ p₉ false false false false false false = p₉
 
-told-rank : (a b c d e f : Bool) → rowTold (rank a b c d e f) ≡ lowest a b c d e f
+told-rank : (a b c d e f : Bool) → rowTold (rank a b c d e f) ≡ lowestBy a b c d e f
 told-rank = in-step (λ x y. rowTold x ≡ y) refl refl refl refl refl refl refl
 
-pub told-is : {x : ℕ} {a b c d e f : Bool} → LowestRank x a b c d e f → rowTold x ≡ lowest a b c d e f
+pub told-is : {x : ℕ} {a b c d e f : Bool} → LowestRank x a b c d e f → rowTold x ≡ lowestBy a b c d e f
 told-is {x} {a} {b} {c} {d} {e} {f} w = ap rowTold (w .is) ∙ told-rank a b c d e f
 
--- ---- the lowest of rows that hold on either side is the lower of the two lowest
+-- ---- the lowestBy of rows that hold on either side is the lower of the two lowest
 rank-between : (a b c d e f : Bool) → (0 < rank a b c d e f) × (rank a b c d e f ≤ 9)
 rank-between = in-step (λ x y. (0 < x) × (x ≤ 9)) (omega arith, omega arith) (omega arith, omega arith) (omega arith, omega arith) (omega arith, omega arith) (omega arith, omega arith) (omega arith, omega arith) (omega arith, omega arith)
 
@@ -110,12 +110,12 @@ lower-told m n (m₁, m₉) (n₁, n₉) = go (eqb m 9) (eqb n 9) refl refl
         rw (h, ne-eqb m 0 (λ o. omega arith), ne-eqb n 0 (λ o. omega arith))
 
 pub lowest-lower : (a b c d e f a′ b′ c′ d′ e′ f′ : Bool)
-    → lowest (a || a′) (b || b′) (c || c′) (d || d′) (e || e′) (f || f′) ≡ lowerRow (lowest a b c d e f) (lowest a′ b′ c′ d′ e′ f′)
+    → lowestBy (a || a′) (b || b′) (c || c′) (d || d′) (e || e′) (f || f′) ≡ lowerRow (lowestBy a b c d e f) (lowestBy a′ b′ c′ d′ e′ f′)
 lowest-lower a b c d e f a′ b′ c′ d′ e′ f′ =
     let v : LowestRank (rank a b c d e f) a b c d e f = record { is = refl } in
     let w : LowestRank (rank a′ b′ c′ d′ e′ f′) a′ b′ c′ d′ e′ f′ = record { is = refl } in
     sym (told-is (join v w)) ∙ lower-told (rank a b c d e f) (rank a′ b′ c′ d′ e′ f′) (rank-between a b c d e f) (rank-between a′ b′ c′ d′ e′ f′)
-    ∙ ap (λ (x : ℕ). lowerRow x (rowTold (rank a′ b′ c′ d′ e′ f′))) (told-rank a b c d e f) ∙ ap (lowerRow (lowest a b c d e f)) (told-rank a′ b′ c′ d′ e′ f′)
+    ∙ ap (λ (x : ℕ). lowerRow x (rowTold (rank a′ b′ c′ d′ e′ f′))) (told-rank a b c d e f) ∙ ap (lowerRow (lowestBy a b c d e f)) (told-rank a′ b′ c′ d′ e′ f′)
 
 -- ---- a string part
 module _ (b : List ℕ) (p : Span) where
@@ -198,7 +198,7 @@ module _ (b : List ℕ) (p : Span) where
   subscription-late h w n e = let (c, d, i) = string-clean w n in record { is = rw (c, d, i, e) }
 
 -- ---- the value at a place
-rank-row : (a b c d e f : Bool) → rankOf (lowest a b c d e f) ≡ rank a b c d e f
+rank-row : (a b c d e f : Bool) → rankOf (lowestBy a b c d e f) ≡ rank a b c d e f
 rank-row = in-step (λ x y. rankOf y ≡ x) refl refl refl refl refl refl refl
 
 pub value-rank : (b : List ℕ) (at : ℕ) (k : Sort) {x y : ℕ} → x ≡ valueRow b at k → y ≡ rankOf x → ValueRank b at k y

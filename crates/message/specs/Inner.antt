@@ -36,7 +36,7 @@ use Rattle.message.specs.declared.FilterParts.{FilterParts}
 use Rattle.message.specs.Parts.{nowhere, spanOf, numberSpelled, eventAt, filterAt, noFilter}
 use Rattle.message.specs.Lists.{startElement, nextOf}
 use Rattle.message.specs.Read.{idNamed}
-use Rattle.message.specs.Lent.{valueAt, onValue, value2, value4, value5, inList}
+use Rattle.message.specs.Lent.{lowest, valueAt, onValue, value2, value4, value5, inList}
 use Rattle.shape.specs.Values.{fits, sort6, sort7, sort8}
 use Rattle.shape.specs.declared.Sort.{Sort}
 
@@ -174,7 +174,7 @@ namedAt s opening.Req j = labelNamed s (spanAt s j)
 namedAt s opening.Close j = names.Nothing
 namedAt s opening.Other j = names.Nothing
 
--- ---- lent parts: the lowest row that holds, and FINE where none does
+-- ---- lent parts: the lowest row that holds, and noRow where none does
 abbrev pub noRow : ℕ
 noRow = 9
 
@@ -186,6 +186,10 @@ rowTold row = cond (eqb row noRow) 0 row
 
 abbrev pub rankOf : Row → ℕ
 rankOf row = cond (eqb row 0) noRow row
+
+-- the lowest row by six tests, for laws that go through their cases
+abbrev pub lowestBy : (row2 row4 row5 row6 row7 row8 : Bool) → Row
+lowestBy a b c d e f = lowest (record { row2 = a; row4 = b; row5 = c; row6 = d; row7 = e; row8 = f })
 
 -- x is the lowest of the rows that hold
 pub record LowestRank (x : ℕ) (row2 row4 row5 row6 row7 row8 : Bool) : Type 0 where

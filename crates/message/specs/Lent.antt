@@ -27,11 +27,21 @@ use Rattle.message.specs.declared.Listed.the-variants as listed
 use Rattle.message.specs.declared.FilterParts.{FilterParts}
 use Rattle.wire.specs.Bytes.{Bytes, Place, Row}
 
--- the lowest row, and 0 where none holds
-abbrev pub lowest : (row2 row4 row5 row6 row7 row8 : Bool) → ℕ
-lowest row2 row4 row5 row6 row7 row8 = cond row2 2 (cond row4 4 (cond row5 5 (cond row6 6 (cond row7 7 (cond row8 8 0)))))
+-- which of rows 2 and 4 to 8 hold
+pub record RowsHeld : Type 0 where
+  pub row2 : Bool
+  pub row4 : Bool
+  pub row5 : Bool
+  pub row6 : Bool
+  pub row7 : Bool
+  pub row8 : Bool
 
--- "Where several hold, the lowest number is given": the lower of two rows, where 0 is none
+-- "Where several hold, the lowest number is given"; 0 where none does
+abbrev pub lowest : RowsHeld → Row
+lowest r =
+    cond (r .row2) 2 (cond (r .row4) 4 (cond (r .row5) 5 (cond (r .row6) 6 (cond (r .row7) 7 (cond (r .row8) 8 0)))))
+
+-- the lower of two rows, where 0 is none
 abbrev pub lowerRow : ℕ → ℕ → Row
 lowerRow r s = cond (eqb r 0) s (cond (eqb s 0) r (min r s))
 
@@ -64,13 +74,34 @@ subscription8 b p = isSpelled b p && outside 1 mostCharacters (characterCount (s
 
 -- a part by itself: any string, hex of k characters, a subscription id
 unfoldable pub stringRow : Bytes → Span → Row
-stringRow b p = lowest (string2 b p) (string4 b p) (string5 b p) false false false
+stringRow b p = lowest (record {
+      row2 = string2 b p;
+      row4 = string4 b p;
+      row5 = string5 b p;
+      row6 = false;
+      row7 = false;
+      row8 = false;
+    })
 
 unfoldable pub hexRow : (k : ℕ) (b : Bytes) (p : Span) → Row
-hexRow k b p = lowest (string2 b p) (string4 b p) (string5 b p) false (string7 k b p) false
+hexRow k b p = lowest (record {
+      row2 = string2 b p;
+      row4 = string4 b p;
+      row5 = string5 b p;
+      row6 = false;
+      row7 = string7 k b p;
+      row8 = false;
+    })
 
 unfoldable pub subscriptionRow : Bytes → Span → Row
-subscriptionRow b p = lowest (string2 b p) (string4 b p) (string5 b p) false false (subscription8 b p)
+subscriptionRow b p = lowest (record {
+      row2 = string2 b p;
+      row4 = string4 b p;
+      row5 = string5 b p;
+      row6 = false;
+      row7 = false;
+      row8 = subscription8 b p;
+    })
 
 -- ---- a number
 unfoldable pub wrongNumber : (low high z : ℤ) → Bool
@@ -125,7 +156,14 @@ unfoldable pub body8 : Bytes → Body → Bool
 body8 b p = onValue wrongTags (valueAt b (p .tags))
 
 unfoldable pub bodyRow : Bytes → Body → Row
-bodyRow b p = lowest (body2 b p) (body4 b p) (body5 b p) (body6 p) (body7 b p) (body8 b p)
+bodyRow b p = lowest (record {
+      row2 = body2 b p;
+      row4 = body4 b p;
+      row5 = body5 b p;
+      row6 = body6 p;
+      row7 = body7 b p;
+      row8 = body8 b p;
+    })
 
 -- ---- the parts of an event
 unfoldable pub event2 : Bytes → EventParts → Bool
@@ -141,7 +179,14 @@ unfoldable pub event7 : Bytes → EventParts → Bool
 event7 b p = string7 hexLength b (p .id) || (body7 b (p .body) || string7 sigLength b (p .sig))
 
 unfoldable pub eventRow : Bytes → EventParts → Row
-eventRow b p = lowest (event2 b p) (event4 b p) (event5 b p) (body6 (p .body)) (event7 b p) (body8 b (p .body))
+eventRow b p = lowest (record {
+      row2 = event2 b p;
+      row4 = event4 b p;
+      row5 = event5 b p;
+      row6 = body6 (p .body);
+      row7 = event7 b p;
+      row8 = body8 b (p .body);
+    })
 
 -- ---- the parts of a filter: each is absent or tested
 abbrev pub inList : (ℕ → Bool) → Listed → Bool
@@ -190,4 +235,11 @@ filter8 b p =
     || (inList (λ v. onValue wrongList (valueAt b v)) (p .kinds) || inList (λ v. onValue (onObject (filterCounts b)) (valueAt b v)) (p .conditions)))
 
 unfoldable pub filterRow : Bytes → FilterParts → Row
-filterRow b p = lowest (filter2 b p) (filter4 b p) (filter5 b p) (filter6 b p) (filter7 b p) (filter8 b p)
+filterRow b p = lowest (record {
+      row2 = filter2 b p;
+      row4 = filter4 b p;
+      row5 = filter5 b p;
+      row6 = filter6 b p;
+      row7 = filter7 b p;
+      row8 = filter8 b p;
+    })

@@ -1,4 +1,4 @@
-// Parts lent by anybody. Every part answers the lowest row that it breaks, and FINE for none; parts are joined by the least.
+// Parts lent by anybody. Every part answers the lowest row that it breaks, and NO_ROW for none; parts are joined by the least.
 ghost use mathlib.Core.Path.{_≡_};
 ghost use mathlib.Core.Bool.{false};
 ghost use Rattle.spell.specs.Spell.{characterCount};
@@ -14,7 +14,7 @@ use numeral::Whole;
 use shape::Sort;
 
 // Above all rows: none holds.
-pub(crate) const FINE: u8 = 9;
+pub(crate) const NO_ROW: u8 = 9;
 
 // Whether a subscription id has fewer or more characters than it may.
 pub(crate) fn miscounted(s: &[u8], p: Span) -> bool
@@ -24,17 +24,17 @@ pub(crate) fn miscounted(s: &[u8], p: Span) -> bool
     n < 1 || wire::MOST_CHARACTERS < n
 }
 
-// Parts lent by anybody. Every part answers the lowest row that it breaks, and FINE for none; parts are joined by the least.
+// Parts lent by anybody. Every part answers the lowest row that it breaks, and NO_ROW for none; parts are joined by the least.
 pub(crate) fn told(row: u8) -> u8
     ensures { λ r. ⌜ r ≡ rowTold row ⌝ }
 {
-    if row == FINE { 0 } else { row }
+    if row == NO_ROW { 0 } else { row }
 }
 
 pub(crate) fn ranked(row: u8) -> u8
     ensures { λ r. ⌜ r ≡ rankOf row ⌝ }
 {
-    if row == 0 { FINE } else { row }
+    if row == 0 { NO_ROW } else { row }
 }
 
 pub(crate) fn inside(b: &[u8], p: Span) -> bool
@@ -65,7 +65,7 @@ pub(crate) fn string_rank(b: &[u8], p: Span) -> u8
     if spell::refused(w) {
         return 4;
     }
-    FINE
+    NO_ROW
 }
 
 // A string part of k characters of lower-case hex.
@@ -73,11 +73,11 @@ pub(crate) fn hex_rank(b: &[u8], p: Span, k: usize) -> u8
     ensures { λ r. ⌜ LowestRank r (string2 (now (b .entry)) p) (string4 (now (b .entry)) p) (string5 (now (b .entry)) p) false (string7 k (now (b .entry)) p) false ⌝ }
 {
     let row = string_rank(b, p);
-    if row != FINE {
+    if row != NO_ROW {
         return row;
     }
     if spell::is_hex(wire::piece(b, p.start, p.len), k) {
-        FINE
+        NO_ROW
     } else {
         7
     }
@@ -88,17 +88,17 @@ pub(crate) fn subscription_rank(b: &[u8], p: Span) -> u8
     ensures { λ r. ⌜ LowestRank r (string2 (now (b .entry)) p) (string4 (now (b .entry)) p) (string5 (now (b .entry)) p) false false (subscription8 (now (b .entry)) p) ⌝ }
 {
     let row = string_rank(b, p);
-    if row != FINE {
+    if row != NO_ROW {
         return row;
     }
-    if miscounted(b, p) { 8 } else { FINE }
+    if miscounted(b, p) { 8 } else { NO_ROW }
 }
 
 pub(crate) fn number_rank(z: i64, low: i64, high: i64) -> u8
     ensures { λ r. ⌜ LowestRank r false false false (wrongNumber low high z) false false ⌝ }
 {
     if numeral::within(Whole::Value(z), low, high) {
-        FINE
+        NO_ROW
     } else {
         6
     }
@@ -108,7 +108,7 @@ pub(crate) fn bound_rank(x: Bound, low: i64, high: i64) -> u8
     ensures { λ r. ⌜ LowestRank r false false false (inBound (wrongNumber low high) x) false false ⌝ }
 {
     match x {
-        Bound::Absent => FINE,
+        Bound::Absent => NO_ROW,
         Bound::Number(z) => number_rank(z, low, high),
     }
 }
@@ -124,7 +124,7 @@ pub(crate) fn list_rank(b: &[u8], x: Listed, k: Sort) -> u8
     ensures { λ r. ⌜ ListRank (now (b .entry)) x k r ⌝ }
 {
     match x {
-        Listed::Absent => FINE,
+        Listed::Absent => NO_ROW,
         Listed::At(v) => value_rank(b, v, k),
     }
 }

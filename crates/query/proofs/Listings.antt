@@ -12,7 +12,8 @@ use lib.ListN.{length, take, drop, length-append, length-drop}
 use lib.Seq.{take-at, drop-at}
 use Rattle.message.specs.declared.EventParts.{EventParts}
 use Rattle.message.specs.declared.FilterParts.{FilterParts}
-use Rattle.message.specs.Lent.{lowest, body6, body8, event2, event4, event5, event7, eventRow, filter2, filter4, filter5, filter6, filter7, filter8, filterRow}
+use Rattle.message.specs.Lent.{body6, body8, event2, event4, event5, event7, eventRow, filter2, filter4, filter5, filter6, filter7, filter8, filterRow}
+use Rattle.message.specs.Inner.{lowestBy}
 use Rattle.event.specs.Lent.{said, eventOf}
 use Rattle.event.specs.Answer.{orElse, isLarge}
 use Rattle.table.specs.Sound.{sound}
@@ -26,7 +27,7 @@ use Rattle.query.proofs.Sorting.{bool, clash}
 use Rattle.query.proofs.Lent.{join, alike, alone, filters-row-is}
 
 -- ---- rows of parts are at most 8
-lowest-small : (a b c d e f : Bool) → lowest a b c d e f ≤ 8
+lowest-small : (a b c d e f : Bool) → lowestBy a b c d e f ≤ 8
 lowest-small true b c d e f = omega arith
 lowest-small false true c d e f = omega arith
 lowest-small false false true d e f = omega arith
@@ -47,11 +48,11 @@ event-small : (b : List ℕ) (p : EventParts) → eventRow b p ≤ 8
 unfolding eventRow
 event-small b p = lowest-small (event2 b p) (event4 b p) (event5 b p) (body6 (p .body)) (event7 b p) (body8 b (p .body))
 
--- the lowest row of some that are at most n is at most n
+-- the lowestBy row of some that are at most n is at most n
 small : {P : ℕ → Type 0} (n r : ℕ) → ((k : ℕ) → P k → k ≤ n) → Lowest P r → r ≤ n
 small n r h p = ⊎-elim (λ e. let z = eqb-true r 0 e in omega arith) (λ e. h r (p .holds (eqb-false r 0 e))) (bool (eqb r 0))
 
--- a row of at most n, or else one of more, is the lowest of both
+-- a row of at most n, or else one of more, is the lowestBy of both
 pub or-else : {P Q : ℕ → Type 0} (n r s : ℕ) → ((k : ℕ) → P k → k ≤ n) → ((k : ℕ) → Q k → n < k) → Lowest P r → Lowest Q s → Lowest (λ k. P k ⊎ Q k) (orElse r s)
 or-else {P} {Q} n r s low high p q = go (eqb r 0) refl
   where

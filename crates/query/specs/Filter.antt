@@ -5,10 +5,11 @@ use mathlib.Core.List.{List, [], _∷_}
 use Prim.Native.Nat.{ℕ}
 use lib.IntN.{ℤ}
 use lib.ListN.{getD}
-use Rattle.json.specs.Tree.{Json, word, num, str, arr, obj, Items, nil, item, Got, depth, treeAt}
+use Rattle.json.specs.Tree.{Json, Items, nil, item, Got, ofArray}
 use Rattle.json.specs.Tree as tree
 use Rattle.shape.specs.Shape.{nameAt, isCondition}
 use Rattle.message.specs.Parts.{numberSpelled, membersAt}
+use Rattle.message.specs.Lent.{valueAt}
 use Rattle.message.specs.declared.Bound.{Bound}
 use Rattle.message.specs.declared.Listed.{Listed}
 use Rattle.message.specs.declared.Listed.the-variants as listed
@@ -46,11 +47,7 @@ numbersOf b (item p v t ts) = numberSpelled b t ∷ numbersOf b ts
 
 abbrev pub numbersIn : Bytes → Got Json → List ℤ
 numbersIn b tree.none = []
-numbersIn b (tree.got (word a n) m) = []
-numbersIn b (tree.got (num a n) m) = []
-numbersIn b (tree.got (str a n) m) = []
-numbersIn b (tree.got (arr ts) m) = numbersOf b ts
-numbersIn b (tree.got (obj ts) m) = []
+numbersIn b (tree.got t n) = ofArray [] (numbersOf b) t
 
 -- the members of an object that are conditions
 abbrev pub conditionsOf : Bytes → Items → List Condition
@@ -69,9 +66,9 @@ conditionsIn b (listed.At v) = conditionsOf b (membersAt b v)
 
 unfoldable pub filterOf : Bytes → FilterParts → Filter
 filterOf b p = record {
-  ids = ifListed (λ v. stringsIn b (treeAt b depth v)) (p .ids);
-  authors = ifListed (λ v. stringsIn b (treeAt b depth v)) (p .authors);
-  kinds = ifListed (λ v. numbersIn b (treeAt b depth v)) (p .kinds);
+  ids = ifListed (λ v. stringsIn b (valueAt b v)) (p .ids);
+  authors = ifListed (λ v. stringsIn b (valueAt b v)) (p .authors);
+  kinds = ifListed (λ v. numbersIn b (valueAt b v)) (p .kinds);
   since = p .since;
   until = p .until;
   limit = p .limit;

@@ -23,7 +23,8 @@ use Rattle.text.proofs.Pieces.{both}
 use Rattle.message.specs.declared.Span.{Span}
 use Rattle.message.specs.declared.Body.{Body}
 use Rattle.message.specs.declared.EventParts.{EventParts}
-use Rattle.message.specs.Lent.{lowest, lowerRow, spanBytes, isSpelled, string2, string4, string5, string7, subscription8, stringRow, hexRow, subscriptionRow, event2, event4, event5, event7, body5, body6, body7, body8, eventRow}
+use Rattle.message.specs.Lent.{lowerRow, spanBytes, isSpelled, string2, string4, string5, string7, subscription8, stringRow, hexRow, subscriptionRow, event2, event4, event5, event7, body5, body6, body7, body8, eventRow}
+use Rattle.message.specs.Inner.{lowestBy}
 use Rattle.message.proofs.Facts.{or-not}
 use Rattle.message.proofs.Ranks.{lowest-lower}
 use Rattle.event.specs.Lent.{said, natural, lentTagsAt, eventOf, textOf}
@@ -120,14 +121,14 @@ module _ (b : List ℕ) (s t : Span) {x y r : ℕ} (q : r ≡ lowerRow x y) wher
   unfolding hexRow stringRow
   ok-row e f =
       q ∙ rw (e, f)
-      (sym (ap (λ v. lowest (string2 b s || string2 b t) (string4 b s || string4 b t) (string5 b s || string5 b t) false v false) (sym (or-false (string7 64 b s)))
+      (sym (ap (λ v. lowestBy (string2 b s || string2 b t) (string4 b s || string4 b t) (string5 b s || string5 b t) false v false) (sym (or-false (string7 64 b s)))
       ∙ lowest-lower (string2 b s) (string4 b s) (string5 b s) false (string7 64 b s) false (string2 b t) (string4 b t) (string5 b t) false false false))
 
   pub closed-row : x ≡ subscriptionRow b s → y ≡ stringRow b t → r ≡ closedRow b s t
   unfolding subscriptionRow stringRow
   closed-row e f =
       q ∙ rw (e, f)
-      (sym (ap (λ v. lowest (string2 b s || string2 b t) (string4 b s || string4 b t) (string5 b s || string5 b t) false false v) (sym (or-false (subscription8 b s)))
+      (sym (ap (λ v. lowestBy (string2 b s || string2 b t) (string4 b s || string4 b t) (string5 b s || string5 b t) false false v) (sym (or-false (subscription8 b s)))
       ∙ lowest-lower (string2 b s) (string4 b s) (string5 b s) false false (subscription8 b s) (string2 b t) (string4 b t) (string5 b t) false false false))
 
 module _ (b : List ℕ) (s : Span) {r : ℕ} where
@@ -194,7 +195,7 @@ module _ (b : List ℕ) {p : ReplyParts} {room : ℕ} {r : Bool} where
         is = simp length-append (omega (arith, e, f, g, quoted-length (said b s), quoted-length (said b t)))
 
 -- ---- an EVENT of tested parts: id, pubkey and signature are hex
-none-holds : (a b c d e f : Bool) → lowest a b c d e f ≡ 0 → (c ≡ false) × (e ≡ false)
+none-holds : (a b c d e f : Bool) → lowestBy a b c d e f ≡ 0 → (c ≡ false) × (e ≡ false)
 none-holds true b c d e f z = absurd (omega arith)
 none-holds false true c d e f z = absurd (omega arith)
 none-holds false false true d e f z = absurd (omega arith)

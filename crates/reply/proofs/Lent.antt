@@ -12,7 +12,8 @@ use lib.Seq.{take-at, drop-at}
 use Rattle.wire.specs.Limits.{hexLength}
 use Rattle.message.specs.declared.Span.{Span}
 use Rattle.message.specs.declared.EventParts.{EventParts}
-use Rattle.message.specs.Lent.{lowest, string2, string4, string5, string7, event2, event4, event5, event7, body6, body8}
+use Rattle.message.specs.Lent.{string2, string4, string5, string7, event2, event4, event5, event7, body6, body8}
+use Rattle.message.specs.Inner.{lowestBy}
 use Rattle.event.specs.Answer.{orElse, isLarge, answered, serialised, serialisedRow, writtenNumber, writtenLength}
 use Rattle.event.specs.declared.Written.the-variants as sent
 use Rattle.table.specs.Layout.{capacityOf}
@@ -59,8 +60,8 @@ writes-or row t out fits = record {
     is-refused : row ≢ 0 → answered row (length t) ≡ sent.Refused row
     is-refused ne = rw (ne-eqb row 0 ne)
 
--- ---- the lowest of rows that are tested one after the other
--- the lowest of rows that are all above m
+-- ---- the lowestBy of rows that are tested one after the other
+-- the lowestBy of rows that are all above m
 record Above (P : ℕ → Type 0) (m r : ℕ) : Type 0 where
   above : (k : ℕ) → P k → m < k
   is : Lowest P r
@@ -128,10 +129,10 @@ module _ (a b c d e f g : Bool) where
       (first a 1 2 _ (omega arith) (first b 2 4 _ (omega arith) (first c 4 5 _ (omega arith) (first d 5 6 _ (omega arith)
       (first e 6 7 _ (omega arith) (first f 7 8 _ (omega arith) (first g 8 9 _ (omega arith) no-more)))))) .is)
 
-  or-nine : orElse (lowest a b c d e f) (cond g 9 0) ≡ lowestOf a b c d e f g
+  or-nine : orElse (lowestBy a b c d e f) (cond g 9 0) ≡ lowestOf a b c d e f g
   or-nine = go a b c d e f
     where
-      go : (a b c d e f : Bool) → orElse (lowest a b c d e f) (cond g 9 0) ≡ lowestOf a b c d e f g
+      go : (a b c d e f : Bool) → orElse (lowestBy a b c d e f) (cond g 9 0) ≡ lowestOf a b c d e f g
       go true b c d e f = refl
       go false true c d e f = refl
       go false false true d e f = refl

@@ -31,28 +31,54 @@ abbrev pub none : Bool
 none = false
 
 abbrev pub okRow : (b : Bytes) (i r : Span) → Row
-okRow b i r =
-    lowest (string2 b i || string2 b r) (string4 b i || string4 b r) (string5 b i || string5 b r) none (string7 hexLength b i) none
+okRow b i r = lowest (record {
+      row2 = string2 b i || string2 b r;
+      row4 = string4 b i || string4 b r;
+      row5 = string5 b i || string5 b r;
+      row6 = none;
+      row7 = string7 hexLength b i;
+      row8 = none;
+    })
 
 abbrev pub eventReplyRow : (b : Bytes) (s : Span) (p : EventParts) → Row
-eventReplyRow b s p =
-    lowest
-    (string2 b s || event2 b p)
-    (string4 b s || event4 b p)
-    (string5 b s || event5 b p)
-    (body6 (p .body))
-    (event7 b p)
-    (subscription8 b s || body8 b (p .body))
+eventReplyRow b s p = lowest (record {
+      row2 = string2 b s || event2 b p;
+      row4 = string4 b s || event4 b p;
+      row5 = string5 b s || event5 b p;
+      row6 = body6 (p .body);
+      row7 = event7 b p;
+      row8 = subscription8 b s || body8 b (p .body);
+    })
 
 abbrev pub eoseRow : Bytes → Span → Row
-eoseRow b s = lowest (string2 b s) (string4 b s) (string5 b s) none none (subscription8 b s)
+eoseRow b s = lowest (record {
+      row2 = string2 b s;
+      row4 = string4 b s;
+      row5 = string5 b s;
+      row6 = none;
+      row7 = none;
+      row8 = subscription8 b s;
+    })
 
 abbrev pub closedRow : (b : Bytes) (s r : Span) → Row
-closedRow b s r =
-    lowest (string2 b s || string2 b r) (string4 b s || string4 b r) (string5 b s || string5 b r) none none (subscription8 b s)
+closedRow b s r = lowest (record {
+      row2 = string2 b s || string2 b r;
+      row4 = string4 b s || string4 b r;
+      row5 = string5 b s || string5 b r;
+      row6 = none;
+      row7 = none;
+      row8 = subscription8 b s;
+    })
 
 abbrev pub noticeRow : Bytes → Span → Row
-noticeRow b r = lowest (string2 b r) (string4 b r) (string5 b r) none none none
+noticeRow b r = lowest (record {
+      row2 = string2 b r;
+      row4 = string4 b r;
+      row5 = string5 b r;
+      row6 = none;
+      row7 = none;
+      row8 = none;
+    })
 
 abbrev pub partsRow : Bytes → ReplyParts → Row
 partsRow b (parts.Ok i accepted r) = okRow b i r

@@ -1,5 +1,5 @@
 -- The walk behind the code: a form for each place of a message, a slot for each item, and the lowest row that a part breaks where its form
--- must stand, FINE for none. Only private contracts speak of it; the proofs join it to Rows.
+-- must stand, noRow for none. Only private contracts speak of it; the proofs join it to Rows.
 use Prim.Native.Nat.{ℕ, _+_, _-_, _/_, _%_, _^_, min}
 use mathlib.Core.List.{List}
 use mathlib.Core.Bool.{Bool, true, false, cond}

@@ -30,10 +30,10 @@ pub(crate) fn once_row(named: bool, slot: u8, seen: u64) -> u8
         if is_in(slot, seen) {
             forms::SHAPE
         } else {
-            forms::FINE
+            forms::NO_ROW
         }
     } else {
-        forms::FINE
+        forms::NO_ROW
     }
 }
 
@@ -53,7 +53,7 @@ pub(crate) fn start() -> Tally
     ensures { λ r. ⌜ r ≡ fresh ⌝ }
 {
     Tally {
-        row: forms::FINE,
+        row: forms::NO_ROW,
         seen: 0,
         marks: 0,
     }
@@ -87,7 +87,7 @@ pub(crate) fn end_row(form: u8, k: usize, a: Tally) -> u8
 {
     if form == forms::EVENT {
         if is_full(a.seen) {
-            forms::FINE
+            forms::NO_ROW
         } else {
             forms::SHAPE
         }
@@ -108,7 +108,7 @@ pub(crate) fn end_row(form: u8, k: usize, a: Tally) -> u8
             scalar::bounded(3, 2 + wire::MOST_FILTERS, k)
         }
     } else if k == 2 {
-        forms::FINE
+        forms::NO_ROW
     } else {
         forms::SHAPE
     }

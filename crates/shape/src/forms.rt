@@ -17,7 +17,7 @@ pub(crate) const HEX: u8 = 7;
 
 pub(crate) const COUNT: u8 = 8;
 
-pub(crate) const FINE: u8 = 9;
+pub(crate) const NO_ROW: u8 = 9;
 
 // The forms.
 pub(crate) const NEVER: u8 = 0;

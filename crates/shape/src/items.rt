@@ -133,7 +133,7 @@ pub(crate) fn name_row(p: &[u8]) -> u8
     if spell::refused(p) {
         forms::STRING
     } else {
-        forms::FINE
+        forms::NO_ROW
     }
 }
 
@@ -155,7 +155,7 @@ pub(crate) fn item_of(s: &[u8], form: u8, named: bool, k: usize, p: usize) -> It
     } else {
         Item {
             slot: place_slot(k),
-            row: forms::FINE,
+            row: forms::NO_ROW,
         }
     }
 }

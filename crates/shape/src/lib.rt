@@ -1,4 +1,4 @@
-// Rows 1 to 8 of 01 for a client message: the lowest that holds anywhere in it. Every part answers the lowest row that it breaks, and FINE
+// Rows 1 to 8 of 01 for a client message: the lowest that holds anywhere in it. Every part answers the lowest row that it breaks, and NO_ROW
 // for none; parts are joined by the least. What must stand at a place is its form, a small number.
 ghost use mathlib.Core.Path.{_≡_};
 ghost use Rattle.json.specs.Grammar.{startAt};
@@ -101,7 +101,7 @@ fn opening(s: &[u8], at: usize) -> u8
 fn told(row: u8) -> u8
     ensures { λ r. ⌜ r ≡ toldOf row ⌝ }
 {
-    if row == forms::FINE { 0 } else { row }
+    if row == forms::NO_ROW { 0 } else { row }
 }
 
 // The lowest of rows 1 to 8 that holds of a message, and 0 where none does.

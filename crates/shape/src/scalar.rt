@@ -19,7 +19,7 @@ pub(crate) fn bounded(low: usize, high: usize, n: usize) -> u8
     } else if high < n {
         forms::COUNT
     } else {
-        forms::FINE
+        forms::NO_ROW
     }
 }
 
@@ -43,7 +43,7 @@ pub(crate) fn hex_row(k: usize, p: &[u8]) -> u8
     ensures { λ r. ⌜ r ≡ hexFormRow k (now (p .entry)) ⌝ }
 {
     if spell::is_hex(p, k) {
-        forms::FINE
+        forms::NO_ROW
     } else {
         forms::HEX
     }
@@ -53,7 +53,7 @@ pub(crate) fn string_form(form: u8, p: &[u8]) -> u8
     ensures { λ r. ⌜ r ≡ stringForm form (now (p .entry)) ⌝ }
 {
     if form == forms::TEXT {
-        forms::FINE
+        forms::NO_ROW
     } else if form == forms::LABEL {
         bounded(1, wire::MOST_CHARACTERS, spell::characters(p))
     } else if form == forms::HEX64 {
@@ -79,7 +79,7 @@ pub(crate) fn time_row(p: &[u8]) -> u8
     ensures { λ r. ⌜ r ≡ rangeRow (negℤ (pos widest)) (pos widest) (now (p .entry)) ⌝ }
 {
     if numeral::within(numeral::read_whole(p), wire::MINUS_WIDEST, wire::WIDEST) {
-        forms::FINE
+        forms::NO_ROW
     } else {
         forms::NUMBER
     }
@@ -89,7 +89,7 @@ pub(crate) fn small_row(p: &[u8]) -> u8
     ensures { λ r. ⌜ r ≡ rangeRow (pos 0) (pos mostSmall) (now (p .entry)) ⌝ }
 {
     if numeral::within(numeral::read_whole(p), 0, wire::MOST_SMALL) {
-        forms::FINE
+        forms::NO_ROW
     } else {
         forms::NUMBER
     }

@@ -21,7 +21,8 @@ use Rattle.text.specs.Read.{read, readText}
 use Rattle.text.proofs.RoundTrip.{read-back}
 use Rattle.message.specs.declared.Span.{Span}
 use Rattle.message.specs.declared.EventParts.{EventParts}
-use Rattle.message.specs.Lent.{lowest, isSpelled, string5, string7, body2, body4, body5, body6, body7, body8, bodyRow, event2, event4, event5, event7, eventRow, string2, string4}
+use Rattle.message.specs.Lent.{isSpelled, string5, string7, body2, body4, body5, body6, body7, body8, bodyRow, event2, event4, event5, event7, eventRow, string2, string4}
+use Rattle.message.specs.Inner.{lowestBy}
 use Rattle.event.specs.Lent.{said, eventOf, textOf}
 use Rattle.event.specs.Answer.{orElse, isLarge, hexOf, hasId, offeredRow}
 use Rattle.event.proofs.Decoded.{or-neither}
@@ -49,7 +50,7 @@ cond-most : (k : ℕ) (t : Bool) (r s : ℕ) → r ≤ k → s ≤ k → cond t 
 cond-most k true r s p q = p
 cond-most k false r s p q = q
 
--- the lowest row is none
+-- the lowestBy row is none
 pub record None (r2 r4 r5 r6 r7 r8 : Bool) : Type 0 where
   pub not2 : r2 ≡ false
   pub not4 : r4 ≡ false
@@ -58,7 +59,7 @@ pub record None (r2 r4 r5 r6 r7 r8 : Bool) : Type 0 where
   pub not7 : r7 ≡ false
   pub not8 : r8 ≡ false
 
-none-of : (r2 r4 r5 r6 r7 r8 : Bool) → lowest r2 r4 r5 r6 r7 r8 ≡ 0 → None r2 r4 r5 r6 r7 r8
+none-of : (r2 r4 r5 r6 r7 r8 : Bool) → lowestBy r2 r4 r5 r6 r7 r8 ≡ 0 → None r2 r4 r5 r6 r7 r8
 none-of true r4 r5 r6 r7 r8 e = absurd (omega arith)
 none-of false true r5 r6 r7 r8 e = absurd (omega arith)
 none-of false false true r6 r7 r8 e = absurd (omega arith)
@@ -67,7 +68,7 @@ none-of false false false false true r8 e = absurd (omega arith)
 none-of false false false false false true e = absurd (omega arith)
 none-of false false false false false false e = record { not2 = refl; not4 = refl; not5 = refl; not6 = refl; not7 = refl; not8 = refl }
 
-lowest-most : (r2 r4 r5 r6 r7 r8 : Bool) → lowest r2 r4 r5 r6 r7 r8 ≤ 10
+lowest-most : (r2 r4 r5 r6 r7 r8 : Bool) → lowestBy r2 r4 r5 r6 r7 r8 ≤ 10
 lowest-most r2 r4 r5 r6 r7 r8 = search (cond-most, lit≤, tt) depth 14
 
 -- ---- parts that rows 2 and 4 to 10 let pass

@@ -10,8 +10,8 @@ use lib.Seq.{drop-cons, getD-take}
 use Rattle.wire.specs.Limits.{mostFilters}
 use Rattle.shape.specs.Rows.{outside}
 use Rattle.message.specs.declared.FilterParts.{FilterParts}
-use Rattle.message.specs.Lent.{filterRow}
-use Rattle.query.specs.Answer.{lesserRow, lowestOf, filtersRow}
+use Rattle.message.specs.Lent.{lowerRow, filterRow}
+use Rattle.query.specs.Answer.{lowestOf, filtersRow}
 
 -- ---- their number
 module _ (n : ℕ) where
@@ -42,7 +42,7 @@ module _ (m : List ℕ) (fs : List FilterParts) (n : ℕ) where
   pub rows-skip : (j r : ℕ) → 0 < j → n ≤ j - 1 → r ≡ lowestFrom j → r ≡ lowestFrom (j - 1)
   rows-skip j r p h e = e ∙ none j (omega (arith, length-take n fs)) ∙ sym (none (j - 1) (omega (arith, length-take n fs)))
 
-  pub rows-more : (j r s t : ℕ) (z : FilterParts) → 0 < j → j ≤ length fs → j - 1 < n → r ≡ lowestFrom j → s ≡ filterRow m (getD fs (j - 1) z) → t ≡ lesserRow s r
+  pub rows-more : (j r s t : ℕ) (z : FilterParts) → 0 < j → j ≤ length fs → j - 1 < n → r ≡ lowestFrom j → s ≡ filterRow m (getD fs (j - 1) z) → t ≡ lowerRow s r
       → t ≡ lowestFrom (j - 1)
   unfolding lowestOf
   rows-more j r s t z p l h e f g =
@@ -50,8 +50,8 @@ module _ (m : List ℕ) (fs : List FilterParts) (n : ℕ) where
       let i : j - 1 < length (take n fs) = omega (arith, length-take n fs) in
       let d : drop (j - 1) (take n fs) ≡ getD fs (j - 1) z ∷ drop j (take n fs) =
       drop-cons (take n fs) (j - 1) z i ∙ ap₂ (λ x k. x ∷ drop k (take n fs)) (getD-take n fs (j - 1) z h) q in
-      g ∙ ap₂ lesserRow f e ∙ sym (ap (λ l. lowestOf (map (filterRow m) l)) d)
+      g ∙ ap₂ lowerRow f e ∙ sym (ap (λ l. lowestOf (map (filterRow m) l)) d)
 
-  pub rows-all : (j r s t : ℕ) → j ≤ 0 → r ≡ lowestFrom j → s ≡ counted n → t ≡ lesserRow r s → t ≡ filtersRow m fs n
+  pub rows-all : (j r s t : ℕ) → j ≤ 0 → r ≡ lowestFrom j → s ≡ counted n → t ≡ lowerRow r s → t ≡ filtersRow m fs n
   unfolding filtersRow
-  rows-all j r s t h e f g = let q : j ≡ 0 = omega arith in g ∙ ap₂ lesserRow (e ∙ ap lowestFrom q) f
+  rows-all j r s t h e f g = let q : j ≡ 0 = omega arith in g ∙ ap₂ lowerRow (e ∙ ap lowestFrom q) f
