@@ -41,10 +41,6 @@ abbrev pub lowest : RowsHeld → Row
 lowest r =
     cond (r .row2) 2 (cond (r .row4) 4 (cond (r .row5) 5 (cond (r .row6) 6 (cond (r .row7) 7 (cond (r .row8) 8 0)))))
 
--- the lower of two rows, where 0 is none
-abbrev pub lowerRow : ℕ → ℕ → Row
-lowerRow r s = cond (eqb r 0) s (cond (eqb s 0) r (min r s))
-
 -- ---- a string part. One that lies outside b adds row 5 only, and so does one that is no spelling, unless it is not UTF-8
 abbrev pub spanBytes : Bytes → Span → Bytes
 spanBytes b p = part b (p .start) (p .len)

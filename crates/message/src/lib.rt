@@ -6,7 +6,8 @@ ghost use Rattle.shape.specs.Rows.{messageRow};
 ghost use Rattle.message.specs.Parts.{filterAt, filtersAt};
 ghost use Rattle.message.specs.Lists.{startElement, nextOf};
 ghost use Rattle.message.specs.Read.{readOf, readNumber, isEvent, namedOf};
-ghost use Rattle.message.specs.Lent.{lowerRow, stringRow, hexRow, subscriptionRow, bodyRow, eventRow, filterRow};
+ghost use Rattle.message.specs.Lent.{stringRow, hexRow, subscriptionRow, bodyRow, eventRow, filterRow};
+ghost use Rattle.wire.specs.Lowest.{lowerRow};
 
 mod lent;
 mod object;

@@ -17,7 +17,8 @@ use Rattle.table.proofs.Lists.{is-true}
 use Rattle.query.specs.Filter.{Filter}
 use Rattle.query.specs.Answer.{keep, among, numbersFrom, newestFirst, cut, picked, pickedBySome, union}
 use Rattle.query.specs.Claims.{Orders, Distinct, NoneNewer, Descending, Match, Picked, PickedMeans, UnionMeans, UnionOnce, UnionNewest, UnionDescends, allPicked, UnionSize, UnionShort, MoreFilters, FilterOrder, KeepMeans, FromMeans}
-use Rattle.query.proofs.Sorting.{bool, clash, among-here, among-later, among-cases, keep-among, keep-same, keep-length, from-among, Once, Sorted, sort-among, sort-sorted, sort-length, once-sort, sort-same}
+use Rattle.query.proofs.Sorting.{among-here, among-later, among-cases, keep-among, keep-same, keep-length, from-among, Once, Sorted, sort-among, sort-sorted, sort-length, once-sort, sort-same}
+use Rattle.wire.proofs.Cases.{bool, clash}
 
 -- ---- tests and entries
 pub true-T : {b : Bool} → b ≡ true → T b

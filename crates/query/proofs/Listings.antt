@@ -22,9 +22,11 @@ use Rattle.query.specs.declared.Matched.the-variants.{Matches, Differs}
 use Rattle.query.specs.declared.Matched.the-variants as matching
 use Rattle.query.specs.Answer.{meant, filtersRow, answerTo, matchedRow, matched, matchNumber, matchValue, listingRow, listed, listedRow, listingNumber, listedCount}
 use Rattle.query.specs.declared.Listing.the-variants.{Count, Refused}
-use Rattle.query.specs.Claims.{RowHolds, of-filter, miscounted, Lowest, MatchedHolds, of-event, of-filters, too-large, MatchedRowIs, MatchedMeans, ListingHolds, of-lent, not-sound, too-short, ListingRowIs, ListingIs, ListingMeans}
-use Rattle.query.proofs.Sorting.{bool, clash}
-use Rattle.query.proofs.Lent.{join, alike, alone, filters-row-is}
+use Rattle.query.specs.Claims.{RowHolds, of-filter, miscounted, MatchedHolds, of-event, of-filters, too-large, MatchedRowIs, MatchedMeans, ListingHolds, of-lent, not-sound, too-short, ListingRowIs, ListingIs, ListingMeans}
+use Rattle.wire.specs.Lowest.{Lowest}
+use Rattle.wire.proofs.Cases.{bool, clash}
+use Rattle.query.proofs.Lent.{filters-row-is}
+use Rattle.wire.proofs.Lowest.{join, alike, alone}
 
 -- ---- rows of parts are at most 8
 lowest-small : (a b c d e f : Bool) → lowestBy a b c d e f ≤ 8

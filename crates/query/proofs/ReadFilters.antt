@@ -28,7 +28,7 @@ use Rattle.law.specs.Lists.{_∈_}
 use Rattle.query.specs.Filter.{filterOf}
 use Rattle.query.specs.Answer.{answerList, filterPlaces, filterPartsAt, filtersMeant, meant, listingRow}
 use Rattle.query.specs.Claims.{filtersOfItems, AllFilters, TextFilters, ReadPasses, ReadListing}
-use Rattle.query.proofs.Sorting.{no-left, no-right}
+use Rattle.wire.proofs.Cases.{no-left, no-right}
 use Rattle.query.proofs.Lent.{filters-pass}
 
 -- ---- the elements of an array from its third on are the items there

@@ -32,7 +32,8 @@ use Rattle.query.specs.Filter.{Filter}
 use Rattle.query.specs.Match.{matches}
 use Rattle.query.specs.Answer.{numbersFrom, union, newerSlot, matchesIn, matchesSlot, answerList}
 use Rattle.query.specs.Claims.{Distinct, Descending, NewerMeans, SlotsOrdered, SlotMatches, AnswerIs, AnswerMeans, limited, LimitZero}
-use Rattle.query.proofs.Sorting.{bool, clash, from-length, once-from}
+use Rattle.query.proofs.Sorting.{from-length, once-from}
+use Rattle.wire.proofs.Cases.{bool, clash}
 use Rattle.query.proofs.Answers.{same-order, true-T, once-distinct, from-means, picked-means, union-means, union-once, union-newest, union-descends, union-size, union-short}
 
 -- ---- the order of two slots

@@ -21,7 +21,8 @@ use Rattle.query.specs.Filter.{Filter}
 use Rattle.query.specs.declared.Listing.the-variants.{Count, Refused}
 use Rattle.query.specs.Answer.{among, numbersFrom, union, newerSlot, matchesIn, matchesSlot, answerList, meant, filtersRow, listingRow, listed, listedRow}
 use Rattle.query.specs.Claims.{not-sound, ListingNeverRead}
-use Rattle.query.proofs.Sorting.{bool, from-among}
+use Rattle.query.proofs.Sorting.{from-among}
+use Rattle.wire.proofs.Cases.{bool}
 use Rattle.query.proofs.Answers.{union-same}
 use Rattle.query.proofs.Listings.{listing-row-is}
 

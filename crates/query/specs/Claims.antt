@@ -36,6 +36,7 @@ use Rattle.query.specs.Filter.{Condition, Filter, filterOf}
 use Rattle.query.specs.Match.{isMember, sameNumber, kindListed, sinceHolds, untilHolds, conditionHolds, matches, matchesSome}
 use Rattle.query.specs.Answer.{keep, numbersFrom, picked, union, newerSlot, matchesSlot, answerList, filterPartsAt, filtersMeant, meant, lowestOf, filtersRow, answerTo, matchedRow, matched, matchNumber, matchValue, listingRow, listed, listedRow, listingNumber, listedCount}
 use Rattle.wire.specs.Bytes.{Bytes}
+use Rattle.wire.specs.Lowest.{Lowest}
 
 -- ---- matching
 -- "exact membership"
@@ -252,11 +253,6 @@ TextFilters = (m : List ℕ) (v : ℕ) (fs : List FilterParts) (n : ℕ) → tak
 pub data RowHolds (m : List ℕ) (fs : List FilterParts) (n : ℕ) : ℕ → Type 0 where
   of-filter : {p : FilterParts} → p ∈ take n fs → RowHolds m fs n (filterRow m p)
   miscounted : (n < 1) ⊎ (4 < n) → RowHolds m fs n 8
-
--- 01, "Numbers the relay answers with": "Where several hold, the lowest number is given"; 0 where none does
-pub record Lowest (Row : ℕ → Type 0) (r : ℕ) : Type 0 where
-  pub holds : r ≢ 0 → Row r
-  pub least : (s : ℕ) → Row s → s ≢ 0 → (r ≢ 0) × (r ≤ s)
 
 abbrev pub LowestMeans : Type 0
 LowestMeans = (rs : List ℕ) → Lowest (λ r. r ∈ rs) (lowestOf rs)

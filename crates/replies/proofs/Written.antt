@@ -23,7 +23,8 @@ use Rattle.text.proofs.Pieces.{both}
 use Rattle.message.specs.declared.Span.{Span}
 use Rattle.message.specs.declared.Body.{Body}
 use Rattle.message.specs.declared.EventParts.{EventParts}
-use Rattle.message.specs.Lent.{lowerRow, spanBytes, isSpelled, string2, string4, string5, string7, subscription8, stringRow, hexRow, subscriptionRow, event2, event4, event5, event7, body5, body6, body7, body8, eventRow}
+use Rattle.message.specs.Lent.{spanBytes, isSpelled, string2, string4, string5, string7, subscription8, stringRow, hexRow, subscriptionRow, event2, event4, event5, event7, body5, body6, body7, body8, eventRow}
+use Rattle.wire.specs.Lowest.{lowerRow}
 use Rattle.message.specs.Inner.{lowestBy}
 use Rattle.message.proofs.Facts.{or-not}
 use Rattle.message.proofs.Ranks.{lowest-lower}

@@ -43,7 +43,7 @@ use Rattle.table.specs.declared.Offered.the-variants as offered
 use Rattle.table.proofs.Bytes.{clauses}
 use Rattle.table.proofs.Shown.{text-small}
 use Rattle.query.specs.Answer.{answerList, filtersMeant}
-use Rattle.query.proofs.Sorting.{no-left, no-right}
+use Rattle.wire.proofs.Cases.{no-left, no-right}
 use Rattle.query.proofs.Tables.{answer-means}
 use Rattle.reply.specs.Replies.{Reply, ok, eose, closed, notice, truth, replyText, reasonOf, verdictReason}
 use Rattle.reply.specs.Program.{refusalNaming, refusal, offerReply, requestReplies, repliesTo, replyLine, written}

@@ -24,9 +24,9 @@ use Rattle.table.specs.Offer as offers
 use Rattle.table.specs.Offer.{Offering, isValid, judge, offeredBy, verdictOn, answer}
 use Rattle.table.specs.declared.Offered.{Offered}
 use Rattle.table.specs.declared.Offered.the-variants as offered
-use Rattle.query.specs.Claims.{Lowest}
-use Rattle.query.proofs.Sorting.{bool, clash, or-cases, or-right}
-use Rattle.query.proofs.Lent.{alike}
+use Rattle.wire.specs.Lowest.{Lowest}
+use Rattle.wire.proofs.Cases.{bool, clash, or-cases, or-right}
+use Rattle.wire.proofs.Lowest.{alike}
 use Rattle.reply.specs.declared.ReplyParts.{ReplyParts}
 use Rattle.reply.specs.declared.ReplyParts.the-variants as parts
 use Rattle.reply.specs.Lent.{subscription8, partsRow, outputAfter, replyRow, replied, repliedOut}

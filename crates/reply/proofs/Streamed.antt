@@ -20,9 +20,9 @@ use Rattle.table.specs.Sound.{sound}
 use Rattle.table.specs.Format.{shownRow}
 use Rattle.table.proofs.Valid as valid
 use Rattle.query.specs.Answer.{answerList, filtersMeant}
-use Rattle.query.specs.Claims.{Lowest}
-use Rattle.query.proofs.Sorting.{clash}
-use Rattle.query.proofs.Lent.{alike}
+use Rattle.wire.specs.Lowest.{Lowest}
+use Rattle.wire.proofs.Cases.{clash}
+use Rattle.wire.proofs.Lowest.{alike}
 use Rattle.query.proofs.Listings.{or-else}
 use Rattle.reply.specs.Replies.{eose}
 use Rattle.reply.specs.Lent.{eoseRow, outputAfter}

@@ -10,7 +10,8 @@ use lib.Seq.{drop-cons, getD-take}
 use Rattle.wire.specs.Limits.{mostFilters}
 use Rattle.shape.specs.Rows.{outside}
 use Rattle.message.specs.declared.FilterParts.{FilterParts}
-use Rattle.message.specs.Lent.{lowerRow, filterRow}
+use Rattle.message.specs.Lent.{filterRow}
+use Rattle.wire.specs.Lowest.{lowerRow}
 use Rattle.query.specs.Answer.{lowestOf, filtersRow}
 
 -- ---- their number

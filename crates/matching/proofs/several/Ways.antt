@@ -12,7 +12,8 @@ use Rattle.wire.specs.Limits.{mostText}
 use Rattle.text.specs.Event.{Event}
 use Rattle.message.specs.declared.EventParts.{EventParts}
 use Rattle.message.specs.declared.FilterParts.{FilterParts}
-use Rattle.message.specs.Lent.{lowerRow, eventRow}
+use Rattle.message.specs.Lent.{eventRow}
+use Rattle.wire.specs.Lowest.{lowerRow}
 use Rattle.event.specs.Lent.{said, eventOf, textOf}
 use Rattle.event.specs.Inner.{mostLength, lengthOf}
 use Rattle.event.specs.Answer.{orElse, isLarge}

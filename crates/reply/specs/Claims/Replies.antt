@@ -42,7 +42,7 @@ use Rattle.table.specs.Offer.{Offering, asMessage, answer, next}
 use Rattle.table.specs.declared.Offered.the-variants.{Stored, Refused}
 use Rattle.query.specs.Filter.{Filter}
 use Rattle.query.specs.Answer.{answerList, filtersMeant}
-use Rattle.query.specs.Claims.{Lowest}
+use Rattle.wire.specs.Lowest.{Lowest}
 use Rattle.wire.specs.Ascii.{ascii}
 use Rattle.reply.specs.Replies as replies
 use Rattle.reply.specs.Replies.{Reply, ok, eose, closed, notice, objectText, replyText, reasonOf, isAccepted, verdictReason}

@@ -17,7 +17,7 @@ use Rattle.law.specs.Lists.{_∈_, any}
 use Rattle.table.specs.Layout.{capacityOf, countOf, slotAt, idIn, sigIn, textIn}
 use Rattle.table.specs.Sound.{sound}
 use Rattle.query.specs.Answer.{answerList, filtersMeant}
-use Rattle.query.specs.Claims.{Lowest}
+use Rattle.wire.specs.Lowest.{Lowest}
 use Rattle.reply.specs.Replies.{event, eose, replyText}
 use Rattle.reply.specs.declared.ReplyParts.the-variants as parts
 use Rattle.reply.specs.Program.{repliesTo, tableAfter, replyLine, output}
