@@ -8,11 +8,11 @@ use borrow.Author.Tests.{le-leb, lt-leb, eq-eqb, ne-eqb}
 use Rattle.message.specs.declared.Span.{Span}
 use Rattle.event.specs.Answer.{writtenNumber}
 use Rattle.event.specs.declared.Written.{Written}
-use Rattle.reply.specs.Feed.{turned, turnRow, turnedNumber}
-use Rattle.reply.specs.Respond.{sentEvents, eventsRow, sentNumber}
+use Rattle.program.specs.Feed.{turned, turnRow, turnedNumber}
+use Rattle.program.specs.Respond.{sentEvents, eventsRow, sentNumber}
 use Rattle.reply.specs.Lent.{replied, repliedOut}
-use Rattle.reply.specs.declared.Turned.{Turned}
-use Rattle.reply.specs.declared.Sent.{Sent}
+use Rattle.program.specs.declared.Turned.{Turned}
+use Rattle.program.specs.declared.Sent.{Sent}
 use Rattle.reply.specs.declared.ReplyParts.{ReplyParts}
 use Rattle.capi.specs.Calls.{lengthOr}
 use Rattle.capi_relay.specs.Counts.{usedOr, keptOr, writtenOr, bytesOr, slotsOr}

@@ -2,10 +2,10 @@
 use Prim.Native.Nat.{ℕ}
 use Rattle.text.specs.declared.Class.{Class}
 use Rattle.text.specs.declared.Class.the-variants as class
-use Rattle.reply.specs.declared.Sent.{Sent}
-use Rattle.reply.specs.declared.Sent.the-variants as sending
-use Rattle.reply.specs.declared.Turned.{Turned}
-use Rattle.reply.specs.declared.Turned.the-variants as turning
+use Rattle.program.specs.declared.Sent.{Sent}
+use Rattle.program.specs.declared.Sent.the-variants as sending
+use Rattle.program.specs.declared.Turned.{Turned}
+use Rattle.program.specs.declared.Turned.the-variants as turning
 
 -- ---- a piece of the input: how many of its bytes are used up, how many the line has then, how many are written
 abbrev pub usedOr : Turned → ℕ → ℕ

@@ -3,8 +3,8 @@
 ghost use mathlib.Core.Path.{_≡_};
 ghost use Rattle.event.specs.Answer.{writtenNumber};
 ghost use Rattle.text.specs.Kinds.{classOf};
-ghost use Rattle.reply.specs.Respond.{responded, respondRow, respondedOut, respondedTable, slotEvent, slotEventRow, slotEventOut, sentEvents, eventsRow, sentEventsOut};
-ghost use Rattle.reply.specs.Feed.{turned, turnRow, turnTable, turnLine, turnOut};
+ghost use Rattle.program.specs.Respond.{responded, respondRow, respondedOut, respondedTable, slotEvent, slotEventRow, slotEventOut, sentEvents, eventsRow, sentEventsOut};
+ghost use Rattle.program.specs.Feed.{turned, turnRow, turnTable, turnLine, turnOut};
 ghost use Rattle.feed.specs.Finish.{feedFinished, finishRow, finishTable, finishOut};
 ghost use Rattle.responses.specs.Refused.{refusedReply, refusedRow, refusedOut};
 ghost use Rattle.capi.specs.Calls.{lengthOr};
@@ -15,8 +15,8 @@ mod given;
 
 use event::Written;
 use message::Span;
-use reply::Sent;
-use reply::Turned;
+use program::Sent;
+use program::Turned;
 use text::Class;
 
 // The number of what was answered; how many bytes were written goes to `written`.

@@ -15,9 +15,9 @@ use Rattle.wire.specs.Bytes.{part}
 use Rattle.wire.specs.Put.{put, Puts}
 use Rattle.wire.proofs.Laws.{length-put, put-over}
 use Rattle.law.specs.Lists.{any}
-use Rattle.reply.specs.Program.{tableAfter}
-use Rattle.reply.specs.Feed.{State, mostLine, kept, isEnd, afterByte, afterBytes, before, usedOf, turnState}
-use Rattle.reply.proofs.Feed.{in-pieces}
+use Rattle.program.specs.Program.{tableAfter}
+use Rattle.program.specs.Feed.{State, mostLine, kept, isEnd, afterByte, afterBytes, before, usedOf, turnState}
+use Rattle.program.proofs.Feed.{in-pieces}
 use Rattle.feed.specs.Inner.{NoEndFrom, EndFrom, grown, Keeps, Joins}
 
 -- ---- a turn of the search for a line's end: x is the whole answer

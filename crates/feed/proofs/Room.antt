@@ -15,13 +15,13 @@ use Rattle.message.specs.declared.Message.the-variants as message
 use Rattle.table.specs.Layout.{capacityOf}
 use Rattle.table.specs.Offer.{Offering, offeredOf, answer, isStored, storedIn, next}
 use Rattle.table.proofs.Stored.{stored-capacity}
-use Rattle.reply.specs.Program.{tableIn, tableAfter}
-use Rattle.reply.specs.Respond.{response, respondRow}
-use Rattle.reply.specs.Feed.{isEnd, kept, lastLine, saidLast, before, turnRow, turnState, turnTable}
-use Rattle.reply.specs.Claims.Respond.{enoughFor}
-use Rattle.reply.proofs.Respond.{fits-if}
-use Rattle.reply.proofs.Feed.{turn-means, turn-row-is}
-use Rattle.reply.proofs.Enough.{enough}
+use Rattle.program.specs.Program.{tableIn, tableAfter}
+use Rattle.program.specs.Respond.{response, respondRow}
+use Rattle.program.specs.Feed.{isEnd, kept, lastLine, saidLast, before, turnRow, turnState, turnTable}
+use Rattle.program.specs.Claims.Respond.{enoughFor}
+use Rattle.program.proofs.Respond.{fits-if}
+use Rattle.program.proofs.Feed.{turn-means, turn-row-is}
+use Rattle.program.proofs.Enough.{enough}
 use Rattle.feed.specs.Finish.{finishText, finishRow}
 use Rattle.feed.specs.Claims.{TurnFits, FinishFits, SlotsStay}
 use Rattle.feed.proofs.Lines.{within, whole, state-unended, state-ended}

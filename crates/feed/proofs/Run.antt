@@ -5,10 +5,10 @@ use Prim.Native.Nat.{ℕ}
 use native.Mathlib.Omega.{arith}
 use lib.ListN.{length, take}
 use Rattle.event.specs.Answer.{writtenNumber, writtenLength}
-use Rattle.reply.specs.Feed.{afterBytes, saidBy, saidLast, feedState, usedOf, turnText, turnState, turnTable, turnLine, turnOut, turnedNumber, turnedUsed, turnedLine, turnedBytes}
+use Rattle.program.specs.Feed.{afterBytes, saidBy, saidLast, feedState, usedOf, turnText, turnState, turnTable, turnLine, turnOut, turnedNumber, turnedUsed, turnedLine, turnedBytes}
 use Rattle.reply.proofs.Lent.{writes-or}
-use Rattle.reply.proofs.Respond.{short-if, fits-if}
-use Rattle.reply.proofs.Feed.{in-pieces, says-output, turned-means}
+use Rattle.program.proofs.Respond.{short-if, fits-if}
+use Rattle.program.proofs.Feed.{in-pieces, says-output, turned-means}
 use Rattle.feed.specs.Finish.{finishText, finishRow, feedFinished, finishTable, finishOut}
 use Rattle.feed.specs.Claims.{FinishRowIs, FinishedMeans, Turns, none, more, WritesOutput}
 use borrow.Author.Tests.{eq-eqb, ne-eqb}

@@ -13,13 +13,13 @@ use Rattle.law.specs.Lists.{any}
 use Rattle.event.specs.Answer.{writtenNumber, writtenLength}
 use Rattle.event.specs.declared.Written.{Written}
 use Rattle.event.specs.declared.Written.the-variants as sent
-use Rattle.reply.specs.Program.{tableAfter}
-use Rattle.reply.specs.Respond.{response, respondRow, responded, respondedOut, respondedTable}
-use Rattle.reply.specs.Feed.{State, mostLine, kept, isEnd, lastLine, saidLast, before, usedOf, turnText, turnState, turnRow, turned, turnTable, turnLine, turnOut, turnedNumber}
-use Rattle.reply.specs.declared.Turned.{Turned}
-use Rattle.reply.specs.declared.Turned.the-variants as turning
-use Rattle.reply.proofs.Respond.{fits-if, responded-means}
-use Rattle.reply.proofs.Feed.{kept-same, turn-means, turn-row-is}
+use Rattle.program.specs.Program.{tableAfter}
+use Rattle.program.specs.Respond.{response, respondRow, responded, respondedOut, respondedTable}
+use Rattle.program.specs.Feed.{State, mostLine, kept, isEnd, lastLine, saidLast, before, usedOf, turnText, turnState, turnRow, turned, turnTable, turnLine, turnOut, turnedNumber}
+use Rattle.program.specs.declared.Turned.{Turned}
+use Rattle.program.specs.declared.Turned.the-variants as turning
+use Rattle.program.proofs.Respond.{fits-if, responded-means}
+use Rattle.program.proofs.Feed.{kept-same, turn-means, turn-row-is}
 use Rattle.feed.specs.Finish.{finishText, finishRow, feedFinished, finishTable, finishOut, lastTable}
 use Rattle.feed.specs.Inner.{grown, Keeps, Answers}
 use Rattle.feed.proofs.Lines.{within, whole, so-far, state-unended, state-ended}

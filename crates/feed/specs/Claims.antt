@@ -7,11 +7,11 @@ use Prim.Native.Nat.{ℕ, _≤_, _<_}
 use lib.ListN.{length, take}
 use Rattle.event.specs.declared.Written.the-variants as sent
 use Rattle.table.specs.Layout.{capacityOf}
-use Rattle.reply.specs.declared.Turned.the-variants as turning
-use Rattle.reply.specs.Claims.Replies.{WritesOr}
-use Rattle.reply.specs.Program.{freshTable, output}
-use Rattle.reply.specs.Feed.{mostLine, feedState, turnRow, turned, turnTable, turnLine, turnOut}
-use Rattle.reply.specs.Claims.Respond.{enoughFor}
+use Rattle.program.specs.declared.Turned.the-variants as turning
+use Rattle.reply.specs.Claims.{WritesOr}
+use Rattle.program.specs.Program.{freshTable, output}
+use Rattle.program.specs.Feed.{mostLine, feedState, turnRow, turned, turnTable, turnLine, turnOut}
+use Rattle.program.specs.Claims.Respond.{enoughFor}
 use Rattle.feed.specs.Finish.{finishText, finishRow, feedFinished, finishOut, finishTable, lastTable}
 
 -- ---- the end of the input
@@ -27,7 +27,7 @@ FinishedMeans = (b line : List ℕ) (n : ℕ) (out : List ℕ) →
     × (finishRow b line n out ≡ 0 → finishTable b line n out ≡ lastTable b (feedState b line n .line))
     × (finishRow b line n out ≢ 0 → finishTable b line n out ≡ b)
 
--- ---- an output that is never too short, over a table of so many slots (reply/specs/Claims/Respond, `enoughFor`): with it, and with a line buffer
+-- ---- an output that is never too short, over a table of so many slots (program/specs/Claims/Respond, `enoughFor`): with it, and with a line buffer
 -- that holds what is kept of a line, no call is refused
 abbrev pub TurnFits : Type 0
 TurnFits = (b line : List ℕ) (n : ℕ) (piece out : List ℕ) → mostLine ≤ length line → enoughFor (capacityOf b) ≤ length out →

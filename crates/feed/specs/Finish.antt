@@ -1,5 +1,5 @@
 -- The end of the input, over lent buffers. 01: "a last line without it counts if not empty". The first n bytes of the lent line buffer are
--- the line so far, as in reply/specs/Feed.
+-- the line so far, as in program/specs/Feed.
 use mathlib.Core.Bool.{cond}
 use mathlib.Core.List.{List, [], _∷_}
 use Prim.Native.Nat.{ℕ}
@@ -8,8 +8,8 @@ use lib.ListN.{length}
 use Rattle.event.specs.Answer.{answered}
 use Rattle.event.specs.declared.Written.{Written}
 use Rattle.reply.specs.Lent.{shortRow, outputAfter}
-use Rattle.reply.specs.Program.{tableAfter}
-use Rattle.reply.specs.Feed.{saidLast, feedState}
+use Rattle.program.specs.Program.{tableAfter}
+use Rattle.program.specs.Feed.{saidLast, feedState}
 use Rattle.wire.specs.Bytes.{Bytes, Row}
 
 unfoldable pub finishText : (b line : Bytes) (n : ℕ) → Bytes

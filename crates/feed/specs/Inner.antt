@@ -5,8 +5,8 @@ use Prim.Native.Nat.{ℕ, _+_, _-_, _≤_, _<_, min}
 use lib.ListN.{length, take, drop, getD}
 use Rattle.wire.specs.Put.{put}
 use Rattle.event.specs.declared.Written.{Written}
-use Rattle.reply.specs.Respond.{responded, respondedOut, respondedTable}
-use Rattle.reply.specs.Feed.{mostLine, kept, before}
+use Rattle.program.specs.Respond.{responded, respondedOut, respondedTable}
+use Rattle.program.specs.Feed.{mostLine, kept, before}
 use Rattle.wire.specs.Bytes.{Bytes}
 
 -- ---- the search for a line's end

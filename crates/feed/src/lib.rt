@@ -5,11 +5,11 @@ ghost use mathlib.Core.Bool.{true};
 ghost use Prim.Native.Nat.{_+_, _≤_, min};
 ghost use lib.ListN.{length};
 ghost use Rattle.event.specs.Answer.{writtenNumber};
-ghost use Rattle.reply.specs.Feed.{mostLine, before, turned, turnRow, turnTable, turnLine, turnOut, turnedNumber};
+ghost use Rattle.program.specs.Feed.{mostLine, before, turned, turnRow, turnTable, turnLine, turnOut, turnedNumber};
 ghost use Rattle.feed.specs.Finish.{feedFinished, finishRow, finishTable, finishOut};
 ghost use Rattle.feed.specs.Inner.{NoEndFrom, EndFrom, grown, Keeps, Joins, Answers};
 use event::Written;
-use reply::Turned;
+use program::Turned;
 
 // A byte more than a message may have tells that the line is too long.
 const MOST_LINE: usize = wire::MOST_MESSAGE + 1;

@@ -12,14 +12,14 @@ use Rattle.event.specs.declared.Written.the-variants as sent
 use Rattle.table.specs.Layout.{capacityOf, tableSize}
 use Rattle.table.specs.Format.{formatted}
 use Rattle.table.proofs.Formatted.{formatted-capacity}
-use Rattle.reply.specs.Claims.Respond.{enoughFor}
-use Rattle.reply.specs.Program.{programSlots, freshTable}
-use Rattle.reply.specs.Feed.{mostLine, usedOf, turnText, turnState, turned, turnRow, turnTable, turnLine, turnOut, turnedNumber, turnedUsed, turnedBytes}
-use Rattle.reply.specs.declared.Turned.{Turned}
-use Rattle.reply.specs.declared.Turned.the-variants as turning
-use Rattle.reply.proofs.Example.{row-0}
-use Rattle.reply.proofs.Respond.{fits-if}
-use Rattle.reply.proofs.Feed.{turn-means, turn-row-is, turned-means}
+use Rattle.program.specs.Claims.Respond.{enoughFor}
+use Rattle.program.specs.Program.{programSlots, freshTable}
+use Rattle.program.specs.Feed.{mostLine, usedOf, turnText, turnState, turned, turnRow, turnTable, turnLine, turnOut, turnedNumber, turnedUsed, turnedBytes}
+use Rattle.program.specs.declared.Turned.{Turned}
+use Rattle.program.specs.declared.Turned.the-variants as turning
+use Rattle.program.proofs.Example.{row-0}
+use Rattle.program.proofs.Respond.{fits-if}
+use Rattle.program.proofs.Feed.{turn-means, turn-row-is, turned-means}
 use Rattle.feed.specs.Finish.{finishText, feedFinished, finishRow, finishTable, finishOut}
 use Rattle.feed.proofs.Run.{finished-means}
 use Rattle.feed.proofs.Room.{turn-fits, slots-stay}

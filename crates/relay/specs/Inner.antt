@@ -4,9 +4,9 @@ use mathlib.Core.List.{List}
 use Prim.Native.Nat.{ℕ, _+_, _-_, _*_, _≤_, min}
 use lib.ListN.{length}
 use Rattle.table.specs.Layout.{capacityOf}
-use Rattle.reply.specs.Program.{programSlots}
-use Rattle.reply.specs.Feed.{mostLine}
-use Rattle.reply.specs.Claims.Respond.{enoughFor}
+use Rattle.program.specs.Program.{programSlots}
+use Rattle.program.specs.Feed.{mostLine}
+use Rattle.program.specs.Claims.Respond.{enoughFor}
 use Rattle.relay.specs.declared.Place.{Place}
 
 -- a table of 8 slots, a line buffer that holds what is kept of a line, an output that is never too short

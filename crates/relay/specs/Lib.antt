@@ -1,2 +1,2 @@
--- What the program's functions hand on: not for an auditor. What it prints is reply/specs/Program, `output`.
+-- What the program's functions hand on: not for an auditor. What it prints is program/specs/Program, `output`.
 pub mod Inner

@@ -3,14 +3,14 @@
 ghost use mathlib.Core.Path.{_≡_};
 ghost use Prim.Native.Nat.{_≤_, _<_};
 ghost use lib.ListN.{length, replicate};
-ghost use Rattle.reply.specs.Program.{programSlots, freshTable};
-ghost use Rattle.reply.specs.Feed.{mostLine};
-ghost use Rattle.reply.specs.Claims.Respond.{enoughFor};
+ghost use Rattle.program.specs.Program.{programSlots, freshTable};
+ghost use Rattle.program.specs.Feed.{mostLine};
+ghost use Rattle.program.specs.Claims.Respond.{enoughFor};
 ghost use Rattle.relay.specs.Inner.{Ready, Stands, waitingFrom};
 use event::Written;
 use libc::STDIN_FILENO;
 use libc::STDOUT_FILENO;
-use reply::Turned;
+use program::Turned;
 
 // How many bytes of the chunk are used up, how many the line so far has, and how many of the output wait to be written.
 struct Place {

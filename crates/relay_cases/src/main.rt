@@ -13,7 +13,7 @@ ghost use lib.ListN.{length};
 use event::Written;
 use libc::STDOUT_FILENO;
 use numeral::Whole;
-use reply::Turned;
+use program::Turned;
 
 // How many bytes the relay's line has so far, and how large the pieces are.
 struct Run {

@@ -39,7 +39,7 @@ use Rattle.reply.specs.Replies.{event, truth, objectText, replyText}
 use Rattle.reply.specs.Lent.{replyOf, okRow, eventReplyRow, eoseRow, closedRow, noticeRow, partsRow, shortRow, replyRow, replied, repliedOut}
 use Rattle.reply.specs.declared.ReplyParts.{ReplyParts}
 use Rattle.table.proofs.Valid.{or-else}
-use Rattle.reply.proofs.Sizes.{quoted-length, event-length}
+use Rattle.program.proofs.Sizes.{quoted-length, event-length}
 use Rattle.replies.specs.Inner.{frontText, middleText, backText, okParts, eventParts, eoseParts, closedParts, noticeParts, Room}
 
 -- ---- true or false

@@ -1,6 +1,6 @@
 -- A reply given as lent parts: its row, its answer and the output; and the number of other answers. The last claims of specs/Claims/Replies.
 use mathlib.Core.Path.{_≡_, refl, sym, ap, _∙_}
-use mathlib.Core.Bool.{Bool, true, false, cond, not, _&&_, _||_, false≢true}
+use mathlib.Core.Bool.{Bool, true, false, cond, _||_, false≢true}
 use mathlib.Core.Logic.{_⊎_, inl, inr, ⊎-elim, _≢_}
 use mathlib.Core.List.{List, _++_}
 use Prim.Native.Nat.{ℕ, _≤_, _<_}
@@ -16,22 +16,13 @@ use Rattle.message.specs.Lent.{string2, string4, string5, string7, event2, even
 use Rattle.message.specs.Inner.{lowestBy}
 use Rattle.event.specs.Answer.{orElse, isLarge, answered, serialised, serialisedRow, writtenNumber, writtenLength}
 use Rattle.event.specs.declared.Written.the-variants as sent
-use Rattle.table.specs.Layout.{capacityOf}
-use Rattle.table.specs.Events.{ofHeld, view}
-use Rattle.table.specs.Sound.{sound}
-use Rattle.law.specs.Table.{verdict}
-use Rattle.table.specs.Offer as offers
-use Rattle.table.specs.Offer.{Offering, isValid, judge, offeredBy, verdictOn, answer}
-use Rattle.table.specs.declared.Offered.{Offered}
-use Rattle.table.specs.declared.Offered.the-variants as offered
 use Rattle.wire.specs.Lowest.{Lowest}
 use Rattle.wire.proofs.Cases.{bool, clash, or-cases, or-right}
 use Rattle.wire.proofs.Lowest.{alike}
 use Rattle.reply.specs.declared.ReplyParts.{ReplyParts}
 use Rattle.reply.specs.declared.ReplyParts.the-variants as parts
 use Rattle.reply.specs.Lent.{subscription8, partsRow, outputAfter, replyRow, replied, repliedOut}
-use Rattle.reply.specs.Claims.Replies.{lentText, ok-id, ok-reason, event-subscription, eose-subscription, closed-subscription, closed-reason, notice-reason, of-event, of-eose, of-closed, EventHolds, event-utf8, event-string, event-shape, event-number, event-hex, event-count, event-large, PartsHold, not-utf8, not-allowed, not-spelled, not-hex, miscounted, in-event, PartsRowIs, PartsPass, ReplyHolds, of-parts, too-short, ReplyRowIs, PartsFirst, ShortOutput, ReplyFits, WritesOr, RepliedMeans, SerialisedNumber, OfferedNumber}
-use Rattle.reply.proofs.Which.{verdict-rows}
+use Rattle.reply.specs.Claims.{lentText, ok-id, ok-reason, event-subscription, eose-subscription, closed-subscription, closed-reason, notice-reason, of-event, of-eose, of-closed, EventHolds, event-utf8, event-string, event-shape, event-number, event-hex, event-count, event-large, PartsHold, not-utf8, not-allowed, not-spelled, not-hex, miscounted, in-event, PartsRowIs, PartsPass, ReplyHolds, of-parts, too-short, ReplyRowIs, PartsFirst, ShortOutput, ReplyFits, WritesOr, RepliedMeans, SerialisedNumber}
 
 pub zero-or : (r : ℕ) → (r ≡ 0) ⊎ (r ≢ 0)
 zero-or r = ⊎-elim (λ e. inl (eqb-true r 0 e)) (λ e. inr (eqb-false r 0 e)) (bool (eqb r 0))
@@ -396,37 +387,3 @@ serialised-number b p out = (
   λ ne. rw (ne-eqb (serialisedRow b p out) 0 ne),
 )
 
--- no offer is refused by row 0
-refused-row : (b : List ℕ) (o : Offering) (r : ℕ) → answer b o ≡ offered.Refused r → 1 ≤ r
-unfolding answer verdictOn judge verdict
-refused-row b o r a = go (isValid o) refl (sound b) a
-  where
-    go : (v : Bool) → isValid o ≡ v → (s : Bool) → cond (v && not s) (offered.Refused 11) (offeredBy (offers.offeringRow o) (verdictOn b o)) ≡ offered.Refused r → 1 ≤ r
-    go true v false q = let z = ap offers.offerNumber q in omega arith
-    go true v true q =
-        let (l, h) = verdict-rows r (offers.offeringRow o) (capacityOf b) (view b) (ofHeld (offers.offeredOf o)) (rw v at q) in
-        omega arith
-    go false v s q =
-        let z : offers.offeringRow o ≡ r = ap offers.offerNumber (rw v at q) in
-        let n = eqb-false (offers.offeringRow o) 0 v in
-        omega (arith, n)
-
-pub offered-number : OfferedNumber
-offered-number b o = (λ r l. (of-number (answer b o) r l, ap offers.offerNumber), (no-row, on (answer b o) refl))
-  where
-    of-number : (a : Offered) (r : ℕ) → 1 ≤ r → offers.offerNumber a ≡ r → a ≡ offered.Refused r
-    of-number offered.Ephemeral r l e = absurd (omega arith)
-    of-number offered.Duplicate r l e = absurd (omega arith)
-    of-number offered.Older r l e = absurd (omega arith)
-    of-number offered.Stored r l e = absurd (omega arith)
-    of-number (offered.Refused k) r l e = ap offered.Refused e
-
-    no-row : offers.offerNumber (answer b o) ≡ 0 → (r : ℕ) → answer b o ≢ offered.Refused r
-    no-row e r a = let l = refused-row b o r a in let z = ap offers.offerNumber a in omega arith
-
-    on : (a : Offered) → answer b o ≡ a → ((r : ℕ) → answer b o ≢ offered.Refused r) → offers.offerNumber (answer b o) ≡ 0
-    on offered.Ephemeral e n = ap offers.offerNumber e
-    on offered.Duplicate e n = ap offers.offerNumber e
-    on offered.Older e n = ap offers.offerNumber e
-    on offered.Stored e n = ap offers.offerNumber e
-    on (offered.Refused k) e n = absurd (n k e)

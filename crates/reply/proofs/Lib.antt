@@ -1,23 +1,3 @@
--- Starred: the starred cases of 01. Example: the program's output on 01's four lines. Accepted: an EVENT is stored and given back to a REQ.
--- Which, Shown: which replies a message gets. Lines, Plain: the program's lines. Kept: its table stays sound, and demand 3 holds of it.
--- Lent: a reply given as parts. Worked: replies by computation. Respond, Streamed: one message answered at once, or a reply at a time.
--- Feed: the program as a state that bytes are fed to. Sizes, Enough: how long replies are, and an output that is never too short.
--- Members, Ordered, Sendable: each event within the limits has a valid message.
-pub mod Starred
-pub mod Example
+-- Plain: a reply is one line. Lent: a reply given as parts.
 pub mod Plain
-pub mod Lines
-pub mod Which
-pub mod Shown
-pub mod Worked
-pub mod Kept
-pub mod Accepted
 pub mod Lent
-pub mod Respond
-pub mod Streamed
-pub mod Feed
-pub mod Sizes
-pub mod Enough
-pub mod Members
-pub mod Ordered
-pub mod Sendable

@@ -13,7 +13,7 @@ use Rattle.numeral.proofs.Digits.{digits-one, digits-split, by-digits}
 use Rattle.text.specs.Event.{Tag, Event, quoted, membersText, tagText, tagsText}
 use Rattle.law.specs.Lists.{any}
 use Rattle.reply.specs.Replies.{ok, event, eose, closed, notice, truth, objectText, replyText}
-use Rattle.reply.specs.Claims.Replies.{isNewline, Plain, ReplyPlain}
+use Rattle.reply.specs.Claims.{isNewline, Plain, ReplyPlain}
 
 -- ---- pieces in a row
 pub plain-append : (k l : List ℕ) → Plain k → Plain l → Plain (k ++ l)

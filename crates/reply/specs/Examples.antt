@@ -1,40 +1,47 @@
--- 01, "Shape": the names and first words that the reader compares, spelled out, and the borders of "# with one letter a-z or A-Z", by
--- computation.
+-- Worked replies, by computation: the bytes of each kind of reply, and of every reason.
 use mathlib.Core.Path.{_≡_, refl}
 use mathlib.Core.Bool.{true, false}
-use Rattle.shape.specs.Shape.{idName, pubkeyName, createdAtName, kindName, tagsName, contentName, sigName, idsName, authorsName, kindsName, sinceName, untilName, limitName, eventWord, reqWord, closeWord, isCondition}
+use mathlib.Core.List.{[], _∷_, map}
+use lib.IntN.{negsuc}
 use Rattle.wire.specs.Ascii.{ascii}
+use Rattle.wire.specs.Escape.{letterOf, escOne, escape}
+use Rattle.numeral.specs.Decimal.{digitsIn, digits, decimal}
+use Rattle.text.specs.Event.{Event, quoted, membersText, tagText, tagsText}
+use Rattle.reply.specs.Replies.{ok, event, eose, closed, notice, objectText, replyText, reasonOf}
 
-pub names :
-    (idName ≡ ascii "id")
-    × (pubkeyName ≡ ascii "pubkey")
-    × (createdAtName ≡ ascii "created_at")
-    × (kindName ≡ ascii "kind")
-    × (tagsName ≡ ascii "tags")
-    × (contentName ≡ ascii "content")
-    × (sigName ≡ ascii "sig")
-    × (idsName ≡ ascii "ids")
-    × (authorsName ≡ ascii "authors")
-    × (kindsName ≡ ascii "kinds")
-    × (sinceName ≡ ascii "since")
-    × (untilName ≡ ascii "until")
-    × (limitName ≡ ascii "limit")
-    × (eventWord ≡ ascii "EVENT")
-    × (reqWord ≡ ascii "REQ")
-    × (closeWord ≡ ascii "CLOSE")
-names = (refl, refl, refl, refl, refl, refl, refl, refl, refl, refl, refl, refl, refl, refl, refl, refl)
+-- ids, keys and signatures are shortened here
+abbrev small : Event
+small = record { pubkey = ascii "aa"; time = negsuc 7199; kind = 1; tags = (ascii "d" ∷ ascii "t\n1" ∷ []) ∷ []; content = ascii "a\"b" }
 
-pub conditions :
-    (isCondition (ascii "#a") ≡ true)
-    × (isCondition (ascii "#z") ≡ true)
-    × (isCondition (ascii "#A") ≡ true)
-    × (isCondition (ascii "#Z") ≡ true)
-    × (isCondition (ascii "#`") ≡ false)
-    × (isCondition (ascii "#{") ≡ false)
-    × (isCondition (ascii "#@") ≡ false)
-    × (isCondition (ascii "#[") ≡ false)
-    × (isCondition (ascii "#ab") ≡ false)
-    × (isCondition (ascii "#") ≡ false)
-    × (isCondition (ascii "a") ≡ false)
-unfolding isCondition
-conditions = (refl, refl, refl, refl, refl, refl, refl, refl, refl, refl, refl)
+pub texts :
+    (replyText (ok (ascii "0f") true []) ≡ ascii "[\"OK\",\"0f\",true,\"\"]")
+    × (replyText (ok (ascii "0f") false (reasonOf 12)) ≡ ascii "[\"OK\",\"0f\",false,\"error: no room\"]")
+    × (replyText (event (ascii "s") (ascii "0f") small (ascii "9e"))
+    ≡ ascii "[\"EVENT\",\"s\",{\"id\":\"0f\",\"pubkey\":\"aa\",\"created_at\":-7200,\"kind\":1,\"tags\":[[\"d\",\"t\\n1\"]],\"content\":\"a\\\"b\",\"sig\":\"9e\"}]")
+    × (replyText (eose (ascii "a/\"")) ≡ ascii "[\"EOSE\",\"a/\\\"\"]")
+    × (replyText (closed (ascii "s") (reasonOf 8)) ≡ ascii "[\"CLOSED\",\"s\",\"invalid: count or length\"]")
+    × (replyText (notice (reasonOf 2)) ≡ ascii "[\"NOTICE\",\"invalid: not UTF-8\"]")
+    -- "0A, 22, 5C, 0D, 09, 08, 0C become .."
+    × (replyText (notice (0x0a ∷ 0x22 ∷ 0x5c ∷ 0x0d ∷ 0x09 ∷ 0x08 ∷ 0x0c ∷ [])) ≡ ascii "[\"NOTICE\",\"\\n\\\"\\\\\\r\\t\\b\\f\"]")
+unfolding replyText objectText reasonOf quoted membersText tagText tagsText letterOf escOne escape digitsIn digits decimal
+texts = (refl, refl, refl, refl, refl, refl, refl)
+
+-- 01, "Numbers the relay answers with", the column "Reply text": rows 1 to 12, and none past them
+pub reason-texts :
+    map (λ r. replyText (notice (reasonOf r))) (1 ∷ 2 ∷ 3 ∷ 4 ∷ 5 ∷ 6 ∷ 7 ∷ 8 ∷ 9 ∷ 10 ∷ 11 ∷ 12 ∷ 13 ∷ [])
+    ≡ ascii "[\"NOTICE\",\"invalid: message too long\"]"
+    ∷ ascii "[\"NOTICE\",\"invalid: not UTF-8\"]"
+    ∷ ascii "[\"NOTICE\",\"invalid: not JSON\"]"
+    ∷ ascii "[\"NOTICE\",\"invalid: string not allowed\"]"
+    ∷ ascii "[\"NOTICE\",\"invalid: wrong shape\"]"
+    ∷ ascii "[\"NOTICE\",\"invalid: number\"]"
+    ∷ ascii "[\"NOTICE\",\"invalid: hex\"]"
+    ∷ ascii "[\"NOTICE\",\"invalid: count or length\"]"
+    ∷ ascii "[\"NOTICE\",\"invalid: event too large\"]"
+    ∷ ascii "[\"NOTICE\",\"invalid: id does not match\"]"
+    ∷ ascii "[\"NOTICE\",\"error: bad table\"]"
+    ∷ ascii "[\"NOTICE\",\"error: no room\"]"
+    ∷ ascii "[\"NOTICE\",\"\"]"
+    ∷ []
+unfolding replyText reasonOf quoted letterOf escOne escape
+reason-texts = refl

@@ -1,10 +1,5 @@
--- Replies, which of them a message gets, and the program: what it writes, one message answered, and bytes fed to it. Laws and Answering have
--- what is claimed of them.
+-- The five replies, as texts and as lent parts. Claims: what they mean. Examples: worked replies and every reason.
 pub mod Replies
 pub mod Lent
-pub mod Program
-pub mod Respond
-pub mod Feed
-pub mod Starred
-pub mod Examples
 pub mod Claims
+pub mod Examples

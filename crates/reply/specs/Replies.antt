@@ -6,8 +6,6 @@ use Prim.Native.Nat.{ℕ}
 use lib.ListN.{getD}
 use Rattle.numeral.specs.Decimal.{digits, decimal}
 use Rattle.text.specs.Event.{Event, quoted, tagsText}
-use Rattle.table.specs.declared.Offered.{Offered}
-use Rattle.table.specs.declared.Offered.the-variants.{Ephemeral, Duplicate, Older, Stored, Refused}
 use Rattle.wire.specs.Ascii.{ascii}
 use Rattle.wire.specs.Bytes.{Bytes}
 
@@ -65,18 +63,3 @@ reasons =
 
 unfoldable pub reasonOf : ℕ → Bytes
 reasonOf r = getD reasons r []
-
--- ---- "Replies: ephemeral and stored `true,""`; duplicate .. ; older .."
-abbrev pub isAccepted : Offered → Bool
-isAccepted Ephemeral = true
-isAccepted Stored = true
-isAccepted Duplicate = true
-isAccepted Older = true
-isAccepted (Refused r) = false
-
-abbrev pub verdictReason : Offered → Bytes
-verdictReason Ephemeral = []
-verdictReason Stored = []
-verdictReason Duplicate = ascii "duplicate: already have this event"
-verdictReason Older = ascii "duplicate: have a newer version"
-verdictReason (Refused r) = reasonOf r

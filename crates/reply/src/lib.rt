@@ -1,4 +1,4 @@
-// The five replies, which of them a message gets, and what the program writes. The definitions stand in specs/.
+// The five replies as texts and as lent parts: what a relay writes and a client reads. The definitions stand in specs/.
 use message::EventParts;
 use message::Span;
 
@@ -12,17 +12,4 @@ pub enum ReplyParts {
     // the subscription id and the reason
     Closed(Span, Span),
     Notice(Span),
-}
-
-// What sending the EVENTs of some slots gives: how many bytes were written, and of how many slots; or the row that refuses.
-pub enum Sent {
-    Wrote(usize, usize),
-    Refused(u8),
-}
-
-// What feeding a piece of the input gives: how many of its bytes were used up, how many the line has then, and how many were written; or
-// the row that refuses.
-pub enum Turned {
-    Fed(usize, usize, usize),
-    Refused(u8),
 }

@@ -19,9 +19,10 @@ use Rattle.event.specs.Lent.{said}
 use Rattle.table.specs.declared.Offered.{Offered}
 use Rattle.table.specs.declared.Offered.the-variants.{Refused}
 use Rattle.wire.specs.Ascii.{ascii}
-use Rattle.reply.specs.Replies.{notice, replyText, truth, isAccepted, verdictReason, reasons, reasonOf}
-use Rattle.reply.specs.Program.{refusalNaming, refusal}
-use Rattle.reply.proofs.Sizes.{quoted-length, reason-short}
+use Rattle.reply.specs.Replies.{notice, replyText, truth, reasons, reasonOf}
+use Rattle.program.specs.Program.{isAccepted, verdictReason}
+use Rattle.program.specs.Program.{refusalNaming, refusal}
+use Rattle.program.proofs.Sizes.{quoted-length, reason-short}
 use Rattle.replies.specs.Inner.{Room}
 use Rattle.responses.specs.Inner.{verdictText, okText, closedText, noticeText, namedFor, namingText, eoseLine}
 use Rattle.responses.specs.Refused.{refusedText}

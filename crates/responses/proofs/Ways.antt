@@ -52,12 +52,12 @@ use Rattle.query.proofs.Tables.{answer-means}
 use Rattle.query.proofs.ReadFilters.{read-listing}
 use Rattle.reply.specs.Replies.{Reply, eose, closed, replyText, reasonOf}
 use Rattle.reply.specs.Lent.{shortRow}
-use Rattle.reply.specs.Program.{refusal, eventsOf, requestReplies, repliesTo, tableAfter, written}
-use Rattle.reply.specs.Respond.{response, respondRow, responded, respondedOut, respondedTable}
-use Rattle.reply.proofs.Lines.{written-append}
-use Rattle.reply.proofs.Shown.{answers-held}
-use Rattle.reply.proofs.Sizes.{hex-short, reason-short}
-use Rattle.reply.proofs.Which.{names-id, read-event, read-close, bad-table}
+use Rattle.program.specs.Program.{refusal, eventsOf, requestReplies, repliesTo, tableAfter, written}
+use Rattle.program.specs.Respond.{response, respondRow, responded, respondedOut, respondedTable}
+use Rattle.program.proofs.Lines.{written-append}
+use Rattle.program.proofs.Shown.{answers-held}
+use Rattle.program.proofs.Sizes.{hex-short, reason-short}
+use Rattle.program.proofs.Which.{names-id, read-event, read-close, bad-table}
 use Rattle.replies.specs.Inner.{Room}
 use Rattle.slot_replies.specs.Inner.{linesSize, leftIn}
 use Rattle.slot_replies.specs.declared.Left.{Left}

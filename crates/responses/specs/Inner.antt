@@ -16,9 +16,10 @@ use Rattle.table.specs.Layout.{countOf}
 use Rattle.table.specs.Sound.{sound}
 use Rattle.table.specs.declared.Offered.{Offered}
 use Rattle.wire.specs.Ascii.{ascii}
-use Rattle.reply.specs.Replies.{ok, eose, closed, notice, replyText, truth, reasonOf, isAccepted, verdictReason}
+use Rattle.reply.specs.Replies.{ok, eose, closed, notice, replyText, truth, reasonOf}
+use Rattle.program.specs.Program.{isAccepted, verdictReason}
 use Rattle.reply.specs.Lent.{shortRow, outputAfter}
-use Rattle.reply.specs.Program.{refusalNaming, eventsOf, written}
+use Rattle.program.specs.Program.{refusalNaming, eventsOf, written}
 use Rattle.wire.specs.Bytes.{Bytes, Row}
 
 -- ---- the replies

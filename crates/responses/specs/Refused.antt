@@ -1,4 +1,4 @@
--- The reply to the message m that a row of 01 refuses, alone and without 0A, to a lent output: `refusal` of reply/specs/Program. The call is
+-- The reply to the message m that a row of 01 refuses, alone and without 0A, to a lent output: `refusal` of program/specs/Program. The call is
 -- refused by row 13 alone.
 use mathlib.Core.List.{List}
 use Prim.Native.Nat.{ℕ}
@@ -7,7 +7,7 @@ use Rattle.event.specs.Answer.{answered}
 use Rattle.event.specs.declared.Written.{Written}
 use Rattle.reply.specs.Replies.{replyText}
 use Rattle.reply.specs.Lent.{shortRow, outputAfter}
-use Rattle.reply.specs.Program.{refusal}
+use Rattle.program.specs.Program.{refusal}
 use Rattle.wire.specs.Bytes.{Bytes, Row}
 
 unfoldable pub refusedText : (m : Bytes) (row : Row) → Bytes

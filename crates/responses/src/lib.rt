@@ -11,7 +11,7 @@ ghost use Rattle.message.specs.declared.Message.the-variants as message;
 ghost use Rattle.event.specs.Lent.{said};
 ghost use Rattle.event.specs.Answer.{writtenNumber};
 ghost use Rattle.reply.specs.Replies.{reasonOf};
-ghost use Rattle.reply.specs.Respond.{response, responded, respondRow, respondedOut, respondedTable};
+ghost use Rattle.program.specs.Respond.{response, responded, respondRow, respondedOut, respondedTable};
 ghost use Rattle.replies.specs.Inner.{Room};
 ghost use Rattle.responses.specs.Refused.{refusedReply, refusedRow, refusedOut};
 ghost use Rattle.responses.specs.Inner.{verdictText, okText, closedText, noticeText, namedFor, namingText, ended, eoseLine, answerText, AllHeld, Said};

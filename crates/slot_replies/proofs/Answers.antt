@@ -25,8 +25,8 @@ use Rattle.table.proofs.Shown.{shown-if}
 use Rattle.slots.specs.Shown.{shownNumber}
 use Rattle.slots.specs.declared.Shown.{Shown}
 use Rattle.reply.specs.Lent.{eoseRow, shortRow}
-use Rattle.reply.specs.Respond.{slotText, slotEventRow, slotEvent, slotEventOut}
-use Rattle.reply.proofs.Sizes.{slot-length}
+use Rattle.program.specs.Respond.{slotText, slotEventRow, slotEvent, slotEventOut}
+use Rattle.program.proofs.Sizes.{slot-length}
 use Rattle.replies.specs.Inner.{Room}
 use Rattle.replies.proofs.Written.{eose-row}
 use Rattle.slot_replies.specs.Inner.{heldText}

@@ -18,10 +18,10 @@ use Rattle.law.specs.Lists.{_∈_}
 use Rattle.table.specs.Layout.{countOf, slotAt, lengthIn, textIn}
 use Rattle.table.specs.Sound.{sound}
 use Rattle.reply.specs.Replies.{replyText}
-use Rattle.reply.specs.Program.{eventReplies, eventsOf, written}
-use Rattle.reply.specs.Respond.{firstText, slotLine}
-use Rattle.reply.proofs.Lines.{written-append}
-use Rattle.reply.proofs.Sizes.{line-length}
+use Rattle.program.specs.Program.{eventReplies, eventsOf, written}
+use Rattle.program.specs.Respond.{firstText, slotLine}
+use Rattle.program.proofs.Lines.{written-append}
+use Rattle.program.proofs.Sizes.{line-length}
 use Rattle.slot_replies.specs.Inner.{heldText, heldLine, linesSize, leftIn, lineSize, sizes, stopped, fittedIn}
 use Rattle.slot_replies.specs.declared.Left.the-variants.{Room, Short}
 use Rattle.slot_replies.specs.declared.Fitted.{Fitted}

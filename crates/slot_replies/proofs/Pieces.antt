@@ -24,8 +24,8 @@ use Rattle.event.proofs.Answers.{escape-hex}
 use Rattle.table.specs.Layout.{idIn, sigIn, lengthIn, textIn}
 use Rattle.wire.specs.Ascii.{ascii}
 use Rattle.reply.specs.Replies.{objectText, replyText}
-use Rattle.reply.specs.Program.{eventReplies}
-use Rattle.reply.specs.Respond.{firstText}
+use Rattle.program.specs.Program.{eventReplies}
+use Rattle.program.specs.Respond.{firstText}
 use Rattle.slot_replies.specs.Inner.{numbersText, heldStrings, numberBytes, stringBytes, ReadAs, frontText, backText, heldText}
 
 -- ---- the puts in a row

@@ -14,11 +14,11 @@ use Rattle.text.specs.declared.Text.{Text}
 use Rattle.text.specs.declared.TextAnswer.the-variants as answer
 use Rattle.table.specs.Layout.{countOf, slotAt, lengthIn, textIn}
 use Rattle.wire.specs.Ascii.{ascii}
-use Rattle.reply.specs.Program.{eventReplies, written}
+use Rattle.program.specs.Program.{eventReplies, written}
 use Rattle.reply.specs.Lent.{outputAfter}
-use Rattle.reply.specs.Respond.{firstText, fitting, slotLines, fittingText, noneFits, allHeld}
-use Rattle.reply.specs.declared.Sent.{Sent}
-use Rattle.reply.specs.declared.Sent.the-variants.{Wrote, Refused}
+use Rattle.program.specs.Respond.{firstText, fitting, slotLines, fittingText, noneFits, allHeld}
+use Rattle.program.specs.declared.Sent.{Sent}
+use Rattle.program.specs.declared.Sent.the-variants.{Wrote, Refused}
 use Rattle.slot_replies.specs.declared.Left.{Left}
 use Rattle.slot_replies.specs.declared.Left.the-variants.{Room, Short}
 use Rattle.slot_replies.specs.declared.Fitted.{Fitted}
@@ -60,7 +60,7 @@ heldText sub s = firstText (eventReplies sub s (readText (textIn s)))
 unfoldable pub heldLine : (sub s : Bytes) → Bytes
 heldLine sub s = written (eventReplies sub s (readText (textIn s)))
 
--- ---- the EVENTs of the slots ks, each a line, whatever bytes are lent: `written (eventsOf b sub ks)` of reply/specs/Program
+-- ---- the EVENTs of the slots ks, each a line, whatever bytes are lent: `written (eventsOf b sub ks)` of program/specs/Program
 -- how many bytes that is if the table is sound and holds them: each line is 267 bytes longer than the slot's text and the subscription id escaped
 unfoldable pub linesSize : (b sub : Bytes) (ks : List ℕ) → ℕ
 linesSize b sub [] = 0

@@ -1,4 +1,4 @@
--- Worked texts, kinds and keys. The table of 01's starred cases, reply/specs/Starred, rests on some of them.
+-- Worked texts, kinds and keys. The table of 01's starred cases, program/specs/Starred, rests on some of them.
 use mathlib.Core.Path.{_≡_, refl, sym, ap, _∙_}
 use mathlib.Core.Bool.{true}
 use mathlib.Core.List.{List, [], _∷_, _++_}

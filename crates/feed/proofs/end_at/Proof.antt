@@ -4,7 +4,7 @@ use Prim.Native.Nat.{_+_, _-_}
 use native.Mathlib.Omega.{arith}
 use borrow.Author.Needs.{needs}
 use lib.ListN.{length, drop}
-use Rattle.reply.specs.Feed.{before}
+use Rattle.program.specs.Feed.{before}
 use Rattle.feed.proofs.Lines.{end-turn, end-found, end-none}
 use Rattle.feed.proofs.end_at.Statement.{statement}
 use Rattle.feed.proofs.end_at.Tie as tie

@@ -5,7 +5,7 @@ use borrow.Author.Needs.{needs}
 use lib.ListN.{length, drop}
 use Rattle.wire.proofs.Laws.{Rest, puts-out, rest-start, rest-turn, rest-end}
 use Rattle.spell.specs.Spell.{decode}
-use Rattle.reply.specs.Program.{eventsOf, written}
+use Rattle.program.specs.Program.{eventsOf, written}
 use Rattle.slot_replies.proofs.Lines.{lines-turn, lines-none, line-at}
 use Rattle.slot_replies.proofs.put_events.Statement.{statement}
 use Rattle.slot_replies.proofs.put_events.Tie as tie

@@ -13,11 +13,11 @@ use Rattle.event.specs.declared.Written.{Written}
 use Rattle.table.specs.Layout.{countOf, slotAt, textIn}
 use Rattle.table.specs.Sound.{sound}
 use Rattle.table.specs.Format.{shownRow}
 use Rattle.reply.specs.Replies.{Reply, replyText}
 use Rattle.reply.specs.Lent.{eoseRow, shortRow, outputAfter}
-use Rattle.reply.specs.Program.{eventReplies, repliesTo, tableAfter, written}
-use Rattle.reply.specs.declared.Sent.{Sent}
-use Rattle.reply.specs.declared.Sent.the-variants as sending
+use Rattle.program.specs.Program.{eventReplies, repliesTo, tableAfter, written}
+use Rattle.program.specs.declared.Sent.{Sent}
+use Rattle.program.specs.declared.Sent.the-variants as sending
 use Rattle.wire.specs.Bytes.{Bytes, Row}
 
 -- ---- the message m to the table b, answered to the output: what refuses the message is a reply, so the call is refused by row 13 alone

@@ -24,18 +24,18 @@ use Rattle.wire.specs.Lowest.{Lowest}
 use Rattle.wire.proofs.Cases.{clash}
 use Rattle.wire.proofs.Lowest.{alike}
 use Rattle.query.proofs.Listings.{or-else}
 use Rattle.reply.specs.Replies.{eose}
 use Rattle.reply.specs.Lent.{eoseRow, outputAfter}
-use Rattle.reply.specs.Program.{eventReplies, eventsOf, requestReplies, repliesTo, replyLine, written}
-use Rattle.reply.specs.Claims.Replies.{PartsHold, WritesOr}
+use Rattle.program.specs.Program.{eventReplies, eventsOf, requestReplies, repliesTo, replyLine, written}
+use Rattle.reply.specs.Claims.{PartsHold, WritesOr}
 use Rattle.reply.specs.declared.ReplyParts.the-variants as parts
-use Rattle.reply.specs.Respond.{response, slotText, slotLine, slotEventRow, slotEvent, slotEventOut, joined, fitting, slotLines, fittingText, noneFits, allHeld, eventsRow, sentEvents, sentEventsOut, sentNumber, sentBytes, sentSlots}
-use Rattle.reply.specs.declared.Sent.the-variants as sending
-use Rattle.reply.specs.Claims.Respond.{OneByOne, SlotTextIs, SlotEventHolds, of-subscription, not-sound, too-short, not-held, SlotEventRowIs, SlotEventMeans, Batches, EventsHold, of-label, bad-table, none-fits, some-not-held, EventsRowIs, SentIs, SentMeans}
+use Rattle.program.specs.Respond.{response, slotText, slotLine, slotEventRow, slotEvent, slotEventOut, joined, fitting, slotLines, fittingText, noneFits, allHeld, eventsRow, sentEvents, sentEventsOut, sentNumber, sentBytes, sentSlots}
+use Rattle.program.specs.declared.Sent.the-variants as sending
+use Rattle.program.specs.Claims.Respond.{OneByOne, SlotTextIs, SlotEventHolds, of-subscription, not-sound, too-short, not-held, SlotEventRowIs, SlotEventMeans, Batches, EventsHold, of-label, bad-table, none-fits, some-not-held, EventsRowIs, SentIs, SentMeans}
 use Rattle.reply.proofs.Lent.{parts-row-is, parts-hold, zero-or, writes-or}
-use Rattle.reply.proofs.Lines.{written-append}
-use Rattle.reply.proofs.Shown.{answers-held, slot-reads}
-use Rattle.reply.proofs.Respond.{fits-if}
+use Rattle.program.proofs.Lines.{written-append}
+use Rattle.program.proofs.Shown.{answers-held, slot-reads}
+use Rattle.program.proofs.Respond.{fits-if}
 
 -- ---- one row that holds and is the lowest; none
 lowest-one : {P : ℕ → Type 0} (n : ℕ) → 1 ≤ n → P n → ((k : ℕ) → P k → n ≤ k) → Lowest P n

@@ -43,7 +43,7 @@ use Rattle.query.specs.Filter.{Filter, filterOf}
 use Rattle.query.specs.Match.{matches}
 use Rattle.query.specs.Answer.{keep, among, newestFirst, picked, union, answerList}
 use Rattle.wire.specs.Ascii.{ascii}
-use Rattle.reply.specs.Starred.{AllCases, A, dated, lentIn, lentParts, filterOfText, starred}
+use Rattle.program.specs.Starred.{AllCases, A, dated, lentIn, lentParts, filterOfText, starred}
 
 -- a test that nothing passes keeps nothing
 keep-none : (p : ℕ → Bool) → ((s : ℕ) → p s ≡ false) → (l : List ℕ) → keep p l ≡ []

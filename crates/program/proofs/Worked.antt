@@ -26,27 +26,10 @@ use Rattle.message.specs.Lent.{spanBytes as bytes}
 use Rattle.message.specs.Read.{readOf, namedOf}
 use Rattle.event.specs.Lent.{said}
 use Rattle.wire.specs.Ascii.{ascii}
 use Rattle.reply.specs.Replies.{ok, event, eose, closed, notice, objectText, replyText, reasonOf}
-use Rattle.reply.specs.Program.{refusal, repliesTo, lines}
-use Rattle.reply.specs.Claims.Replies.{wordIn, idField}
-use Rattle.reply.proofs.Which.{late-event}
-
--- ids, keys and signatures are shortened here
-abbrev small : Event
-small = record { pubkey = ascii "aa"; time = negsuc 7199; kind = 1; tags = (ascii "d" ∷ ascii "t\n1" ∷ []) ∷ []; content = ascii "a\"b" }
-
-pub texts :
-    (replyText (ok (ascii "0f") true []) ≡ ascii "[\"OK\",\"0f\",true,\"\"]")
-    × (replyText (ok (ascii "0f") false (reasonOf 12)) ≡ ascii "[\"OK\",\"0f\",false,\"error: no room\"]")
-    × (replyText (event (ascii "s") (ascii "0f") small (ascii "9e"))
-    ≡ ascii "[\"EVENT\",\"s\",{\"id\":\"0f\",\"pubkey\":\"aa\",\"created_at\":-7200,\"kind\":1,\"tags\":[[\"d\",\"t\\n1\"]],\"content\":\"a\\\"b\",\"sig\":\"9e\"}]")
-    × (replyText (eose (ascii "a/\"")) ≡ ascii "[\"EOSE\",\"a/\\\"\"]")
-    × (replyText (closed (ascii "s") (reasonOf 8)) ≡ ascii "[\"CLOSED\",\"s\",\"invalid: count or length\"]")
-    × (replyText (notice (reasonOf 2)) ≡ ascii "[\"NOTICE\",\"invalid: not UTF-8\"]")
-    -- "0A, 22, 5C, 0D, 09, 08, 0C become .."
-    × (replyText (notice (0x0a ∷ 0x22 ∷ 0x5c ∷ 0x0d ∷ 0x09 ∷ 0x08 ∷ 0x0c ∷ [])) ≡ ascii "[\"NOTICE\",\"\\n\\\"\\\\\\r\\t\\b\\f\"]")
-unfolding replyText objectText reasonOf quoted membersText tagText tagsText letterOf escOne escape digitsIn digits decimal
-texts = (refl, refl, refl, refl, refl, refl, refl)
+use Rattle.program.specs.Program.{refusal, repliesTo, lines}
+use Rattle.program.specs.Claims.Program.{wordIn, idField}
+use Rattle.program.proofs.Which.{late-event}
 
 -- ---- refused messages, whatever the table holds; ids and subscription ids come back spelled anew
 pub without-filter :

@@ -40,9 +40,10 @@ use Rattle.table.specs.Offer.{asMessage, isEvent, isEventWord, messageOfferRow,
 use Rattle.table.specs.declared.Offered.{Offered}
 use Rattle.table.specs.declared.Offered.the-variants as offered
 use Rattle.table.proofs.Valid.{or-else}
-use Rattle.reply.specs.Replies.{Reply, ok, closed, notice, reasonOf, isAccepted, verdictReason}
-use Rattle.reply.specs.Program.{refusalNaming, refusal, offerReply, requestReplies, repliesTo, tableIn, tableAfter}
-use Rattle.reply.specs.Claims.Replies.{openedIn, wordIn, restItems, idField, subscriptionField, Covered, EarlyRow, LateWord, LateEvent, LateRequest, LateClose, NamesId, NamesSubscription, LastRows, ReadEvent, ReadClose, BadTable, OnlyStored, Overlong, AllOffered}
+use Rattle.reply.specs.Replies.{Reply, ok, closed, notice, reasonOf}
+use Rattle.program.specs.Program.{isAccepted, verdictReason}
+use Rattle.program.specs.Program.{refusalNaming, refusal, offerReply, requestReplies, repliesTo, tableIn, tableAfter}
+use Rattle.program.specs.Claims.Program.{openedIn, wordIn, restItems, idField, subscriptionField, Covered, EarlyRow, LateWord, LateEvent, LateRequest, LateClose, NamesId, NamesSubscription, LastRows, ReadEvent, ReadClose, BadTable, OnlyStored, Overlong, AllOffered}
 
 -- ---- refused when read
 read-refused : (m : List ℕ) → 1 ≤ messageRow m → readOf m ≡ message.Refused (messageRow m)

@@ -18,12 +18,12 @@ use Rattle.table.specs.Layout.{capacityOf, countOf, slotAt, idIn, sigIn, textIn
 use Rattle.table.specs.Sound.{sound}
 use Rattle.query.specs.Answer.{answerList, filtersMeant}
 use Rattle.wire.specs.Lowest.{Lowest}
 use Rattle.reply.specs.Replies.{event, eose, replyText}
 use Rattle.reply.specs.declared.ReplyParts.the-variants as parts
-use Rattle.reply.specs.Program.{repliesTo, tableAfter, replyLine, output}
-use Rattle.reply.specs.Claims.Replies.{PartsHold, WritesOr}
-use Rattle.reply.specs.Respond.{response, respondRow, responded, respondedOut, respondedTable, slotText, slotLine, slotEventRow, slotEvent, slotEventOut, joined, fitting, slotLines, fittingText, eventsRow, sentEvents, sentEventsOut, sentNumber, sentBytes, sentSlots}
-use Rattle.reply.specs.Feed.{State, start, kept, isEnd, afterBytes, saidBy, saidLast, feedState, before, usedOf, turnText, turnState, turnRow, turned, turnTable, turnLine, turnOut, turnedNumber, turnedUsed, turnedLine, turnedBytes, mostLine}
+use Rattle.program.specs.Program.{repliesTo, tableAfter, replyLine, output}
+use Rattle.reply.specs.Claims.{PartsHold, WritesOr}
+use Rattle.program.specs.Respond.{response, respondRow, responded, respondedOut, respondedTable, slotText, slotLine, slotEventRow, slotEvent, slotEventOut, joined, fitting, slotLines, fittingText, eventsRow, sentEvents, sentEventsOut, sentNumber, sentBytes, sentSlots}
+use Rattle.program.specs.Feed.{State, start, kept, isEnd, afterBytes, saidBy, saidLast, feedState, before, usedOf, turnText, turnState, turnRow, turned, turnTable, turnLine, turnOut, turnedNumber, turnedUsed, turnedLine, turnedBytes, mostLine}
 
 -- ---- one message answered
 -- row 13, "lent output .. too short", and no other

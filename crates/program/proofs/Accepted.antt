@@ -52,10 +52,11 @@ use Rattle.query.specs.Answer.{keep, among, numbersFrom, newestFirst, insert, p
 use Rattle.message.specs.Lists.{elementsFrom, upTo, nextOf}
 use Rattle.message.specs.Parts as msg
 use Rattle.message.specs.declared.Bound.the-variants.{Absent}
-use Rattle.reply.specs.Replies.{ok, event, eose, replyText, objectText, isAccepted, verdictReason}
-use Rattle.reply.specs.Program.{eventsOf, requestReplies, repliesTo, tableAfter, lines, written, outputFrom, programSlots, freshTable, output}
-use Rattle.reply.proofs.Example.{row-0, request}
-use Rattle.reply.proofs.Which.{read-event}
+use Rattle.reply.specs.Replies.{ok, event, eose, replyText, objectText}
+use Rattle.program.specs.Program.{isAccepted, verdictReason}
+use Rattle.program.specs.Program.{eventsOf, requestReplies, repliesTo, tableAfter, lines, written, outputFrom, programSlots, freshTable, output}
+use Rattle.program.proofs.Example.{row-0, request}
+use Rattle.program.proofs.Which.{read-event}
 use Rattle.digest.specs.Block.{K, H0, words, schedule, round, rounds, chained, compress}
 use Rattle.digest.specs.Digest.{padding, padded, hashAfter, digestBytes, digest}
 use Rattle.digest.specs.Digest as digests

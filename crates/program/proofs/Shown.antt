@@ -12,9 +12,9 @@ use Rattle.table.specs.Layout.{countOf, slotAt, textIn}
 use Rattle.table.specs.Sound.{sound}
 use Rattle.query.specs.Answer.{answerList, filtersMeant}
 use Rattle.query.proofs.Tables.{slot-matches, answer-means}
 use Rattle.reply.specs.Replies.{Reply}
-use Rattle.reply.specs.Program.{eventsOf, requestReplies, repliesTo, tableAfter}
-use Rattle.reply.specs.Claims.Replies.{Shows, no-slot, slot, ReadRequest, AnswersHeld}
+use Rattle.program.specs.Program.{eventsOf, requestReplies, repliesTo, tableAfter}
+use Rattle.program.specs.Claims.Program.{Shows, no-slot, slot, ReadRequest, AnswersHeld}
 
 pub answers-held : AnswersHeld
 answers-held b fs k m = answer-means b fs .exactly k .0 m .0

@@ -58,11 +58,11 @@ use Rattle.table.proofs.Arrays.{Tight, Stands, next-more, next-done, array-many
 use Rattle.table.proofs.Passes.{pubkey-hex, judged-again}
 use Rattle.table.proofs.Rows.{rows-in-order}
 use Rattle.wire.specs.Ascii.{ascii}
 use Rattle.reply.specs.Replies.{objectText}
-use Rattle.reply.specs.Claims.Replies.{eventMessage, Sendable}
-use Rattle.reply.proofs.Sizes.{quoted-length, object-length}
-use Rattle.reply.proofs.Members.{decimal-utf8, number-tight, number-read, string-told, Member, member, item-more, item-last, next-closed, object-read}
-use Rattle.reply.proofs.Ordered.{verbatim-names, Entry, itemOf, string, number, objectOf, messageOf, Fine, partsAt, rows-none, parts-are}
+use Rattle.program.specs.Claims.Program.{eventMessage, Sendable}
+use Rattle.program.proofs.Sizes.{quoted-length, object-length}
+use Rattle.program.proofs.Members.{decimal-utf8, number-tight, number-read, string-told, Member, member, item-more, item-last, next-closed, object-read}
+use Rattle.program.proofs.Ordered.{verbatim-names, Entry, itemOf, string, number, objectOf, messageOf, Fine, partsAt, rows-none, parts-are}
 
 -- ---- the bytes of a member w with the value x, the byte c after it, and then r
 abbrev spelled : (w x : List ℕ) (c : ℕ) (r : List ℕ) → List ℕ

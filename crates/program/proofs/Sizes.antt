@@ -30,9 +30,9 @@ use Rattle.table.specs.Sound.{sound}
 use Rattle.table.proofs.Slots.{part-length}
 use Rattle.table.proofs.Shown.{slot-size, text-small}
 use Rattle.table.proofs.Passes.{pubkey-hex}
 use Rattle.reply.specs.Replies.{event, objectText, replyText, reasons, reasonOf}
-use Rattle.reply.specs.Respond.{slotText, slotLine}
-use Rattle.reply.proofs.Streamed.{slot-text-is}
+use Rattle.program.specs.Respond.{slotText, slotLine}
+use Rattle.program.proofs.Streamed.{slot-text-is}
 
 -- ---- quotes, hex
 pub quoted-length : (v : List ℕ) → length (quoted v) ≡ length (escape v) + 2

@@ -8,10 +8,10 @@ use native.Mathlib.Omega.{arith}
 use borrow.Author.Tests.{eq-eqb, ne-eqb, ltb-true, ltb-false}
 use lib.Dec.{ltb}
 use lib.ListN.{length}
 use Rattle.reply.specs.Lent.{shortRow}
-use Rattle.reply.specs.Respond.{response, respondRow, responded, respondedOut, respondedTable}
-use Rattle.reply.specs.Claims.Respond.{RespondRowIs, RespondedMeans}
+use Rattle.program.specs.Respond.{response, respondRow, responded, respondedOut, respondedTable}
+use Rattle.program.specs.Claims.Respond.{RespondRowIs, RespondedMeans}
 use Rattle.reply.proofs.Lent.{writes-or}
 
 -- ---- row 13
 pub short-if : (t out : List ℕ) → shortRow t out ≢ 0 → (shortRow t out ≡ 13) × (length out < length t)

@@ -7,11 +7,12 @@ use lib.ListN.{replicate, length-replicate}
 use Rattle.law.specs.Lists.{any}
 use Rattle.table.specs.Layout.{tableSize}
 use Rattle.table.proofs.Formatted.{formatted-capacity, formatted-view, formatted-length}
 use Rattle.reply.specs.Replies.{Reply, replyText}
-use Rattle.reply.specs.Program.{pushByte, repliesTo, tableAfter, lines, replyLine, written, outputFrom, programSlots, freshTable, output}
-use Rattle.reply.specs.Claims.Replies.{isNewline, Plain, LineEnds, LastLine, NoLine, FreshTable, tableFrom, repliesFrom, GoesOn, OutputGoesOn, OutputIs, OutputLines}
-use Rattle.reply.proofs.Example.{row-0, fresh-sound}
+use Rattle.program.specs.Program.{pushByte, repliesTo, tableAfter, lines, replyLine, written, outputFrom, programSlots, freshTable, output}
+use Rattle.program.specs.Claims.Program.{LineEnds, LastLine, NoLine, FreshTable, tableFrom, repliesFrom, GoesOn, OutputGoesOn, OutputIs, OutputLines}
+use Rattle.reply.specs.Claims.{isNewline, Plain}
+use Rattle.program.proofs.Example.{row-0, fresh-sound}
 use Rattle.reply.proofs.Plain.{reply-plain}
 
 -- ---- lines
 pub line-ends : LineEnds

@@ -1,5 +1,5 @@
 -- What a message is replied to, and the program: 01, "Filters and replies" and "What the floor relay does".
-use mathlib.Core.Bool.{true, false, cond}
+use mathlib.Core.Bool.{Bool, true, false, cond}
 use mathlib.Core.List.{List, [], _∷_, _++_}
 use Prim.Native.Nat.{ℕ}
 use lib.Dec.{eqb, leb}
@@ -19,8 +19,24 @@ use Rattle.table.specs.Format.{formatted}
 use Rattle.table.specs.declared.Offered.{Offered}
 use Rattle.table.specs.declared.Offered.the-variants as offered
 use Rattle.query.specs.Answer.{answerList, filtersMeant}
-use Rattle.reply.specs.Replies.{Reply, ok, event, eose, closed, notice, replyText, reasonOf, verdictReason}
+use Rattle.reply.specs.Replies.{Reply, ok, event, eose, closed, notice, replyText, reasonOf}
 use Rattle.wire.specs.Bytes.{Bytes}
+use Rattle.wire.specs.Ascii.{ascii}
+
+-- ---- "Replies: ephemeral and stored `true,""`; duplicate .. ; older .."
+abbrev pub isAccepted : Offered → Bool
+isAccepted offered.Ephemeral = true
+isAccepted offered.Stored = true
+isAccepted offered.Duplicate = true
+isAccepted offered.Older = true
+isAccepted (offered.Refused r) = false
+
+abbrev pub verdictReason : Offered → Bytes
+verdictReason offered.Ephemeral = []
+verdictReason offered.Stored = []
+verdictReason offered.Duplicate = ascii "duplicate: already have this event"
+verdictReason offered.Older = ascii "duplicate: have a newer version"
+verdictReason (offered.Refused r) = reasonOf r
 
 -- ---- "Rows 1-5 give NOTICE. Rows 6-12 give OK with false if the id field is 64 lower-case hex; CLOSED for a REQ whose subscription id is
 -- within bounds; otherwise NOTICE."

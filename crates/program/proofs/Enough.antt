@@ -45,14 +45,15 @@ use Rattle.table.proofs.Shown.{text-small}
 use Rattle.query.specs.Answer.{answerList, filtersMeant}
 use Rattle.wire.proofs.Cases.{no-left, no-right}
 use Rattle.query.proofs.Tables.{answer-means}
-use Rattle.reply.specs.Replies.{Reply, ok, eose, closed, notice, truth, replyText, reasonOf, verdictReason}
-use Rattle.reply.specs.Program.{refusalNaming, refusal, offerReply, requestReplies, repliesTo, replyLine, written}
-use Rattle.reply.specs.Respond.{response, respondRow, slotLine, joined, slotLines}
-use Rattle.reply.specs.Claims.Respond.{enoughFor, Enough}
-use Rattle.reply.proofs.Which.{names-id, names-subscription}
-use Rattle.reply.proofs.Shown.{answers-held}
-use Rattle.reply.proofs.Streamed.{one-by-one}
-use Rattle.reply.proofs.Sizes.{quoted-length, line-length, spelled-short, hex-short, reason-short}
+use Rattle.reply.specs.Replies.{Reply, ok, eose, closed, notice, truth, replyText, reasonOf}
+use Rattle.program.specs.Program.{verdictReason}
+use Rattle.program.specs.Program.{refusalNaming, refusal, offerReply, requestReplies, repliesTo, replyLine, written}
+use Rattle.program.specs.Respond.{response, respondRow, slotLine, joined, slotLines}
+use Rattle.program.specs.Claims.Respond.{enoughFor, Enough}
+use Rattle.program.proofs.Which.{names-id, names-subscription}
+use Rattle.program.proofs.Shown.{answers-held}
+use Rattle.program.proofs.Streamed.{one-by-one}
+use Rattle.program.proofs.Sizes.{quoted-length, line-length, spelled-short, hex-short, reason-short}
 
 -- ---- what a message that rows 1 to 5 let pass is: UTF-8, and no string of it is refused
 late-utf8 : (s : List ℕ) → isEarly (messageRow s) ≡ false → isUtf8 s ≡ true

@@ -12,10 +12,10 @@ use Rattle.table.proofs.Formatted.{just-formatted}
 use Rattle.table.proofs.Good.{Good}
 use Rattle.table.proofs.Faithful.{faithful}
 use Rattle.table.proofs.Demand3.{demand-3}
-use Rattle.reply.specs.Program.{programSlots, freshTable}
-use Rattle.reply.specs.Claims.Replies.{StaysSound, ProgramSettles}
-use Rattle.reply.proofs.Example.{row-0}
-use Rattle.reply.proofs.Which.{all-offered}
+use Rattle.program.specs.Program.{programSlots, freshTable}
+use Rattle.program.specs.Claims.Program.{StaysSound, ProgramSettles}
+use Rattle.program.proofs.Example.{row-0}
+use Rattle.program.proofs.Which.{all-offered}
 
 fresh : Fresh freshTable
 fresh = just-formatted programSlots (replicate (tableSize programSlots) 0) row-0

@@ -8,11 +8,11 @@ use lib.Dec.{eqb, ltb}
 use lib.ListN.{length, take}
 use Rattle.wire.specs.Limits.{mostMessage}
 use Rattle.wire.specs.Put.{put}
 use Rattle.reply.specs.Lent.{shortRow, outputAfter}
-use Rattle.reply.specs.Program.{tableAfter, freshTable}
-use Rattle.reply.specs.Respond.{response}
-use Rattle.reply.specs.declared.Turned.{Turned}
-use Rattle.reply.specs.declared.Turned.the-variants as turning
+use Rattle.program.specs.Program.{tableAfter, freshTable}
+use Rattle.program.specs.Respond.{response}
+use Rattle.program.specs.declared.Turned.{Turned}
+use Rattle.program.specs.declared.Turned.the-variants as turning
 use Rattle.wire.specs.Bytes.{Bytes, Row}
 
 pub record State : Type 0 where

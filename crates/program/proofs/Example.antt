@@ -27,8 +27,8 @@ use Rattle.table.specs.Format.{formatRow, formatted}
 use Rattle.table.proofs.Formatted.{formatted-view, formatted-sound}
 use Rattle.query.specs.Answer.{keep, numbersFrom, newestFirst, union, answerList, filtersMeant}
 use Rattle.wire.specs.Ascii.{ascii}
 use Rattle.reply.specs.Replies.{Reply, eose, notice, replyText, reasonOf}
-use Rattle.reply.specs.Program.{refusal, eventsOf, requestReplies, repliesTo, tableAfter, lines, written, outputFrom, programSlots, freshTable, output}
+use Rattle.program.specs.Program.{refusal, eventsOf, requestReplies, repliesTo, tableAfter, lines, written, outputFrom, programSlots, freshTable, output}
 
 braces : readOf (ascii "{}") ≡ message.Refused 5
 unfolding inClass run past oneAt tokenAt wordAt literalAt digitsAt intAt fracAt expAt numberAt hexAt escapedAt charAt charsUpTo charsAt stringAt scalarAt itemsAt treeAt isUtf8 utf8From leadOf charOf charsFrom charBytes charsBytes decode isRefused spell.any refuses sameBytes points characterCount spelledAt refusedIn anyItem countItems nameAt noNameTwice isFilter wordOf allItems row6 row7 row8 filterCounts wrongSubscription treeRow messageRow readOf

@@ -13,17 +13,17 @@ use lib.Seq.{take-all, take-append-le, take-append-add, take-take, sets-eq, take
 use Rattle.wire.specs.Put.{put}
 use Rattle.wire.proofs.Laws.{length-put}
 use Rattle.law.specs.Lists.{any}
 use Rattle.reply.specs.Lent.{shortRow}
-use Rattle.reply.specs.Program.{repliesTo, tableAfter, lines, written, outputFrom, freshTable, output}
-use Rattle.reply.specs.Claims.Replies.{Plain}
-use Rattle.reply.specs.Respond.{response}
-use Rattle.reply.specs.declared.Turned.the-variants as turning
-use Rattle.reply.specs.Feed.{State, mostLine, kept, isEnd, afterByte, saidAt, afterBytes, saidBy, lastLine, saidLast, feedState, before, usedOf, turnText, turnState, turnRow, turned, turnTable, turnLine, turnOut, turnedNumber, turnedUsed, turnedLine, turnedBytes}
-use Rattle.reply.specs.Claims.Respond.{KeptSame, InPieces, SaysOutput, TurnMeans, TurnRowIs, TurnedMeans}
-use Rattle.reply.proofs.Which.{overlong}
-use Rattle.reply.proofs.Lines.{line-ends, last-line}
+use Rattle.program.specs.Program.{repliesTo, tableAfter, lines, written, outputFrom, freshTable, output}
+use Rattle.reply.specs.Claims.{Plain}
+use Rattle.program.specs.Respond.{response}
+use Rattle.program.specs.declared.Turned.the-variants as turning
+use Rattle.program.specs.Feed.{State, mostLine, kept, isEnd, afterByte, saidAt, afterBytes, saidBy, lastLine, saidLast, feedState, before, usedOf, turnText, turnState, turnRow, turned, turnTable, turnLine, turnOut, turnedNumber, turnedUsed, turnedLine, turnedBytes}
+use Rattle.program.specs.Claims.Respond.{KeptSame, InPieces, SaysOutput, TurnMeans, TurnRowIs, TurnedMeans}
+use Rattle.program.proofs.Which.{overlong}
+use Rattle.program.proofs.Lines.{line-ends, last-line}
 use Rattle.reply.proofs.Lent.{zero-or, writes-or}
-use Rattle.reply.proofs.Respond.{fits-if}
+use Rattle.program.proofs.Respond.{fits-if}
 
 -- ---- what is kept of a line
 at-most : (n k : ℕ) → (n ≤ k) ⊎ (k < n)
