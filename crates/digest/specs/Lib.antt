@@ -1,5 +1,5 @@
--- SHA-256 as FIPS 180-4 gives it, and a digest that is fed piece by piece. Words to Bytes are the definitions; Parts, Pieces, Back and Vectors are
--- theorems.
+-- SHA-256 as FIPS 180-4 gives it, and a digest that is fed piece by piece. Words to Bytes are the definitions; Parts,
+-- Claims, Back and Examples are theorems.
 pub mod Words
 pub mod Block
 pub mod Digest

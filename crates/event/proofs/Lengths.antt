@@ -16,7 +16,8 @@ use Rattle.text.specs.Event.{quoted, tagsText, serialise}
 use Rattle.text.proofs.RoundTrip.{serialise-length}
 use Rattle.message.specs.declared.Body.{Body}
 use Rattle.event.specs.Lent.{natural, lentTagsAt, eventOf, textOf}
-use Rattle.event.specs.Inner.{mostLength, lengthOf, Counts}
+use Rattle.event.specs.Inner.{Counts}
+use Rattle.event.specs.Lent.{mostLength, lengthOf}
 
 -- a string between quotes
 pub string-count : {n k a m : ℕ} {p q : List ℕ} → p ≡ q → k ≡ length (escape (decode p)) → a ≡ min (n + k) mostLength → m ≡ min (a + 2) mostLength → Counts n (quoted (decode q)) m

@@ -20,6 +20,7 @@ use Rattle.event.specs.declared.Written.{Written}
 use Rattle.event.specs.Lent.{said, natural, stringOf, stringsOf, tagOf, tagsOf, lentTagsAt, textOf}
 use Rattle.event.specs.Answer.{answered, offeredRow}
 use Rattle.wire.specs.Bytes.{Bytes, Place}
+use Rattle.event.specs.Lent.{mostLength}
 
 -- the brackets and braces that may be open at once in a tag, and in what it holds
 abbrev pub tagDepth : ℕ
@@ -31,13 +32,6 @@ stringDepth = 6
 -- a writer's state: the buffer and the index in it
 abbrev pub puts : (x : List ℕ × ℕ) (s : Bytes) (y : List ℕ × ℕ) → Type 0
 puts x s y = Puts (x .0) (x .1) s (y .1) (y .0)
-
--- a counter's state: the count so far, which stops at the most that a number holds
-abbrev pub mostLength : ℕ
-mostLength = 18446744073709551615
-
-abbrev pub lengthOf : Bytes → ℕ
-lengthOf s = min (length s) mostLength
 
 pub record Counts (n : ℕ) (s : List ℕ) (m : ℕ) : Type 0 where
   pub is : m ≡ min (n + length s) mostLength

@@ -1,5 +1,6 @@
 -- The event that lent parts spell: every string decoded. The client's own spelling never reaches the text.
-use Prim.Native.Nat.{ℕ}
+use Prim.Native.Nat.{ℕ, min}
+use lib.ListN.{length}
 use mathlib.Core.List.{List, [], _∷_}
 use lib.IntN.{ℤ, pos, negsuc}
 use Rattle.json.specs.Tree.{Json, Items, nil, item, Got, none, got, ofString, ofArray}
@@ -54,3 +55,10 @@ eventOf b p = record {
 -- 01, "The text that is hashed"
 unfoldable pub textOf : Bytes → Body → Bytes
 textOf b p = serialise (eventOf b p)
+
+-- a length as a number of 64 bits: one that is too large for it stops at the largest
+abbrev pub mostLength : ℕ
+mostLength = 18446744073709551615
+
+abbrev pub lengthOf : Bytes → ℕ
+lengthOf s = min (length s) mostLength

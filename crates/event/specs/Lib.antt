@@ -1,5 +1,4 @@
--- An event given as parts: its text, its id, and which of two events is newer. Walk is what private functions hand on, but for `lengthOf`, a
--- length that stops at the largest number, which the public calls that count cite.
+-- An event given as parts: its text, its id, and which of two events is newer. Inner is what private functions hand on.
 pub mod Lent
 pub mod Inner
 pub mod Order

@@ -6,7 +6,8 @@ ghost use lib.ListN.{length};
 ghost use Rattle.json.specs.Tree.{treeAt, itemsAt};
 ghost use Rattle.text.specs.Event.{tagsText};
 ghost use Rattle.event.specs.Lent.{lentTagsAt};
-ghost use Rattle.event.specs.Inner.{tagDepth, stringDepth, Counts, mostLength, lengthOf, Does, stringText, stringsText, oneTagText, allTagsText};
+ghost use Rattle.event.specs.Inner.{tagDepth, stringDepth, Counts, Does, stringText, stringsText, oneTagText, allTagsText};
+ghost use Rattle.event.specs.Lent.{mostLength, lengthOf};
 use crate::Reached;
 use crate::writing;
 

@@ -6,7 +6,7 @@ ghost use Rattle.wire.specs.Escape.{escape};
 ghost use Rattle.spell.specs.Spell.{decode};
 ghost use Rattle.text.specs.Event.{quoted, tagsText};
 ghost use Rattle.event.specs.Lent.{said, natural, lentTagsAt, textOf};
-ghost use Rattle.event.specs.Inner.{lengthOf};
+ghost use Rattle.event.specs.Lent.{lengthOf};
 ghost use Rattle.event.specs.Answer.{hexOf, writtenNumber, serialisedRow, serialised, serialisedOut, identified};
 ghost use Rattle.event.specs.Answer.{offeredRow, offeredTextRow, offered, offeredOut};
 ghost use Rattle.event.specs.Sent.{sentRow, sentText, sentOut, sentTextNumber};

@@ -1,2 +1,2 @@
--- What the steps of matching and of a REQ's answer give.
+-- What the steps of matching and of a REQ's answer give: what the public calls promise is query/specs.
 pub mod Inner

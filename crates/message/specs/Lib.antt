@@ -1,4 +1,4 @@
--- A client message read. Steps is what private functions hand on; Passes is a claim.
+-- A client message read. Claims: what was read passes as lent parts. Inner is what private functions hand on.
 pub mod Parts
 pub mod Lists
 pub mod Read

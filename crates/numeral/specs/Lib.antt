@@ -1,4 +1,4 @@
--- Whole numbers: how they are written, and which spellings are taken. Sum is what private functions hand on.
+-- Whole numbers: how they are written, and which spellings are taken. Inner is what private functions hand on.
 pub mod Decimal
 pub mod Whole
 pub mod Inner

@@ -1,5 +1,5 @@
--- Replies, which of them a message gets, and the program: what it writes, one message answered, and bytes fed to it. Laws and Answering have
--- what is claimed of them.
+-- Which replies a message gets, and the program: what it writes, one message answered, and bytes fed to it. Claims has
+-- what is claimed of them, Starred 01's table of starred cases, Examples worked names.
 pub mod Program
 pub mod Respond
 pub mod Feed

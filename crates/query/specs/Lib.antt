@@ -1,4 +1,4 @@
--- Filters, matching, and the answer of a REQ; Laws has what is claimed of them.
+-- Filters, matching, and the answer of a REQ. Claims has what is claimed of them.
 pub mod Filter
 pub mod Match
 pub mod Answer

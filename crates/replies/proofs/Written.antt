@@ -30,7 +30,7 @@ use Rattle.message.proofs.Facts.{or-not}
 use Rattle.message.proofs.Ranks.{lowest-lower}
 use Rattle.event.specs.Lent.{said, natural, lentTagsAt, eventOf, textOf}
 use Rattle.event.specs.Answer.{isLarge, writtenNumber}
-use Rattle.event.specs.Inner.{lengthOf}
+use Rattle.event.specs.Lent.{lengthOf}
 use Rattle.event.specs.declared.Written.{Written}
 use Rattle.event.specs.declared.Written.the-variants.{Wrote, Refused}
 use Rattle.event.proofs.Answers.{refused, passed, too-short, room-for}

@@ -59,7 +59,7 @@ use Rattle.program.proofs.Shown.{answers-held}
 use Rattle.program.proofs.Sizes.{hex-short, reason-short}
 use Rattle.program.proofs.Which.{names-id, read-event, read-close, bad-table}
 use Rattle.replies.specs.Inner.{Room}
-use Rattle.slot_replies.specs.Inner.{linesSize, leftIn}
+use Rattle.slot_replies.specs.Left.{linesSize, leftIn}
 use Rattle.slot_replies.specs.declared.Left.{Left}
 use Rattle.slot_replies.specs.declared.Left.the-variants as left
 use Rattle.slot_replies.proofs.Lines.{lines-size}

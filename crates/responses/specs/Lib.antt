@@ -1,3 +1,3 @@
--- A message answered: the reply to a refused one alone (Refused). Line has what private functions hand on, and a reader may skip it.
+-- A message answered: the reply to a refused one alone (Refused). Inner has what private functions hand on.
 pub mod Refused
 pub mod Inner

@@ -1,4 +1,5 @@
--- Rows 1 to 8 of a client message (01). Shape and Rows say what they are, Lowest what it is that one holds; Walk is what the code goes by.
+-- Rows 1 to 8 of a client message (01). Shape and Rows say what they are, Lowest what it is that one holds; Inner is
+-- what the code goes by.
 pub mod Shape
 pub mod Rows
 pub mod Lowest

@@ -22,7 +22,8 @@ use Rattle.program.specs.Program.{eventReplies, eventsOf, written}
 use Rattle.program.specs.Respond.{firstText, slotLine}
 use Rattle.program.proofs.Lines.{written-append}
 use Rattle.program.proofs.Sizes.{line-length}
-use Rattle.slot_replies.specs.Inner.{heldText, heldLine, linesSize, leftIn, lineSize, sizes, stopped, fittedIn}
+use Rattle.slot_replies.specs.Inner.{heldText, heldLine, lineSize, sizes, stopped, fittedIn}
+use Rattle.slot_replies.specs.Left.{linesSize, leftIn}
 use Rattle.slot_replies.specs.declared.Left.the-variants.{Room, Short}
 use Rattle.slot_replies.specs.declared.Fitted.{Fitted}
 use Rattle.slot_replies.proofs.Answers.{length-is}

@@ -60,16 +60,6 @@ heldText sub s = firstText (eventReplies sub s (readText (textIn s)))
 unfoldable pub heldLine : (sub s : Bytes) → Bytes
 heldLine sub s = written (eventReplies sub s (readText (textIn s)))
 
--- ---- the EVENTs of the slots ks, each a line, whatever bytes are lent: `written (eventsOf b sub ks)` of program/specs/Program
--- how many bytes that is if the table is sound and holds them: each line is 267 bytes longer than the slot's text and the subscription id escaped
-unfoldable pub linesSize : (b sub : Bytes) (ks : List ℕ) → ℕ
-linesSize b sub [] = 0
-linesSize b sub (k ∷ ks) = lengthIn (slotAt b k) + length (escape sub) + 267 + linesSize b sub ks
-
--- what n bytes leave of a room
-unfoldable pub leftIn : (room n : ℕ) → Left
-leftIn room n = cond (ltb room n) Short (Room (room - n))
-
 -- how long each of these lines is, for a subscription id that has n bytes when escaped
 abbrev pub lineSize : (b : Bytes) (n k : ℕ) → ℕ
 lineSize b n k = lengthIn (slotAt b k) + n + 267

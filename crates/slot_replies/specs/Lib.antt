@@ -1,2 +1,4 @@
--- What the writers of EVENTs hand on to each other. Public promises cite `linesSize` and `leftIn` alone.
+-- Left: how many bytes the EVENTs of some slots take, and what they leave of a room. Inner: what the writers of EVENTs
+-- hand on to each other.
+pub mod Left
 pub mod Inner

@@ -1,4 +1,4 @@
--- Strings as spelled between their quotes, and what they decode to. Steps is what private functions hand on.
+-- Strings as spelled between their quotes, and what they decode to. Inner is what private functions hand on.
 pub mod Spell
 pub mod Inner
 pub mod Examples

@@ -1,4 +1,5 @@
--- The text that is hashed, its reader, kinds and keys. Parts is what private functions hand on; Examples are worked tables.
+-- The text that is hashed, its reader, kinds and keys. Inner is what private functions hand on; Examples are worked
+-- tables.
 pub mod Event
 pub mod Read
 pub mod Kinds

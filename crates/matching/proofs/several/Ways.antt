@@ -15,7 +15,7 @@ use Rattle.message.specs.declared.FilterParts.{FilterParts}
 use Rattle.message.specs.Lent.{eventRow}
 use Rattle.wire.specs.Lowest.{lowerRow}
 use Rattle.event.specs.Lent.{said, eventOf, textOf}
-use Rattle.event.specs.Inner.{mostLength, lengthOf}
+use Rattle.event.specs.Lent.{mostLength, lengthOf}
 use Rattle.event.specs.Answer.{orElse, isLarge}
 use Rattle.law.specs.Lists.{any}
 use Rattle.query.specs.Match.{matches, matchesSome}

@@ -1,0 +1,22 @@
+-- The EVENTs of the slots ks, each a line, whatever bytes are lent (`written (eventsOf b sub ks)` of
+-- program/specs/Program): how many bytes they take, and what these leave of a room.
+use mathlib.Core.Bool.{cond}
+use mathlib.Core.List.{List, [], _∷_}
+use Prim.Native.Nat.{ℕ, _+_, _-_}
+use lib.Dec.{ltb}
+use lib.ListN.{length}
+use Rattle.wire.specs.Bytes.{Bytes}
+use Rattle.wire.specs.Escape.{escape}
+use Rattle.table.specs.Layout.{slotAt, lengthIn}
+use Rattle.slot_replies.specs.declared.Left.{Left}
+use Rattle.slot_replies.specs.declared.Left.the-variants.{Room, Short}
+
+-- if the table is sound and holds the slots: each line is 267 bytes longer than the slot's text and the subscription id
+-- escaped
+unfoldable pub linesSize : (b sub : Bytes) (ks : List ℕ) → ℕ
+linesSize b sub [] = 0
+linesSize b sub (k ∷ ks) = lengthIn (slotAt b k) + length (escape sub) + 267 + linesSize b sub ks
+
+-- what n bytes leave of a room
+unfoldable pub leftIn : (room n : ℕ) → Left
+leftIn room n = cond (ltb room n) Short (Room (room - n))
