@@ -1,4 +1,5 @@
--- A row that was read begins with the message's numbers, whatever stands behind them; a state lent as bytes is the state of what was fed.
+-- A row that was read begins with the message's numbers, whatever stands behind them; a state lent as bytes is the
+-- state of what was fed.
 use mathlib.Core.Path.{_≡_, refl, sym, ap, _∙_}
 use mathlib.Core.Bool.{Bool, true, false, cond}
 use mathlib.Core.List.{List, [], _∷_, _++_, append-assoc, append-nil}

@@ -1,4 +1,5 @@
--- Laws of the calls on filters: an answer of the call below, with the parts that the numbers give, says what is answered and left.
+-- Laws of the calls on filters: an answer of the call below, with the parts that the numbers give, says what is
+-- answered and left.
 use mathlib.Core.Path.{_≡_, sym, ap, _∙_}
 use mathlib.Core.List.{List}
 use Prim.Native.Nat.{ℕ}

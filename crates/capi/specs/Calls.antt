@@ -37,8 +37,8 @@ readTextRow t out = lentRow (textNumber (textAnswerOf (readText t))) 7 out
 abbrev pub readTextOut : List ℕ → List ℕ → List ℕ
 readTextOut t out = lentOut (textNumber (textAnswerOf (readText t))) 7 (answerNumbers (textAnswerOf (readText t))) out
 
--- ---- an event's text, of the parts that a row of numbers e gives: rows 2 and 4 to 9, then 13. Its length goes to a number of its own, which stays
--- on a refusal
+-- ---- an event's text, of the parts that a row of numbers e gives: rows 2 and 4 to 9, then 13. Its length goes to a
+-- number of its own, which stays on a refusal
 abbrev pub serialiseRow : (b e out : List ℕ) → Row
 serialiseRow b e out = written.writtenNumber (serialised b (eventFrom e .body) out)
 

@@ -30,9 +30,11 @@ pub record Answered (t s : List ℕ) (r : ReqParts) (l row : List ℕ) : Type 0 
       ≡ cond (sound t) (cond (ltb (length row) (length (answerList t (filtersMeant s (r .filters))))) 13 0) 11
 
 abbrev pub ReadListed : Type 0
-ReadListed = (t s out row : List ℕ) (r : ReqParts) → readOf s ≡ Req r → readRow s out ≡ 0 → Answered t s r (readOut s out) row
+ReadListed =
+    (t s out row : List ℕ) (r : ReqParts) → readOf s ≡ Req r → readRow s out ≡ 0 → Answered t s r (readOut s out) row
 
--- ---- 01: "A digest can be fed piece by piece and finished, and equals the digest of the whole", with the state lent as bytes
+-- ---- 01: "A digest can be fed piece by piece and finished, and equals the digest of the whole", with the state lent
+-- as bytes
 unfoldable pub fedAll : List ℕ → List (List ℕ) → List ℕ
 fedAll st [] = st
 fedAll st (d ∷ ds) = fedAll (updateOut st d) ds

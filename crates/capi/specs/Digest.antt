@@ -1,5 +1,5 @@
--- Digests for Rust and C: whole, and by pieces over a state that is lent as bytes (digest/specs/Bytes). Its first 104 bytes count, and its rest stays.
--- A row of fewer bytes is no state, and is refused by 13 before all else.
+-- Digests for Rust and C: whole, and by pieces over a state that is lent as bytes (digest/specs/Bytes). Its first 104
+-- bytes count, and its rest stays. A row of fewer bytes is no state, and is refused by 13 before all else.
 use Prim.Native.Nat.{ℕ, _+_}
 use mathlib.Core.List.{List, []}
 use mathlib.Core.Bool.{cond}
@@ -41,4 +41,6 @@ unfoldable pub endRow : Bytes → Bytes → Row
 endRow st out = cond (leb stateSize (length st)) (lentRow (countRow (stateLent st .total)) 32 out) 13
 
 unfoldable pub endOut : Bytes → Bytes → Bytes
-endOut st out = cond (leb stateSize (length st)) (lentOut (countRow (stateLent st .total)) 32 (finished (stateLent st) .bytes) out) out
+endOut st out =
+    cond (leb stateSize (length st)) (lentOut (countRow (stateLent st .total)) 32 (finished (stateLent st) .bytes) out)
+    out

@@ -19,7 +19,8 @@ matchedNumber matching.Matches = 0
 matchedNumber matching.Differs = 103
 matchedNumber (matching.Refused r) = r
 
--- ---- a REQ's answer: the row, the slots in a lent row of numbers, and how many they are in a number of its own, which stays on a refusal
+-- ---- a REQ's answer: the row, the slots in a lent row of numbers, and how many they are in a number of its own, which
+-- stays on a refusal
 abbrev pub listOf : (t m l row : List ℕ) → Listing
 listOf t m l row = query.listed t m (filtersFrom l) (filterCount l) row
 

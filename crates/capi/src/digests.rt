@@ -3,7 +3,8 @@ ghost use mathlib.Core.Path.{_≡_};
 ghost use Prim.Native.Nat.{_≤_};
 ghost use lib.ListN.{length};
 ghost use Rattle.capi.specs.Calls.{lentRow, lentOut};
-ghost use Rattle.capi.specs.Digest.{digestRow, digestOut, stateLent, startRow, startOut, updateRow, updateOut, endRow, endOut};
+ghost use Rattle.capi.specs.Digest.{digestRow, digestOut, stateLent, startRow, startOut, updateRow, updateOut};
+ghost use Rattle.capi.specs.Digest.{endRow, endOut};
 use digest::Answer;
 use digest::Sha256;
 

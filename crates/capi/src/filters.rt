@@ -3,7 +3,8 @@ ghost use mathlib.Core.Path.{_≡_};
 ghost use Rattle.query.specs.Answer.{listingNumber};
 ghost use Rattle.capi.specs.Query.{matchOf, matchedNumber, listOf, listOut, countOr};
 
-// Whether an event over `bytes` matches some of the filters over `message`: 0 if it does, 103 if it does not, or the row that refuses the parts.
+// Whether an event over `bytes` matches some of the filters over `message`: 0 if it does, 103 if it does not, or the
+// row that refuses the parts.
 #[no_mangle]
 pub extern "C" fn plavdrosa_match(
     bytes: &[u8],
@@ -11,7 +12,8 @@ pub extern "C" fn plavdrosa_match(
     message: &[u8],
     request: &[u64],
 ) -> u8
-    ensures { λ r. ⌜ r ≡ matchedNumber (matchOf (now (bytes .entry)) (now (event .entry)) (now (message .entry)) (now (request .entry))) ⌝ }
+    ensures { λ r. ⌜ r ≡ matchedNumber (matchOf (now (bytes .entry)) (now (event .entry)) (now (message .entry))
+        (now (request .entry))) ⌝ }
 {
     let p = numbers::event_from(event);
     let fs = numbers::filters_from(request);
@@ -23,8 +25,8 @@ pub extern "C" fn plavdrosa_match(
     }
 }
 
-// The slots that a REQ with the filters over `message` is answered with, newest first, into `row`, and how many they are into `count`: the row that
-// refuses the filters, 11, 13, or 0. On a refusal both stay as found.
+// The slots that a REQ with the filters over `message` is answered with, newest first, into `row`, and how many they
+// are into `count`: the row that refuses the filters, 11, 13, or 0. On a refusal both stay as found.
 #[no_mangle]
 pub extern "C" fn plavdrosa_list(
     table: &[u8],
@@ -33,9 +35,12 @@ pub extern "C" fn plavdrosa_list(
     row: &mut [u16],
     count: &mut usize,
 ) -> u8
-    ensures { λ r. ⌜ r ≡ listingNumber (listOf (now (table .entry)) (now (message .entry)) (now (request .entry)) (now (row .entry))) ⌝ }
-    ensures { λ _. ⌜ now (row .exit) ≡ listOut (now (table .entry)) (now (message .entry)) (now (request .entry)) (now (row .entry)) ⌝ }
-    ensures { λ _. ⌜ now (count .exit) ≡ countOr (listOf (now (table .entry)) (now (message .entry)) (now (request .entry)) (now (row .entry))) (now (count .entry)) ⌝ }
+    ensures { λ r. ⌜ r ≡ listingNumber (listOf (now (table .entry)) (now (message .entry)) (now (request .entry))
+        (now (row .entry))) ⌝ }
+    ensures { λ _. ⌜ now (row .exit) ≡ listOut (now (table .entry)) (now (message .entry)) (now (request .entry))
+        (now (row .entry)) ⌝ }
+    ensures { λ _. ⌜ now (count .exit) ≡ countOr (listOf (now (table .entry)) (now (message .entry))
+        (now (request .entry)) (now (row .entry))) (now (count .entry)) ⌝ }
 {
     let fs = numbers::filters_from(request);
     let n = numbers::number_in(request, 3) as usize;

@@ -38,7 +38,8 @@ fn put_row(out: &mut [u64], l: &[u64]) -> u8
 
 fn put_request(out: &mut [u64], s: &[u8], p: ReqParts) -> u8
     ensures { λ r. ⌜ r ≡ lentRow 0 (length (requestNumbers (now (s .entry)) p)) (now (out .entry)) ⌝ }
-    ensures { λ _. ⌜ now (out .exit) ≡ lentOut 0 (length (requestNumbers (now (s .entry)) p)) (requestNumbers (now (s .entry)) p) (now (out .entry)) ⌝ }
+    ensures { λ _. ⌜ now (out .exit) ≡ lentOut 0 (length (requestNumbers (now (s .entry)) p))
+        (requestNumbers (now (s .entry)) p) (now (out .entry)) ⌝ }
 {
     let subscription = p.subscription;
     let fs = message::filters_at(s, p.filters);
@@ -56,9 +57,9 @@ fn put_request(out: &mut [u64], s: &[u8], p: ReqParts) -> u8
     put_row(out, &l[..e])
 }
 
-// A client message read, and its parts as numbers into `out`: the lowest of rows 1 to 8 that holds, 13 if `out` has no room for them, or 0.
-// The first number says what was read: 1 an EVENT (12 numbers), 2 a REQ (4, of which the last says how many filters follow, and 10 a filter),
-// 3 a CLOSE (3).
+// A client message read, and its parts as numbers into `out`: the lowest of rows 1 to 8 that holds, 13 if `out` has no
+// room for them, or 0. The first number says what was read: 1 an EVENT (12 numbers), 2 a REQ (4, of which the last says
+// how many filters follow, and 10 a filter), 3 a CLOSE (3).
 #[no_mangle]
 pub extern "C" fn plavdrosa_read(bytes: &[u8], out: &mut [u64]) -> u8
     ensures { λ r. ⌜ r ≡ readRow (now (bytes .entry)) (now (out .entry)) ⌝ }

@@ -38,7 +38,8 @@ fn offered_number(x: table::Offered) -> u8
     }
 }
 
-// A message offered: 0 if it is stored, 100 if it is ephemeral, 101 if it is a duplicate, 102 if it is older, or the row that refuses it.
+// A message offered: 0 if it is stored, 100 if it is ephemeral, 101 if it is a duplicate, 102 if it is older, or the
+// row that refuses it.
 #[no_mangle]
 pub extern "C" fn plavdrosa_offer(table: &mut [u8], message: &[u8]) -> u8
     ensures { λ r. ⌜ r ≡ offeredNumber (answer (now (table .entry)) (asMessage (now (message .entry)))) ⌝ }
@@ -50,8 +51,10 @@ pub extern "C" fn plavdrosa_offer(table: &mut [u8], message: &[u8]) -> u8
 // An event offered as parts of `bytes`; the same numbers.
 #[no_mangle]
 pub extern "C" fn plavdrosa_offer_parts(table: &mut [u8], bytes: &[u8], event: &[u64]) -> u8
-    ensures { λ r. ⌜ r ≡ offeredNumber (answer (now (table .entry)) (asParts (now (bytes .entry)) (eventFrom (now (event .entry))))) ⌝ }
-    ensures { λ _. ⌜ now (table .exit) ≡ next (now (table .entry)) (asParts (now (bytes .entry)) (eventFrom (now (event .entry)))) ⌝ }
+    ensures { λ r. ⌜ r ≡ offeredNumber
+        (answer (now (table .entry)) (asParts (now (bytes .entry)) (eventFrom (now (event .entry))))) ⌝ }
+    ensures { λ _. ⌜ now (table .exit) ≡ next (now (table .entry))
+        (asParts (now (bytes .entry)) (eventFrom (now (event .entry)))) ⌝ }
 {
     let p = numbers::event_from(event);
     offered_number(offers::offer_parts(table, bytes, p))
@@ -65,7 +68,8 @@ pub extern "C" fn plavdrosa_judge(table: &[u8], message: &[u8]) -> u8
     offered_number(offers::judge_message(table, message))
 }
 
-// Where the text of a slot stands in the table, into `place`, and how many bytes it has, into `len`: 11, 14 or 0. On a refusal both stay as found.
+// Where the text of a slot stands in the table, into `place`, and how many bytes it has, into `len`: 11, 14 or 0. On a
+// refusal both stay as found.
 #[no_mangle]
 pub extern "C" fn plavdrosa_show(
     table: &[u8],

@@ -1,13 +1,15 @@
 // An event's text: written, read back, hashed.
 ghost use mathlib.Core.Path.{_≡_};
-ghost use Rattle.capi.specs.Calls.{readTextRow, readTextOut, serialiseRow, serialiseOut, serialiseLength, idRow, idOut};
+ghost use Rattle.capi.specs.Calls.{readTextRow, readTextOut, serialiseRow, serialiseOut, serialiseLength, idRow};
+ghost use Rattle.capi.specs.Calls.{idOut};
 use crate::digests;
 use text::TextAnswer;
 
 // The numbers of a text that is read back.
 const TEXT_NUMBERS: usize = 7;
 
-// A text read back alone, and its parts as numbers into `out`: 9, 5, 13 if `out` has room for fewer than seven numbers, or 0.
+// A text read back alone, and its parts as numbers into `out`: 9, 5, 13 if `out` has room for fewer than seven numbers,
+// or 0.
 #[no_mangle]
 pub extern "C" fn plavdrosa_read_text(bytes: &[u8], out: &mut [u64]) -> u8
     ensures { λ r. ⌜ r ≡ readTextRow (now (bytes .entry)) (now (out .entry)) ⌝ }
@@ -27,8 +29,8 @@ pub extern "C" fn plavdrosa_read_text(bytes: &[u8], out: &mut [u64]) -> u8
     }
 }
 
-// The text of the event that the row gives, from the start of `out`, and how many bytes it has into `len`: the row that refuses it, 13, or 0.
-// On a refusal both stay as found.
+// The text of the event that the row gives, from the start of `out`, and how many bytes it has into `len`: the row that
+// refuses it, 13, or 0. On a refusal both stay as found.
 #[no_mangle]
 pub extern "C" fn plavdrosa_serialise(
     bytes: &[u8],
@@ -38,7 +40,8 @@ pub extern "C" fn plavdrosa_serialise(
 ) -> u8
     ensures { λ r. ⌜ r ≡ serialiseRow (now (bytes .entry)) (now (event .entry)) (now (out .entry)) ⌝ }
     ensures { λ _. ⌜ now (out .exit) ≡ serialiseOut (now (bytes .entry)) (now (event .entry)) (now (out .entry)) ⌝ }
-    ensures { λ _. ⌜ now (len .exit) ≡ serialiseLength (now (bytes .entry)) (now (event .entry)) (now (out .entry)) (now (len .entry)) ⌝ }
+    ensures { λ _. ⌜ now (len .exit) ≡ serialiseLength (now (bytes .entry)) (now (event .entry)) (now (out .entry))
+        (now (len .entry)) ⌝ }
 {
     let p = numbers::event_from(event);
     let body = p.body;

@@ -1,4 +1,5 @@
--- The values of an answer as lent numbers, which stay on a refusal: `lengthOr` of capi/specs/Calls for one count of bytes, and these for more.
+-- The values of an answer as lent numbers, which stay on a refusal: `lengthOr` of capi/specs/Calls for one count of
+-- bytes, and these for more.
 use Prim.Native.Nat.{ℕ}
 use Rattle.text.specs.declared.Class.{Class}
 use Rattle.text.specs.declared.Class.the-variants as class

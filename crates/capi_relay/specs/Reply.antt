@@ -1,6 +1,7 @@
--- A reply as a row of numbers. The first says which it is: 1 OK, 2 EVENT, 3 EOSE, 4 CLOSED, 5 NOTICE. The next two are the place and length of its
--- id, of its subscription id, or of the reason of a NOTICE. Then come those of the reason, and for an OK a number that is 0 for false; or the twelve
--- numbers of an EVENT (numbers/specs/Numbers, `eventNumbers`). A number past the end of the row is 0.
+-- A reply as a row of numbers. The first says which it is: 1 OK, 2 EVENT, 3 EOSE, 4 CLOSED, 5 NOTICE. The next two are
+-- the place and length of its id, of its subscription id, or of the reason of a NOTICE. Then come those of the reason,
+-- and for an OK a number that is 0 for false; or the twelve numbers of an EVENT (numbers/specs/Numbers,
+-- `eventNumbers`). A number past the end of the row is 0.
 use Prim.Native.Nat.{ℕ}
 use mathlib.Core.Bool.{Bool, true, false, cond}
 use mathlib.Core.List.{List}

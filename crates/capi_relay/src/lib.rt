@@ -1,9 +1,10 @@
-// The calls that answer messages and write replies, for Rust or C to link (`rt staticlib capi_relay`), in the manner of crate capi: a count or a
-// length goes to a lent number, and on a refusal every lent number stays as found.
+// The calls that answer messages and write replies, for Rust or C to link (`rt staticlib capi_relay`), in the manner of
+// crate capi: a count or a length goes to a lent number, and on a refusal every lent number stays as found.
 ghost use mathlib.Core.Path.{_≡_};
 ghost use Rattle.event.specs.Answer.{writtenNumber};
 ghost use Rattle.text.specs.Kinds.{classOf};
-ghost use Rattle.program.specs.Respond.{responded, respondRow, respondedOut, respondedTable, slotEvent, slotEventRow, slotEventOut, sentEvents, eventsRow, sentEventsOut};
+ghost use Rattle.program.specs.Respond.{responded, respondRow, respondedOut, respondedTable, slotEvent, slotEventRow};
+ghost use Rattle.program.specs.Respond.{slotEventOut, sentEvents, eventsRow, sentEventsOut};
 ghost use Rattle.program.specs.Feed.{turned, turnRow, turnTable, turnLine, turnOut};
 ghost use Rattle.feed.specs.Finish.{feedFinished, finishRow, finishTable, finishOut};
 ghost use Rattle.responses.specs.Refused.{refusedReply, refusedRow, refusedOut};
@@ -45,13 +46,15 @@ pub extern "C" fn plavdrosa_respond(
     ensures { λ r. ⌜ r ≡ respondRow (now (table .entry)) (now (message .entry)) (now (out .entry)) ⌝ }
     ensures { λ _. ⌜ now (table .exit) ≡ respondedTable (now (table .entry)) (now (message .entry)) (now (out .entry)) ⌝ }
     ensures { λ _. ⌜ now (out .exit) ≡ respondedOut (now (table .entry)) (now (message .entry)) (now (out .entry)) ⌝ }
-    ensures { λ _. ⌜ now (written .exit) ≡ lengthOr (responded (now (table .entry)) (now (message .entry)) (now (out .entry))) (now (written .entry)) ⌝ }
+    ensures { λ _. ⌜ now (written .exit) ≡ lengthOr (responded (now (table .entry)) (now (message .entry))
+        (now (out .entry))) (now (written .entry)) ⌝ }
 {
     let x = responses::respond(table, message, out);
     told(x, written)
 }
 
-// A piece of the input fed up to its first line's end, and with it: 13 or 0. The first `kept` bytes of `line` are the line so far.
+// A piece of the input fed up to its first line's end, and with it: 13 or 0. The first `kept` bytes of `line` are the
+// line so far.
 #[no_mangle]
 pub extern "C" fn plavdrosa_turn(
     table: &mut [u8],
@@ -62,13 +65,20 @@ pub extern "C" fn plavdrosa_turn(
     used: &mut usize,
     written: &mut usize,
 ) -> u8
-    ensures { λ r. ⌜ r ≡ turnRow (now (table .entry)) (now (line .entry)) (now (kept .entry)) (now (piece .entry)) (now (out .entry)) ⌝ }
-    ensures { λ _. ⌜ now (table .exit) ≡ turnTable (now (table .entry)) (now (line .entry)) (now (kept .entry)) (now (piece .entry)) (now (out .entry)) ⌝ }
-    ensures { λ _. ⌜ now (line .exit) ≡ turnLine (now (table .entry)) (now (line .entry)) (now (kept .entry)) (now (piece .entry)) (now (out .entry)) ⌝ }
-    ensures { λ _. ⌜ now (kept .exit) ≡ keptOr (turned (now (table .entry)) (now (line .entry)) (now (kept .entry)) (now (piece .entry)) (now (out .entry))) (now (kept .entry)) ⌝ }
-    ensures { λ _. ⌜ now (out .exit) ≡ turnOut (now (table .entry)) (now (line .entry)) (now (kept .entry)) (now (piece .entry)) (now (out .entry)) ⌝ }
-    ensures { λ _. ⌜ now (used .exit) ≡ usedOr (turned (now (table .entry)) (now (line .entry)) (now (kept .entry)) (now (piece .entry)) (now (out .entry))) (now (used .entry)) ⌝ }
-    ensures { λ _. ⌜ now (written .exit) ≡ writtenOr (turned (now (table .entry)) (now (line .entry)) (now (kept .entry)) (now (piece .entry)) (now (out .entry))) (now (written .entry)) ⌝ }
+    ensures { λ r. ⌜ r ≡ turnRow (now (table .entry)) (now (line .entry)) (now (kept .entry)) (now (piece .entry))
+        (now (out .entry)) ⌝ }
+    ensures { λ _. ⌜ now (table .exit) ≡ turnTable (now (table .entry)) (now (line .entry)) (now (kept .entry))
+        (now (piece .entry)) (now (out .entry)) ⌝ }
+    ensures { λ _. ⌜ now (line .exit) ≡ turnLine (now (table .entry)) (now (line .entry)) (now (kept .entry))
+        (now (piece .entry)) (now (out .entry)) ⌝ }
+    ensures { λ _. ⌜ now (kept .exit) ≡ keptOr (turned (now (table .entry)) (now (line .entry)) (now (kept .entry))
+        (now (piece .entry)) (now (out .entry))) (now (kept .entry)) ⌝ }
+    ensures { λ _. ⌜ now (out .exit) ≡ turnOut (now (table .entry)) (now (line .entry)) (now (kept .entry))
+        (now (piece .entry)) (now (out .entry)) ⌝ }
+    ensures { λ _. ⌜ now (used .exit) ≡ usedOr (turned (now (table .entry)) (now (line .entry)) (now (kept .entry))
+        (now (piece .entry)) (now (out .entry))) (now (used .entry)) ⌝ }
+    ensures { λ _. ⌜ now (written .exit) ≡ writtenOr (turned (now (table .entry)) (now (line .entry))
+        (now (kept .entry)) (now (piece .entry)) (now (out .entry))) (now (written .entry)) ⌝ }
 {
     let n = *kept;
     match feed::turn(table, line, n, piece, out) {
@@ -94,7 +104,8 @@ pub extern "C" fn plavdrosa_finish(
     ensures { λ r. ⌜ r ≡ finishRow (now (table .entry)) (now (line .entry)) kept (now (out .entry)) ⌝ }
     ensures { λ _. ⌜ now (table .exit) ≡ finishTable (now (table .entry)) (now (line .entry)) kept (now (out .entry)) ⌝ }
     ensures { λ _. ⌜ now (out .exit) ≡ finishOut (now (table .entry)) (now (line .entry)) kept (now (out .entry)) ⌝ }
-    ensures { λ _. ⌜ now (written .exit) ≡ lengthOr (feedFinished (now (table .entry)) (now (line .entry)) kept (now (out .entry))) (now (written .entry)) ⌝ }
+    ensures { λ _. ⌜ now (written .exit) ≡ lengthOr (feedFinished (now (table .entry)) (now (line .entry)) kept
+        (now (out .entry))) (now (written .entry)) ⌝ }
 {
     let x = feed::finish(table, line, kept, out);
     told(x, written)
@@ -110,14 +121,16 @@ pub extern "C" fn plavdrosa_refused(
 ) -> u8
     ensures { λ r. ⌜ r ≡ refusedRow (now (message .entry)) row (now (out .entry)) ⌝ }
     ensures { λ _. ⌜ now (out .exit) ≡ refusedOut (now (message .entry)) row (now (out .entry)) ⌝ }
-    ensures { λ _. ⌜ now (written .exit) ≡ lengthOr (refusedReply (now (message .entry)) row (now (out .entry))) (now (written .entry)) ⌝ }
+    ensures { λ _. ⌜ now (written .exit) ≡ lengthOr (refusedReply (now (message .entry)) row (now (out .entry)))
+        (now (written .entry)) ⌝ }
 {
     let x = responses::refused(message, row, out);
     told(x, written)
 }
 
 // ---- Replies.
-// The EVENT of a slot, for the subscription id that is a part of `message`, without 0A: the row that refuses the id, 11, 14, 13 or 0.
+// The EVENT of a slot, for the subscription id that is a part of `message`, without 0A: the row that refuses the id,
+// 11, 14, 13 or 0.
 #[no_mangle]
 pub extern "C" fn plavdrosa_slot_event(
     table: &[u8],
@@ -128,9 +141,12 @@ pub extern "C" fn plavdrosa_slot_event(
     out: &mut [u8],
     written: &mut usize,
 ) -> u8
-    ensures { λ r. ⌜ r ≡ slotEventRow (now (table .entry)) slot (now (message .entry)) (spanOfNumbers subscription «subscription_len») (now (out .entry)) ⌝ }
-    ensures { λ _. ⌜ now (out .exit) ≡ slotEventOut (now (table .entry)) slot (now (message .entry)) (spanOfNumbers subscription «subscription_len») (now (out .entry)) ⌝ }
-    ensures { λ _. ⌜ now (written .exit) ≡ lengthOr (slotEvent (now (table .entry)) slot (now (message .entry)) (spanOfNumbers subscription «subscription_len») (now (out .entry))) (now (written .entry)) ⌝ }
+    ensures { λ r. ⌜ r ≡ slotEventRow (now (table .entry)) slot (now (message .entry))
+        (spanOfNumbers subscription «subscription_len») (now (out .entry)) ⌝ }
+    ensures { λ _. ⌜ now (out .exit) ≡ slotEventOut (now (table .entry)) slot (now (message .entry))
+        (spanOfNumbers subscription «subscription_len») (now (out .entry)) ⌝ }
+    ensures { λ _. ⌜ now (written .exit) ≡ lengthOr (slotEvent (now (table .entry)) slot (now (message .entry))
+        (spanOfNumbers subscription «subscription_len») (now (out .entry))) (now (written .entry)) ⌝ }
 {
     let sub = Span {
         start: subscription,
@@ -140,7 +156,8 @@ pub extern "C" fn plavdrosa_slot_event(
     told(x, written)
 }
 
-// The EVENTs of some slots, each ended with 0A, as many as fit whole: the row that refuses the subscription id, 11, 13, 14 or 0.
+// The EVENTs of some slots, each ended with 0A, as many as fit whole: the row that refuses the subscription id, 11, 13,
+// 14 or 0.
 #[no_mangle]
 pub extern "C" fn plavdrosa_events(
     table: &[u8],
@@ -152,10 +169,15 @@ pub extern "C" fn plavdrosa_events(
     written: &mut usize,
     sent: &mut usize,
 ) -> u8
-    ensures { λ r. ⌜ r ≡ eventsRow (now (table .entry)) (now (slots .entry)) (now (message .entry)) (spanOfNumbers subscription «subscription_len») (now (out .entry)) ⌝ }
-    ensures { λ _. ⌜ now (out .exit) ≡ sentEventsOut (now (table .entry)) (now (slots .entry)) (now (message .entry)) (spanOfNumbers subscription «subscription_len») (now (out .entry)) ⌝ }
-    ensures { λ _. ⌜ now (written .exit) ≡ bytesOr (sentEvents (now (table .entry)) (now (slots .entry)) (now (message .entry)) (spanOfNumbers subscription «subscription_len») (now (out .entry))) (now (written .entry)) ⌝ }
-    ensures { λ _. ⌜ now (sent .exit) ≡ slotsOr (sentEvents (now (table .entry)) (now (slots .entry)) (now (message .entry)) (spanOfNumbers subscription «subscription_len») (now (out .entry))) (now (sent .entry)) ⌝ }
+    ensures { λ r. ⌜ r ≡ eventsRow (now (table .entry)) (now (slots .entry)) (now (message .entry))
+        (spanOfNumbers subscription «subscription_len») (now (out .entry)) ⌝ }
+    ensures { λ _. ⌜ now (out .exit) ≡ sentEventsOut (now (table .entry)) (now (slots .entry)) (now (message .entry))
+        (spanOfNumbers subscription «subscription_len») (now (out .entry)) ⌝ }
+    ensures { λ _. ⌜ now (written .exit) ≡ bytesOr (sentEvents (now (table .entry)) (now (slots .entry))
+        (now (message .entry)) (spanOfNumbers subscription «subscription_len») (now (out .entry)))
+        (now (written .entry)) ⌝ }
+    ensures { λ _. ⌜ now (sent .exit) ≡ slotsOr (sentEvents (now (table .entry)) (now (slots .entry))
+        (now (message .entry)) (spanOfNumbers subscription «subscription_len») (now (out .entry))) (now (sent .entry)) ⌝ }
 {
     let sub = Span {
         start: subscription,
@@ -171,7 +193,8 @@ pub extern "C" fn plavdrosa_events(
     }
 }
 
-// A reply of parts of `bytes`, without 0A: 5 if the first number is that of no reply, the row that refuses the parts, 13 or 0.
+// A reply of parts of `bytes`, without 0A: 5 if the first number is that of no reply, the row that refuses the parts,
+// 13 or 0.
 #[no_mangle]
 pub extern "C" fn plavdrosa_reply(
     bytes: &[u8],
@@ -181,7 +204,8 @@ pub extern "C" fn plavdrosa_reply(
 ) -> u8
     ensures { λ r. ⌜ r ≡ writtenNumber (writtenReply (now (bytes .entry)) (now (reply .entry)) (now (out .entry))) ⌝ }
     ensures { λ _. ⌜ now (out .exit) ≡ writtenReplyOut (now (bytes .entry)) (now (reply .entry)) (now (out .entry)) ⌝ }
-    ensures { λ _. ⌜ now (written .exit) ≡ lengthOr (writtenReply (now (bytes .entry)) (now (reply .entry)) (now (out .entry))) (now (written .entry)) ⌝ }
+    ensures { λ _. ⌜ now (written .exit) ≡ lengthOr (writtenReply (now (bytes .entry)) (now (reply .entry))
+        (now (out .entry))) (now (written .entry)) ⌝ }
 {
     let form = numbers::number_in(reply, 0);
     if form == 0 {

@@ -1,4 +1,5 @@
--- Laws of lists that a loop fills from the front, of a message that lies in two parts, and of the answers' numbers. Assumes nothing.
+-- Laws of lists that a loop fills from the front, of a message that lies in two parts, and of the answers' numbers.
+-- Assumes nothing.
 use mathlib.Core.Path.{_≡_, refl, ap, _∙_}
 use mathlib.Core.List.{List, [], _∷_, _++_, append-nil}
 use Prim.Native.Nat.{ℕ, zero, suc, _+_, _-_, _*_, _≤_, _<_}

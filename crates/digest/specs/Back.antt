@@ -1,4 +1,5 @@
--- A state that is written as bytes and read back is the same state; so is each that some bytes fed give. Assumes nothing.
+-- A state that is written as bytes and read back is the same state; so is each that some bytes fed give. Assumes
+-- nothing.
 use mathlib.Core.Path.{_≡_, refl, sym, ap, _∙_}
 use mathlib.Core.List.{List, [], _∷_, _++_, append-assoc}
 use Prim.Native.Nat.{ℕ, zero, suc, _+_, _-_, _*_, _/_, _%_, _^_, _≤_, _<_}
@@ -64,7 +65,8 @@ above-4 x = omega arith
 above-5 : (x : ℕ) → x / 2 ^ 56 ≡ x / 2 ^ 32 / 2 ^ 24
 above-5 x = omega arith
 
-four : (x y : ℕ) → y ≡ x → x / 2 ^ 24 % 256 * 0x1000000 + x / 2 ^ 16 % 256 * 0x10000 + x / 2 ^ 8 % 256 * 0x100 + y % 256 ≡ x % 2 ^ 32
+four : (x y : ℕ) → y ≡ x → x / 2 ^ 24 % 256 * 0x1000000 + x / 2 ^ 16 % 256 * 0x10000 + x / 2 ^ 8 % 256 * 0x100 + y %
+    256 ≡ x % 2 ^ 32
 four x y e = rw (above-2 x, above-1 x, e) (omega arith)
 
 -- ---- a hash value of eight words of 32 bits
@@ -110,23 +112,36 @@ module _ (a : List ℕ) (x : ℕ) (long : length a ≡ 96) where
       ap (at (a ++ bigEndian x 8)) e ∙ getD-append-add a (bigEndian x 8) i 0 ∙ at-bytes x 8 i k
 
   low : blockWord (a ++ bigEndian x 8) 100 ≡ x % 2 ^ 32
-  low = rw (at-count 4 (omega arith), at-count 5 (omega arith), at-count 6 (omega arith), at-count 7 (omega arith)) (four x (x / 2 ^ 0) (omega arith))
+  low = rw (at-count 4 (omega arith), at-count 5 (omega arith), at-count 6 (omega arith), at-count 7 (omega arith))
+      (four x (x / 2 ^ 0) (omega arith))
 
   high : blockWord (a ++ bigEndian x 8) 96 ≡ x / 2 ^ 32 % 2 ^ 32
   high =
-      rw (at-count 0 (omega arith), at-count 1 (omega arith), at-count 2 (omega arith), at-count 3 (omega arith), above-5 x, above-4 x, above-3 x)
+      rw (
+        at-count 0 (omega arith),
+        at-count 1 (omega arith),
+        at-count 2 (omega arith),
+        at-count 3 (omega arith),
+        above-5 x,
+        above-4 x,
+        above-3 x,
+      )
       (four (x / 2 ^ 32) (x / 2 ^ 32) refl)
 
   total-back : x < 2 ^ 64 → totalIn (a ++ bigEndian x 8) ≡ x
   total-back h = rw (low, high) (omega arith)
 
 -- ---- a state whose fields have the widths of the struct's
-pub state-back : (s : Sha256) → HashValue (s .words) → length (s .block) ≡ 64 → s .total < 2 ^ 64 → stateIn (stateBytes s) ≡ s
+pub state-back : (s : Sha256) → HashValue (s .words) → length (s .block) ≡ 64 → s .total < 2 ^ 64 →
+    stateIn (stateBytes s) ≡ s
 unfolding stateBytes stateIn
 state-back s w b t =
     let x : List ℕ = s .block ++ bigEndian (s .total) 8 in
-    let d : drop 32 (digestBytes (s .words) 32 ++ x) ≡ x = drop-at (digestBytes (s .words) 32) x 32 (length-hash (s .words) 32) in
-    let f : firstBytes x 64 ≡ s .block = first-take x 64 (simp length-append (omega (arith, length-bytes (s .total) 8))) ∙ take-at (s .block) (bigEndian (s .total) 8) 64 b in
+    let d : drop 32 (digestBytes (s .words) 32 ++ x) ≡ x =
+    drop-at (digestBytes (s .words) 32) x 32 (length-hash (s .words) 32) in
+    let f : firstBytes x 64 ≡ s .block =
+    first-take x 64 (simp length-append (omega (arith, length-bytes (s .total) 8))) ∙
+    take-at (s .block) (bigEndian (s .total) 8) 64 b in
     let l : length (digestBytes (s .words) 32 ++ s .block) ≡ 96 = simp (length-append, length-hash, b) in
     let e : totalIn (digestBytes (s .words) 32 ++ x) ≡ s .total =
     rw (← append-assoc) (total-back (digestBytes (s .words) 32 ++ s .block) (s .total) l t) in
@@ -146,11 +161,13 @@ small-more {x} {w} h k = record { each = go }
     go zero = h
     go (suc i) = k .each i
 
-small-eight : {a b c d e f g h : ℕ} → a < 2 ^ 32 → b < 2 ^ 32 → c < 2 ^ 32 → d < 2 ^ 32 → e < 2 ^ 32 → f < 2 ^ 32 → g < 2 ^ 32 → h < 2 ^ 32
+small-eight : {a b c d e f g h : ℕ} → a < 2 ^ 32 → b < 2 ^ 32 → c < 2 ^ 32 → d < 2 ^ 32 → e < 2 ^ 32 → f < 2 ^ 32 →
+    g < 2 ^ 32 → h < 2 ^ 32
     → HashValue (a ∷ b ∷ c ∷ d ∷ e ∷ f ∷ g ∷ h ∷ [])
 small-eight i j k l m n o p = record {
   eight = refl;
-  small = small-more i (small-more j (small-more k (small-more l (small-more m (small-more n (small-more o (small-more p small-none))))))) .each;
+  small = small-more i (small-more j
+      (small-more k (small-more l (small-more m (small-more n (small-more o (small-more p small-none))))))) .each;
 }
 
 first-value : HashValue H0
@@ -160,7 +177,8 @@ first-value = small-eight (lit< tt) (lit< tt) (lit< tt) (lit< tt) (lit< tt) (lit
 chained-value : (h s : List ℕ) → HashValue (chained h s)
 unfolding chained
 chained-value h s =
-    small-eight (omega arith) (omega arith) (omega arith) (omega arith) (omega arith) (omega arith) (omega arith) (omega arith)
+    small-eight (omega arith) (omega arith) (omega arith) (omega arith) (omega arith) (omega arith) (omega arith)
+    (omega arith)
 
 hash-value : (l : List ℕ) (n : ℕ) → HashValue (hashAfter H0 l n)
 unfolding hashAfter compress

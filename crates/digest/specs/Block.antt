@@ -1,5 +1,5 @@
--- FIPS 180-4, sections 4.2.2, 5.2.1, 5.3.3 and 6.2.2: the constants, a block's words, the message schedule, the 64 rounds.
--- A block is a list of 64 bytes, a hash value a list of eight words.
+-- FIPS 180-4, sections 4.2.2, 5.2.1, 5.3.3 and 6.2.2: the constants, a block's words, the message schedule, the 64
+-- rounds. A block is a list of 64 bytes, a hash value a list of eight words.
 use Prim.Native.Nat.{ℕ, zero, suc, _+_, _*_}
 use mathlib.Core.List.{List, [], _∷_, _++_}
 use lib.ListN.{getD}

@@ -1,5 +1,5 @@
--- A state as bytes, for callers that can lend nothing else: the hash value, the block that is being filled and the count of bytes, the most
--- significant byte first. Any 104 bytes are some state.
+-- A state as bytes, for callers that can lend nothing else: the hash value, the block that is being filled and the
+-- count of bytes, the most significant byte first. Any 104 bytes are some state.
 use Prim.Native.Nat.{ℕ, _+_, _*_, _^_}
 use mathlib.Core.List.{List, _++_}
 use lib.ListN.{drop}

@@ -16,7 +16,8 @@ use Rattle.digest.specs.declared.Finished.{Finished}
 use Rattle.digest.specs.declared.Digest.{Digest}
 use Rattle.digest.specs.Block.{H0}
 use Rattle.digest.specs.Digest.{padding, padded, hashed, rest, digestBytes, digest}
-use Rattle.digest.specs.State.{answerNumber, most, pick, countRow, waiting, stateAfter, stateOf, updated, finished, digested}
+use Rattle.digest.specs.State.{answerNumber, most, pick, countRow, waiting, stateAfter, stateOf, updated}
+use Rattle.digest.specs.State.{finished, digested}
 use Rattle.digest.specs.Parts.{waits, hashed-more, state-more}
 
 -- what the calls answer within the limit, for any state
@@ -26,7 +27,12 @@ unfolding updated
 update-done s d h = rw (le-leb (s .total + length d) most h)
 
 pub finish-done : (s : Sha256) → s .total ≤ most
-    → finished s ≡ record { answer = Done; state = s; bytes = digestBytes (hashed (s .words) (waiting s ++ padding (s .total))) 32 }
+    → finished s ≡ record {
+      answer = Done;
+      state = s;
+      bytes =
+          digestBytes (hashed (s .words) (waiting s ++ padding (s .total))) 32;
+    }
 unfolding finished
 finish-done s h = rw (le-leb (s .total) most h)
 
@@ -35,11 +41,13 @@ unfolding digested
 digest-done l h = rw (le-leb (length l) most h)
 
 -- and over it: the state is the one given
-pub update-refused : (s : Sha256) (d : List ℕ) → most < s .total + length d → updated s d ≡ record { answer = TooLong; state = s }
+pub update-refused : (s : Sha256) (d : List ℕ) → most < s .total + length d →
+    updated s d ≡ record { answer = TooLong; state = s }
 unfolding updated
 update-refused s d h = rw (lt-leb (s .total + length d) most h)
 
-pub finish-refused : (s : Sha256) → most < s .total → finished s ≡ record { answer = TooLong; state = s; bytes = replicate 32 0 }
+pub finish-refused : (s : Sha256) → most < s .total →
+    finished s ≡ record { answer = TooLong; state = s; bytes = replicate 32 0 }
 unfolding finished
 finish-refused s h = rw (lt-leb (s .total) most h)
 
@@ -52,12 +60,14 @@ still : (l : List ℕ) → waiting (stateOf l) ≡ rest l
 unfolding waiting stateAfter
 still l = waits l
 
-pub update-stands : (l d : List ℕ) → length l + length d ≤ most → updated (stateOf l) d ≡ record { answer = Done; state = stateOf (l ++ d) }
+pub update-stands : (l d : List ℕ) → length l + length d ≤ most →
+    updated (stateOf l) d ≡ record { answer = Done; state = stateOf (l ++ d) }
 unfolding stateAfter
 update-stands l d h =
     update-done (stateOf l) d h ∙ rw (still l, state-more H0 l d (length l + length d), length-append l d)
 
-pub finish-stands : (l : List ℕ) → length l ≤ most → finished (stateOf l) ≡ record { answer = Done; state = stateOf l; bytes = digest l }
+pub finish-stands : (l : List ℕ) → length l ≤ most →
+    finished (stateOf l) ≡ record { answer = Done; state = stateOf l; bytes = digest l }
 unfolding stateAfter digest padded
 finish-stands l h = finish-done (stateOf l) h ∙ rw (still l, hashed-more H0 l (padding (length l)))
 
@@ -67,7 +77,9 @@ unfolding updated
 update-number s d = go (leb (s .total + length d) most)
   where
     go : (t : Bool) →
-        answerNumber (pick {A = Updated} t (record { answer = Done; state = stateAfter (s .words) (waiting s ++ d) (s .total + length d) }) (record { answer = TooLong; state = s }) .answer)
+        answerNumber (pick {A = Updated} t
+        (record { answer = Done; state = stateAfter (s .words) (waiting s ++ d) (s .total + length d) })
+        (record { answer = TooLong; state = s }) .answer)
         ≡ pick t 0 8
     go true = refl
     go false = refl
@@ -78,7 +90,12 @@ finish-number s = go (leb (s .total) most)
   where
     go : (t : Bool) →
         answerNumber
-        (pick {A = Finished} t (record { answer = Done; state = s; bytes = digestBytes (hashed (s .words) (waiting s ++ padding (s .total))) 32 })
+        (pick {A = Finished} t (record {
+          answer = Done;
+          state = s;
+          bytes =
+              digestBytes (hashed (s .words) (waiting s ++ padding (s .total))) 32;
+        })
         (record { answer = TooLong; state = s; bytes = replicate 32 0 }) .answer)
         ≡ pick t 0 8
     go true = refl
@@ -88,7 +105,8 @@ pub digest-number : (l : List ℕ) → answerNumber (digested l .answer) ≡ cou
 unfolding digested
 digest-number l = go (leb (length l) most)
   where
-    go : (t : Bool) → answerNumber (pick {A = Digest} t (record { answer = Done; bytes = digest l }) (record { answer = TooLong; bytes = replicate 32 0 }) .answer) ≡ pick t 0 8
+    go : (t : Bool) → answerNumber (pick {A = Digest} t (record { answer = Done; bytes = digest l })
+        (record { answer = TooLong; bytes = replicate 32 0 }) .answer) ≡ pick t 0 8
     go true = refl
     go false = refl
 
@@ -116,7 +134,8 @@ fed-stands l (d ∷ ds) h =
 abbrev Refused : List ℕ → List (List ℕ) → Type 0
 Refused l ds = length l ≤ most → most < length l + length (joined ds) → fedAll (stateOf l) ds .answer ≡ TooLong
 
-one-refused : (l d : List ℕ) (ds : List (List ℕ)) → Refused (l ++ d) ds → Dec (length l + length d ≤ most) → Refused l (d ∷ ds)
+one-refused : (l d : List ℕ) (ds : List (List ℕ)) → Refused (l ++ d) ds → Dec (length l + length d ≤ most) →
+    Refused l (d ∷ ds)
 unfolding joined fedAll stateAfter
 one-refused l d ds f (yes e) h k =
     let n = length-append d (joined ds) in
@@ -134,7 +153,8 @@ pub pieces : (ds : List (List ℕ)) → length (joined ds) ≤ most
 pieces ds h = fed-stands [] ds (omega arith)
 
 pub pieces-digest : (ds : List (List ℕ)) → length (joined ds) ≤ most
-    → finished (fedAll (stateOf []) ds .state) ≡ record { answer = Done; state = stateOf (joined ds); bytes = digest (joined ds) }
+    → finished (fedAll (stateOf []) ds .state) ≡ record
+    { answer = Done; state = stateOf (joined ds); bytes = digest (joined ds) }
 pieces-digest ds h = rw (pieces ds h) (finish-stands (joined ds) h)
 
 pub pieces-whole : (ds : List (List ℕ)) → length (joined ds) ≤ most

@@ -1,4 +1,5 @@
--- FIPS 180-4, sections 5.1.1, 5.2.1 and 6.2.2: the padding, the blocks one after the other, and the digest of a list of bytes.
+-- FIPS 180-4, sections 5.1.1, 5.2.1 and 6.2.2: the padding, the blocks one after the other, and the digest of a list of
+-- bytes.
 use Prim.Native.Nat.{ℕ, zero, suc, _-_, _*_, _/_, _%_, _^_}
 use mathlib.Core.List.{List, [], _∷_, _++_}
 use lib.ListN.{length, take, drop, replicate}

@@ -1,5 +1,5 @@
--- Laws behind Pieces: a message in two parts, l and then m, is hashed by the blocks of l and then those of its rest and m.
--- No contract cites them. Assumes nothing.
+-- Laws behind Pieces: a message in two parts, l and then m, is hashed by the blocks of l and then those of its rest and
+-- m. No contract cites them. Assumes nothing.
 use mathlib.Core.Path.{_≡_, refl, ap, ap₂, sym, _∙_}
 use mathlib.Core.List.{List, [], _∷_, _++_}
 use Prim.Native.Nat.{ℕ, zero, suc, _+_, _-_, _*_, _%_, _≤_}
@@ -26,7 +26,8 @@ take-first : (l : List ℕ) (k n : ℕ) → take k (firstBytes l (k + n)) ≡ fi
 unfolding firstBytes
 take-first l k zero = rw add-zero (take-all k (firstBytes l k) (omega (arith, length-first l k)))
 take-first l k (suc n) =
-    rw add-suc (take-append-le k (firstBytes l (k + n)) (getD l (k + n) 0 ∷ []) (omega (arith, length-first l (k + n))) ∙ take-first l k n)
+    rw add-suc (take-append-le k (firstBytes l (k + n)) (getD l (k + n) 0 ∷ [])
+    (omega (arith, length-first l (k + n))) ∙ take-first l k n)
 
 -- the bytes that wait
 pub waits : (l : List ℕ) → take (length l % 64) (firstBytes (rest l) 64) ≡ rest l
@@ -35,7 +36,8 @@ waits l =
     let n = length l % 64 in
     let e : length r ≡ n = simp length-drop (omega arith) in
     let f : 64 ≡ n + (64 - n) = omega arith in
-    ap (λ (k : ℕ). take n (firstBytes r k)) f ∙ take-first r n (64 - n) ∙ first-take r n (omega arith) ∙ take-all n r (omega arith)
+    ap (λ (k : ℕ). take n (firstBytes r k)) f ∙ take-first r n (64 - n) ∙ first-take r n (omega arith) ∙
+    take-all n r (omega arith)
 
 -- whole blocks are hashed the same, whatever follows them
 hash-append : (h l m : List ℕ) (n : ℕ) → 64 * n ≤ length l → hashAfter h (l ++ m) n ≡ hashAfter h l n
@@ -43,9 +45,13 @@ unfolding hashAfter
 hash-append h l m zero e = refl
 hash-append h l m (suc n) e =
     ap₂ compress (hash-append h l m n (omega arith))
-    (rw (drop-append-le (64 * n) l m (omega arith), take-append-le 64 (drop (64 * n) l) m (simp length-drop (omega arith))))
+    (rw (
+      drop-append-le (64 * n) l m (omega arith),
+      take-append-le 64 (drop (64 * n) l) m (simp length-drop (omega arith)),
+    ))
 
-behind : (l m : List ℕ) (a b : ℕ) → 64 * a ≤ length l → drop (64 * (a + b)) (l ++ m) ≡ drop (64 * b) (drop (64 * a) l ++ m)
+behind : (l m : List ℕ) (a b : ℕ) → 64 * a ≤ length l →
+    drop (64 * (a + b)) (l ++ m) ≡ drop (64 * b) (drop (64 * a) l ++ m)
 behind l m a b e =
     let d : 64 * (a + b) ≡ 64 * a + 64 * b = omega arith in
     rw (d, ← drop-drop (64 * b) (64 * a) (l ++ m), drop-append-le (64 * a) l m e)

@@ -1,4 +1,5 @@
--- 01, "The text that is hashed": a digest that is fed piece by piece and finished. What each call answers, for any state that it can be given.
+-- 01, "The text that is hashed": a digest that is fed piece by piece and finished. What each call answers, for any
+-- state that it can be given.
 use Prim.Native.Nat.{ℕ, zero, suc, _+_, _-_, _%_, _^_}
 use mathlib.Core.List.{List, [], _∷_, _++_}
 use mathlib.Core.Bool.{Bool, true, false}
@@ -39,7 +40,8 @@ firstBytes l (suc n) = firstBytes l n ++ (getD l n 0 ∷ [])
 unfoldable pub waiting : Sha256 → List ℕ
 waiting s = take (s .total % 64) (s .block)
 
--- a state with the hash value h that l was fed to, n bytes in all: the whole blocks of l are hashed, the rest waits, zeros behind it
+-- a state with the hash value h that l was fed to, n bytes in all: the whole blocks of l are hashed, the rest waits,
+-- zeros behind it
 unfoldable pub stateAfter : (h l : List ℕ) (n : ℕ) → Sha256
 stateAfter h l n = record { words = hashed h l; block = firstBytes (rest l) 64; total = n }
 
@@ -64,4 +66,5 @@ finished s =
 -- the digest of a whole list of bytes; or it is too long
 unfoldable pub digested : List ℕ → Digest
 digested l =
-    pick (leb (length l) most) (record { answer = Done; bytes = digest l }) (record { answer = TooLong; bytes = replicate 32 0 })
+    pick (leb (length l) most) (record { answer = Done; bytes = digest l })
+    (record { answer = TooLong; bytes = replicate 32 0 })

@@ -1,13 +1,14 @@
-// SHA-256 (FIPS 180-4), whole or fed piece by piece. Contracts cite specs/: Words, Block and Digest are the standard's sections,
-// State is what the calls answer for any state. Theorems over these: Pieces, that any pieces have the digest of the whole, and
-// Vectors, the standard's examples.
+// SHA-256 (FIPS 180-4), whole or fed piece by piece. Contracts cite specs/: Words, Block and Digest are the standard's
+// sections, State is what the calls answer for any state. Theorems over these: Pieces, that any pieces have the digest
+// of the whole, and Vectors, the standard's examples.
 ghost use mathlib.Core.Path.{_≡_};
 ghost use Prim.Native.Nat.{_+_, _<_, _≤_, _^_};
 ghost use mathlib.Core.List.{[], _++_};
 ghost use lib.ListN.{length, take, drop, getD};
 ghost use Rattle.digest.specs.Block.{compress};
 ghost use Rattle.digest.specs.Digest.{zeros, padding, hashed, digestBytes};
-ghost use Rattle.digest.specs.State.{answerNumber, most, countRow, firstBytes, stateOf, updated, finished, digested};
+ghost use Rattle.digest.specs.State.{answerNumber, most, countRow, firstBytes, stateOf, updated, finished};
+ghost use Rattle.digest.specs.State.{digested};
 
 mod block;
 mod bytes;
@@ -44,7 +45,8 @@ pub(crate) fn window(block: [u8; 64], fill: usize, bytes: &[u8], from: usize) ->
     b
 }
 
-// The hash value after the block of that message that begins at `from`, read from `bytes` itself where it lies in it whole.
+// The hash value after the block of that message that begins at `from`, read from `bytes` itself where it lies in it
+// whole.
 fn next_block(h: [u32; 8], block: [u8; 64], fill: usize, bytes: &[u8], from: usize) -> [u32; 8]
     requires { ⌜ (fill < 64) × (from + 64 ≤ fill + length (now bytes)) × (fill + length (now bytes) ≤ 2 ^ 62) ⌝ }
     ensures { λ r. ⌜ r ≡ compress h (take 64 (drop from (take fill block ++ now (bytes .entry)))) ⌝ }
@@ -72,8 +74,8 @@ fn absorb(h: [u32; 8], block: [u8; 64], fill: usize, bytes: &[u8]) -> [u32; 8]
     w
 }
 
-// A hash under way: the hash value, the block that is being filled, and how many bytes were fed. The first `total` % 64 bytes of
-// the block are those that wait.
+// A hash under way: the hash value, the block that is being filled, and how many bytes were fed. The first `total` % 64
+// bytes of the block are those that wait.
 pub struct Sha256 {
     words: [u32; 8],
     block: [u8; 64],

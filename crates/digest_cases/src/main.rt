@@ -1,6 +1,6 @@
-// Digests of the messages on standard input. A line is a message in lower-case hex (`-` for the empty one) of up to 8,192 bytes and
-// then, after a space, the lengths of the pieces it is fed in, with commas; what is left over is the last piece. The answer is the
-// digest in hex, or `bad line`.
+// Digests of the messages on standard input. A line is a message in lower-case hex (`-` for the empty one) of up to
+// 8,192 bytes and then, after a space, the lengths of the pieces it is fed in, with commas; what is left over is the
+// last piece. The answer is the digest in hex, or `bad line`.
 ghost use Prim.Native.Nat.{_≤_};
 ghost use lib.ListN.{length};
 use digest::Sha256;

@@ -10,7 +10,8 @@ use Rattle.json.specs.declared.Out.{Out}
 use Rattle.json.specs.declared.Out.the-variants.{Bad}
 use Rattle.message.specs.declared.Body.{Body}
 use Rattle.message.specs.declared.EventParts.{EventParts}
-use Rattle.message.specs.Lent.{onValue, isTagsShape, string5, value5, body2, body4, body5, body6, body7, body8, bodyRow, event2, event4, event5, event7, eventRow}
+use Rattle.message.specs.Lent.{onValue, isTagsShape, string5, value5, body2, body4, body5, body6, body7, body8, bodyRow}
+use Rattle.message.specs.Lent.{event2, event4, event5, event7, eventRow}
 use Rattle.message.specs.Inner.{lowestBy}
 use Rattle.event.specs.Inner.{firstOut, firstTag}
 use Rattle.event.proofs.Decoded.{or-neither}

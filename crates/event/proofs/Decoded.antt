@@ -1,5 +1,5 @@
--- A spelling that is UTF-8, and that row 4 lets pass, decodes to a string within the limits: a character at a time, with the state that
--- UTF-8 is in before it.
+-- A spelling that is UTF-8, and that row 4 lets pass, decodes to a string within the limits: a character at a time,
+-- with the state that UTF-8 is in before it.
 use mathlib.Core.Bool.{Bool, true, false, cond, not, _&&_, _||_}
 use mathlib.Core.Path.{_≡_, refl, sym, ap, _∙_}
 use mathlib.Core.List.{List, [], _∷_, _++_}
@@ -16,7 +16,8 @@ use Rattle.wire.proofs.Escapes.{control-high}
 use Rattle.utf8.specs.Utf8.{nextWant, utf8From, isUtf8}
 use Rattle.utf8.specs.declared.Want.{Want}
 use Rattle.utf8.specs.declared.Want.the-variants.{Lead}
-use Rattle.utf8.specs.Abnf.{Octets, utf8-1, utf8-2, utf8-3-e0, utf8-3-e1, utf8-3-ed, utf8-3-ee, utf8-4-f0, utf8-4-f1, utf8-4-f4}
+use Rattle.utf8.specs.Abnf.{Octets, utf8-1, utf8-2, utf8-3-e0, utf8-3-e1, utf8-3-ed, utf8-3-ee, utf8-4-f0, utf8-4-f1}
+use Rattle.utf8.specs.Abnf.{utf8-4-f4}
 use Rattle.utf8.proofs.Abnf.{as-in-abnf}
 use Rattle.utf8.proofs.States.{Reached, lead-reached, next-reached, lead-low, low-lead}
 use Rattle.json.specs.Grammar.{isBetween, inClass, charsAt, isSpelling}
@@ -24,7 +25,8 @@ use Rattle.json.proofs.Ends.{one-is, one-ends, byte-is}
 use Rattle.json.proofs.Spelled.{Char, Chars, chars-sound}
 use Rattle.json.proofs.Spelled as json
 use Rattle.spell.specs.declared.Char as spell
-use Rattle.spell.specs.Spell.{hexVal, four, fourAt, shortOf, isPair, pairOf, unicodeOf, charOf, chars, charsFrom, utf8Of, charBytes, charsBytes, decode, isSurrogate, isRefused, any, refuses}
+use Rattle.spell.specs.Spell.{hexVal, four, fourAt, shortOf, isPair, pairOf, unicodeOf, charOf, chars, charsFrom}
+use Rattle.spell.specs.Spell.{utf8Of, charBytes, charsBytes, decode, isSurrogate, isRefused, any, refuses}
 use Rattle.text.specs.Event.{all, isPlainByte, isStringBytes}
 
 -- ---- Bools

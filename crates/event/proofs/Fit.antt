@@ -13,7 +13,8 @@ use lib.Seq.{take-add, drop-drop, drop-cons}
 use Rattle.utf8.specs.Utf8.{utf8From, isUtf8}
 use Rattle.utf8.specs.declared.Want.the-variants.{Lead}
 use Rattle.utf8.proofs.States.{lead-reached, utf8-cut}
-use Rattle.json.specs.Grammar.{case, past, charsAt, tokenAt, openedAt, stringAt, scalarAt, startAt, nextAt, wsAt, isSpelling}
+use Rattle.json.specs.Grammar.{case, past, charsAt, tokenAt, openedAt, stringAt, scalarAt, startAt, nextAt, wsAt}
+use Rattle.json.specs.Grammar.{isSpelling}
 use Rattle.json.specs.Tree.{Json, str, arr, Items, nil, item, Got, none, got, onLeaf, itemsAt, groupAt, treeAt, depth}
 use Rattle.json.specs.declared.Out.{Out}
 use Rattle.json.specs.declared.Out.the-variants.{End, Bad}
@@ -41,11 +42,13 @@ use Rattle.text.specs.Read.{read, readText}
 use Rattle.text.proofs.RoundTrip.{read-back, serialise-once}
 use Rattle.message.specs.declared.Span.{Span}
 use Rattle.message.specs.declared.Body.{Body}
-use Rattle.message.specs.Lent.{isInside, isSpelled, string2, string4, string5, string7, wrongNumber, value2, value4, value5, onValue, ownText, body2, body4, body5, body6, body7, body8, bodyRow}
+use Rattle.message.specs.Lent.{isInside, isSpelled, string2, string4, string5, string7, wrongNumber, value2, value4}
+use Rattle.message.specs.Lent.{value5, onValue, ownText, body2, body4, body5, body6, body7, body8, bodyRow}
 use Rattle.message.specs.Inner.{lowestBy}
 use Rattle.message.specs.Lent as lent
 use Rattle.message.proofs.Walks.{never, bind-got}
-use Rattle.event.specs.Lent.{said, stringOf, stringsOf, tagOf, tagsOf, tagsIn, lentTagsAt, natural, eventOf, textOf}
+use Rattle.event.specs.Lent.{said, stringOf, stringsOf, tagOf, tagsOf, tagsIn, lentTagsAt, natural, eventOf}
+use Rattle.event.specs.Lent.{textOf}
 use Rattle.event.specs.Answer.{isLarge, bodyTextRow, identified}
 use Rattle.event.proofs.Strings.{string-tree, string-out}
 use Rattle.event.proofs.Walks.{Walk, last, more, walk-of}
@@ -405,7 +408,8 @@ pub lent-once : (b : List ℕ) (p : Body) (c : List ℕ) (q : Body) → bodyRow 
 unfolding textOf
 lent-once b p c q e f h = serialise-once (eventOf b p) (eventOf c q) (lent-fit b p e) (lent-fit c q f) h
 
--- and nothing but what the parts decode to matters: spelled anew, in any buffer, they have the same text, and the same id
+-- and nothing but what the parts decode to matters: spelled anew, in any buffer, they have the same text, and the same
+-- id
 pub record Alike (b : List ℕ) (p : Body) (c : List ℕ) (q : Body) : Type 0 where
   pub pubkey : said b (p .pubkey) ≡ said c (q .pubkey)
   pub time : p .«created_at» ≡ q .«created_at»

@@ -20,7 +20,8 @@ use Rattle.message.specs.declared.Message.the-variants as message
 use Rattle.message.proofs.Passes.{event-passes}
 use Rattle.event.specs.Lent.{textOf}
 use Rattle.event.specs.Answer.{offeredTextRow, offered, offeredOut}
-use Rattle.event.specs.Sent.{unreadRow, sentRowOf, sentAs, sentTextOf, sentOutOf, sentRow, sentText, sentOut, sentTextNumber}
+use Rattle.event.specs.Sent.{unreadRow, sentRowOf, sentAs, sentTextOf, sentOutOf, sentRow, sentText, sentOut}
+use Rattle.event.specs.Sent.{sentTextNumber}
 use Rattle.event.specs.declared.Written.{Written}
 use Rattle.event.specs.declared.Written.the-variants as written
 use Rattle.event.specs.declared.SentText.{SentText}

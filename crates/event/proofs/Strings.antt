@@ -17,7 +17,8 @@ use Rattle.wire.specs.Field.{unsigned}
 use Rattle.wire.proofs.Laws.{puts-then}
 use Rattle.spell.specs.Spell.{charsFrom, charsBytes, decode}
 use Rattle.json.specs.Grammar.{case, inClass, oneAt, tokenAt, stringAt, numberAt, literalAt, scalarAt, startAt, wsAt}
-use Rattle.json.specs.Tree.{Json, word, num, str, arr, obj, Items, nil, Got, none, got, endOf, bind, onLeaf, node, itemsAt, groupAt, treeAt}
+use Rattle.json.specs.Tree.{Json, word, num, str, arr, obj, Items, nil, Got, none, got, endOf, bind, onLeaf, node}
+use Rattle.json.specs.Tree.{itemsAt, groupAt, treeAt}
 use Rattle.json.specs.declared.Out.{Out}
 use Rattle.json.specs.declared.Out.the-variants.{End, Bad}
 use Rattle.json.specs.declared.Kind.the-variants.{Num, Word, None}

@@ -1,4 +1,5 @@
--- Items are written, or counted, one after the other in step with the tree's items: what is still to be done gives the whole.
+-- Items are written, or counted, one after the other in step with the tree's items: what is still to be done gives the
+-- whole.
 use mathlib.Core.Path.{_≡_, refl, sym, ap, _∙_}
 use mathlib.Core.Bool.{false}
 use mathlib.Core.List.{List, [], _∷_, _++_}

@@ -1,4 +1,5 @@
--- 01, "Numbers the relay answers with", of an event given as parts p over the buffer b: what serialising, identifying and offering it answer.
+-- 01, "Numbers the relay answers with", of an event given as parts p over the buffer b: what serialising, identifying
+-- and offering it answer.
 use Prim.Native.Nat.{ℕ, _+_, _/_, _%_}
 use mathlib.Core.Bool.{Bool, cond}
 use mathlib.Core.List.{List, [], _∷_}

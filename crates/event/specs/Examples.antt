@@ -5,10 +5,12 @@ use mathlib.Core.Path.{_≡_, refl}
 use mathlib.Core.List.{List, [], _∷_}
 use lib.IntN.{pos, negsuc}
 use lib.ListN.{length}
-use Rattle.json.specs.Grammar.{inClass, run, past, oneAt, tokenAt, wordAt, literalAt, digitsAt, intAt, fracAt, expAt, numberAt, hexAt}
+use Rattle.json.specs.Grammar.{inClass, run, past, oneAt, tokenAt, wordAt, literalAt, digitsAt, intAt, fracAt, expAt}
+use Rattle.json.specs.Grammar.{numberAt, hexAt}
 use Rattle.json.specs.Grammar.{escapedAt, charAt, charsUpTo, charsAt, stringAt, scalarAt}
 use Rattle.json.specs.Tree.{itemsAt, treeAt}
-use Rattle.spell.specs.Spell.{hexVal, four, fourAt, shortOf, isPair, pairOf, unicodeOf, charOf, charsFrom, utf8Of, charBytes, charsBytes, decode}
+use Rattle.spell.specs.Spell.{hexVal, four, fourAt, shortOf, isPair, pairOf, unicodeOf, charOf, charsFrom, utf8Of}
+use Rattle.spell.specs.Spell.{charBytes, charsBytes, decode}
 use Rattle.message.specs.declared.Body.{Body}
 use Rattle.message.specs.declared.EventParts.{EventParts}
 use Rattle.message.specs.Lent.{eventRow}
@@ -34,7 +36,8 @@ unfolding hexOf
 hex = refl
 
 -- "serialised text over 4,096 bytes": 4,096 are taken, 4,097 are not; by the text's length, and where it is hashed
-large : (b : List ℕ) (p : Body) → (length (textOf b p) ≡ 4096 → isLarge b p ≡ false) × (length (textOf b p) ≡ 4097 → isLarge b p ≡ true)
+large : (b : List ℕ) (p : Body) → (length (textOf b p) ≡ 4096 → isLarge b p ≡ false) ×
+    (length (textOf b p) ≡ 4097 → isLarge b p ≡ true)
 unfolding isLarge
 large b p = (λ e. rw e, λ e. rw e)
 
@@ -53,10 +56,14 @@ lowest = (refl, refl)
 answers : (answered 0 2 ≡ Wrote 2) × (answered 9 2 ≡ Refused 9)
 answers = (refl, refl)
 
--- [ ["\u0064","\/"],[]]: what the strings say, not how they are spelled. [1,[7]]: what is no tag, and no string of a tag, is empty
+-- [ ["\u0064","\/"],[]]: what the strings say, not how they are spelled. [1,[7]]: what is no tag, and no string of a
+-- tag, is empty
 tags :
-    (lentTagsAt (91 ∷ 32 ∷ 91 ∷ 34 ∷ 92 ∷ 117 ∷ 48 ∷ 48 ∷ 54 ∷ 52 ∷ 34 ∷ 44 ∷ 34 ∷ 92 ∷ 47 ∷ 34 ∷ 93 ∷ 44 ∷ 91 ∷ 93 ∷ 93 ∷ []) 0
+    (lentTagsAt (91 ∷ 32 ∷ 91 ∷ 34 ∷ 92 ∷ 117 ∷ 48 ∷ 48 ∷ 54 ∷ 52 ∷ 34 ∷ 44 ∷ 34 ∷ 92 ∷ 47 ∷ 34 ∷ 93 ∷ 44 ∷ 91 ∷ 93 ∷ 93
+    ∷ []) 0
     ≡ ((100 ∷ []) ∷ (47 ∷ []) ∷ []) ∷ [] ∷ [])
     × (lentTagsAt (91 ∷ 49 ∷ 44 ∷ 91 ∷ 55 ∷ 93 ∷ 93 ∷ []) 0 ≡ [] ∷ ([] ∷ []) ∷ [])
-unfolding lentTagsAt tagsOf stringsOf inClass run past oneAt tokenAt wordAt literalAt digitsAt intAt fracAt expAt numberAt hexAt escapedAt charAt charsUpTo charsAt stringAt scalarAt itemsAt treeAt hexVal four fourAt shortOf isPair pairOf unicodeOf charOf charsFrom utf8Of charBytes charsBytes decode
+unfolding lentTagsAt tagsOf stringsOf inClass run past oneAt tokenAt wordAt literalAt digitsAt intAt fracAt expAt
+    numberAt hexAt escapedAt charAt charsUpTo charsAt stringAt scalarAt itemsAt treeAt hexVal four fourAt shortOf isPair
+    pairOf unicodeOf charOf charsFrom utf8Of charBytes charsBytes decode
 tags = (refl, refl)

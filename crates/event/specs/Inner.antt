@@ -1,4 +1,5 @@
--- What the private functions promise each other as they walk over the tags, be it to write them or to count their bytes.
+-- What the private functions promise each other as they walk over the tags, be it to write them or to count their
+-- bytes.
 use Prim.Native.Nat.{ℕ, _+_, min}
 use mathlib.Core.Bool.{true, false}
 use mathlib.Core.Path.{_≡_}
@@ -36,8 +37,10 @@ puts x s y = Puts (x .0) (x .1) s (y .1) (y .0)
 pub record Counts (n : ℕ) (s : List ℕ) (m : ℕ) : Type 0 where
   pub is : m ≡ min (n + length s) mostLength
 
--- what is read at a place, if anything is, is done as p says, from one state to another, and the place after it is found
-pub record Does {A S : Type 0} (does : S → List ℕ → S → Type 0) (g : Got A) (p : A → List ℕ) (x y : S) (next : ℕ) : Type 0 where
+-- what is read at a place, if anything is, is done as p says, from one state to another, and the place after it is
+-- found
+pub record Does {A S : Type 0} (does : S → List ℕ → S → Type 0) (g : Got A) (p : A → List ℕ) (x y : S) (next : ℕ) : Type
+    0 where
   pub done : (a : A) (n : ℕ) → g ≡ got a n → does x (p a) y
   pub ends : (a : A) (n : ℕ) → g ≡ got a n → next ≡ n
 
@@ -71,7 +74,9 @@ pub record Tested (b : List ℕ) (p : EventParts) (r : Written) (t : List ℕ) :
 
 -- the text up to the tags, and from them on
 unfoldable pub frontText : Bytes → Body → Bytes
-frontText b p = opening ++ (said b (p .pubkey) ++ (closing ++ (decimal (p .«created_at») ++ (comma ++ (digits (natural (p .kind)) ++ comma)))))
+frontText b p =
+    opening ++ (said b (p .pubkey) ++
+    (closing ++ (decimal (p .«created_at») ++ (comma ++ (digits (natural (p .kind)) ++ comma)))))
 
 unfoldable pub backText : Bytes → Body → Bytes
 backText b p = tagsText (lentTagsAt b (p .tags)) ++ (comma ++ (quoted (said b (p .content)) ++ bracket))

@@ -16,6 +16,7 @@ unfoldable pub isNewer : (s : ℤ) (i : Bytes) (t : ℤ) (j : Bytes) → Bool
 isNewer s i t j = earlier t s || (not (earlier s t) && isLower i j)
 
 -- the order of demand 3 is this one, at the times of the texts
-pub newer-is : (time : List ℕ → ℤ) (e f : Event) → law.newer time e f ≡ isNewer (time (e .text)) (e .id) (time (f .text)) (f .id)
+pub newer-is : (time : List ℕ → ℤ) (e f : Event) → law.newer time e f ≡ isNewer (time (e .text)) (e .id)
+    (time (f .text)) (f .id)
 unfolding isNewer isLower
 newer-is time e f = refl

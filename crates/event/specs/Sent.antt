@@ -1,4 +1,5 @@
--- 01, "Numbers the relay answers with", of an event that is offered as a client message m: what testing it answers, and its text in a lent output.
+-- 01, "Numbers the relay answers with", of an event that is offered as a client message m: what testing it answers, and
+-- its text in a lent output.
 use Prim.Native.Nat.{ℕ}
 use mathlib.Core.Bool.{cond, _||_}
 use mathlib.Core.List.{List}
@@ -14,12 +15,13 @@ use Rattle.event.specs.declared.SentText.{SentText}
 use Rattle.event.specs.declared.SentText.the-variants.{Wrote, Refused}
 use Rattle.wire.specs.Bytes.{Bytes, Row}
 
--- "Reading a message tests rows 1 to 8", "offering one .. gives 5 also if it isn't an EVENT": where the reader refused m by r. "The lowest number is
--- given", so 5 goes after 1 to 4 and before 6 to 8
+-- "Reading a message tests rows 1 to 8", "offering one .. gives 5 also if it isn't an EVENT": where the reader refused
+-- m by r. "The lowest number is given", so 5 goes after 1 to 4 and before 6 to 8
 abbrev pub unreadRow : Bytes → ℕ → Row
 unreadRow m r = cond (leb r 4 || isEvent m) r 5
 
--- by what the reader answers: a REQ and a CLOSE aren't EVENTs; an EVENT is tested "by 9 too, and by 10 when offered", then by 13
+-- by what the reader answers: a REQ and a CLOSE aren't EVENTs; an EVENT is tested "by 9 too, and by 10 when offered",
+-- then by 13
 abbrev pub sentRowOf : (m out : Bytes) (x : Message) → ℕ
 sentRowOf m out (message.Event p) = offeredTextRow m p out
 sentRowOf m out (message.Req p) = 5

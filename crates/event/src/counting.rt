@@ -6,7 +6,8 @@ ghost use lib.ListN.{length};
 ghost use Rattle.json.specs.Tree.{treeAt, itemsAt};
 ghost use Rattle.text.specs.Event.{tagsText};
 ghost use Rattle.event.specs.Lent.{lentTagsAt};
-ghost use Rattle.event.specs.Inner.{tagDepth, stringDepth, Counts, Does, stringText, stringsText, oneTagText, allTagsText};
+ghost use Rattle.event.specs.Inner.{tagDepth, stringDepth, Counts, Does, stringText, stringsText, oneTagText};
+ghost use Rattle.event.specs.Inner.{allTagsText};
 ghost use Rattle.event.specs.Lent.{mostLength, lengthOf};
 use crate::Reached;
 use crate::writing;
@@ -26,7 +27,8 @@ pub(crate) fn more(n: usize, k: usize) -> usize
 
 // The count after one string of a tag.
 pub(crate) fn count_string(n: usize, b: &[u8], v: usize) -> Reached
-    ensures { λ r. ⌜ Does Counts (treeAt (now (b .entry)) stringDepth v) (stringText (now (b .entry))) n (r .at) (r .next) ⌝ }
+    ensures { λ r. ⌜ Does Counts (treeAt (now (b .entry)) stringDepth v) (stringText (now (b .entry))) n (r .at)
+        (r .next) ⌝ }
 {
     match json::string(b, v) {
         json::Out::End(e) => {
@@ -45,7 +47,8 @@ pub(crate) fn count_string(n: usize, b: &[u8], v: usize) -> Reached
 
 // The count after the strings of a tag and the closing bracket.
 pub(crate) fn count_strings(n: usize, b: &[u8], first: usize) -> Reached
-    ensures { λ r. ⌜ Does Counts (itemsAt (treeAt (now (b .entry)) stringDepth) (now (b .entry)) false (length (now (b .entry))) first) (stringsText (now (b .entry))) n (r .at) (r .next) ⌝ }
+    ensures { λ r. ⌜ Does Counts (itemsAt (treeAt (now (b .entry)) stringDepth) (now (b .entry)) false
+        (length (now (b .entry))) first) (stringsText (now (b .entry))) n (r .at) (r .next) ⌝ }
 {
     let mut o = n;
     let mut i = first;
@@ -74,7 +77,8 @@ pub(crate) fn count_strings(n: usize, b: &[u8], first: usize) -> Reached
 
 // The count after one tag.
 pub(crate) fn count_tag(n: usize, b: &[u8], v: usize) -> Reached
-    ensures { λ r. ⌜ Does Counts (treeAt (now (b .entry)) tagDepth v) (oneTagText (now (b .entry))) n (r .at) (r .next) ⌝ }
+    ensures { λ r. ⌜ Does Counts (treeAt (now (b .entry)) tagDepth v) (oneTagText (now (b .entry))) n (r .at) (r .next)
+        ⌝ }
 {
     match json::begin(b, v) {
         json::Start::Many(first, named) => {
@@ -99,7 +103,8 @@ pub(crate) fn count_tag(n: usize, b: &[u8], v: usize) -> Reached
 
 // The count after the tags and the closing bracket.
 pub(crate) fn count_all(n: usize, b: &[u8], first: usize) -> Reached
-    ensures { λ r. ⌜ Does Counts (itemsAt (treeAt (now (b .entry)) tagDepth) (now (b .entry)) false (length (now (b .entry))) first) (allTagsText (now (b .entry))) n (r .at) (r .next) ⌝ }
+    ensures { λ r. ⌜ Does Counts (itemsAt (treeAt (now (b .entry)) tagDepth) (now (b .entry)) false
+        (length (now (b .entry))) first) (allTagsText (now (b .entry))) n (r .at) (r .next) ⌝ }
 {
     let mut o = n;
     let mut i = first;

@@ -127,7 +127,8 @@ pub fn put_hex(out: &mut [u8], at: usize, s: &[u8]) -> usize
     o
 }
 
-// The id of the event that the parts spell. The text is put together in a buffer: a byte more than a text may have shows that it is too long.
+// The id of the event that the parts spell. The text is put together in a buffer: a byte more than a text may have
+// shows that it is too long.
 pub fn id_of(b: &[u8], p: message::Body) -> Identified
     ensures { λ r. ⌜ r ≡ identified (now (b .entry)) p ⌝ }
 {
@@ -141,8 +142,8 @@ pub fn id_of(b: &[u8], p: message::Body) -> Identified
     tested::hashed(&t[..n])
 }
 
-// The text of the event that the parts spell, from the start of `out`. It is put together in a buffer of its own, so that nothing is
-// written to `out` before every row is tested.
+// The text of the event that the parts spell, from the start of `out`. It is put together in a buffer of its own, so
+// that nothing is written to `out` before every row is tested.
 pub fn serialise(b: &[u8], p: message::Body, out: &mut [u8]) -> Written
     ensures { λ r. ⌜ r ≡ serialised (now (b .entry)) p (now (out .entry)) ⌝ }
     ensures { λ r. ⌜ writtenNumber r ≡ serialisedRow (now (b .entry)) p (now (out .entry)) ⌝ }
@@ -189,8 +190,8 @@ pub fn offered_text(b: &[u8], p: message::EventParts, out: &mut [u8]) -> Written
     tested::rest_text(b, p, out)
 }
 
-// Rows 1 to 10 of an event that is offered as a message, then 13; where none holds, its parts, and its text from the start of `out`. Rows 2 and 4
-// to 8 are tested once: the parts of a message that the reader took pass them.
+// Rows 1 to 10 of an event that is offered as a message, then 13; where none holds, its parts, and its text from the
+// start of `out`. Rows 2 and 4 to 8 are tested once: the parts of a message that the reader took pass them.
 pub fn sent_text(m: &[u8], out: &mut [u8]) -> SentText
     ensures { λ r. ⌜ r ≡ sentText (now (m .entry)) (now (out .entry)) ⌝ }
     ensures { λ r. ⌜ sentTextNumber r ≡ sentRow (now (m .entry)) (now (out .entry)) ⌝ }

@@ -32,7 +32,8 @@ pub(crate) fn hashed(t: &[u8]) -> Identified
 // A text from the start of an output, or row 13.
 pub(crate) fn give(t: &[u8], out: &mut [u8]) -> Written
     ensures { λ r. ⌜ r ≡ answered (shortRow (now (t .entry)) (now (out .entry))) (length (now (t .entry))) ⌝ }
-    ensures { λ _. ⌜ now (out .exit) ≡ outputAfter (shortRow (now (t .entry)) (now (out .entry))) (now (t .entry)) (now (out .entry)) ⌝ }
+    ensures { λ _. ⌜ now (out .exit) ≡ outputAfter (shortRow (now (t .entry)) (now (out .entry))) (now (t .entry))
+        (now (out .entry)) ⌝ }
 {
     if out.len() < t.len() {
         return Written::Refused(13);
@@ -49,7 +50,8 @@ pub(crate) fn spells_id(b: &[u8], s: message::Span, id: [u8; 32]) -> bool
     spell::spells(wire::piece(b, s.start, s.len), &hex)
 }
 
-// Rows 9 and 10 of an event whose parts rows 2 and 4 to 8 let pass; where neither holds, its text stands at the start of `t`.
+// Rows 9 and 10 of an event whose parts rows 2 and 4 to 8 let pass; where neither holds, its text stands at the start
+// of `t`.
 pub(crate) fn rest(b: &[u8], p: message::EventParts, t: &mut [u8]) -> Written
     requires { ⌜ length (now t) ≡ 4097 ⌝ }
     requires { ⌜ eventRow (now b) p ≡ 0 ⌝ }

@@ -8,7 +8,8 @@ ghost use Rattle.json.specs.Grammar.{case, startAt};
 ghost use Rattle.json.specs.Tree.{endOf, treeAt, itemsAt};
 ghost use Rattle.text.specs.Event.{tagsText};
 ghost use Rattle.event.specs.Lent.{lentTagsAt, textOf};
-ghost use Rattle.event.specs.Inner.{tagDepth, stringDepth, puts, Does, firstOut, firstTag, frontText, backText, stringText, stringsText, oneTagText, allTagsText};
+ghost use Rattle.event.specs.Inner.{tagDepth, stringDepth, puts, Does, firstOut, firstTag, frontText, backText};
+ghost use Rattle.event.specs.Inner.{stringText, stringsText, oneTagText, allTagsText};
 ghost use Rattle.event.specs.Answer.{hexDigit};
 use crate::Reached;
 use json::Out;
@@ -33,7 +34,10 @@ pub(crate) fn past(b: &[u8], v: usize, d: usize) -> usize
 
 // One string of a tag; "" for what is no string.
 pub(crate) fn put_string(out: &mut [u8], at: usize, b: &[u8], v: usize) -> Reached
-    ensures { λ r. ⌜ Does puts (treeAt (now (b .entry)) stringDepth v) (stringText (now (b .entry))) (now (out .entry), at) (now (out .exit), r .at) (r .next) ⌝ }
+    ensures { λ r. ⌜ Does puts (treeAt (now (b .entry)) stringDepth v) (stringText (now (b .entry))) (
+      now (out .entry),
+      at,
+    ) (now (out .exit), r .at) (r .next) ⌝ }
 {
     match json::string(b, v) {
         Out::End(n) => {
@@ -55,7 +59,9 @@ pub(crate) fn put_string(out: &mut [u8], at: usize, b: &[u8], v: usize) -> Reach
 
 // The strings of a tag, commas between them, and the closing bracket; the first stands at `first`.
 pub(crate) fn put_strings(out: &mut [u8], at: usize, b: &[u8], first: usize) -> Reached
-    ensures { λ r. ⌜ Does puts (itemsAt (treeAt (now (b .entry)) stringDepth) (now (b .entry)) false (length (now (b .entry))) first) (stringsText (now (b .entry))) (now (out .entry), at) (now (out .exit), r .at) (r .next) ⌝ }
+    ensures { λ r. ⌜ Does puts (itemsAt (treeAt (now (b .entry)) stringDepth) (now (b .entry)) false
+        (length (now (b .entry))) first) (stringsText (now (b .entry))) (now (out .entry), at) (now (out .exit), r .at)
+        (r .next) ⌝ }
 {
     let mut o = at;
     let mut i = first;
@@ -82,7 +88,10 @@ pub(crate) fn put_strings(out: &mut [u8], at: usize, b: &[u8], first: usize) -> 
 
 // One tag; [] for what is no array.
 pub(crate) fn put_tag(out: &mut [u8], at: usize, b: &[u8], v: usize) -> Reached
-    ensures { λ r. ⌜ Does puts (treeAt (now (b .entry)) tagDepth v) (oneTagText (now (b .entry))) (now (out .entry), at) (now (out .exit), r .at) (r .next) ⌝ }
+    ensures { λ r. ⌜ Does puts (treeAt (now (b .entry)) tagDepth v) (oneTagText (now (b .entry))) (
+      now (out .entry),
+      at,
+    ) (now (out .exit), r .at) (r .next) ⌝ }
 {
     match json::begin(b, v) {
         json::Start::Many(first, named) => {
@@ -112,7 +121,9 @@ pub(crate) fn put_tag(out: &mut [u8], at: usize, b: &[u8], v: usize) -> Reached
 
 // The tags, commas between them, and the closing bracket; the first stands at `first`.
 pub(crate) fn put_all(out: &mut [u8], at: usize, b: &[u8], first: usize) -> Reached
-    ensures { λ r. ⌜ Does puts (itemsAt (treeAt (now (b .entry)) tagDepth) (now (b .entry)) false (length (now (b .entry))) first) (allTagsText (now (b .entry))) (now (out .entry), at) (now (out .exit), r .at) (r .next) ⌝ }
+    ensures { λ r. ⌜ Does puts (itemsAt (treeAt (now (b .entry)) tagDepth) (now (b .entry)) false
+        (length (now (b .entry))) first) (allTagsText (now (b .entry))) (now (out .entry), at) (now (out .exit), r .at)
+        (r .next) ⌝ }
 {
     let mut o = at;
     let mut i = first;

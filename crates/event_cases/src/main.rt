@@ -1,6 +1,6 @@
-// Events on standard input, one a line. A line is a message: the lowest of rows 1 to 10 that refuses it when offered, or 0, and, where
-// none of rows 1 to 9 does, the SHA-256 of its text in hex and the text. A line that begins with `T` and a space is a text to read back
-// alone: 9, 5, or 0 and what writing it again gives.
+// Events on standard input, one a line. A line is a message: the lowest of rows 1 to 10 that refuses it when offered,
+// or 0, and, where none of rows 1 to 9 does, the SHA-256 of its text in hex and the text. A line that begins with `T`
+// and a space is a text to read back alone: 9, 5, or 0 and what writing it again gives.
 use event::Written;
 use json::Out;
 use json::Start;

@@ -5,7 +5,8 @@ use Prim.Native.Nat.{ℕ}
 use native.Mathlib.Omega.{arith}
 use lib.ListN.{length, take}
 use Rattle.event.specs.Answer.{writtenNumber, writtenLength}
-use Rattle.program.specs.Feed.{afterBytes, saidBy, saidLast, feedState, usedOf, turnText, turnState, turnTable, turnLine, turnOut, turnedNumber, turnedUsed, turnedLine, turnedBytes}
+use Rattle.program.specs.Feed.{afterBytes, saidBy, saidLast, feedState, usedOf, turnText, turnState, turnTable}
+use Rattle.program.specs.Feed.{turnLine, turnOut, turnedNumber, turnedUsed, turnedLine, turnedBytes}
 use Rattle.reply.proofs.Lent.{writes-or}
 use Rattle.program.proofs.Respond.{short-if, fits-if}
 use Rattle.program.proofs.Feed.{in-pieces, says-output, turned-means}

@@ -15,7 +15,8 @@ use Rattle.event.specs.declared.Written.{Written}
 use Rattle.event.specs.declared.Written.the-variants as sent
 use Rattle.program.specs.Program.{tableAfter}
 use Rattle.program.specs.Respond.{response, respondRow, responded, respondedOut, respondedTable}
-use Rattle.program.specs.Feed.{State, mostLine, kept, isEnd, lastLine, saidLast, before, usedOf, turnText, turnState, turnRow, turned, turnTable, turnLine, turnOut, turnedNumber}
+use Rattle.program.specs.Feed.{State, mostLine, kept, isEnd, lastLine, saidLast, before, usedOf, turnText, turnState}
+use Rattle.program.specs.Feed.{turnRow, turned, turnTable, turnLine, turnOut, turnedNumber}
 use Rattle.program.specs.declared.Turned.{Turned}
 use Rattle.program.specs.declared.Turned.the-variants as turning
 use Rattle.program.proofs.Respond.{fits-if, responded-means}

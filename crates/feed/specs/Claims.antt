@@ -1,5 +1,5 @@
--- What the end of the input gives, outputs that are never too short, and what a run of calls writes, however the input is cut. Proved in
--- proofs/Run and Room, each under its own name in small letters.
+-- What the end of the input gives, outputs that are never too short, and what a run of calls writes, however the input
+-- is cut. Proved in proofs/Run and Room, each under its own name in small letters.
 use mathlib.Core.Path.{_≡_}
 use mathlib.Core.Logic.{_↔_, _≢_}
 use mathlib.Core.List.{List, [], _++_}
@@ -27,30 +27,33 @@ FinishedMeans = (b line : List ℕ) (n : ℕ) (out : List ℕ) →
     × (finishRow b line n out ≡ 0 → finishTable b line n out ≡ lastTable b (feedState b line n .line))
     × (finishRow b line n out ≢ 0 → finishTable b line n out ≡ b)
 
--- ---- an output that is never too short, over a table of so many slots (program/specs/Claims/Respond, `enoughFor`): with it, and with a line buffer
--- that holds what is kept of a line, no call is refused
+-- ---- an output that is never too short, over a table of so many slots (program/specs/Claims/Respond, `enoughFor`):
+-- with it, and with a line buffer that holds what is kept of a line, no call is refused
 abbrev pub TurnFits : Type 0
-TurnFits = (b line : List ℕ) (n : ℕ) (piece out : List ℕ) → mostLine ≤ length line → enoughFor (capacityOf b) ≤ length out →
+TurnFits =
+    (b line : List ℕ) (n : ℕ) (piece out : List ℕ) → mostLine ≤ length line → enoughFor (capacityOf b) ≤ length out →
     turnRow b line n piece out ≡ 0
 
 abbrev pub FinishFits : Type 0
-FinishFits = (b line : List ℕ) (n : ℕ) (out : List ℕ) → enoughFor (capacityOf b) ≤ length out → finishRow b line n out ≡ 0
+FinishFits =
+    (b line : List ℕ) (n : ℕ) (out : List ℕ) → enoughFor (capacityOf b) ≤ length out → finishRow b line n out ≡ 0
 
 -- the next call finds as many slots
 abbrev pub SlotsStay : Type 0
 SlotsStay = (b line : List ℕ) (n : ℕ) (piece out : List ℕ) → capacityOf (turnTable b line n piece out) ≡ capacityOf b
 
--- ---- a run of calls of `turn`, from a table, a line buffer and a count: the input that was used up and what was written, and the table, the
--- line buffer and the count that the next call goes on with. Any piece may come, and any output; a call that is refused changes nothing and
--- is left out
+-- ---- a run of calls of `turn`, from a table, a line buffer and a count: the input that was used up and what was
+-- written, and the table, the line buffer and the count that the next call goes on with. Any piece may come, and any
+-- output; a call that is refused changes nothing and is left out
 pub data Turns (b line : List ℕ) (n : ℕ) : (input said b′ line′ : List ℕ) → ℕ → Type 0 where
   none : Turns b line n [] [] b line n
   more : {input said b′ line′ : List ℕ} {n′ : ℕ} → Turns b line n input said b′ line′ n′
       → (piece out : List ℕ) {u k w : ℕ} → turned b′ line′ n′ piece out ≡ turning.Fed u k w
-      → Turns b line n (input ++ take u piece) (said ++ take w (turnOut b′ line′ n′ piece out)) (turnTable b′ line′ n′ piece out) (turnLine b′ line′ n′ piece out) k
+      → Turns b line n (input ++ take u piece) (said ++ take w (turnOut b′ line′ n′ piece out))
+      (turnTable b′ line′ n′ piece out) (turnLine b′ line′ n′ piece out) k
 
--- a run from a fresh table and no line so far, and then the end of the input, write what the program prints: "One program reads messages from
--- standard input, one a line, over a fresh table of 8 slots"
+-- a run from a fresh table and no line so far, and then the end of the input, write what the program prints: "One
+-- program reads messages from standard input, one a line, over a fresh table of 8 slots"
 abbrev pub WritesOutput : Type 0
 WritesOutput = (line input said b line′ : List ℕ) (n : ℕ) → Turns freshTable line 0 input said b line′ n
     → (out : List ℕ) (w : ℕ) → feedFinished b line′ n out ≡ sent.Wrote w

@@ -1,5 +1,5 @@
--- The end of the input, over lent buffers. 01: "a last line without it counts if not empty". The first n bytes of the lent line buffer are
--- the line so far, as in program/specs/Feed.
+-- The end of the input, over lent buffers. 01: "a last line without it counts if not empty". The first n bytes of the
+-- lent line buffer are the line so far, as in program/specs/Feed.
 use mathlib.Core.Bool.{cond}
 use mathlib.Core.List.{List, [], _∷_}
 use Prim.Native.Nat.{ℕ}

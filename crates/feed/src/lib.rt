@@ -1,5 +1,5 @@
-// The program's input, fed in pieces: a call takes a piece up to its first line's end, and answers the line that ends there. The line so far
-// stands in a lent buffer.
+// The program's input, fed in pieces: a call takes a piece up to its first line's end, and answers the line that ends
+// there. The line so far stands in a lent buffer.
 ghost use mathlib.Core.Path.{_≡_};
 ghost use mathlib.Core.Bool.{true};
 ghost use Prim.Native.Nat.{_+_, _≤_, min};
@@ -14,7 +14,8 @@ use program::Turned;
 // A byte more than a message may have tells that the line is too long.
 const MOST_LINE: usize = wire::MOST_MESSAGE + 1;
 
-// Whether none of the 32 bytes at i ends a line. All are looked at, with no way out of the loop, so that it is compiled to vector code.
+// Whether none of the 32 bytes at i ends a line. All are looked at, with no way out of the loop, so that it is compiled
+// to vector code.
 fn none_ends(piece: &[u8], i: usize) -> bool
     requires { ⌜ i + 32 ≤ length (now piece) ⌝ }
     ensures { λ r. ⌜ (r ≡ true → NoEndFrom (now (piece .entry)) i 32) ⌝ }
@@ -86,7 +87,8 @@ fn join(whole: &mut [u8], line: &[u8], n: usize, part: &[u8]) -> usize
 // The line of which `part` is the end is answered. Where `part` is all of it, its bytes are lent on.
 fn answer_line(table: &mut [u8], line: &[u8], n: usize, part: &[u8], out: &mut [u8]) -> Written
     requires { ⌜ mostLine ≤ length (now line) ⌝ }
-    ensures { λ r. ⌜ Answers (now (table .entry)) (grown (now (line .entry)) n (now (part .entry))) (now (out .entry)) r (now (table .exit)) (now (out .exit)) ⌝ }
+    ensures { λ r. ⌜ Answers (now (table .entry)) (grown (now (line .entry)) n (now (part .entry))) (now (out .entry)) r
+        (now (table .exit)) (now (out .exit)) ⌝ }
 {
     if n == 0 {
         return responses::respond(table, part, out);
@@ -96,14 +98,19 @@ fn answer_line(table: &mut [u8], line: &[u8], n: usize, part: &[u8], out: &mut [
     responses::respond(table, &whole[..k], out)
 }
 
-// A piece of the input is fed up to its first line's end, and with it: the first n bytes of `line` are the line so far. Row 13 for a line
-// buffer of fewer than 8,193 bytes, or an output too short; table, line and output then stay as found.
+// A piece of the input is fed up to its first line's end, and with it: the first n bytes of `line` are the line so far.
+// Row 13 for a line buffer of fewer than 8,193 bytes, or an output too short; table, line and output then stay as
+// found.
 pub fn turn(table: &mut [u8], line: &mut [u8], n: usize, piece: &[u8], out: &mut [u8]) -> Turned
     ensures { λ r. ⌜ r ≡ turned (now (table .entry)) (now (line .entry)) n (now (piece .entry)) (now (out .entry)) ⌝ }
-    ensures { λ r. ⌜ turnedNumber r ≡ turnRow (now (table .entry)) (now (line .entry)) n (now (piece .entry)) (now (out .entry)) ⌝ }
-    ensures { λ _. ⌜ now (table .exit) ≡ turnTable (now (table .entry)) (now (line .entry)) n (now (piece .entry)) (now (out .entry)) ⌝ }
-    ensures { λ _. ⌜ now (line .exit) ≡ turnLine (now (table .entry)) (now (line .entry)) n (now (piece .entry)) (now (out .entry)) ⌝ }
-    ensures { λ _. ⌜ now (out .exit) ≡ turnOut (now (table .entry)) (now (line .entry)) n (now (piece .entry)) (now (out .entry)) ⌝ }
+    ensures { λ r. ⌜ turnedNumber r ≡ turnRow (now (table .entry)) (now (line .entry)) n (now (piece .entry))
+        (now (out .entry)) ⌝ }
+    ensures { λ _. ⌜ now (table .exit) ≡ turnTable (now (table .entry)) (now (line .entry)) n (now (piece .entry))
+        (now (out .entry)) ⌝ }
+    ensures { λ _. ⌜ now (line .exit) ≡ turnLine (now (table .entry)) (now (line .entry)) n (now (piece .entry))
+        (now (out .entry)) ⌝ }
+    ensures { λ _. ⌜ now (out .exit) ≡ turnOut (now (table .entry)) (now (line .entry)) n (now (piece .entry))
+        (now (out .entry)) ⌝ }
 {
     if line.len() < MOST_LINE {
         return Turned::Refused(13);
@@ -122,8 +129,8 @@ pub fn turn(table: &mut [u8], line: &mut [u8], n: usize, piece: &[u8], out: &mut
     }
 }
 
-// The end of the input: a last line without 0A is answered if it is not empty. Row 13 for an output too short; table and output then stay
-// as found.
+// The end of the input: a last line without 0A is answered if it is not empty. Row 13 for an output too short; table
+// and output then stay as found.
 pub fn finish(table: &mut [u8], line: &[u8], n: usize, out: &mut [u8]) -> Written
     ensures { λ r. ⌜ r ≡ feedFinished (now (table .entry)) (now (line .entry)) n (now (out .entry)) ⌝ }
     ensures { λ r. ⌜ writtenNumber r ≡ finishRow (now (table .entry)) (now (line .entry)) n (now (out .entry)) ⌝ }

@@ -8,7 +8,8 @@ use native.Mathlib.Numerals.{add-one}
 use native.Mathlib.Omega.{arith}
 use borrow.Author.Tests.{eq-eqb, ne-eqb}
 use lib.Dec.{eqb}
-use lib.ListN.{length, take, drop, getD, set, replicate, length-set, length-drop, drop-of-length-le, replicate-append-replicate}
+use lib.ListN.{length, take, drop, getD, set, replicate, length-set, length-drop, drop-of-length-le}
+use lib.ListN.{replicate-append-replicate}
 use lib.Seq.{drop-cons, drop-drop, take-all, take-suc, take-set-le, getD-set-same}
 use Rattle.wire.specs.Put.{Puts}
 use Rattle.wire.proofs.Laws.{puts-none}

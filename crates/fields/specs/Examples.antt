@@ -9,7 +9,10 @@ use Rattle.fields.specs.Line.{spaceIn, restOf, fieldsFrom, fieldOf}
 use Rattle.fields.specs.Number.{grownBy, naturalOf, complementOf, integerOf, isAbsent}
 
 -- "L 12  7": a letter, 12, an empty field, 7, and nothing past it
-fields : (fieldOf (76 ∷ 32 ∷ 49 ∷ 50 ∷ 32 ∷ 32 ∷ 55 ∷ []) 1 ≡ 49 ∷ 50 ∷ []) × (fieldOf (76 ∷ 32 ∷ 49 ∷ 50 ∷ 32 ∷ 32 ∷ 55 ∷ []) 2 ≡ []) × (fieldOf (76 ∷ 32 ∷ 49 ∷ 50 ∷ 32 ∷ 32 ∷ 55 ∷ []) 3 ≡ 55 ∷ []) × (fieldOf (76 ∷ 32 ∷ 49 ∷ 50 ∷ 32 ∷ 32 ∷ 55 ∷ []) 4 ≡ [])
+fields : (fieldOf (76 ∷ 32 ∷ 49 ∷ 50 ∷ 32 ∷ 32 ∷ 55 ∷ []) 1 ≡ 49 ∷ 50 ∷ []) ×
+    (fieldOf (76 ∷ 32 ∷ 49 ∷ 50 ∷ 32 ∷ 32 ∷ 55 ∷ []) 2 ≡ []) ×
+    (fieldOf (76 ∷ 32 ∷ 49 ∷ 50 ∷ 32 ∷ 32 ∷ 55 ∷ []) 3 ≡ 55 ∷ []) ×
+    (fieldOf (76 ∷ 32 ∷ 49 ∷ 50 ∷ 32 ∷ 32 ∷ 55 ∷ []) 4 ≡ [])
 unfolding fieldOf fieldsFrom restOf spaceIn
 fields = (refl, refl, refl, refl)
 

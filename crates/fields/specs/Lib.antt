@@ -1,4 +1,5 @@
--- The fields of a line, the numbers that they spell, and the parts of events and filters that some of them give; what a line does with a table's room.
+-- The fields of a line, the numbers that they spell, and the parts of events and filters that some of them give; what a
+-- line does with a table's room.
 pub mod Line
 pub mod Number
 pub mod Parts

@@ -1,4 +1,5 @@
--- The number that a field spells: digits, or a minus and digits. It is below 2^64, or within the 64 bits of a signed one.
+-- The number that a field spells: digits, or a minus and digits. It is below 2^64, or within the 64 bits of a signed
+-- one.
 use mathlib.Core.Bool.{Bool, true, cond, _&&_}
 use mathlib.Core.List.{List, [], _∷_}
 use Prim.Native.Nat.{ℕ, _+_, _-_, _*_, _^_}

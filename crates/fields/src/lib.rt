@@ -1,5 +1,6 @@
-// The fields of a line: parts with single spaces between, numbers in decimal. They are read by their number, counted from 0, and written
-// one behind the other. Every call is total: past the last field all are empty, and what spells no number has a number all the same.
+// The fields of a line: parts with single spaces between, numbers in decimal. They are read by their number, counted
+// from 0, and written one behind the other. Every call is total: past the last field all are empty, and what spells no
+// number has a number all the same.
 ghost use mathlib.Core.Path.{_≡_};
 ghost use mathlib.Core.List.{_++_};
 ghost use Prim.Native.Nat.{_+_, _%_, _≤_};
@@ -36,7 +37,8 @@ fn space(line: &[u8], at: usize) -> usize
 // The index behind that space.
 fn after(line: &[u8], at: usize) -> usize
     requires { ⌜ at ≤ length (now line) ⌝ }
-    ensures { λ r. ⌜ (drop r (now (line .entry)) ≡ restOf (drop at (now (line .entry)))) × (r ≤ length (now (line .entry))) ⌝ }
+    ensures { λ r. ⌜ (drop r (now (line .entry)) ≡ restOf (drop at (now (line .entry)))) ×
+        (r ≤ length (now (line .entry))) ⌝ }
 {
     let e = space(line, at);
     if e < line.len() {

@@ -18,11 +18,13 @@ use Rattle.json.specs.declared.Next.the-variants.{More, Done}
 use Rattle.json.proofs.Bytes.{past-none}
 use Rattle.json.proofs.Ends.{then-end, byte-is}
 use Rattle.json.proofs.Trees.{tree-open, endItems, end-items, fold-next}
-use Rattle.grammar.specs.Rfc.{_∣_, token, literal, number, string, openOf, Value, plain, empty, group, Items, last, more, Item, value, member, Text}
+use Rattle.grammar.specs.Rfc.{_∣_, token, literal, number, string, openOf, Value, plain, empty, group, Items}
+use Rattle.grammar.specs.Rfc.{last, more, Item, value, member, Text}
 use Rattle.grammar.proofs.Terms.{star-past, token-byte, token-taken}
 use Rattle.grammar.proofs.Strings.{string-taken}
 use Rattle.grammar.proofs.Numbers.{Stops}
-use Rattle.grammar.proofs.Firsts.{Quiet, ws-quiet, lead, plain-place, plain-taken, string-from, plain-from, token-from}
+use Rattle.grammar.proofs.Firsts.{Quiet, ws-quiet, lead, plain-place, plain-taken, string-from, plain-from}
+use Rattle.grammar.proofs.Firsts.{token-from}
 
 -- ---- structural characters are no white space, and no number goes on with one
 open-solid : (named : Bool) → inClass Space (openOf named) ≡ false

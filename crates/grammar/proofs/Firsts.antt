@@ -8,7 +8,8 @@ use native.Mathlib.Omega.{arith}
 use lib.Dec.{eqb}
 use lib.ListN.{length, getD}
 use borrow.Author.Tests.{eqb-true}
-use Rattle.json.specs.Grammar.{inClass, falseName, nullName, trueName, wsAt, wordAt, literalAt, digitsAt, intAt, numberAt, stringAt, scalarAt}
+use Rattle.json.specs.Grammar.{inClass, falseName, nullName, trueName, wsAt, wordAt, literalAt, digitsAt, intAt}
+use Rattle.json.specs.Grammar.{numberAt, stringAt, scalarAt}
 use Rattle.json.specs.Tree.{endOf, onLeaf}
 use Rattle.json.specs.declared.Class.{Class}
 use Rattle.json.specs.declared.Class.the-variants.{Space, Digit, Exponent, Sign, Byte}
@@ -19,7 +20,8 @@ use Rattle.json.proofs.Bytes.{past-none}
 use Rattle.json.proofs.Deeper.{Lacks}
 use Rattle.json.proofs.Ends.{one-not, byte-not, not-byte}
 use Rattle.json.proofs.Spelled.{string-parts}
-use Rattle.grammar.specs.Rfc.{_∣_, opt, stop, step, one, ws, token, name, literal, digits, int, frac, exp, number, string}
+use Rattle.grammar.specs.Rfc.{_∣_, opt, stop, step, one, ws, token, name, literal, digits, int, frac, exp, number}
+use Rattle.grammar.specs.Rfc.{string}
 use Rattle.grammar.proofs.Terms.{one-taken, star-from, name-taken}
 use Rattle.grammar.proofs.Numbers.{first-digit, Stops, number-taken}
 use Rattle.grammar.proofs.Strings.{string-taken}

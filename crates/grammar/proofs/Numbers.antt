@@ -1,5 +1,5 @@
--- Numbers: the rule says where a number may end, and the functions take all that they can, so the two agree where what follows cannot
--- go on a number.
+-- Numbers: the rule says where a number may end, and the functions take all that they can, so the two agree where what
+-- follows cannot go on a number.
 use mathlib.Core.Path.{_≡_, refl, ap, _∙_}
 use mathlib.Core.Logic.{inl, inr}
 use mathlib.Core.List.{List}

@@ -8,8 +8,10 @@ use native.Mathlib.Omega.{arith}
 use lib.Dec.{lit<}
 use lib.ListN.{length}
 use borrow.Author.Tests.{eqb-true}
-use Rattle.json.specs.Grammar.{case, inClass, falseName, nullName, trueName, wsAt, tokenAt, wordAt, literalAt, numberAt, stringAt, scalarAt, closeOf, openedAt, startAt, headAt, nextAt}
-use Rattle.json.specs.Tree.{depth, Json, Items as Trees, item, Got, none, got, endOf, bind, onLeaf, node, follow, itemsAt, groupAt, treeAt, endsAt, root, isText}
+use Rattle.json.specs.Grammar.{case, inClass, falseName, nullName, trueName, wsAt, tokenAt, wordAt, literalAt, numberAt}
+use Rattle.json.specs.Grammar.{stringAt, scalarAt, closeOf, openedAt, startAt, headAt, nextAt}
+use Rattle.json.specs.Tree.{depth, Json, Items as Trees, item, Got, none, got, endOf, bind, onLeaf, node, follow}
+use Rattle.json.specs.Tree.{itemsAt, groupAt, treeAt, endsAt, root, isText}
 use Rattle.json.specs.declared.Class.the-variants.{Space}
 use Rattle.json.specs.declared.Out.{Out}
 use Rattle.json.specs.declared.Out.the-variants.{End, Bad}
@@ -17,7 +19,8 @@ use Rattle.json.specs.declared.Kind.the-variants.{Str, Num, Word, None}
 use Rattle.json.specs.declared.Start.the-variants.{Leaf, Empty, Many}
 use Rattle.json.specs.declared.Next.the-variants.{More, Done, Wrong}
 use Rattle.json.proofs.Ends.{ends-bad, then-end}
-use Rattle.grammar.specs.Rfc.{stop, ws, token, literal, openOf, Value, plain, empty, group, Items, last, more, Item, value, member, Text}
+use Rattle.grammar.specs.Rfc.{stop, ws, token, literal, openOf, Value, plain, empty, group, Items, last, more}
+use Rattle.grammar.specs.Rfc.{Item, value, member, Text}
 use Rattle.grammar.proofs.Terms.{same-end, star-sound, token-sound, name-sound}
 use Rattle.grammar.proofs.Numbers.{number-sound}
 use Rattle.grammar.proofs.Strings.{string-sound}

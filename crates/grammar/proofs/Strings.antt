@@ -7,7 +7,8 @@ use Rattle.json.specs.Grammar.{inClass, oneAt, escapedAt, charAt, charsAt, stri
 use Rattle.json.specs.declared.Class.the-variants.{Plain, Hex, Short, Byte}
 use Rattle.json.specs.declared.Out.the-variants.{End, Bad}
 use Rattle.json.proofs.Ends.{byte-not, chars-none}
-use Rattle.json.proofs.Spelled.{Char, plain, short, code, Chars, stop as last, more, chars-sound, chars-taken, string-parts}
+use Rattle.json.proofs.Spelled.{Char, plain, short, code, Chars, stop as last, more, chars-sound, chars-taken}
+use Rattle.json.proofs.Spelled.{string-parts}
 use Rattle.grammar.specs.Rfc.{_⨾_, _∣_, Star, stop, step, one, char, string}
 use Rattle.grammar.proofs.Terms.{one-sound, one-taken}
 

@@ -1,5 +1,5 @@
--- One byte, a run of bytes, a structural character and a name: json's functions say what the rules say. White space is taken whole by a
--- function and piecemeal by a rule, so a place is compared after the white space that stands there.
+-- One byte, a run of bytes, a structural character and a name: json's functions say what the rules say. White space is
+-- taken whole by a function and piecemeal by a rule, so a place is compared after the white space that stands there.
 use mathlib.Core.Path.{_≡_, refl, sym, ap, _∙_}
 use mathlib.Core.List.{List, [], _∷_}
 use mathlib.Core.Bool.{Bool, true, false, cond}

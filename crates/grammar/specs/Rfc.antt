@@ -1,6 +1,6 @@
--- RFC 8259's ABNF, sections 2 to 7, rule by rule, with 01's limit of brackets and braces open at once. A rule holds of two places in a
--- text: what stands from the first up to the second matches it. Which bytes a terminal takes is json's classOf, a function, and so is the
--- byte at a place; all else here is a rule, with no order of trial and no fuel.
+-- RFC 8259's ABNF, sections 2 to 7, rule by rule, with 01's limit of brackets and braces open at once. A rule holds of
+-- two places in a text: what stands from the first up to the second matches it. Which bytes a terminal takes is json's
+-- classOf, a function, and so is the byte at a place; all else here is a rule, with no order of trial and no fuel.
 use Prim.Native.Nat.{ℕ, suc, _+_, _<_}
 use mathlib.Core.Path.{_≡_}
 use mathlib.Core.Logic.{_⊎_}
@@ -90,19 +90,23 @@ abbrev pub openOf : Bool → ℕ
 openOf true = 0x7B
 openOf false = 0x5B
 
--- ---- sections 3 to 5: a value with at most d brackets and braces open at once; the items of an array, and of an object (true)
+-- ---- sections 3 to 5: a value with at most d brackets and braces open at once; the items of an array, and of an
+-- object (true)
 mutual
   -- value = false / null / true / object / array / number / string
   pub data Value (s : List ℕ) : ℕ → ℕ → ℕ → Type 0 where
     plain : {d at n : ℕ} → (literal s ∣ number s ∣ string s) at n → Value s d at n
     -- object = begin-object [ member *( value-separator member ) ] end-object, and array with value for member
-    empty : {d at a n : ℕ} (named : Bool) → token s (openOf named) at a → token s (closeOf named) a n → Value s (suc d) at n
-    group : {d at a b n : ℕ} (named : Bool) → token s (openOf named) at a → Items s d named a b → token s (closeOf named) b n → Value s (suc d) at n
+    empty : {d at a n : ℕ} (named : Bool) → token s (openOf named) at a → token s (closeOf named) a n →
+        Value s (suc d) at n
+    group : {d at a b n : ℕ} (named : Bool) → token s (openOf named) at a → Items s d named a b →
+        token s (closeOf named) b n → Value s (suc d) at n
 
   -- item *( value-separator item )
   pub data Items (s : List ℕ) : ℕ → Bool → ℕ → ℕ → Type 0 where
     last : {d at n : ℕ} {named : Bool} → Item s d named at n → Items s d named at n
-    more : {d at a b n : ℕ} {named : Bool} → Item s d named at a → token s 0x2C a b → Items s d named b n → Items s d named at n
+    more : {d at a b n : ℕ} {named : Bool} → Item s d named at a → token s 0x2C a b → Items s d named b n →
+        Items s d named at n
 
   -- an array's item is a value; an object's is member = string name-separator value
   pub data Item (s : List ℕ) : ℕ → Bool → ℕ → ℕ → Type 0 where

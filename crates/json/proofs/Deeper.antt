@@ -1,4 +1,5 @@
--- A deeper limit reads the same tree: a value that holds none begins with no bracket or brace, and items are read by the values they hold.
+-- A deeper limit reads the same tree: a value that holds none begins with no bracket or brace, and items are read by
+-- the values they hold.
 use mathlib.Core.Path.{_≡_, refl, sym, ap, _∙_}
 use mathlib.Core.List.{List}
 use mathlib.Core.Bool.{Bool, false}
@@ -6,8 +7,10 @@ use Prim.Native.Nat.{ℕ, zero, suc, _+_}
 use native.Mathlib.Nat.{zero-add, suc-add}
 use native.Mathlib.Omega.{arith}
 use lib.ListN.{length}
-use Rattle.json.specs.Grammar.{case, inClass, oneAt, tokenAt, wordAt, literalAt, digitsAt, intAt, numberAt, stringAt, scalarAt, startAt, headAt, nextAt}
-use Rattle.json.specs.Tree.{Json, Items, item, Got, none, got, bind, onLeaf, follow, node, itemsAt, groupAt, treeAt}
+use Rattle.json.specs.Grammar.{case, inClass, oneAt, tokenAt, wordAt, literalAt, digitsAt, intAt, numberAt}
+use Rattle.json.specs.Grammar.{stringAt, scalarAt, startAt, headAt, nextAt}
+use Rattle.json.specs.Tree.{Json, Items, item, Got, none, got, bind, onLeaf, follow, node, itemsAt, groupAt}
+use Rattle.json.specs.Tree.{treeAt}
 use Rattle.json.specs.declared.Class.the-variants.{Digit, Byte}
 use Rattle.json.specs.declared.Out.{Out}
 use Rattle.json.specs.declared.Out.the-variants.{End, Bad}

@@ -1,5 +1,5 @@
--- What ends where: a byte that is taken lies within the text, so what begins with one ends behind its beginning, and the characters of a
--- string never run out of fuel.
+-- What ends where: a byte that is taken lies within the text, so what begins with one ends behind its beginning, and
+-- the characters of a string never run out of fuel.
 use mathlib.Core.Path.{_≡_, refl, sym, ap, _∙_}
 use mathlib.Core.List.{List}
 use mathlib.Core.Bool.{Bool, true, false, cond, false≢true, _&&_}

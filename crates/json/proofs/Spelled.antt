@@ -7,12 +7,14 @@ use native.Mathlib.Omega.{arith}
 use lib.ListN.{length, getD, take, drop, length-take, length-drop}
 use lib.Seq.{getD-take, getD-drop}
 use borrow.Author.Tests.{eq-eqb}
-use Rattle.json.specs.Grammar.{case, inClass, oneAt, hexAt, escapedAt, charAt, charsUpTo, charsAt, isSpelling, stringAt}
+use Rattle.json.specs.Grammar.{case, inClass, oneAt, hexAt, escapedAt, charAt, charsUpTo, charsAt, isSpelling}
+use Rattle.json.specs.Grammar.{stringAt}
 use Rattle.json.specs.declared.Class.{Class}
 use Rattle.json.specs.declared.Class.the-variants.{Plain, Hex, Short, Byte}
 use Rattle.json.specs.declared.Out.{Out}
 use Rattle.json.specs.declared.Out.the-variants.{End, Bad}
-use Rattle.json.proofs.Ends.{then-end, one-is, one-of, byte-not, not-byte, one-ends, char-ends, chars-more, chars-past}
+use Rattle.json.proofs.Ends.{then-end, one-is, one-of, byte-not, not-byte, one-ends, char-ends, chars-more}
+use Rattle.json.proofs.Ends.{chars-past}
 
 -- ---- char and *char as RFC 8259 has them
 pub data Char (s : List ℕ) : ℕ → ℕ → Type 0 where

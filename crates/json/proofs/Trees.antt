@@ -1,4 +1,5 @@
--- A tree a step at a time: what begin's answer says of the tree at a place, and what head, value and after say of the items from a place on.
+-- A tree a step at a time: what begin's answer says of the tree at a place, and what head, value and after say of the
+-- items from a place on.
 use mathlib.Core.Path.{_≡_, refl, sym, ap, _∙_}
 use mathlib.Core.List.{List}
 use mathlib.Core.Bool.{Bool}
@@ -8,7 +9,8 @@ use native.Mathlib.Numerals.{sub-one}
 use native.Mathlib.Omega.{arith}
 use lib.ListN.{length}
 use Rattle.json.specs.Grammar.{scalarAt, startAt, headAt, nextAt}
-use Rattle.json.specs.Tree.{Json, Items, nil, item, foldItems, Got, none, got, endOf, bind, onLeaf, follow, itemsAt, node, groupAt, treeAt}
+use Rattle.json.specs.Tree.{Json, Items, nil, item, foldItems, Got, none, got, endOf, bind, onLeaf, follow}
+use Rattle.json.specs.Tree.{itemsAt, node, groupAt, treeAt}
 use Rattle.json.specs.declared.Out.{Out}
 use Rattle.json.specs.declared.Out.the-variants.{End, Bad}
 use Rattle.json.specs.declared.Start.{Start}

@@ -6,7 +6,9 @@ use Prim.Native.Nat.{ℕ, zero, suc}
 use Prim.Native.Char.{code}
 use Prim.Native.String.{String, [] as none-left, _∷_ as _then_}
 use Rattle.json.specs.declared.Class.the-variants.{Space, Digit, Plain, Hex, Short, Exponent, Sign}
-use Rattle.json.specs.Grammar.{inClass, run, past, oneAt, tokenAt, wordAt, literalAt, digitsAt, intAt, fracAt, expAt, numberAt, hexAt, escapedAt, charAt, charsUpTo, charsAt, stringAt, isSpelling, scalarAt}
+use Rattle.json.specs.Grammar.{inClass, run, past, oneAt, tokenAt, wordAt, literalAt, digitsAt, intAt, fracAt}
+use Rattle.json.specs.Grammar.{expAt, numberAt, hexAt, escapedAt, charAt, charsUpTo, charsAt, stringAt}
+use Rattle.json.specs.Grammar.{isSpelling, scalarAt}
 use Rattle.json.specs.Tree.{word, num, str, arr, obj, nil, item, got, itemsAt, treeAt, root, isText}
 use Rattle.wire.specs.Bytes.{Bytes}
 
@@ -22,37 +24,50 @@ abbrev Not : String → Type 0
 Not t = isText (bytes t) ≡ false
 
 -- RFC 8259, section 13, and an object made of parts of its first example
-section-13 : (Is "\"Hello world!\"") × (Is "42") × (Is "true") × (Is "{\n \"Width\": 800,\n \"IDs\": [116, 943],\n \"Animated\" : false\n }\n")
-unfolding inClass run past oneAt tokenAt wordAt literalAt digitsAt intAt fracAt expAt numberAt hexAt escapedAt charAt charsUpTo charsAt stringAt scalarAt itemsAt treeAt
+section-13 : (Is "\"Hello world!\"") × (Is "42") × (Is "true") ×
+    (Is "{\n \"Width\": 800,\n \"IDs\": [116, 943],\n \"Animated\" : false\n }\n")
+unfolding inClass run past oneAt tokenAt wordAt literalAt digitsAt intAt fracAt expAt numberAt hexAt escapedAt charAt
+    charsUpTo charsAt stringAt scalarAt itemsAt treeAt
 section-13 = (refl, refl, refl, refl)
 
 -- 01, row 3: eight open at once, and nine
-eight : (Is "[[[[[[[[]]]]]]]]") × (Is "[{\"\":[{\"\":[{\"\":[{}]}]}]}]") × (Not "[[[[[[[[[]]]]]]]]]") × (Not "[{\"\":[{\"\":[{\"\":[{\"\":{}}]}]}]}]")
-unfolding inClass run past oneAt tokenAt wordAt literalAt digitsAt intAt fracAt expAt numberAt hexAt escapedAt charAt charsUpTo charsAt stringAt scalarAt itemsAt treeAt
+eight : (Is "[[[[[[[[]]]]]]]]") × (Is "[{\"\":[{\"\":[{\"\":[{}]}]}]}]") × (Not "[[[[[[[[[]]]]]]]]]") ×
+    (Not "[{\"\":[{\"\":[{\"\":[{\"\":{}}]}]}]}]")
+unfolding inClass run past oneAt tokenAt wordAt literalAt digitsAt intAt fracAt expAt numberAt hexAt escapedAt charAt
+    charsUpTo charsAt stringAt scalarAt itemsAt treeAt
 eight = (refl, refl, refl, refl)
 
 -- section 7: each escape; a letter that is none, a short code, a control character as it is, a quotation mark too few
-strings : (Is "\"\\\" \\\\ \\/ \\b \\f \\n \\r \\t \\u00e9 \\uD834\"") × (Not "\"\\x\"") × (Not "\"\\u00e\"") × (Not "\"\t\"") × (Not "\"a") × (Not "'a'")
-unfolding inClass run past oneAt tokenAt wordAt literalAt digitsAt intAt fracAt expAt numberAt hexAt escapedAt charAt charsUpTo charsAt stringAt scalarAt itemsAt treeAt
+strings : (Is "\"\\\" \\\\ \\/ \\b \\f \\n \\r \\t \\u00e9 \\uD834\"") × (Not "\"\\x\"") × (Not "\"\\u00e\"") ×
+    (Not "\"\t\"") × (Not "\"a") × (Not "'a'")
+unfolding inClass run past oneAt tokenAt wordAt literalAt digitsAt intAt fracAt expAt numberAt hexAt escapedAt charAt
+    charsUpTo charsAt stringAt scalarAt itemsAt treeAt
 strings = (refl, refl, refl, refl, refl, refl)
 
 -- section 6
-numbers : (Is "-0") × (Is "10.50e-3") × (Is "1E+2") × (Not "01") × (Not "-") × (Not "1.") × (Not ".5") × (Not "+1") × (Not "1e")
-unfolding inClass run past oneAt tokenAt wordAt literalAt digitsAt intAt fracAt expAt numberAt hexAt escapedAt charAt charsUpTo charsAt stringAt scalarAt itemsAt treeAt
+numbers : (Is "-0") × (Is "10.50e-3") × (Is "1E+2") × (Not "01") × (Not "-") × (Not "1.") × (Not ".5") × (Not "+1") ×
+    (Not "1e")
+unfolding inClass run past oneAt tokenAt wordAt literalAt digitsAt intAt fracAt expAt numberAt hexAt escapedAt charAt
+    charsUpTo charsAt stringAt scalarAt itemsAt treeAt
 numbers = (refl, refl, refl, refl, refl, refl, refl, refl, refl)
 
 -- sections 2 to 5
-texts : (Is " null ") × (Not "") × (Not " ") × (Not "nul") × (Not "true false") × (Not "[1,]") × (Not "[1 2]") × (Not "[1}") × (Not "{\"a\":1,}") × (Not "{\"a\",1}") × (Not "{a:1}")
-unfolding inClass run past oneAt tokenAt wordAt literalAt digitsAt intAt fracAt expAt numberAt hexAt escapedAt charAt charsUpTo charsAt stringAt scalarAt itemsAt treeAt
+texts : (Is " null ") × (Not "") × (Not " ") × (Not "nul") × (Not "true false") × (Not "[1,]") × (Not "[1 2]") ×
+    (Not "[1}") × (Not "{\"a\":1,}") × (Not "{\"a\",1}") × (Not "{a:1}")
+unfolding inClass run past oneAt tokenAt wordAt literalAt digitsAt intAt fracAt expAt numberAt hexAt escapedAt charAt
+    charsUpTo charsAt stringAt scalarAt itemsAt treeAt
 texts = (refl, refl, refl, refl, refl, refl, refl, refl, refl, refl, refl)
 
 -- a tree: an item's place, its value's place, and places as start and length
-tree : root (bytes " {\"a\": [1,\"b\"], \"\":null}") ≡ got (obj (item 2 7 (arr (item 8 8 (num 8 1) (item 10 10 (str 11 1) nil))) (item 16 19 (word 19 4) nil))) 24
-unfolding inClass run past oneAt tokenAt wordAt literalAt digitsAt intAt fracAt expAt numberAt hexAt escapedAt charAt charsUpTo charsAt stringAt scalarAt itemsAt treeAt
+tree : root (bytes " {\"a\": [1,\"b\"], \"\":null}") ≡ got
+    (obj (item 2 7 (arr (item 8 8 (num 8 1) (item 10 10 (str 11 1) nil))) (item 16 19 (word 19 4) nil))) 24
+unfolding inClass run past oneAt tokenAt wordAt literalAt digitsAt intAt fracAt expAt numberAt hexAt escapedAt charAt
+    charsUpTo charsAt stringAt scalarAt itemsAt treeAt
 tree = refl
 
 -- what may stand between quotation marks
-spellings : (isSpelling (bytes "") ≡ true) × (isSpelling (bytes "a\\n\\\"") ≡ true) × (isSpelling (bytes "a\"") ≡ false) × (isSpelling (bytes "\\") ≡ false)
+spellings : (isSpelling (bytes "") ≡ true) × (isSpelling (bytes "a\\n\\\"") ≡ true) ×
+    (isSpelling (bytes "a\"") ≡ false) × (isSpelling (bytes "\\") ≡ false)
 unfolding inClass run past oneAt tokenAt wordAt hexAt escapedAt charAt charsUpTo charsAt
 spellings = (refl, refl, refl, refl)
 

@@ -1,5 +1,5 @@
--- RFC 8259, sections 2 to 7, but for the values that hold values (Tree.antt): for each rule a function from a place in the text to the
--- place after what stands there. Past the end stands 0, which no rule takes.
+-- RFC 8259, sections 2 to 7, but for the values that hold values (Tree.antt): for each rule a function from a place in
+-- the text to the place after what stands there. Past the end stands 0, which no rule takes.
 use mathlib.Core.Path.{_≡_}
 use Prim.Native.Nat.{ℕ, zero, suc, _+_, _≤_}
 use mathlib.Core.List.{List, [], _∷_}
@@ -38,7 +38,9 @@ inClass Plain b = isBetween 0x20 0x21 b || (isBetween 0x23 0x5B b || leb 0x5D b)
 -- HEXDIG = DIGIT / "A" / "B" / "C" / "D" / "E" / "F", in either case
 inClass Hex b = isBetween 0x30 0x39 b || (isBetween 0x41 0x46 b || isBetween 0x61 0x66 b)
 -- after escape: %x22 / %x5C / %x2F / %x62 / %x66 / %x6E / %x72 / %x74
-inClass Short b = eqb b 0x22 || (eqb b 0x5C || (eqb b 0x2F || (eqb b 0x62 || (eqb b 0x66 || (eqb b 0x6E || (eqb b 0x72 || eqb b 0x74))))))
+inClass Short b =
+    eqb b 0x22 || (eqb b 0x5C || (eqb b 0x2F ||
+    (eqb b 0x62 || (eqb b 0x66 || (eqb b 0x6E || (eqb b 0x72 || eqb b 0x74))))))
 -- e = %x65 / %x45
 inClass Exponent b = eqb b 0x65 || eqb b 0x45
 -- minus / plus
@@ -159,7 +161,8 @@ openedAt s at named = case (tokenAt s (closeOf named) at) (λ n. Empty n named) 
 
 -- begin-array, begin-object, or what begins with neither
 abbrev pub startAt : Bytes → Place → Start
-startAt s at = case (tokenAt s 0x5B at) (λ n. openedAt s n false) (case (tokenAt s 0x7B at) (λ n. openedAt s n true) Leaf)
+startAt s at =
+    case (tokenAt s 0x5B at) (λ n. openedAt s n false) (case (tokenAt s 0x7B at) (λ n. openedAt s n true) Leaf)
 
 -- member = string name-separator value: the place of the value
 abbrev pub headAt : (s : Bytes) (at : Place) (q : Bool) → Out

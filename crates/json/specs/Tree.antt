@@ -1,5 +1,5 @@
--- RFC 8259, sections 2 to 5: a text read into a tree, whose leaves are places in the text, each a start and a length. Every later rule is
--- defined on the tree.
+-- RFC 8259, sections 2 to 5: a text read into a tree, whose leaves are places in the text, each a start and a length.
+-- Every later rule is defined on the tree.
 use Prim.Native.Nat.{ℕ, zero, suc, _+_, _-_}
 use mathlib.Core.List.{List}
 use mathlib.Core.Bool.{Bool, true, false}
@@ -30,7 +30,8 @@ mutual
     arr : Items → Json
     obj : Items → Json
 
-  -- `item p v t ts`: the item that begins at p, in an object with its name's quotation mark, has the value t, which begins at v; then ts
+  -- `item p v t ts`: the item that begins at p, in an object with its name's quotation mark, has the value t, which
+  -- begins at v; then ts
   pub data Items : Type 0 where
     nil : Items
     item : ℕ → ℕ → Json → Items → Items
@@ -64,7 +65,8 @@ follow f Wrong rest = none
 unfoldable pub itemsAt : (value : ℕ → Got Json) (s : Bytes) (named : Bool) (f : ℕ) (at : Place) → Got Items
 itemsAt value s named zero at = none
 itemsAt value s named (suc f) at =
-    case (headAt s at named) (λ v. bind (value v) λ t n. follow (item at v t) (nextAt s n named) (itemsAt value s named f)) none
+    case (headAt s at named) (λ v. bind (value v) λ t n. follow (item at v t) (nextAt s n named)
+    (itemsAt value s named f)) none
 
 abbrev pub node : Bool → Items → Json
 node true ts = obj ts

@@ -1,6 +1,7 @@
 // RFC 8259, sections 3, 6 and 7: literals, numbers, and the characters of a string.
 ghost use mathlib.Core.Path.{_≡_};
-ghost use Rattle.json.specs.Grammar.{literalAt, digitsAt, intAt, fracAt, expAt, numberAt, hexAt, escapedAt, charsAt};
+ghost use Rattle.json.specs.Grammar.{literalAt, digitsAt, intAt, fracAt, expAt, numberAt, hexAt, escapedAt};
+ghost use Rattle.json.specs.Grammar.{charsAt};
 use crate::Class;
 use crate::Out;
 use crate::classes;

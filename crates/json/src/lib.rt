@@ -1,8 +1,9 @@
-// RFC 8259's grammar by recursive descent, with at most DEPTH brackets and braces open at once (01, row 3), and the calls by which a
-// text is walked. A place may be any number: past the end stands 0, which no rule takes.
+// RFC 8259's grammar by recursive descent, with at most DEPTH brackets and braces open at once (01, row 3), and the
+// calls by which a text is walked. A place may be any number: past the end stands 0, which no rule takes.
 ghost use mathlib.Core.Path.{_≡_};
 ghost use Prim.Native.Nat.{_<_};
-ghost use Rattle.json.specs.Grammar.{isBetween, wsAt, stringAt, isSpelling, scalarAt, closeOf, openedAt, startAt, headAt, nextAt};
+ghost use Rattle.json.specs.Grammar.{isBetween, wsAt, stringAt, isSpelling, scalarAt, closeOf, openedAt, startAt};
+ghost use Rattle.json.specs.Grammar.{headAt, nextAt};
 ghost use Rattle.json.specs.Tree.{endOf, onLeaf, treeAt};
 
 mod classes;
@@ -11,7 +12,8 @@ mod leaves;
 // The most brackets and braces that may be open at once.
 pub const DEPTH: usize = 8;
 
-// The classes of bytes that the rules name; `Byte` is one byte. Public for the proofs of other crates: no call takes one.
+// The classes of bytes that the rules name; `Byte` is one byte. Public for the proofs of other crates: no call takes
+// one.
 pub enum Class {
     Space,
     Digit,
@@ -96,8 +98,8 @@ fn leaf(s: &[u8], at: usize) -> Out
     }
 }
 
-// What begins at a place: a value that holds none; brackets or braces (true) around nothing, and the place after them; or brackets or
-// braces around items, and the place of the first.
+// What begins at a place: a value that holds none; brackets or braces (true) around nothing, and the place after them;
+// or brackets or braces around items, and the place of the first.
 pub enum Start {
     Leaf,
     Empty(usize, bool),

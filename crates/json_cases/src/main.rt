@@ -1,6 +1,6 @@
-// Of each line of standard input the lowest of rows 1 to 4 that holds of it as a text, and the lowest of rows 1 to 8 that holds of it as a
-// message; 0 for none. A line ends at 0A, which is no part of it; a last line without it counts if it is not empty. Of a longer line the
-// first 65,536 bytes are kept: they are row 1 too.
+// Of each line of standard input the lowest of rows 1 to 4 that holds of it as a text, and the lowest of rows 1 to 8
+// that holds of it as a message; 0 for none. A line ends at 0A, which is no part of it; a last line without it counts
+// if it is not empty. Of a longer line the first 65,536 bytes are kept: they are row 1 too.
 use libc::STDOUT_FILENO;
 
 fn show(text: u8, message: u8) {

@@ -3,7 +3,8 @@ use mathlib.Core.Path.{_≡_, refl}
 use mathlib.Core.Bool.{true, false}
 use mathlib.Core.Logic.{_↔_, inr}
 use mathlib.Core.Option.{none, some}
-use mathlib.Core.List.{List, [], _∷_, _++_, map, append-nil, List·Memᴰ·head, List·Memᴰ·not-nil, Memᴰ·map, Memᴰ·of-map, Memᴰ·cast}
+use mathlib.Core.List.{List, [], _∷_, _++_, map, append-nil, List·Memᴰ·head, List·Memᴰ·not-nil, Memᴰ·map, Memᴰ·of-map}
+use mathlib.Core.List.{Memᴰ·cast}
 use Prim.Native.Nat.{ℕ, zero, suc}
 use lib.IntN.{ℤ, pos, negsuc}
 use lib.ListN.{replicate}
@@ -82,8 +83,9 @@ offers =
     ∷ note 1
     ∷ []
 
--- a regular event; a refused offer; a tile; the event again; an ephemeral one; the tile at the same time with a higher id; with a
--- lower id; earlier; at -7200; later; a regular event and another tile that lack room; a held event, though all slots are in use
+-- a regular event; a refused offer; a tile; the event again; an ephemeral one; the tile at the same time with a higher
+-- id; with a lower id; earlier; at -7200; later; a regular event and another tile that lack room; a held event, though
+-- all slots are in use
 abbrev answers : List Verdict
 answers =
     stored
@@ -170,7 +172,8 @@ example-B : end Toy (relayB Toy 4 4 historyA historyB) ≡ event 2 (0 ∷ []) �
 unfolding run after verdict sameBytes
 example-B = refl
 
--- Were neither moment the end of a history, an event could come from nowhere: each relay is told of one that no history has.
+-- Were neither moment the end of a history, an event could come from nowhere: each relay is told of one that no history
+-- has.
 abbrev nowhere : Relay Toy
 nowhere = record { capacity = 2; history = []; early = note 1 ∷ []; late = [] }
 

@@ -3,12 +3,14 @@ use mathlib.Core.Path.{_≡_, refl, sym, ap, _∙_}
 use mathlib.Core.Bool.{Bool, true, false, cond, not}
 use mathlib.Core.Logic.{_⊎_, inl, inr, ⊎-elim, _≢_}
 use mathlib.Core.Option.{none, some}
-use mathlib.Core.List.{List, [], _∷_, List·Memᴰ·head, List·Memᴰ·tail, List·Memᴰ·not-nil, List·Memᴰ·cases-cons, Memᴰ·cast}
+use mathlib.Core.List.{List, [], _∷_, List·Memᴰ·head, List·Memᴰ·tail, List·Memᴰ·not-nil, List·Memᴰ·cases-cons}
+use mathlib.Core.List.{Memᴰ·cast}
 use Prim.Native.Nat.{ℕ}
 use native.Mathlib.Omega.{arith}
 use lib.Dec.{T, T-not}
 use Rattle.law.specs.Lists.{_∈_, any, store, Once}
-use Rattle.law.specs.Table.{Class, ephemeral, regular, keyed, Events, Laws, isEphemeral, shareKey, isStored, firstVerdict}
+use Rattle.law.specs.Table.{Class, ephemeral, regular, keyed, Events, Laws, isEphemeral, shareKey, isStored}
+use Rattle.law.specs.Table.{firstVerdict}
 use Rattle.law.specs.Table.{Table, Offer, hasId, hasKey, hasKeyNewer, Valid, IdPremise, WinsAs, Wins}
 use Rattle.law.proofs.Lists.{either, and-both, and-left, and-right, any-yes, any-no, once-same}
 use Rattle.law.proofs.Lists.{store-in, store-keeps, store-from, store-pairwise}

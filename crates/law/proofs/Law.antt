@@ -47,7 +47,8 @@ module _ (E : Events) (L : Laws E) where
       go regular w = tt
       go (keyed k) w = λ f vf. w f (sub f vf)
 
-  -- a list that leaves the set of another list ps: its valid events are some of those of ps, among them all that win in ps
+  -- a list that leaves the set of another list ps: its valid events are some of those of ps, among them all that win in
+  -- ps
   pub record Enough (os ps : List (Offer E)) : Type 0 where
     pub among : (e : Event) → Valid E e os → Valid E e ps
     pub winners : (e : Event) → Wins E e ps → Valid E e os

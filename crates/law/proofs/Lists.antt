@@ -2,7 +2,8 @@
 use mathlib.Core.Path.{_≡_, refl, sym, ap, _∙_}
 use mathlib.Core.Bool.{Bool, true, false, cond, not, _||_, _&&_}
 use mathlib.Core.Logic.{_↔_, _⊎_, inl, inr, ⊎-elim, _≢_}
-use mathlib.Core.List.{List, [], _∷_, _++_, List·Memᴰ·head, List·Memᴰ·tail, List·Memᴰ·not-nil, List·Memᴰ·cases-cons, Memᴰ·cast}
+use mathlib.Core.List.{List, [], _∷_, _++_, List·Memᴰ·head, List·Memᴰ·tail, List·Memᴰ·not-nil, List·Memᴰ·cases-cons}
+use mathlib.Core.List.{Memᴰ·cast}
 use Prim.Native.Nat.{zero, suc, _<_}
 use native.Mathlib.Omega.{arith}
 use lib.Dec.{T, T-not}
@@ -121,7 +122,8 @@ module _ {A : Type 0} (p : A → Bool) where
         go true ih t = absurd t
         go false ih t = ap (x ∷_) (ih t)
 
-    -- entries stay related pairwise if a takes the relations of the entry that it replaces, and those left are related to a
+    -- entries stay related pairwise if a takes the relations of the entry that it replaces, and those left are related
+    -- to a
     pub store-pairwise : (R : A → A → Type 0) (xs : List A)
         → ((x y : A) → x ∈ xs → y ∈ xs → T (p x) → R x y → R a y)
         → ((x : A) → x ∈ xs → (T (p x) → ⊥) → R x a)
@@ -213,7 +215,8 @@ module _ {A : Type 0} where
 
 -- ---- the count of different entries
 
--- A list whose entries f tells apart, and which f takes to the entries of ys and to no others, is as long as ys has different entries.
+-- A list whose entries f tells apart, and which f takes to the entries of ys and to no others, is as long as ys has
+-- different entries.
 module _ {A B : Type 0} (f : A → B) (same : B → B → Bool) (eq : (a b : B) → T (same a b) ↔ (a ≡ b)) where
   -- f takes xs into ys, and onto it
   abbrev Into : List A → List B → Type 0

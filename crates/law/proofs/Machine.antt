@@ -3,7 +3,8 @@ use mathlib.Core.Path.{_≡_, refl, sym, ap, ap₂, _∙_}
 use mathlib.Core.Bool.{not, _||_}
 use mathlib.Core.Logic.{inl, inr, ⊎-elim}
 use mathlib.Core.Option.{some}
-use mathlib.Core.List.{List, [], _∷_, _++_, map, map-append, List·Memᴰ·head, List·Memᴰ·tail, List·Memᴰ·not-nil, List·Memᴰ·cases-cons, Memᴰ·map, Memᴰ·of-map, Memᴰ·cast}
+use mathlib.Core.List.{List, [], _∷_, _++_, map, map-append, List·Memᴰ·head, List·Memᴰ·tail, List·Memᴰ·not-nil}
+use mathlib.Core.List.{List·Memᴰ·cases-cons, Memᴰ·map, Memᴰ·of-map, Memᴰ·cast}
 use Prim.Native.Nat.{ℕ}
 use native.Mathlib.Omega.{arith}
 use lib.Dec.{T}
@@ -12,7 +13,8 @@ use Rattle.law.specs.Lists.{_∈_}
 use Rattle.law.specs.Table.{Events, Laws, isNoRoom, Offer, verdict, after, Valid, Held, IdPremise, Settled}
 use Rattle.law.specs.Signature.{Slot, withSignature, event, withoutSignature}
 use Rattle.law.specs.Demand3.{Machine, view, judged, runOn, answersOn, lacksOn, NoneLacksOn}
-use Rattle.law.specs.Demand3.{HeldSetOn, BeginningsOn, OrderFreeOn, RoomLawOn, StoredBy, SignatureStoredOn, SignatureStaysOn}
+use Rattle.law.specs.Demand3.{HeldSetOn, BeginningsOn, OrderFreeOn, RoomLawOn, StoredBy, SignatureStoredOn}
+use Rattle.law.specs.Demand3.{SignatureStaysOn}
 use Rattle.law.specs.Demand3.{RelayOn, toldOn, momentOn, endOn, FitsOn, TellsOn, ExchangeOn}
 use Rattle.law.specs.Demand3.{RelaysAgreeOn, RelaysFitOn, ExchangesOn, Demand3On}
 use Rattle.law.proofs.Run.{run, verdicts, lacks}
@@ -26,8 +28,8 @@ use Rattle.law.proofs.Signature.{run-event, lacks-event, signature-stay
 module _ (E : Events) (Sig : Type 0) (M : Machine E Sig) where
   open Machine M using (State, Offering, Fresh, answer, next, verdictOf, capacity, slots, judge, AsParts)
 
-  -- Good is what is known of the tables that lists of offers lead to: a fresh table has it and holds nothing, offers keep it, and one
-  -- offer to a good table does what the definition says
+  -- Good is what is known of the tables that lists of offers lead to: a fresh table has it and holds nothing, offers
+  -- keep it, and one offer to a good table does what the definition says
   pub record Faithful (Good : State → Type 0) : Type 0 where
     pub fresh : (b : State) → Fresh b → Good b
     pub empty : (b : State) → Fresh b → slots b ≡ []

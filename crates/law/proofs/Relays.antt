@@ -1,7 +1,8 @@
 -- Demand 3 on two relays, each a capacity and its lists of offers.
 use mathlib.Core.Path.{_≡_, ap, _∙_}
 use mathlib.Core.Logic.{_↔_, _⊎_, inl, inr, ⊎-elim, ⊎-swap}
-use mathlib.Core.List.{List, [], _++_, append-nil, append-assoc, List·Memᴰ·append-cases, Memᴰ·append-left, Memᴰ·append-right}
+use mathlib.Core.List.{List, [], _++_, append-nil, append-assoc, List·Memᴰ·append-cases, Memᴰ·append-left}
+use mathlib.Core.List.{Memᴰ·append-right}
 use Prim.Native.Nat.{ℕ, _≤_}
 use native.Mathlib.Omega.{arith}
 use lib.ListN.{length}
@@ -9,7 +10,8 @@ use Rattle.law.specs.Table.{Events, Laws, Table, Offer, Valid, IdPremise
 use Rattle.law.proofs.Run.{run, NoneLacks}
 use Rattle.law.proofs.Held.{puts}
 use Rattle.law.proofs.Room.{puts-grow, puts-append, fits-run, short-fits}
-use Rattle.law.proofs.Law.{settled-same, settled-count, ids-among, wins-among, Enough, enough-count, beginning-fits, held-set, enough-law}
+use Rattle.law.proofs.Law.{settled-same, settled-count, ids-among, wins-among, Enough, enough-count}
+use Rattle.law.proofs.Law.{beginning-fits, held-set, enough-law}
 
 -- ---- two relays, as in specs/Demand3
 
@@ -54,8 +56,8 @@ module _ (E : Events) where
 module _ (E : Events) (L : Laws E) where
   open Events E using (Event)
 
-  -- A relay that was offered gs and then told, as zs, what another relay holds after os has been offered enough, if gs and os together
-  -- have all valid events.
+  -- A relay that was offered gs and then told, as zs, what another relay holds after os has been offered enough, if gs
+  -- and os together have all valid events.
   pub told-enough : (M : ℕ) (gs zs os all : List (Offer E)) → IdPremise E all → NoneLacks E M os
       → ((e : Event) → Valid E e gs → Valid E e all) → ((e : Event) → Valid E e os → Valid E e all)
       → ((e : Event) → Valid E e all → Valid E e gs ⊎ Valid E e os)

@@ -9,7 +9,8 @@ use native.Mathlib.Omega.{arith}
 use lib.Dec.{T, T-not, leb, leb→le, nleb→lt}
 use lib.ListN.{length}
 use Rattle.law.specs.Lists.{_∈_, any, store, different}
-use Rattle.law.specs.Table.{Class, ephemeral, regular, keyed, Events, Laws, isEphemeral, isNoRoom, isStored, firstVerdict}
+use Rattle.law.specs.Table.{Class, ephemeral, regular, keyed, Events, Laws, isEphemeral, isNoRoom, isStored}
+use Rattle.law.specs.Table.{firstVerdict}
 use Rattle.law.specs.Table.{Table, Offer, hasId, hasKey, hasKeyNewer, verdict, after}
 use Rattle.law.specs.Table.{Valid, IdPremise, idIfRegular, keyIfKeyed, regularIds, keys, slotsNeeded}
 use Rattle.law.proofs.Run.{run, verdicts, lacks, NoneLacks}

@@ -1,4 +1,5 @@
--- Lists of offers to a table that is given as the list of its events: what Machine's claims come to once the table's form is left aside.
+-- Lists of offers to a table that is given as the list of its events: what Machine's claims come to once the table's
+-- form is left aside.
 use mathlib.Core.Bool.{Bool, not}
 use mathlib.Core.List.{List, [], _∷_}
 use Prim.Native.Nat.{ℕ}

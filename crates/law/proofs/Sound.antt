@@ -1,4 +1,5 @@
--- An offer leaves a table with no ephemeral kind and no id or key twice as such, and a held event gives way only to a newer one of its key.
+-- An offer leaves a table with no ephemeral kind and no id or key twice as such, and a held event gives way only to a
+-- newer one of its key.
 use mathlib.Core.Path.{_≡_, refl, sym, ap, _∙_}
 use mathlib.Core.Bool.{Bool, true, false, cond, not}
 use mathlib.Core.Logic.{_⊎_, inl, inr, ⊎-elim, _≢_}
@@ -7,7 +8,8 @@ use mathlib.Core.List.{List, [], _∷_, _++_, List·Memᴰ·not-nil}
 use Prim.Native.Nat.{ℕ}
 use lib.Dec.{T}
 use Rattle.law.specs.Lists.{_∈_, any, store, Pairwise, Once}
-use Rattle.law.specs.Table.{Class, ephemeral, regular, keyed, Events, Laws, Verdict, refused, wasEphemeral, duplicate, older, stored, noRoom, isEphemeral, shareKey, isStored, firstVerdict}
+use Rattle.law.specs.Table.{Class, ephemeral, regular, keyed, Events, Laws, Verdict, refused, wasEphemeral}
+use Rattle.law.specs.Table.{duplicate, older, stored, noRoom, isEphemeral, shareKey, isStored, firstVerdict}
 use Rattle.law.specs.Table.{Table, Offer, hasId, hasKey, hasKeyNewer, lacksSlot, verdict, after}
 use Rattle.law.proofs.Run.{run}
 use Rattle.law.proofs.Lists.{store-from, store-pairwise, once-same}

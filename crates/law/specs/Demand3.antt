@@ -1,4 +1,5 @@
--- The claims of demand 3 for a relay in any form, as a table in bytes. Quotes are from demand 3 where nothing else is said.
+-- The claims of demand 3 for a relay in any form, as a table in bytes. Quotes are from demand 3 where nothing else is
+-- said.
 use mathlib.Core.Path.{_≡_}
 use mathlib.Core.Bool.{Bool, not}
 use mathlib.Core.Logic.{_↔_, _⊎_}
@@ -8,7 +9,8 @@ use Prim.Native.Nat.{ℕ, _≤_, _<_}
 use lib.Dec.{T}
 use lib.ListN.{length}
 use Rattle.law.specs.Lists.{_∈_, any}
-use Rattle.law.specs.Table.{Events, Verdict, stored, isNoRoom, Table, Offer, IdPremise, SameValid, SameHeld, Settled, slotsNeeded}
+use Rattle.law.specs.Table.{Events, Verdict, stored, isNoRoom, Table, Offer, IdPremise, SameValid, SameHeld}
+use Rattle.law.specs.Table.{Settled, slotsNeeded}
 use Rattle.law.specs.Signature.{Slot, withSignature, event, withoutSignature}
 
 pub record Machine (E : Events) (Sig : Type 0) : Type 1 where
@@ -41,7 +43,8 @@ module _ (E : Events) (Sig : Type 0) (M : Machine E Sig) where
   abbrev pub judged : List Offering → List (Offer E)
   judged os = map (withoutSignature E Sig) (map judge os)
 
-  -- "the first made to a fresh table and each other to the table the last one left". 01: "Nobody else writes the table meanwhile."
+  -- "the first made to a fresh table and each other to the table the last one left". 01: "Nobody else writes the table
+  -- meanwhile."
   unfoldable pub runOn : State → List Offering → State
   runOn b [] = b
   runOn b (o ∷ os) = runOn (next b o) os
@@ -67,18 +70,20 @@ module _ (E : Events) (Sig : Type 0) (M : Machine E Sig) where
 
   -- 01: "every beginning of a list is a list too, so it holds after each offer"
   abbrev pub BeginningsOn : Type 0
-  BeginningsOn = (b : State) (os ps : List Offering) → Fresh b → IdPremise E (judged (os ++ ps)) → NoneLacksOn b (os ++ ps) →
+  BeginningsOn = (b : State) (os ps : List Offering) → Fresh b → IdPremise E (judged (os ++ ps)) →
+      NoneLacksOn b (os ++ ps) →
       Settled E (view (runOn b os)) (judged os)
 
-  -- "any other list with the same valid events from a fresh table of no smaller capacity, whatever their order and repetition,
-  -- leaves an equal set in as many slots"
+  -- "any other list with the same valid events from a fresh table of no smaller capacity, whatever their order and
+  -- repetition, leaves an equal set in as many slots"
   abbrev pub OrderFreeOn : Type 0
   OrderFreeOn = (b c : State) (os ps : List Offering) → Fresh b → Fresh c → IdPremise E (judged os) → NoneLacksOn b os →
       SameValid E (judged os) (judged ps) → capacity b ≤ capacity c →
-      NoneLacksOn c ps × SameHeld E (view (runOn c ps)) (view (runOn b os)) × (length (slots (runOn c ps)) ≡ length (slots (runOn b os)))
+      NoneLacksOn c ps × SameHeld E (view (runOn c ps)) (view (runOn b os)) ×
+      (length (slots (runOn c ps)) ≡ length (slots (runOn b os)))
 
-  -- "Given the id premise alone, some offer of a list lacks room exactly when its distinct valid regular ids and distinct valid keys
-  -- together outnumber the slots." 01: "some offer gives 12 exactly when the sum is over N"
+  -- "Given the id premise alone, some offer of a list lacks room exactly when its distinct valid regular ids and
+  -- distinct valid keys together outnumber the slots." 01: "some offer gives 12 exactly when the sum is over N"
   abbrev pub RoomLawOn : Type 0
   RoomLawOn = (b : State) (os : List Offering) → Fresh b → IdPremise E (judged os) →
       T (lacksOn b os) ↔ (capacity b < slotsNeeded E (judged os))
@@ -96,7 +101,8 @@ module _ (E : Events) (Sig : Type 0) (M : Machine E Sig) where
 
   -- the signature held is that of such an offer
   abbrev pub SignatureStoredOn : Type 0
-  SignatureStoredOn = (b : State) (os : List Offering) (s : Slot E Sig) → Fresh b → s ∈ slots (runOn b os) → StoredBy b os s
+  SignatureStoredOn = (b : State) (os : List Offering) (s : Slot E Sig) → Fresh b → s ∈ slots (runOn b os) →
+      StoredBy b os s
 
   -- 01: "the signature first stored stays"
   abbrev pub SignatureStaysOn : Type 0
@@ -105,8 +111,9 @@ module _ (E : Events) (Sig : Type 0) (M : Machine E Sig) where
 
   -- ---- Two relays
 
-  -- 01: "Two relays have a table and a list each, their capacities alike or not. A relay's history is its list before the exchange."
-  -- The offers of the exchange are early up to the moment at which this relay's table is taken for the other, and late after it.
+  -- 01: "Two relays have a table and a list each, their capacities alike or not. A relay's history is its list before
+  -- the exchange." The offers of the exchange are early up to the moment at which this relay's table is taken for the
+  -- other, and late after it.
   pub record RelayOn : Type 0 where
     pub table : State
     pub fresh : Fresh table
@@ -129,8 +136,8 @@ module _ (E : Events) (Sig : Type 0) (M : Machine E Sig) where
   abbrev pub FitsOn : RelayOn → Type 0
   FitsOn A = NoneLacksOn (A .table) (A .history ++ toldOn A)
 
-  -- the offers os tell the slots xs, 01: "as parts .. each such event at least once, in any order, with the id, text and signature held
-  -- there, and nothing else"
+  -- the offers os tell the slots xs, 01: "as parts .. each such event at least once, in any order, with the id, text
+  -- and signature held there, and nothing else"
   pub record TellsOn (xs : List (Slot E Sig)) (os : List Offering) : Type 0 where
     pub each : (s : Slot E Sig) → s ∈ xs → (o : Offering) × (o ∈ os) × AsParts o s
     pub no-other : (o : Offering) → o ∈ os → (s : Slot E Sig) × (s ∈ xs) × AsParts o s
@@ -145,16 +152,19 @@ module _ (E : Events) (Sig : Type 0) (M : Machine E Sig) where
   abbrev pub bothOn : RelayOn → RelayOn → List (Offer E)
   bothOn A B = judged (A .history) ++ judged (B .history)
 
-  -- "Two relays that offer each other, as parts, all they hold end with equal sets, if neither lacks room and the id premise holds over
-  -- both histories." 01: "Both end with the set that demand 3 gives for the valid events of both histories together."
+  -- "Two relays that offer each other, as parts, all they hold end with equal sets, if neither lacks room and the id
+  -- premise holds over both histories." 01: "Both end with the set that demand 3 gives for the valid events of both
+  -- histories together."
   abbrev pub RelaysAgreeOn : Type 0
   RelaysAgreeOn = (A B : RelayOn) → ExchangeOn A B → IdPremise E (bothOn A B) → FitsOn A → FitsOn B →
-      Settled E (view (endOn A)) (bothOn A B) × Settled E (view (endOn B)) (bothOn A B) × SameHeld E (view (endOn A)) (view (endOn B))
+      Settled E (view (endOn A)) (bothOn A B) × Settled E (view (endOn B)) (bothOn A B) ×
+      SameHeld E (view (endOn A)) (view (endOn B))
 
   -- neither lacks room exactly when the valid events of both histories fit both
   abbrev pub RelaysFitOn : Type 0
   RelaysFitOn = (A B : RelayOn) → ExchangeOn A B → IdPremise E (bothOn A B) →
-      (FitsOn A × FitsOn B) ↔ ((slotsNeeded E (bothOn A B) ≤ capacity (A .table)) × (slotsNeeded E (bothOn A B) ≤ capacity (B .table)))
+      (FitsOn A × FitsOn B) ↔ ((slotsNeeded E (bothOn A B) ≤ capacity (A .table)) ×
+      (slotsNeeded E (bothOn A B) ≤ capacity (B .table)))
 
   -- a relay whose moment is the end of its history
   abbrev pub atItsEnd : (b : State) → Fresh b → (history told : List Offering) → RelayOn

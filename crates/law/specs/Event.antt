@@ -26,9 +26,12 @@ earlier a b = ltZ a b
 
 -- 01: "between equal times the lower id is newer"; "We apply that tie rule to addressable kinds too."
 abbrev pub newer : (time : List ℕ → ℤ) (e f : Event) → Bool
-newer time e f = earlier (time (f .text)) (time (e .text)) || (not (earlier (time (e .text)) (time (f .text))) && lower (e .id) (f .id))
+newer time e f =
+    earlier (time (f .text)) (time (e .text)) ||
+    (not (earlier (time (e .text)) (time (f .text))) && lower (e .id) (f .id))
 
-abbrev pub events : (Key : Type 0) (sameKey : Key → Key → Bool) (class : List ℕ → Class Key) (time : List ℕ → ℤ) → Events
+abbrev pub events : (Key : Type 0) (sameKey : Key → Key → Bool) (class : List ℕ → Class Key) (time : List ℕ → ℤ) →
+    Events
 events Key sameKey class time = record {
   Event = Event;
   Id = List ℕ;

@@ -1,5 +1,5 @@
--- The table of a relay as the list of the events in its slots; what an offer does, and what a list of offers should leave.
--- In the order of 01, "Kinds and keys" and "The table"; quotes are from 01 where nothing else is said.
+-- The table of a relay as the list of the events in its slots; what an offer does, and what a list of offers should
+-- leave. In the order of 01, "Kinds and keys" and "The table"; quotes are from 01 where nothing else is said.
 use mathlib.Core.Path.{_≡_}
 use mathlib.Core.Bool.{Bool, true, false, cond, not, _&&_}
 use mathlib.Core.Logic.{_↔_, _⊎_, _≢_}
@@ -12,7 +12,8 @@ use Rattle.law.specs.Lists.{_∈_, any, store, different, Once}
 
 -- ---- Kinds and keys
 
--- "Replaceable .. Ephemeral .. Addressable .. All other kinds are regular here". Keyed: replaceable or addressable, with its key.
+-- "Replaceable .. Ephemeral .. Addressable .. All other kinds are regular here". Keyed: replaceable or addressable,
+-- with its key.
 pub data Class (Key : Type 0) : Type 0 where
   ephemeral regular : Class Key
   keyed : Key → Class Key
@@ -72,8 +73,8 @@ module _ (E : Events) where
 pub data Verdict : Type 0 where
   refused wasEphemeral duplicate older stored noRoom : Verdict
 
--- "first that applies: ephemeral (nothing stored); duplicate, id held; older, a newer event with its key is held; stored",
--- and where it would be stored but no slot is left, row 12
+-- "first that applies: ephemeral (nothing stored); duplicate, id held; older, a newer event with its key is held;
+-- stored", and where it would be stored but no slot is left, row 12
 abbrev pub firstVerdict : (isEphemeral idHeld newerHeld lacksSlot : Bool) → Verdict
 firstVerdict true i n l = wasEphemeral
 firstVerdict false true n l = duplicate
@@ -101,7 +102,8 @@ isNoRoom noRoom = true
 module _ (E : Events) where
   open Events E using (Event, Id, Key, idOf, classOf, sameId, sameKey, newer)
 
-  -- "A valid event is one offered, as a message or as parts, that none of rows 1 to 10 refuses." None: an offer that they refuse
+  -- "A valid event is one offered, as a message or as parts, that none of rows 1 to 10 refuses." None: an offer that
+  -- they refuse
   abbrev pub Offer : Type 0
   Offer = Option Event
 
@@ -116,7 +118,8 @@ module _ (E : Events) where
   -- the verdict of an offer to a table of capacity N
   unfoldable pub verdict : ℕ → Table E → Offer → Verdict
   verdict N t none = refused
-  verdict N t (some e) = firstVerdict (isEphemeral (classOf e)) (any (hasId E e) t) (any (hasKeyNewer e) t) (lacksSlot N t e)
+  verdict N t (some e) = firstVerdict (isEphemeral (classOf e)) (any (hasId E e) t) (any (hasKeyNewer e) t)
+      (lacksSlot N t e)
 
   -- the table after it: "stored, over the slot with its key, else in slot C"; with any other verdict as it was
   unfoldable pub after : ℕ → Table E → Offer → Table E

@@ -13,7 +13,8 @@ noLine = record { left = 0x1000000000000; n = 0; at = 0; end = 0 }
 pub record NoEnd (l : List ℕ) (n : ℕ) : Type 0 where
   pub none : (i : ℕ) → i < n → getD l i 0 ≡ 10 → ⊥
 
--- after the line `before`: both buffers keep their lengths, the line lies in its own (what does not fit is dropped), and fewer are left
+-- after the line `before`: both buffers keep their lengths, the line lies in its own (what does not fit is dropped),
+-- and fewer are left
 pub record IsLine (line chunk : List ℕ) (before r : Line) (lineAfter chunkAfter : List ℕ) : Type 0 where
   pub kept : length lineAfter ≡ length line
   pub chunkKept : length chunkAfter ≡ length chunk

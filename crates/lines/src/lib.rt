@@ -1,5 +1,5 @@
-// Standard input by lines, one at a call: 0A ends a line and is no part of it; a last line without it counts if it is not empty. And
-// standard output by lines. A program reads so:
+// Standard input by lines, one at a call: 0A ends a line and is no part of it; a last line without it counts if it is
+// not empty. And standard output by lines. A program reads so:
 //
 //   let mut l = lines::next(&mut line, &mut chunk, lines::none());
 //   while 0 < l.left { ..; l = lines::next(&mut line, &mut chunk, l); }
@@ -12,8 +12,8 @@ ghost use Rattle.lines.specs.Line.{noLine, NoEnd, IsLine};
 use libc::STDIN_FILENO;
 use libc::STDOUT_FILENO;
 
-// How many lines are left to read with this one, 0 where there was none; how many bytes of it the buffer holds; and what of the chunk is still
-// to be taken. A line that fills the buffer may have been longer.
+// How many lines are left to read with this one, 0 where there was none; how many bytes of it the buffer holds; and
+// what of the chunk is still to be taken. A line that fills the buffer may have been longer.
 pub struct Line {
     pub left: u64,
     pub n: usize,
@@ -29,7 +29,8 @@ struct Taken {
 
 fn push(line: &mut [u8], n: usize, b: u8) -> usize
     requires { ⌜ (n ≤ length (now line)) × NoEnd (now line) n × (b ≡ 10 → ⊥) ⌝ }
-    ensures { λ r. ⌜ (r ≤ length (now (line .entry))) × (length (now (line .exit)) ≡ length (now (line .entry))) × NoEnd (now (line .exit)) r ⌝ }
+    ensures { λ r. ⌜ (r ≤ length (now (line .entry))) × (length (now (line .exit)) ≡ length (now (line .entry))) ×
+        NoEnd (now (line .exit)) r ⌝ }
 {
     if n < line.len() {
         line[n] = b;
@@ -41,7 +42,8 @@ fn push(line: &mut [u8], n: usize, b: u8) -> usize
 // Bytes of the chunk up to a line's end or its own.
 fn take(line: &mut [u8], n: usize, chunk: &[u8], at: usize, end: usize) -> Taken
     requires { ⌜ (n ≤ length (now line)) × NoEnd (now line) n ⌝ }
-    ensures { λ r. ⌜ (r .n ≤ length (now (line .entry))) × (length (now (line .exit)) ≡ length (now (line .entry))) × NoEnd (now (line .exit)) (r .n) ⌝ }
+    ensures { λ r. ⌜ (r .n ≤ length (now (line .entry))) × (length (now (line .exit)) ≡ length (now (line .entry))) ×
+        NoEnd (now (line .exit)) (r .n) ⌝ }
 {
     let mut k = n;
     let mut i = at;
@@ -137,7 +139,8 @@ pub fn next(line: &mut [u8], chunk: &mut [u8], r: Line) -> Line
     }
 }
 
-// The same, but of a line that fills the buffer only the refusal is written to standard output, and the line after it is taken.
+// The same, but of a line that fills the buffer only the refusal is written to standard output, and the line after it
+// is taken.
 pub fn next_within(line: &mut [u8], chunk: &mut [u8], r: Line, refusal: &[u8]) -> Line
     ensures { λ l. ⌜ IsLine (now (line .entry)) (now (chunk .entry)) r l (now (line .exit)) (now (chunk .exit)) ⌝ }
     ensures { λ l. ⌜ (0 < l .left → l .n < length (now (line .entry))) ⌝ }

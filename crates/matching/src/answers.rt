@@ -23,7 +23,8 @@ const HITS: usize = wire::MOST_SLOTS * wire::MOST_FILTERS;
 fn ask(table: &[u8], c: usize, m: &[u8], p: message::FilterParts, j: usize, hits: &mut [u8])
     requires { ⌜ (sound (now table) ≡ true) × (filterRow (now m) p ≡ 0) ⌝ }
     requires { ⌜ (c ≡ countOf (now table)) × (c ≤ mostSlots) × (j < mostFilters) × (c * 4 ≤ length (now hits)) ⌝ }
-    ensures { λ _. ⌜ Filled (now (table .entry)) (filterOf (now (m .entry)) p) j c (now (hits .entry)) (now (hits .exit)) ⌝ }
+    ensures { λ _. ⌜ Filled (now (table .entry)) (filterOf (now (m .entry)) p) j c (now (hits .entry))
+        (now (hits .exit)) ⌝ }
 {
     let mut places = [0usize; ROW_ROOM];
     let f = found::find(m, p, &mut places);
@@ -40,7 +41,8 @@ pub(crate) fn answered(
 ) -> query::Listing
     requires { ⌜ (sound (now table) ≡ true) × (filtersRow (now m) fs n ≡ 0) ⌝ }
     ensures { λ r. ⌜ r ≡ told (answerTo (now (table .entry)) (now (m .entry)) fs n) (now (row .entry)) ⌝ }
-    ensures { λ _. ⌜ now (row .exit) ≡ toldRow (answerTo (now (table .entry)) (now (m .entry)) fs n) (now (row .entry)) ⌝ }
+    ensures { λ _. ⌜ now (row .exit) ≡ toldRow (answerTo (now (table .entry)) (now (m .entry)) fs n) (now (row .entry))
+        ⌝ }
 {
     let c = wire::le_at(table, slots::COUNT_PLACE, 4) as usize;
     let mut hits = [0u8; HITS];

@@ -14,7 +14,9 @@ ghost use Rattle.message.specs.declared.Listed.the-variants.{At};
 ghost use Rattle.message.specs.Lent.{value5, onValue, valueAt, someSmall, inList, filterRow};
 ghost use Rattle.query.specs.Filter.{stringsIn, numbersIn, ifListed, filterOf};
 ghost use Rattle.matching.specs.Inner.Found.{spelledBy, numbersBy, filterBy};
-ghost use Rattle.matching.specs.Inner.Finds.{stringsRoom, kindsRoom, rowRoom, smallFrom, smallAt, conditionLetter, firstNamed, nextNamed, valuePlace, Finds, FindsMembers, FindsConditions};
+ghost use Rattle.matching.specs.Inner.Finds.{stringsRoom, kindsRoom, rowRoom, smallFrom, smallAt};
+ghost use Rattle.matching.specs.Inner.Finds.{conditionLetter, firstNamed, nextNamed, valuePlace, Finds};
+ghost use Rattle.matching.specs.Inner.Finds.{FindsMembers, FindsConditions};
 use crate::AUTHORS_PLACE;
 use crate::CONDITIONS_PLACE;
 use crate::Conditions;
@@ -51,7 +53,8 @@ fn strings_at(m: &[u8], v: usize, row: &mut [usize], at: usize) -> usize
     requires { ⌜ value5 (isArrayOf isString) (now m) v ≡ false ⌝ }
     requires { ⌜ onValue wrongList (valueAt (now m) v) ≡ false ⌝ }
     requires { ⌜ at + stringsRoom ≤ length (now row) ⌝ }
-    ensures { λ r. ⌜ Finds (spelledBy (now (m .entry))) (stringsIn (now (m .entry)) (treeAt (now (m .entry)) depth v)) stringsRoom (now (row .entry)) at r (now (row .exit)) ⌝ }
+    ensures { λ r. ⌜ Finds (spelledBy (now (m .entry))) (stringsIn (now (m .entry)) (treeAt (now (m .entry)) depth v))
+        stringsRoom (now (row .entry)) at r (now (row .exit)) ⌝ }
 {
     let mut x = matcher::first(m, v);
     let mut n: usize = 0;
@@ -101,7 +104,8 @@ fn numbers_at(m: &[u8], v: usize, row: &mut [usize], at: usize) -> usize
     requires { ⌜ onValue (someSmall (now m)) (valueAt (now m) v) ≡ false ⌝ }
     requires { ⌜ onValue wrongList (valueAt (now m) v) ≡ false ⌝ }
     requires { ⌜ at + kindsRoom ≤ length (now row) ⌝ }
-    ensures { λ r. ⌜ Finds numbersBy (numbersIn (now (m .entry)) (treeAt (now (m .entry)) depth v)) kindsRoom (now (row .entry)) at r (now (row .exit)) ⌝ }
+    ensures { λ r. ⌜ Finds numbersBy (numbersIn (now (m .entry)) (treeAt (now (m .entry)) depth v)) kindsRoom
+        (now (row .entry)) at r (now (row .exit)) ⌝ }
 {
     let mut x = matcher::first(m, v);
     let mut n: usize = 0;
@@ -226,7 +230,9 @@ fn string_members(m: &[u8], l: Listed, row: &mut [usize], at: usize) -> Members
     requires { ⌜ inList (value5 (isArrayOf isString) (now m)) l ≡ false ⌝ }
     requires { ⌜ inList (λ v. onValue wrongList (valueAt (now m) v)) l ≡ false ⌝ }
     requires { ⌜ at + stringsRoom ≤ length (now row) ⌝ }
-    ensures { λ r. ⌜ FindsMembers (spelledBy (now (m .entry))) (ifListed (λ v. stringsIn (now (m .entry)) (treeAt (now (m .entry)) depth v)) l) stringsRoom (now (row .entry)) at r (now (row .exit)) ⌝ }
+    ensures { λ r. ⌜ FindsMembers (spelledBy (now (m .entry)))
+        (ifListed (λ v. stringsIn (now (m .entry)) (treeAt (now (m .entry)) depth v)) l) stringsRoom (now (row .entry))
+        at r (now (row .exit)) ⌝ }
 {
     match l {
         Listed::Absent => Members::Absent,
@@ -240,7 +246,9 @@ fn number_members(m: &[u8], l: Listed, row: &mut [usize], at: usize) -> Members
     requires { ⌜ inList (λ v. onValue (someSmall (now m)) (valueAt (now m) v)) l ≡ false ⌝ }
     requires { ⌜ inList (λ v. onValue wrongList (valueAt (now m) v)) l ≡ false ⌝ }
     requires { ⌜ at + kindsRoom ≤ length (now row) ⌝ }
-    ensures { λ r. ⌜ FindsMembers numbersBy (ifListed (λ v. numbersIn (now (m .entry)) (treeAt (now (m .entry)) depth v)) l) kindsRoom (now (row .entry)) at r (now (row .exit)) ⌝ }
+    ensures { λ r. ⌜ FindsMembers numbersBy
+        (ifListed (λ v. numbersIn (now (m .entry)) (treeAt (now (m .entry)) depth v)) l) kindsRoom (now (row .entry)) at
+        r (now (row .exit)) ⌝ }
 {
     match l {
         Listed::Absent => Members::Absent,

@@ -1,5 +1,5 @@
-// A held slot of a sound table matched against a filter, and one filter asked of all held slots. The id's hex is written only where the filter
-// has ids, and the tags are looked for only where it has conditions.
+// A held slot of a sound table matched against a filter, and one filter asked of all held slots. The id's hex is
+// written only where the filter has ids, and the tags are looked for only where it has conditions.
 ghost use mathlib.Core.Path.{_≡_};
 ghost use mathlib.Core.Bool.{true, false};
 ghost use mathlib.Core.List.{map};
@@ -24,7 +24,8 @@ use crate::matcher;
 // Whether the id of the slot s, in hex, is in the list.
 fn id_listed(s: &[u8], ids: Members, m: &[u8], row: &[usize]) -> bool
     requires { ⌜ idSize ≤ length (now s) ⌝ }
-    ensures { λ r. ⌜ r ≡ isListed (given (spelledBy (now (m .entry))) (now (row .entry)) ids) (hexOf (idIn (now (s .entry)))) ⌝ }
+    ensures { λ r. ⌜ r ≡ isListed (given (spelledBy (now (m .entry))) (now (row .entry)) ids)
+        (hexOf (idIn (now (s .entry)))) ⌝ }
 {
     match ids {
         Members::Absent => true,
@@ -39,7 +40,9 @@ fn id_listed(s: &[u8], ids: Members, m: &[u8], row: &[usize]) -> bool
 // Whether the conditions hold of the tags in the text t, which stand after [0,"PUBKEY",TIME,KIND, .
 fn tags_hold(t: &[u8], time: i64, kind: u64, m: &[u8], row: &[usize], f: Known) -> bool
     requires { ⌜ value5 isTagsShape (now t) (72 + length (decimal time) + length (digits kind)) ≡ false ⌝ }
-    ensures { λ r. ⌜ r ≡ all (conditionHolds (lentTagsAt (now (t .entry)) (72 + length (decimal time) + length (digits kind)))) (map (conditionBy (now (m .entry)) (now (row .entry))) (take (f .n) (f .conditions))) ⌝ }
+    ensures { λ r. ⌜ r ≡ all (conditionHolds
+        (lentTagsAt (now (t .entry)) (72 + length (decimal time) + length (digits kind))))
+        (map (conditionBy (now (m .entry)) (now (row .entry))) (take (f .n) (f .conditions))) ⌝ }
 {
     if f.n == 0 {
         return true;
@@ -92,7 +95,8 @@ pub(crate) fn fill(
 )
     requires { ⌜ sound (now table) ≡ true ⌝ }
     requires { ⌜ (c ≤ countOf (now table)) × (c ≤ mostSlots) × (j < mostFilters) × (c * 4 ≤ length (now hits)) ⌝ }
-    ensures { λ _. ⌜ Filled (now (table .entry)) (filterBy (now (m .entry)) (now (row .entry)) f) j c (now (hits .entry)) (now (hits .exit)) ⌝ }
+    ensures { λ _. ⌜ Filled (now (table .entry)) (filterBy (now (m .entry)) (now (row .entry)) f) j c
+        (now (hits .entry)) (now (hits .exit)) ⌝ }
 {
     let mut k: usize = 0;
     while k < c {

@@ -1,5 +1,5 @@
-// Matching: whether an event matches a filter, and the answer of a REQ, in code. The definitions stand in query/specs and, for the steps of
-// the code, in specs/.
+// Matching: whether an event matches a filter, and the answer of a REQ, in code. The definitions stand in query/specs
+// and, for the steps of the code, in specs/.
 ghost use mathlib.Core.Path.{_≡_};
 ghost use Rattle.query.specs.Answer.{matchedRow, matched, matchNumber, listingRow, listed, listedRow, listingNumber};
 
@@ -13,8 +13,8 @@ mod several;
 
 use message::Bound;
 
-// The row that a filter's members are written to: two numbers for each string, one for each kind. ids stand in it from 0 on, and behind them
-// authors, kinds, and the members of the # conditions.
+// The row that a filter's members are written to: two numbers for each string, one for each kind. ids stand in it from
+// 0 on, and behind them authors, kinds, and the members of the # conditions.
 pub(crate) const STRINGS_ROOM: usize = wire::MOST_MEMBERS * 2;
 
 pub(crate) const KINDS_ROOM: usize = wire::MOST_MEMBERS;
@@ -64,8 +64,8 @@ pub(crate) enum Second {
     Not,
 }
 
-// The slots that a REQ with the first n filters is answered with, newest first: how many were written to the row, or the row of 01 that
-// refuses: 2 and 4 to 8 of the filters, then 11, then 13.
+// The slots that a REQ with the first n filters is answered with, newest first: how many were written to the row, or
+// the row of 01 that refuses: 2 and 4 to 8 of the filters, then 11, then 13.
 pub fn answer(
     table: &[u8],
     m: &[u8],
@@ -87,8 +87,8 @@ pub fn answer(
     answers::answered(table, m, fs, n, row)
 }
 
-// Whether the event of the parts p over b matches some of the first n filters, whose places lie in m; or the row of 01 that refuses: 2 and 4 to 8
-// of the event and of the filters, then 9.
+// Whether the event of the parts p over b matches some of the first n filters, whose places lie in m; or the row of 01
+// that refuses: 2 and 4 to 8 of the event and of the filters, then 9.
 pub fn matched(
     b: &[u8],
     p: message::EventParts,

@@ -85,7 +85,8 @@ fn second_string(b: &[u8], v: usize, letter: u8) -> Second
 // A # condition, whose members are the strings of m that the spans tell, holds of the tags of the array in b.
 fn holds(b: &[u8], tags: usize, letter: u8, m: &[u8], spans: &[usize]) -> bool
     requires { ⌜ value5 isTagsShape (now b) tags ≡ false ⌝ }
-    ensures { λ r. ⌜ r ≡ conditionHolds (lentTagsAt (now (b .entry)) tags) (asked letter (spelledBy (now (m .entry)) (now (spans .entry)))) ⌝ }
+    ensures { λ r. ⌜ r ≡ conditionHolds (lentTagsAt (now (b .entry)) tags)
+        (asked letter (spelledBy (now (m .entry)) (now (spans .entry)))) ⌝ }
 {
     let mut x = first(b, tags);
     let mut k: usize = 0;
@@ -112,7 +113,8 @@ fn holds(b: &[u8], tags: usize, letter: u8, m: &[u8], spans: &[usize]) -> bool
     false
 }
 
-// Whether two slices hold the same bytes. Past the first they are compared with no way out of the loop, so that the compiler takes many at a time.
+// Whether two slices hold the same bytes. Past the first they are compared with no way out of the loop, so that the
+// compiler takes many at a time.
 fn same_bytes(p: &[u8], q: &[u8]) -> bool
     ensures { λ r. ⌜ r ≡ sameBytes (now (p .entry)) (now (q .entry)) ⌝ }
 {
@@ -131,7 +133,8 @@ fn same_bytes(p: &[u8], q: &[u8]) -> bool
     same
 }
 
-// Whether a spelled string is one of those that the spans tell. Most are spelled by the same bytes; only where they are not, escapes are read.
+// Whether a spelled string is one of those that the spans tell. Most are spelled by the same bytes; only where they are
+// not, escapes are read.
 fn among(v: &[u8], m: &[u8], spans: &[usize]) -> bool
     ensures { λ r. ⌜ r ≡ isMember (spelledBy (now (m .entry)) (now (spans .entry))) (decode (now (v .entry))) ⌝ }
 {
@@ -213,7 +216,8 @@ pub(crate) fn all_hold(
     n: usize,
 ) -> bool
     requires { ⌜ value5 isTagsShape (now b) tags ≡ false ⌝ }
-    ensures { λ r. ⌜ r ≡ all (conditionHolds (lentTagsAt (now (b .entry)) tags)) (map (conditionBy (now (m .entry)) (now (row .entry))) (take n cs)) ⌝ }
+    ensures { λ r. ⌜ r ≡ all (conditionHolds (lentTagsAt (now (b .entry)) tags))
+        (map (conditionBy (now (m .entry)) (now (row .entry))) (take n cs)) ⌝ }
 {
     let mut i: usize = 0;
     while i < 4 {
@@ -238,7 +242,8 @@ pub(crate) fn fields_hold(
     row: &[usize],
     f: Known,
 ) -> bool
-    ensures { λ r. ⌜ r ≡ fieldsHold (filterBy (now (m .entry)) (now (row .entry)) f) (decode (now (pubkey .entry))) time kind ⌝ }
+    ensures { λ r. ⌜ r ≡ fieldsHold (filterBy (now (m .entry)) (now (row .entry)) f) (decode (now (pubkey .entry))) time
+        kind ⌝ }
 {
     let authors = f.authors;
     if !listed(authors, pubkey, m, row) {
@@ -265,7 +270,8 @@ pub(crate) fn event_matched(
     f: Known,
 ) -> bool
     requires { ⌜ value5 isTagsShape (now b) (p .body .tags) ≡ false ⌝ }
-    ensures { λ r. ⌜ r ≡ matches (filterBy (now (m .entry)) (now (row .entry)) f) (said (now (b .entry)) (p .id)) (eventOf (now (b .entry)) (p .body)) ⌝ }
+    ensures { λ r. ⌜ r ≡ matches (filterBy (now (m .entry)) (now (row .entry)) f) (said (now (b .entry)) (p .id))
+        (eventOf (now (b .entry)) (p .body)) ⌝ }
 {
     let ids = f.ids;
     let id = p.id;

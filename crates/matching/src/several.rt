@@ -14,14 +14,16 @@ use crate::matcher;
 fn one_match(b: &[u8], p: message::EventParts, m: &[u8], f: message::FilterParts) -> bool
     requires { ⌜ value5 isTagsShape (now b) (p .body .tags) ≡ false ⌝ }
     requires { ⌜ filterRow (now m) f ≡ 0 ⌝ }
-    ensures { λ r. ⌜ r ≡ matches (filterOf (now (m .entry)) f) (said (now (b .entry)) (p .id)) (eventOf (now (b .entry)) (p .body)) ⌝ }
+    ensures { λ r. ⌜ r ≡ matches (filterOf (now (m .entry)) f) (said (now (b .entry)) (p .id))
+        (eventOf (now (b .entry)) (p .body)) ⌝ }
 {
     let mut places = [0usize; ROW_ROOM];
     let k = found::find(m, f, &mut places);
     matcher::event_matched(b, p, m, &places, k)
 }
 
-// Whether the event of the parts p over b matches one of the first n filters. Each filter's members are found when it is its turn.
+// Whether the event of the parts p over b matches one of the first n filters. Each filter's members are found when it
+// is its turn.
 pub(crate) fn some_match(
     b: &[u8],
     p: message::EventParts,
@@ -31,7 +33,8 @@ pub(crate) fn some_match(
 ) -> bool
     requires { ⌜ value5 isTagsShape (now b) (p .body .tags) ≡ false ⌝ }
     requires { ⌜ filtersRow (now m) fs n ≡ 0 ⌝ }
-    ensures { λ r. ⌜ r ≡ matchesSome (meant (now (m .entry)) fs n) (said (now (b .entry)) (p .id)) (eventOf (now (b .entry)) (p .body)) ⌝ }
+    ensures { λ r. ⌜ r ≡ matchesSome (meant (now (m .entry)) fs n) (said (now (b .entry)) (p .id))
+        (eventOf (now (b .entry)) (p .body)) ⌝ }
 {
     let mut i: usize = 0;
     while i < 4 {

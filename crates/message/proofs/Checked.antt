@@ -10,13 +10,16 @@ use Rattle.wire.specs.Bytes.{sameBytes}
 use Rattle.wire.proofs.Bytes.{same-equal}
 use Rattle.wire.specs.Limits.{hexLength}
 use Rattle.json.specs.Tree.{Json, word, num, str, arr, obj, Items, nil, item, onArray, onObject}
-use Rattle.shape.specs.Shape.{anyItem, allItems, count, nameAt, isString, isNumber, isArrayOf, isCondition, filterMember, isFilter, idsName, authorsName, kindsName, sinceName, untilName, limitName}
+use Rattle.shape.specs.Shape.{anyItem, allItems, count, nameAt, isString, isNumber, isArrayOf, isCondition}
+use Rattle.shape.specs.Shape.{filterMember, isFilter, idsName, authorsName, kindsName, sinceName, untilName, limitName}
 use Rattle.shape.specs.Rows.{wrongSmall, wrongHex, wrongList, filterNumber, filterHex, wrongFilter, filterCounts}
 use Rattle.message.specs.declared.EventParts.{EventParts}
 use Rattle.message.specs.declared.FilterParts.{FilterParts}
 use Rattle.message.specs.declared.Listed.{Listed}
 use Rattle.message.specs.declared.Listed.the-variants.{At}
-use Rattle.message.specs.Lent.{onValue, valueAt, isTagsShape, string5, value2, value4, value5, time6, small6, someHex, someSmall, body5, body6, body8, event2, event4, event5, event7, eventRow, inList, inBound, filter2, filter4, filter5, filter6, filter7, filter8, filterRow}
+use Rattle.message.specs.Lent.{onValue, valueAt, isTagsShape, string5, value2, value4, value5, time6, small6}
+use Rattle.message.specs.Lent.{someHex, someSmall, body5, body6, body8, event2, event4, event5, event7, eventRow}
+use Rattle.message.specs.Lent.{inList, inBound, filter2, filter4, filter5, filter6, filter7, filter8, filterRow}
 use Rattle.message.specs.Inner.{lowestBy}
 use Rattle.message.proofs.Facts.{or-not, In, all-in, any-in}
 

@@ -1,4 +1,5 @@
--- A string, a number, an array or an object of a text that is UTF-8, read there, breaks as a lent part only the rows that it breaks in the text.
+-- A string, a number, an array or an object of a text that is UTF-8, read there, breaks as a lent part only the rows
+-- that it breaks in the text.
 use mathlib.Core.Path.{_≡_, refl, sym, ap, _∙_}
 use mathlib.Core.List.{List}
 use mathlib.Core.Bool.{Bool, true, false, not, _&&_, false≢true}
@@ -21,7 +22,8 @@ use Rattle.shape.specs.Rows.{wrongTime, wrongSmall, wrongHex}
 use Rattle.message.specs.declared.Span.{Span}
 use Rattle.message.specs.Lists.{openWithin}
 use Rattle.message.specs.Parts.{spanOf, wholeValue, numberSpelled}
-use Rattle.message.specs.Lent.{isInside, isSpelled, string2, string4, string5, string7, wrongNumber, time6, small6, onValue, valueAt, value2, value4, value5}
+use Rattle.message.specs.Lent.{isInside, isSpelled, string2, string4, string5, string7, wrongNumber, time6}
+use Rattle.message.specs.Lent.{small6, onValue, valueAt, value2, value4, value5}
 use Rattle.message.proofs.Walks.{deeper}
 use Rattle.message.proofs.Elements.{group-of}
 use Rattle.message.proofs.Edges.{group-utf8, string-utf8}

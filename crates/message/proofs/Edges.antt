@@ -1,5 +1,5 @@
--- A character of UTF-8 ends before and after each byte below 80. So what stands between two such edges of a text is UTF-8: a string between
--- its quotes, an array or an object with the white space after it.
+-- A character of UTF-8 ends before and after each byte below 80. So what stands between two such edges of a text is
+-- UTF-8: a string between its quotes, an array or an object with the white space after it.
 use mathlib.Core.Path.{_≡_, refl, sym, ap, _∙_}
 use mathlib.Core.List.{List, [], _∷_, _++_}
 use mathlib.Core.Bool.{Bool, true, false, cond, _||_, false≢true}

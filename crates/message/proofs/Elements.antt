@@ -1,4 +1,5 @@
--- The list of an array's elements is that of the places of its items in the tree; a walk over an array that is there ends and does not break.
+-- The list of an array's elements is that of the places of its items in the tree; a walk over an array that is there
+-- ends and does not break.
 use mathlib.Core.Path.{_≡_, refl, sym, ap, _∙_}
 use mathlib.Core.List.{List, [], _∷_}
 use mathlib.Core.Bool.{Bool, true, false}
@@ -6,7 +7,8 @@ use Prim.Native.Nat.{ℕ, zero, suc, _≤_}
 use native.Mathlib.Omega.{arith}
 use lib.ListN.{length}
 use Rattle.json.specs.Grammar.{case, scalarAt, startAt, headAt, nextAt}
-use Rattle.json.specs.Tree.{Json, word, num, str, arr, obj, Items, nil, item, Got, none, got, endOf, bind, onLeaf, node, itemsAt, groupAt, depth, treeAt}
+use Rattle.json.specs.Tree.{Json, word, num, str, arr, obj, Items, nil, item, Got, none, got, endOf, bind, onLeaf, node}
+use Rattle.json.specs.Tree.{itemsAt, groupAt, depth, treeAt}
 use Rattle.json.specs.declared.Out.the-variants.{End}
 use Rattle.json.specs.declared.Kind.{Kind}
 use Rattle.json.specs.declared.Kind.the-variants.{Str, Num, Word, None}

@@ -6,20 +6,25 @@ use Prim.Native.Nat.{ℕ, suc}
 use lib.ListN.{length}
 use lib.IntN.{pos}
 use Rattle.json.specs.Grammar.{scalarAt, startAt}
-use Rattle.json.specs.Tree.{Json, arr, obj, Items, nil, item, foldItems, Got, none, got, bind, onLeaf, node, itemsAt, groupAt, treeAt}
+use Rattle.json.specs.Tree.{Json, arr, obj, Items, nil, item, foldItems, Got, none, got, bind, onLeaf, node, itemsAt}
+use Rattle.json.specs.Tree.{groupAt, treeAt}
 use Rattle.json.specs.declared.Kind.{Kind}
 use Rattle.json.specs.declared.Kind.the-variants.{Str, Num, Word, None}
 use Rattle.json.specs.declared.Start.{Start}
 use Rattle.json.specs.declared.Start.the-variants.{Leaf, Empty, Many}
 use Rattle.json.proofs.Trees.{tree-open, foldGot}
 use Rattle.rows.specs.Strings.{spelledAt}
-use Rattle.shape.specs.Shape.{nameAt, named, idName, pubkeyName, createdAtName, kindName, tagsName, contentName, sigName, idsName, authorsName, kindsName, sinceName, untilName, limitName}
+use Rattle.shape.specs.Shape.{nameAt, named, idName, pubkeyName, createdAtName, kindName, tagsName, contentName}
+use Rattle.shape.specs.Shape.{sigName, idsName, authorsName, kindsName, sinceName, untilName, limitName}
 use Rattle.message.specs.declared.Listed.{Listed}
 use Rattle.message.specs.declared.Listed.the-variants.{Absent, At}
 use Rattle.message.specs.declared.Members.{Members}
 use Rattle.message.specs.Lists.{openWithin}
-use Rattle.message.specs.Parts.{Member, missing, member, memberOf, nowhere, spanOf, numberSpelled, spanIn, numberIn, placeIn, boundIn, listedIn, bodyOf, eventPartsOf, filterPartsOf, membersGot, membersAt, eventAt, filterAt}
-use Rattle.message.specs.Inner.{keptPlace, stepOf, noMembers, foundIn, onStart, leafAt, gotOr, spanAt, numberLeaf, spanFound, numberFound, boundFound, filterFound, placeFound, bodyFound}
+use Rattle.message.specs.Parts.{Member, missing, member, memberOf, nowhere, spanOf, numberSpelled, spanIn}
+use Rattle.message.specs.Parts.{numberIn, placeIn, boundIn, listedIn, bodyOf, eventPartsOf, filterPartsOf}
+use Rattle.message.specs.Parts.{membersGot, membersAt, eventAt, filterAt}
+use Rattle.message.specs.Inner.{keptPlace, stepOf, noMembers, foundIn, onStart, leafAt, gotOr, spanAt, numberLeaf}
+use Rattle.message.specs.Inner.{spanFound, numberFound, boundFound, filterFound, placeFound, bodyFound}
 use Rattle.message.proofs.Walks.{Walk, last, more, walk-of}
 
 -- ---- a fold over the members of the object at a place, where a value begins

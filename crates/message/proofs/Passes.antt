@@ -1,4 +1,5 @@
--- What was read from an accepted message passes the test of lent parts: a message that no row refuses breaks none in any of its parts.
+-- What was read from an accepted message passes the test of lent parts: a message that no row refuses breaks none in
+-- any of its parts.
 use mathlib.Core.Path.{_≡_, refl, sym, ap, _∙_}
 use mathlib.Core.List.{List, List·Memᴰ, List·Memᴰ·not-nil, List·Memᴰ·cases-cons}
 use mathlib.Core.Bool.{Bool, true, false, cond, _||_, false≢true}
@@ -15,23 +16,34 @@ use Rattle.spell.specs.Spell.{decode, refuses}
 use Rattle.json.specs.Grammar.{wsAt}
 use Rattle.rows.specs.Strings.{part, refusedIn, refusedItems}
 use Rattle.rows.specs.Rows.{row1, row2, row3}
-use Rattle.shape.specs.Shape.{anyItem, allItems, countItems, count, nameAt, idName, pubkeyName, createdAtName, kindName, tagsName, contentName, sigName, idsName, authorsName, kindsName, sinceName, untilName, limitName, isString, isNumber, isArrayOf, eventMember, once, isEvent, filterMember, isFilter, Word, event, req, close, other, wordOf, opened, hasShape}
-use Rattle.shape.specs.Rows.{row4, row5, row6, row7, row8, treeRow, rootRow, messageRow, inMessage, wrongTime, wrongSmall, wrongHex, eventNumber, eventHex, eventCount, wrongList, filterNumber, filterHex, wrongFilter, filterCounts, wrongRequest, wrongSubscription, outside, wrongTags}
+use Rattle.shape.specs.Shape.{anyItem, allItems, countItems, count, nameAt, idName, pubkeyName, createdAtName, kindName}
+use Rattle.shape.specs.Shape.{tagsName, contentName, sigName, idsName, authorsName, kindsName, sinceName, untilName}
+use Rattle.shape.specs.Shape.{limitName, isString, isNumber, isArrayOf, eventMember, once, isEvent, filterMember}
+use Rattle.shape.specs.Shape.{isFilter, Word, event, req, close, other, wordOf, opened, hasShape}
+use Rattle.shape.specs.Rows.{row4, row5, row6, row7, row8, treeRow, rootRow, messageRow, inMessage, wrongTime}
+use Rattle.shape.specs.Rows.{wrongSmall, wrongHex, eventNumber, eventHex, eventCount, wrongList, filterNumber}
+use Rattle.shape.specs.Rows.{filterHex, wrongFilter, filterCounts, wrongRequest, wrongSubscription, outside, wrongTags}
 use Rattle.message.specs.declared.EventParts.{EventParts}
 use Rattle.message.specs.declared.ReqParts.{ReqParts}
 use Rattle.message.specs.declared.Message.{Message}
 use Rattle.message.specs.declared.Message.the-variants as message
-use Rattle.message.specs.Parts.{Member, missing, member, memberOf, spanIn, numberIn, boundIn, placeIn, listedIn, bodyOf, eventPartsOf, filterPartsOf, membersOf, membersGot, membersAt, filterAt}
+use Rattle.message.specs.Parts.{Member, missing, member, memberOf, spanIn, numberIn, boundIn, placeIn, listedIn}
+use Rattle.message.specs.Parts.{bodyOf, eventPartsOf, filterPartsOf, membersOf, membersGot, membersAt, filterAt}
 use Rattle.message.specs.Lists.{openWithin, elementsFrom, placesOf}
 use Rattle.message.specs.Read.{messageParts, inRoot, readOf}
-use Rattle.message.specs.Lent.{string7, time6, small6, onValue, valueAt, value2, value4, value5, isTagsShape, body2, body4, body5, body6, body7, body8, event2, event4, event5, event7, eventRow, inList, inBound, someHex, someSmall, filter2, filter4, filter5, filter6, filter7, filter8, filterRow}
+use Rattle.message.specs.Lent.{string7, time6, small6, onValue, valueAt, value2, value4, value5, isTagsShape}
+use Rattle.message.specs.Lent.{body2, body4, body5, body6, body7, body8, event2, event4, event5, event7, eventRow}
+use Rattle.message.specs.Lent.{inList, inBound, someHex, someSmall, filter2, filter4, filter5, filter6, filter7}
+use Rattle.message.specs.Lent.{filter8, filterRow}
 use Rattle.message.specs.Claims.{EventPasses, requestFilters, FiltersPass, FiltersCounted}
 use Rattle.message.proofs.Walks.{Walk, more, deeper}
 use Rattle.message.proofs.Elements.{Group, filled, group-of, walk-places, walk-first}
 use Rattle.message.proofs.Found.{Reads, walk-reads, members-read}
 use Rattle.message.proofs.Reading.{Begun, begun, begun-of}
-use Rattle.message.proofs.Facts.{and-true, or-not, In, here, later, all-in, any-in, refused-in, reads-in, Holds, absent, present, member-holds, once-there}
-use Rattle.message.proofs.Clean.{StringClean, string-clean, hex-clean, time-clean, small-clean, object, array-grouped, value-false, ValueClean, value-clean}
+use Rattle.message.proofs.Facts.{and-true, or-not, In, here, later, all-in, any-in, refused-in, reads-in, Holds}
+use Rattle.message.proofs.Facts.{absent, present, member-holds, once-there}
+use Rattle.message.proofs.Clean.{StringClean, string-clean, hex-clean, time-clean, small-clean, object}
+use Rattle.message.proofs.Clean.{array-grouped, value-false, ValueClean, value-clean}
 
 -- ---- an event's members
 module _ (s : List ℕ) (u : isUtf8 s ≡ true) (ts : Items) (reads : Reads (treeAt s openWithin) ts) (a4 : refusedItems s true ts ≡ false)

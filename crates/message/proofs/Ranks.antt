@@ -1,5 +1,5 @@
--- The lowestBy row as a number: the least of two such numbers is the lowestBy row that holds on either side; and the rows of one part, by its
--- tests in the order of the code.
+-- The lowestBy row as a number: the least of two such numbers is the lowestBy row that holds on either side; and the
+-- rows of one part, by its tests in the order of the code.
 use mathlib.Core.Path.{_≡_, refl, sym, ap, _∙_}
 use mathlib.Core.List.{List}
 use mathlib.Core.Bool.{Bool, true, false, cond, not, _||_, or-false}
@@ -30,7 +30,10 @@ use Rattle.message.specs.declared.Listed.{Listed}
 use Rattle.message.specs.declared.Listed.the-variants as listed
 use Rattle.shape.specs.declared.Sort.{Sort}
 use Rattle.shape.specs.declared.Sort.the-variants.{Tags, Hexes, Smalls, Filter}
-use Rattle.message.specs.Lent.{spanBytes, isInside, isSpelled, string2, string4, string5, string7, subscription8, onValue, valueAt, value2, value4, value5, wrongNumber, time6, small6, inList, inBound, body2, body4, body5, body6, body7, body8, event2, event4, event5, event7, eventRow, filter2, filter4, filter5, filter6, filter7, filter8, filterRow}
+use Rattle.message.specs.Lent.{spanBytes, isInside, isSpelled, string2, string4, string5, string7, subscription8}
+use Rattle.message.specs.Lent.{onValue, valueAt, value2, value4, value5, wrongNumber, time6, small6, inList}
+use Rattle.message.specs.Lent.{inBound, body2, body4, body5, body6, body7, body8, event2, event4, event5, event7}
+use Rattle.message.specs.Lent.{eventRow, filter2, filter4, filter5, filter6, filter7, filter8, filterRow}
 use Rattle.wire.specs.Lowest.{lowerRow}
 use Rattle.shape.specs.Values.{ownText, fits, sort6, sort7, sort8, sortRow, gotRow, valueRow}
 use Rattle.message.specs.Inner.{lowestBy, rank, rowTold, rankOf, LowestRank, ValueRank, ListRank}

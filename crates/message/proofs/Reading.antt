@@ -1,4 +1,5 @@
--- A message that rows 1 to 5 let pass is an array of a word and more, and its parts stand where the code looks for them.
+-- A message that rows 1 to 5 let pass is an array of a word and more, and its parts stand where the code looks for
+-- them.
 use mathlib.Core.Path.{_≡_, refl, sym, ap, _∙_}
 use mathlib.Core.List.{List}
 use mathlib.Core.Bool.{Bool, true, false, cond, not, false≢true}
@@ -8,7 +9,8 @@ use borrow.Author.Tests.{eqb-true}
 use lib.Dec.{eqb}
 use lib.ListN.{length}
 use Rattle.json.specs.Grammar.{wsAt, stringAt, scalarAt, startAt}
-use Rattle.json.specs.Tree.{Json, word, num, str, arr, obj, Items, nil, item, Got, none, got, onLeaf, node, itemsAt, groupAt, treeAt, root}
+use Rattle.json.specs.Tree.{Json, word, num, str, arr, obj, Items, nil, item, Got, none, got, onLeaf, node, itemsAt}
+use Rattle.json.specs.Tree.{groupAt, treeAt, root}
 use Rattle.json.specs.declared.Out.the-variants.{End}
 use Rattle.json.specs.declared.Kind.{Kind}
 use Rattle.json.specs.declared.Kind.the-variants as kind
@@ -18,7 +20,8 @@ use Rattle.json.proofs.Trees.{tree-open}
 use Rattle.spell.specs.Spell.{decode, characterCount}
 use Rattle.rows.specs.Strings.{part, spelledAt}
 use Rattle.rows.specs.Rows.{row1, row2, row3}
-use Rattle.shape.specs.Shape.{Word, event, req, close, other, wordOf, nameAt, Opened, opened, hasShape, isOne, isThen, isString, isEvent, isFilter, idName}
+use Rattle.shape.specs.Shape.{Word, event, req, close, other, wordOf, nameAt, Opened, opened, hasShape, isOne, isThen}
+use Rattle.shape.specs.Shape.{isString, isEvent, isFilter, idName}
 use Rattle.wire.specs.Limits.{mostCharacters}
 use Rattle.shape.specs.Rows.{row4, row5, row6, row7, row8, treeRow, rootRow, messageRow, outside, wrongSubscription}
 use Rattle.message.specs.declared.Element.the-variants.{At}
@@ -28,8 +31,10 @@ use Rattle.message.specs.declared.Named.{Named}
 use Rattle.message.specs.declared.Named.the-variants as names
 use Rattle.message.specs.Lists.{startElement, openWithin, nextOf}
 use Rattle.message.specs.Parts.{memberOf, spanOf, spanIn, membersOf, membersGot, membersAt, eventPartsOf, eventAt}
-use Rattle.message.specs.Read.{firstItem as firstElement, secondPlace, messageParts, inRoot, readOf, readNumber, RowRead, idNamed, subscriptionNamed, namedIn, namedRoot, isEarly, namedOf}
-use Rattle.message.specs.Inner.{spanAt, wordOpening, openingAt, elementPlace, wordPlace, stringAfter, partsAt, labelNamed, namedAt}
+use Rattle.message.specs.Read.{firstItem as firstElement, secondPlace, messageParts, inRoot, readOf, readNumber}
+use Rattle.message.specs.Read.{RowRead, idNamed, subscriptionNamed, namedIn, namedRoot, isEarly, namedOf}
+use Rattle.message.specs.Inner.{spanAt, wordOpening, openingAt, elementPlace, wordPlace, stringAfter, partsAt}
+use Rattle.message.specs.Inner.{labelNamed, namedAt}
 use Rattle.message.proofs.Walks.{never, bind-got, deeper}
 use Rattle.message.proofs.Scalars.{scalar-string}
 use Rattle.message.proofs.Elements.{group-of, firstPlace, Listing, end, one, array-listing}

@@ -1,12 +1,15 @@
--- The items that a text was read into, one after the other; what is read with so many brackets open at once is read with one more.
+-- The items that a text was read into, one after the other; what is read with so many brackets open at once is read
+-- with one more.
 use mathlib.Core.Path.{_≡_, refl, sym, ap, _∙_}
 use mathlib.Core.List.{List}
 use mathlib.Core.Bool.{Bool, true, false}
 use Prim.Native.Nat.{ℕ, zero, suc}
 use native.Mathlib.Omega.{arith}
 use lib.ListN.{length}
-use Rattle.json.specs.Grammar.{case, inClass, oneAt, tokenAt, wordAt, literalAt, digitsAt, intAt, numberAt, stringAt, scalarAt, openedAt, startAt, headAt, nextAt}
-use Rattle.json.specs.Tree.{Json, Items, nil, item, Got, none, got, bind, follow, onLeaf, node, itemsAt, groupAt, treeAt}
+use Rattle.json.specs.Grammar.{case, inClass, oneAt, tokenAt, wordAt, literalAt, digitsAt, intAt, numberAt, stringAt}
+use Rattle.json.specs.Grammar.{scalarAt, openedAt, startAt, headAt, nextAt}
+use Rattle.json.specs.Tree.{Json, Items, nil, item, Got, none, got, bind, follow, onLeaf, node, itemsAt, groupAt}
+use Rattle.json.specs.Tree.{treeAt}
 use Rattle.json.specs.declared.Out.{Out}
 use Rattle.json.specs.declared.Out.the-variants.{End, Bad}
 use Rattle.json.specs.declared.Kind.{Kind}

@@ -21,10 +21,14 @@ abbrev pub requestFilters : Bytes → ReqParts → List ℕ
 requestFilters s r = elementsFrom s (At (r .filters))
 
 abbrev pub FiltersPass : Type 0
-FiltersPass = (s : List ℕ) (r : ReqParts) → readOf s ≡ Req r → (v : ℕ) → List·Memᴰ v (requestFilters s r) → filterRow s (filterAt s v) ≡ 0
+FiltersPass =
+    (s : List ℕ) (r : ReqParts) → readOf s ≡ Req r → (v : ℕ) → List·Memᴰ v (requestFilters s r) →
+    filterRow s (filterAt s v) ≡ 0
 
 abbrev pub FiltersCounted : Type 0
-FiltersCounted = (s : List ℕ) (r : ReqParts) → readOf s ≡ Req r → (1 ≤ length (requestFilters s r)) × (length (requestFilters s r) ≤ 4)
+FiltersCounted =
+    (s : List ℕ) (r : ReqParts) → readOf s ≡ Req r → (1 ≤ length (requestFilters s r)) ×
+    (length (requestFilters s r) ≤ 4)
 
 -- as values they are all there
 pub record Taken (s : List ℕ) (r : ReqParts) : Type 0 where

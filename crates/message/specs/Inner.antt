@@ -1,4 +1,5 @@
--- What the private functions promise each other: the first member of each name as places, found in one walk, and what stands at a place.
+-- What the private functions promise each other: the first member of each name as places, found in one walk, and what
+-- stands at a place.
 use Prim.Native.Nat.{ℕ}
 use mathlib.Core.Path.{_≡_}
 use mathlib.Core.List.{List}
@@ -15,7 +16,9 @@ use Rattle.wire.specs.Limits.{mostCharacters}
 use Rattle.wire.specs.Bytes.{Bytes, Place, Row, sameBytes}
 use Rattle.spell.specs.Spell.{decode, characterCount}
 use Rattle.rows.specs.Strings.{part, spelledAt}
-use Rattle.shape.specs.Shape.{nameAt, Word, event, req, close, other, wordOf, eventWord, idName, pubkeyName, createdAtName, kindName, tagsName, contentName, sigName, idsName, authorsName, kindsName, sinceName, untilName, limitName}
+use Rattle.shape.specs.Shape.{nameAt, Word, event, req, close, other, wordOf, eventWord, idName, pubkeyName}
+use Rattle.shape.specs.Shape.{createdAtName, kindName, tagsName, contentName, sigName, idsName, authorsName, kindsName}
+use Rattle.shape.specs.Shape.{sinceName, untilName, limitName}
 use Rattle.message.specs.declared.Span.{Span}
 use Rattle.message.specs.declared.Bound.{Bound}
 use Rattle.message.specs.declared.Bound.the-variants as bound
@@ -40,7 +43,8 @@ use Rattle.message.specs.Lent.{lowest, valueAt, onValue, value2, value4,
 use Rattle.shape.specs.Values.{fits, sort6, sort7, sort8}
 use Rattle.shape.specs.declared.Sort.{Sort}
 
--- a member whose name is spelled l and whose value stands at v is the first one named w, or what was found before it stays
+-- a member whose name is spelled l and whose value stands at v is the first one named w, or what was found before it
+-- stays
 unfoldable pub keptPlace : (l w : Bytes) (x : Listed) (v : ℕ) → Listed
 keptPlace l w (At u) v = At u
 keptPlace l w Absent v = cond (sameBytes (decode l) w) (At v) Absent
@@ -166,7 +170,8 @@ filterAfter s element.Broken = noFilter
 
 -- ---- what a refusal's reply names
 unfoldable pub labelNamed : Bytes → Span → Named
-labelNamed s p = cond (outside 1 mostCharacters (characterCount (part s (p .start) (p .len)))) names.Nothing (names.Subscription p)
+labelNamed s p =
+    cond (outside 1 mostCharacters (characterCount (part s (p .start) (p .len)))) names.Nothing (names.Subscription p)
 
 unfoldable pub namedAt : (s : Bytes) (x : Opening) (j : ℕ) → Named
 namedAt s opening.Event j = idNamed s (eventAt s j .id)
@@ -179,7 +184,8 @@ abbrev pub noRow : ℕ
 noRow = 9
 
 unfoldable pub rank : (row2 row4 row5 row6 row7 row8 : Bool) → ℕ
-rank row2 row4 row5 row6 row7 row8 = cond row2 2 (cond row4 4 (cond row5 5 (cond row6 6 (cond row7 7 (cond row8 8 noRow)))))
+rank row2 row4 row5 row6 row7 row8 =
+    cond row2 2 (cond row4 4 (cond row5 5 (cond row6 6 (cond row7 7 (cond row8 8 noRow)))))
 
 abbrev pub rowTold : Row → ℕ
 rowTold row = cond (eqb row noRow) 0 row
@@ -198,9 +204,11 @@ pub record LowestRank (x : ℕ) (row2 row4 row5 row6 row7 row8 : Bool) : Type 0 
 -- the rows of the value at a place, where a sort must stand
 abbrev pub ValueRank : (b : Bytes) (at : Place) (k : Sort) (x : ℕ) → Type 0
 ValueRank b at k x =
-    LowestRank x (value2 b at) (value4 b at) (value5 (fits b k) b at) (onValue (sort6 b k) (valueAt b at)) (onValue (sort7 b k) (valueAt b at)) (onValue (sort8 b k) (valueAt b at))
+    LowestRank x (value2 b at) (value4 b at) (value5 (fits b k) b at) (onValue (sort6 b k) (valueAt b at))
+    (onValue (sort7 b k) (valueAt b at)) (onValue (sort8 b k) (valueAt b at))
 
 abbrev pub ListRank : (b : Bytes) (l : Listed) (k : Sort) (x : ℕ) → Type 0
 ListRank b l k x =
-    LowestRank x (inList (value2 b) l) (inList (value4 b) l) (inList (value5 (fits b k) b) l) (inList (λ v. onValue (sort6 b k) (valueAt b v)) l)
+    LowestRank x (inList (value2 b) l) (inList (value4 b) l) (inList (value5 (fits b k) b) l)
+    (inList (λ v. onValue (sort6 b k) (valueAt b v)) l)
     (inList (λ v. onValue (sort7 b k) (valueAt b v)) l) (inList (λ v. onValue (sort8 b k) (valueAt b v)) l)

@@ -1,5 +1,6 @@
--- Parts lent by anybody, over the buffer b in which they lie. 01: "Parts of an event, filter or reply are tested by rows 2 and 4 to 8 (5 also
--- if a part lies outside its buffer or is no RFC 8259 spelling)". Each row by itself, and then the lowest that holds, or 0.
+-- Parts lent by anybody, over the buffer b in which they lie. 01: "Parts of an event, filter or reply are tested by
+-- rows 2 and 4 to 8 (5 also if a part lies outside its buffer or is no RFC 8259 spelling)". Each row by itself, and
+-- then the lowest that holds, or 0.
 use Prim.Native.Nat.{ℕ, _+_, min}
 use mathlib.Core.List.{List}
 use mathlib.Core.Bool.{Bool, true, false, cond, not, _&&_, _||_}
@@ -41,7 +42,8 @@ abbrev pub lowest : RowsHeld → Row
 lowest r =
     cond (r .row2) 2 (cond (r .row4) 4 (cond (r .row5) 5 (cond (r .row6) 6 (cond (r .row7) 7 (cond (r .row8) 8 0)))))
 
--- ---- a string part. One that lies outside b adds row 5 only, and so does one that is no spelling, unless it is not UTF-8
+-- ---- a string part. One that lies outside b adds row 5 only, and so does one that is no spelling, unless it is not
+-- UTF-8
 abbrev pub spanBytes : Bytes → Span → Bytes
 spanBytes b p = part b (p .start) (p .len)
 
@@ -71,33 +73,33 @@ subscription8 b p = isSpelled b p && outside 1 mostCharacters (characterCount (s
 -- a part by itself: any string, hex of k characters, a subscription id
 unfoldable pub stringRow : Bytes → Span → Row
 stringRow b p = lowest (record {
-      row2 = string2 b p;
-      row4 = string4 b p;
-      row5 = string5 b p;
-      row6 = false;
-      row7 = false;
-      row8 = false;
-    })
+  row2 = string2 b p;
+  row4 = string4 b p;
+  row5 = string5 b p;
+  row6 = false;
+  row7 = false;
+  row8 = false;
+})
 
 unfoldable pub hexRow : (k : ℕ) (b : Bytes) (p : Span) → Row
 hexRow k b p = lowest (record {
-      row2 = string2 b p;
-      row4 = string4 b p;
-      row5 = string5 b p;
-      row6 = false;
-      row7 = string7 k b p;
-      row8 = false;
-    })
+  row2 = string2 b p;
+  row4 = string4 b p;
+  row5 = string5 b p;
+  row6 = false;
+  row7 = string7 k b p;
+  row8 = false;
+})
 
 unfoldable pub subscriptionRow : Bytes → Span → Row
 subscriptionRow b p = lowest (record {
-      row2 = string2 b p;
-      row4 = string4 b p;
-      row5 = string5 b p;
-      row6 = false;
-      row7 = false;
-      row8 = subscription8 b p;
-    })
+  row2 = string2 b p;
+  row4 = string4 b p;
+  row5 = string5 b p;
+  row6 = false;
+  row7 = false;
+  row8 = subscription8 b p;
+})
 
 -- ---- a number
 unfoldable pub wrongNumber : (low high z : ℤ) → Bool
@@ -153,13 +155,13 @@ body8 b p = onValue wrongTags (valueAt b (p .tags))
 
 unfoldable pub bodyRow : Bytes → Body → Row
 bodyRow b p = lowest (record {
-      row2 = body2 b p;
-      row4 = body4 b p;
-      row5 = body5 b p;
-      row6 = body6 p;
-      row7 = body7 b p;
-      row8 = body8 b p;
-    })
+  row2 = body2 b p;
+  row4 = body4 b p;
+  row5 = body5 b p;
+  row6 = body6 p;
+  row7 = body7 b p;
+  row8 = body8 b p;
+})
 
 -- ---- the parts of an event
 unfoldable pub event2 : Bytes → EventParts → Bool
@@ -176,13 +178,13 @@ event7 b p = string7 hexLength b (p .id) || (body7 b (p .body) || string7 sigLen
 
 unfoldable pub eventRow : Bytes → EventParts → Row
 eventRow b p = lowest (record {
-      row2 = event2 b p;
-      row4 = event4 b p;
-      row5 = event5 b p;
-      row6 = body6 (p .body);
-      row7 = event7 b p;
-      row8 = body8 b (p .body);
-    })
+  row2 = event2 b p;
+  row4 = event4 b p;
+  row5 = event5 b p;
+  row6 = body6 (p .body);
+  row7 = event7 b p;
+  row8 = body8 b (p .body);
+})
 
 -- ---- the parts of a filter: each is absent or tested
 abbrev pub inList : (ℕ → Bool) → Listed → Bool
@@ -200,10 +202,14 @@ abbrev pub someSmall : Bytes → Json → Bool
 someSmall b t = onArray (anyItem (λ q u. wrongSmall b u)) t
 
 unfoldable pub filter2 : Bytes → FilterParts → Bool
-filter2 b p = inList (value2 b) (p .ids) || (inList (value2 b) (p .authors) || (inList (value2 b) (p .kinds) || inList (value2 b) (p .conditions)))
+filter2 b p =
+    inList (value2 b) (p .ids) || (inList (value2 b) (p .authors) ||
+    (inList (value2 b) (p .kinds) || inList (value2 b) (p .conditions)))
 
 unfoldable pub filter4 : Bytes → FilterParts → Bool
-filter4 b p = inList (value4 b) (p .ids) || (inList (value4 b) (p .authors) || (inList (value4 b) (p .kinds) || inList (value4 b) (p .conditions)))
+filter4 b p =
+    inList (value4 b) (p .ids) || (inList (value4 b) (p .authors) ||
+    (inList (value4 b) (p .kinds) || inList (value4 b) (p .conditions)))
 
 -- the object at `conditions` is a filter; of its members those with # are taken
 unfoldable pub filter5 : Bytes → FilterParts → Bool
@@ -217,25 +223,28 @@ filter6 b p =
     inList (λ v. onValue (someSmall b) (valueAt b v)) (p .kinds)
     || (inBound time6 (p .since)
     || (inBound time6 (p .until)
-    || (inBound small6 (p .limit) || inList (λ v. onValue (onObject (anyItem (filterNumber b))) (valueAt b v)) (p .conditions))))
+    || (inBound small6 (p .limit) || inList (λ v. onValue (onObject (anyItem (filterNumber b))) (valueAt b v))
+    (p .conditions))))
 
 unfoldable pub filter7 : Bytes → FilterParts → Bool
 filter7 b p =
     inList (λ v. onValue (someHex b) (valueAt b v)) (p .ids)
-    || (inList (λ v. onValue (someHex b) (valueAt b v)) (p .authors) || inList (λ v. onValue (onObject (anyItem (filterHex b))) (valueAt b v)) (p .conditions))
+    || (inList (λ v. onValue (someHex b) (valueAt b v)) (p .authors) || inList
+    (λ v. onValue (onObject (anyItem (filterHex b))) (valueAt b v)) (p .conditions))
 
 unfoldable pub filter8 : Bytes → FilterParts → Bool
 filter8 b p =
     inList (λ v. onValue wrongList (valueAt b v)) (p .ids)
     || (inList (λ v. onValue wrongList (valueAt b v)) (p .authors)
-    || (inList (λ v. onValue wrongList (valueAt b v)) (p .kinds) || inList (λ v. onValue (onObject (filterCounts b)) (valueAt b v)) (p .conditions)))
+    || (inList (λ v. onValue wrongList (valueAt b v)) (p .kinds) || inList
+    (λ v. onValue (onObject (filterCounts b)) (valueAt b v)) (p .conditions)))
 
 unfoldable pub filterRow : Bytes → FilterParts → Row
 filterRow b p = lowest (record {
-      row2 = filter2 b p;
-      row4 = filter4 b p;
-      row5 = filter5 b p;
-      row6 = filter6 b p;
-      row7 = filter7 b p;
-      row8 = filter8 b p;
-    })
+  row2 = filter2 b p;
+  row4 = filter4 b p;
+  row5 = filter5 b p;
+  row6 = filter6 b p;
+  row7 = filter7 b p;
+  row8 = filter8 b p;
+})

@@ -1,5 +1,5 @@
--- 01, "The right form for each place": "lists kept beside it". A list is the place of its array; its meaning is the list of the places of
--- its elements, which are the items of the tree there (proofs/Elements.antt).
+-- 01, "The right form for each place": "lists kept beside it". A list is the place of its array; its meaning is the
+-- list of the places of its elements, which are the items of the tree there (proofs/Elements.antt).
 use Prim.Native.Nat.{ℕ, zero, suc}
 use mathlib.Core.List.{List, [], _∷_}
 use lib.ListN.{length}

@@ -1,5 +1,5 @@
--- 01, "Shape": the parts of an event and of a filter, as places in the text s, over the items of its object. On an object of another
--- shape what is not there is empty, 0 or absent.
+-- 01, "Shape": the parts of an event and of a filter, as places in the text s, over the items of its object. On an
+-- object of another shape what is not there is empty, 0 or absent.
 use Prim.Native.Nat.{ℕ}
 use mathlib.Core.List.{List, [], _∷_, map}
 use mathlib.Core.Bool.{cond}
@@ -10,7 +10,8 @@ use Rattle.rows.specs.Strings.{part}
 use Rattle.numeral.specs.Whole.{wholeOf, wholeAnswer}
 use Rattle.numeral.specs.declared.Whole.{Whole}
 use Rattle.numeral.specs.declared.Whole.the-variants.{Value, Large, Malformed}
-use Rattle.shape.specs.Shape.{named, idName, pubkeyName, createdAtName, kindName, tagsName, contentName, sigName, idsName, authorsName, kindsName, sinceName, untilName, limitName}
+use Rattle.shape.specs.Shape.{named, idName, pubkeyName, createdAtName, kindName, tagsName, contentName, sigName}
+use Rattle.shape.specs.Shape.{idsName, authorsName, kindsName, sinceName, untilName, limitName}
 use Rattle.message.specs.declared.Span.{Span}
 use Rattle.message.specs.declared.Body.{Body}
 use Rattle.message.specs.declared.EventParts.{EventParts}
@@ -101,8 +102,8 @@ filterPartsOf s v ts = record {
 abbrev pub membersOf : Json → Items
 membersOf = ofObject nil (λ ts. ts)
 
--- ---- the parts at a place. The value there may have as many brackets and braces open at once as a message: so what stands inside a
--- message is read there as it is in the message's own tree
+-- ---- the parts at a place. The value there may have as many brackets and braces open at once as a message: so what
+-- stands inside a message is read there as it is in the message's own tree
 abbrev pub membersGot : Got Json → Items
 membersGot none = nil
 membersGot (got t n) = membersOf t
@@ -136,4 +137,5 @@ firstFour l = getD l 0 noFilter ∷ getD l 1 noFilter ∷ getD l 2 noFilter ∷ 
 
 -- all of them are counted
 unfoldable pub filtersAt : Bytes → Place → Filters
-filtersAt s at = record { parts = firstFour (map (filterAt s) (elementsFrom s (At at))); n = length (elementsFrom s (At at)) }
+filtersAt s at =
+    record { parts = firstFour (map (filterAt s) (elementsFrom s (At at))); n = length (elementsFrom s (At at)) }

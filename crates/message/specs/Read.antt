@@ -40,11 +40,13 @@ abbrev pub inRoot : Bytes → Got Json → Message
 inRoot s none = message.Refused 3
 inRoot s (got t n) = messageParts s (opened s t .first) (opened s t .rest)
 
--- 01: "A read message is an EVENT, a REQ or a CLOSE, each with its own parts"; "A refusal carries its number and no other value"
+-- 01: "A read message is an EVENT, a REQ or a CLOSE, each with its own parts"; "A refusal carries its number and no
+-- other value"
 unfoldable pub readOf : Bytes → Message
 readOf s = cond (eqb (messageRow s) 0) (inRoot s (root s)) (message.Refused (messageRow s))
 
--- 01's number of an answer: 0 where none of rows 1 to 8 holds. That it is the message's row is proved in proofs/Reading.antt
+-- 01's number of an answer: 0 where none of rows 1 to 8 holds. That it is the message's row is proved in
+-- proofs/Reading.antt
 abbrev pub readNumber : Message → ℕ
 readNumber (message.Event p) = 0
 readNumber (message.Req r) = 0
@@ -54,7 +56,8 @@ readNumber (message.Refused r) = r
 abbrev pub RowRead : Type 0
 RowRead = (s : List ℕ) → readNumber (readOf s) ≡ messageRow s
 
--- ---- 01: "offering one tests 1 to 12 .. and gives 5 also if it isn't an EVENT"; "Names and the first word compare as decoded"
+-- ---- 01: "offering one tests 1 to 12 .. and gives 5 also if it isn't an EVENT"; "Names and the first word compare as
+-- decoded"
 abbrev pub isEventWord : Word → Bool
 isEventWord event = true
 isEventWord req = false
@@ -65,8 +68,9 @@ isEventWord other = false
 unfoldable pub isEvent : Bytes → Bool
 isEvent m = onRoot (λ t. isEventWord (opened m t .first)) (root m)
 
--- ---- 01, "Filters and replies": "Rows 6-12 give OK with false if the id field is 64 lower-case hex; CLOSED for a REQ whose subscription
--- id is within bounds; otherwise NOTICE". What is found in a text that has its shape (rows 1 to 5 do not hold); nothing elsewhere
+-- ---- 01, "Filters and replies": "Rows 6-12 give OK with false if the id field is 64 lower-case hex; CLOSED for a REQ
+-- whose subscription id is within bounds; otherwise NOTICE". What is found in a text that has its shape (rows 1 to 5 do
+-- not hold); nothing elsewhere
 abbrev pub idNamed : Bytes → Span → Named
 idNamed s p = cond (isHexOf hexLength (part s (p .start) (p .len))) (names.Id p) names.Nothing
 

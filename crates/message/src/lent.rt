@@ -1,10 +1,12 @@
-// Parts lent by anybody. Every part answers the lowest row that it breaks, and NO_ROW for none; parts are joined by the least.
+// Parts lent by anybody. Every part answers the lowest row that it breaks, and NO_ROW for none; parts are joined by the
+// least.
 ghost use mathlib.Core.Path.{_≡_};
 ghost use mathlib.Core.Bool.{false};
 ghost use Rattle.spell.specs.Spell.{characterCount};
 ghost use Rattle.wire.specs.Limits.{mostCharacters};
 ghost use Rattle.shape.specs.Rows.{outside};
-ghost use Rattle.message.specs.Lent.{spanBytes, isInside, string2, string4, string5, string7, subscription8, wrongNumber, inBound, body2, body4, body5, body6, body7, body8};
+ghost use Rattle.message.specs.Lent.{spanBytes, isInside, string2, string4, string5, string7, subscription8};
+ghost use Rattle.message.specs.Lent.{wrongNumber, inBound, body2, body4, body5, body6, body7, body8};
 ghost use Rattle.message.specs.Inner.{rowTold, rankOf, LowestRank, ValueRank, ListRank};
 use crate::Body;
 use crate::Bound;
@@ -24,7 +26,8 @@ pub(crate) fn miscounted(s: &[u8], p: Span) -> bool
     n < 1 || wire::MOST_CHARACTERS < n
 }
 
-// Parts lent by anybody. Every part answers the lowest row that it breaks, and NO_ROW for none; parts are joined by the least.
+// Parts lent by anybody. Every part answers the lowest row that it breaks, and NO_ROW for none; parts are joined by the
+// least.
 pub(crate) fn told(row: u8) -> u8
     ensures { λ r. ⌜ r ≡ rowTold row ⌝ }
 {
@@ -50,7 +53,8 @@ pub(crate) fn inside(b: &[u8], p: Span) -> bool
 
 // A string part.
 pub(crate) fn string_rank(b: &[u8], p: Span) -> u8
-    ensures { λ r. ⌜ LowestRank r (string2 (now (b .entry)) p) (string4 (now (b .entry)) p) (string5 (now (b .entry)) p) false false false ⌝ }
+    ensures { λ r. ⌜ LowestRank r (string2 (now (b .entry)) p) (string4 (now (b .entry)) p) (string5 (now (b .entry)) p)
+        false false false ⌝ }
 {
     if !inside(b, p) {
         return 5;
@@ -70,7 +74,8 @@ pub(crate) fn string_rank(b: &[u8], p: Span) -> u8
 
 // A string part of k characters of lower-case hex.
 pub(crate) fn hex_rank(b: &[u8], p: Span, k: usize) -> u8
-    ensures { λ r. ⌜ LowestRank r (string2 (now (b .entry)) p) (string4 (now (b .entry)) p) (string5 (now (b .entry)) p) false (string7 k (now (b .entry)) p) false ⌝ }
+    ensures { λ r. ⌜ LowestRank r (string2 (now (b .entry)) p) (string4 (now (b .entry)) p) (string5 (now (b .entry)) p)
+        false (string7 k (now (b .entry)) p) false ⌝ }
 {
     let row = string_rank(b, p);
     if row != NO_ROW {
@@ -85,7 +90,8 @@ pub(crate) fn hex_rank(b: &[u8], p: Span, k: usize) -> u8
 
 // A string part that is a subscription id.
 pub(crate) fn subscription_rank(b: &[u8], p: Span) -> u8
-    ensures { λ r. ⌜ LowestRank r (string2 (now (b .entry)) p) (string4 (now (b .entry)) p) (string5 (now (b .entry)) p) false false (subscription8 (now (b .entry)) p) ⌝ }
+    ensures { λ r. ⌜ LowestRank r (string2 (now (b .entry)) p) (string4 (now (b .entry)) p) (string5 (now (b .entry)) p)
+        false false (subscription8 (now (b .entry)) p) ⌝ }
 {
     let row = string_rank(b, p);
     if row != NO_ROW {
@@ -130,7 +136,8 @@ pub(crate) fn list_rank(b: &[u8], x: Listed, k: Sort) -> u8
 }
 
 pub(crate) fn body_rank(b: &[u8], p: Body) -> u8
-    ensures { λ r. ⌜ LowestRank r (body2 (now (b .entry)) p) (body4 (now (b .entry)) p) (body5 (now (b .entry)) p) (body6 p) (body7 (now (b .entry)) p) (body8 (now (b .entry)) p) ⌝ }
+    ensures { λ r. ⌜ LowestRank r (body2 (now (b .entry)) p) (body4 (now (b .entry)) p) (body5 (now (b .entry)) p)
+        (body6 p) (body7 (now (b .entry)) p) (body8 (now (b .entry)) p) ⌝ }
 {
     let pubkey = p.pubkey;
     let content = p.content;

@@ -1,5 +1,5 @@
-// A client message read: its parts as places in the text, or the number of the row that refuses it. Parts of an event and of a filter
-// as values that other calls take, whoever made them.
+// A client message read: its parts as places in the text, or the number of the row that refuses it. Parts of an event
+// and of a filter as values that other calls take, whoever made them.
 ghost use mathlib.Core.Path.{_≡_};
 ghost use Rattle.json.specs.Grammar.{startAt};
 ghost use Rattle.shape.specs.Rows.{messageRow};
@@ -28,8 +28,8 @@ pub struct Span {
     pub len: usize,
 }
 
-// The fields of an event that its text has. `tags` is the place of the array in the buffer: the list stands beside the struct, in the
-// text.
+// The fields of an event that its text has. `tags` is the place of the array in the buffer: the list stands beside the
+// struct, in the text.
 pub struct Body {
     pub pubkey: Span,
     pub created_at: i64,
@@ -100,8 +100,8 @@ pub enum Named {
     Nothing,
 }
 
-// The places of an object's members, the first of each name: id, pubkey, created_at, kind, tags, content, sig of an event; ids,
-// authors, kinds, since, until, limit of a filter.
+// The places of an object's members, the first of each name: id, pubkey, created_at, kind, tags, content, sig of an
+// event; ids, authors, kinds, since, until, limit of a filter.
 struct Members {
     m1: Listed,
     m2: Listed,
@@ -150,8 +150,8 @@ pub fn first(s: &[u8], at: usize) -> Element
     }
 }
 
-// The element after the one at a place. Ended: the closing bracket follows it. Broken: no value stands there, or neither a comma nor the
-// bracket follows.
+// The element after the one at a place. Ended: the closing bracket follows it. Broken: no value stands there, or
+// neither a comma nor the bracket follows.
 pub fn next(s: &[u8], at: usize) -> Element
     ensures { λ r. ⌜ r ≡ nextOf (now (s .entry)) at ⌝ }
 {
@@ -205,8 +205,8 @@ pub fn is_event(s: &[u8]) -> bool
     }
 }
 
-// What the reply to a message that rows 6 to 12 refuse names: the event's id if it is 64 lower-case hex, the subscription id of a REQ if
-// it is within bounds.
+// What the reply to a message that rows 6 to 12 refuse names: the event's id if it is 64 lower-case hex, the
+// subscription id of a REQ if it is within bounds.
 pub fn names(s: &[u8]) -> Named
     ensures { λ r. ⌜ r ≡ namedOf (now (s .entry)) ⌝ }
 {
@@ -224,14 +224,16 @@ pub fn string_row(b: &[u8], p: Span) -> u8
     lent::told(lent::string_rank(b, p))
 }
 
-// The lowest of rows 2, 4, 5 and 7 that holds of a string part, lent in b, that must be k characters of lower-case hex; 0 where none does.
+// The lowest of rows 2, 4, 5 and 7 that holds of a string part, lent in b, that must be k characters of lower-case hex;
+// 0 where none does.
 pub fn hex_row(b: &[u8], p: Span, k: usize) -> u8
     ensures { λ r. ⌜ r ≡ hexRow k (now (b .entry)) p ⌝ }
 {
     lent::told(lent::hex_rank(b, p, k))
 }
 
-// The lowest of rows 2, 4, 5 and 8 that holds of a string part, lent in b, that must be a subscription id; 0 where none does.
+// The lowest of rows 2, 4, 5 and 8 that holds of a string part, lent in b, that must be a subscription id; 0 where none
+// does.
 pub fn subscription_row(b: &[u8], p: Span) -> u8
     ensures { λ r. ⌜ r ≡ subscriptionRow (now (b .entry)) p ⌝ }
 {

@@ -10,7 +10,8 @@ use json::Next;
 use json::Out;
 use json::Start;
 
-// A member whose value stands at v, after what was found before it: its name is spelled `name`, and `word` is looked for.
+// A member whose value stands at v, after what was found before it: its name is spelled `name`, and `word` is looked
+// for.
 pub(crate) fn keep(name: &[u8], word: &[u8], a: Listed, v: usize) -> Listed
     ensures { λ r. ⌜ r ≡ keptPlace (now (name .entry)) (now (word .entry)) a v ⌝ }
 {

@@ -2,7 +2,8 @@
 ghost use mathlib.Core.Path.{_≡_};
 ghost use Prim.Native.Nat.{_-_};
 ghost use Rattle.message.specs.Parts.{wholeValue, eventAt};
-ghost use Rattle.message.specs.Inner.{leafAt, spanAt, numberLeaf, spanFound, numberFound, boundFound, filterFound, placeFound, bodyFound};
+ghost use Rattle.message.specs.Inner.{leafAt, spanAt, numberLeaf, spanFound, numberFound, boundFound};
+ghost use Rattle.message.specs.Inner.{filterFound, placeFound, bodyFound};
 use crate::Body;
 use crate::Bound;
 use crate::EventParts;

@@ -1,5 +1,6 @@
-// Client messages on standard input, one a line: the number of the row that refuses each, or 0 and the message spelled anew from its parts:
-// no white space, strings with the seven escapes, filter fields in the order of 01 and # conditions by their letter's byte.
+// Client messages on standard input, one a line: the number of the row that refuses each, or 0 and the message spelled
+// anew from its parts: no white space, strings with the seven escapes, filter fields in the order of 01 and #
+// conditions by their letter's byte.
 use json::Next;
 use json::Out;
 use json::Start;

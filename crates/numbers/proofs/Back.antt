@@ -1,4 +1,5 @@
--- A number that was read fits 64 bits, and no list of a message stands at 0: so both are read back from the row as they are.
+-- A number that was read fits 64 bits, and no list of a message stands at 0: so both are read back from the row as they
+-- are.
 use mathlib.Core.Path.{_≡_, refl, sym, ap, _∙_}
 use mathlib.Core.List.{List, [], _∷_, _++_, map}
 use mathlib.Core.Bool.{Bool, true, false, cond, not}
@@ -29,7 +30,8 @@ use Rattle.message.specs.declared.Bound.the-variants as bound
 use Rattle.message.specs.declared.Listed.{Listed}
 use Rattle.message.specs.declared.Listed.the-variants as listed
 use Rattle.message.specs.declared.FilterParts.{FilterParts}
-use Rattle.message.specs.Parts.{Member, missing, member, memberOf, wholeValue, numberSpelled, numberIn, boundIn, listedIn, membersOf, membersGot, membersAt, filterPartsOf, filterAt, noFilter}
+use Rattle.message.specs.Parts.{Member, missing, member, memberOf, wholeValue, numberSpelled, numberIn, boundIn}
+use Rattle.message.specs.Parts.{listedIn, membersOf, membersGot, membersAt, filterPartsOf, filterAt, noFilter}
 use Rattle.message.proofs.Walks.{Walk, last, more}
 use Rattle.message.proofs.Elements.{Group, hollow, filled, group-of}
 use Rattle.message.proofs.Facts.{and-true, In, here, later, Holds, absent, present, member-holds}

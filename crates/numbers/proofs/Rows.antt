@@ -9,7 +9,8 @@ use native.Mathlib.Omega.{arith}
 use borrow.Author.Tests.{not-false}
 use lib.ListN.{length, take, getD}
 use Rattle.json.specs.Grammar.{case, inClass, closeOf, wsAt, oneAt, tokenAt, nextAt, startAt, openedAt}
-use Rattle.json.specs.Tree.{Json, word, num, str, arr, obj, Items, nil, item, Got, none, got, endOf, depth, treeAt, root}
+use Rattle.json.specs.Tree.{Json, word, num, str, arr, obj, Items, nil, item, Got, none, got, endOf, depth, treeAt}
+use Rattle.json.specs.Tree.{root}
 use Rattle.json.specs.declared.Class.the-variants.{Space, Byte}
 use Rattle.json.specs.declared.Out.{Out}
 use Rattle.json.specs.declared.Out.the-variants.{End, Bad}

@@ -1,4 +1,5 @@
--- What was read from a message and written as a row of numbers gives the same parts back, whatever stands behind it in the row.
+-- What was read from a message and written as a row of numbers gives the same parts back, whatever stands behind it in
+-- the row.
 use mathlib.Core.Path.{_≡_}
 use mathlib.Core.List.{List, _++_}
 use Prim.Native.Nat.{ℕ}
@@ -18,7 +19,8 @@ EventBack = (s : List ℕ) (p : EventParts) → readOf s ≡ Event p → (x : Li
 -- the filters that count; behind them others may stand
 pub record SameFilters (s : List ℕ) (r : ReqParts) (l : List ℕ) : Type 0 where
   pub count : filterCount l ≡ filtersAt s (r .filters) .n
-  pub parts : take (filterCount l) (filtersFrom l) ≡ take (filtersAt s (r .filters) .n) (filtersAt s (r .filters) .parts)
+  pub parts : take (filterCount l) (filtersFrom l) ≡ take (filtersAt s (r .filters) .n)
+      (filtersAt s (r .filters) .parts)
 
 abbrev pub FiltersBack : Type 0
 FiltersBack = (s : List ℕ) (r : ReqParts) → readOf s ≡ Req r → (x : List ℕ) → SameFilters s r (requestNumbers s r ++ x)

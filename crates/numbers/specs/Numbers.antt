@@ -1,4 +1,5 @@
--- Parts as rows of 64-bit numbers, for callers that can lend nothing else: what is written. Signed numbers are their 64 bits, in two's complement.
+-- Parts as rows of 64-bit numbers, for callers that can lend nothing else: what is written. Signed numbers are their 64
+-- bits, in two's complement.
 use Prim.Native.Nat.{ℕ}
 use mathlib.Core.List.{List, [], _∷_, _++_}
 use lib.ListN.{take}
@@ -34,12 +35,14 @@ bitsOf (bound.Number z) = unsigned z
 
 abbrev pub eventNumbers : EventParts → List ℕ
 eventNumbers p =
-    1 ∷ p .id .start ∷ p .id .len ∷ p .body .pubkey .start ∷ p .body .pubkey .len ∷ unsigned (p .body .«created_at») ∷ unsigned (p .body .kind) ∷ p .body .tags
+    1 ∷ p .id .start ∷ p .id .len ∷ p .body .pubkey .start ∷ p .body .pubkey .len ∷ unsigned (p .body .«created_at») ∷
+    unsigned (p .body .kind) ∷ p .body .tags
     ∷ p .body .content .start ∷ p .body .content .len ∷ p .sig .start ∷ p .sig .len ∷ []
 
 abbrev pub filterNumbers : FilterParts → List ℕ
 filterNumbers p =
-    placeOf (p .ids) ∷ placeOf (p .authors) ∷ placeOf (p .kinds) ∷ flagOf (p .since) ∷ bitsOf (p .since) ∷ flagOf (p .until) ∷ bitsOf (p .until)
+    placeOf (p .ids) ∷ placeOf (p .authors) ∷ placeOf (p .kinds) ∷ flagOf (p .since) ∷ bitsOf (p .since) ∷ flagOf
+    (p .until) ∷ bitsOf (p .until)
     ∷ flagOf (p .limit) ∷ bitsOf (p .limit) ∷ placeOf (p .conditions) ∷ []
 
 abbrev pub partsNumbers : List FilterParts → List ℕ

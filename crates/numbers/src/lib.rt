@@ -1,10 +1,13 @@
-// Parts of messages and texts as rows of 64-bit numbers, and back, for callers that can lend nothing else. A number past the end of a row is 0.
+// Parts of messages and texts as rows of 64-bit numbers, and back, for callers that can lend nothing else. A number
+// past the end of a row is 0.
 ghost use mathlib.Core.Path.{_≡_};
 ghost use Prim.Native.Nat.{_≤_};
 ghost use lib.ListN.{take};
 ghost use Rattle.wire.specs.Put.{Puts};
-ghost use Rattle.numbers.specs.Numbers.{placeOf, flagOf, bitsOf, eventNumbers, filterNumbers, partsNumbers, textNumbers};
-ghost use Rattle.numbers.specs.Parts.{numberFrom, rowFrom, spanFrom, eventFrom, listedFrom, boundFrom, filterFrom, filtersFrom};
+ghost use Rattle.numbers.specs.Numbers.{placeOf, flagOf, bitsOf, eventNumbers, filterNumbers, partsNumbers};
+ghost use Rattle.numbers.specs.Numbers.{textNumbers};
+ghost use Rattle.numbers.specs.Parts.{numberFrom, rowFrom, spanFrom, eventFrom, listedFrom, boundFrom};
+ghost use Rattle.numbers.specs.Parts.{filterFrom, filtersFrom};
 use message::Body;
 use message::Bound;
 use message::EventParts;

@@ -21,7 +21,8 @@ use Rattle.wire.specs.Field.{unsigned}
 use Rattle.wire.proofs.Laws.{puts-then}
 use Rattle.numeral.specs.Decimal.{digits, decimal}
 use Rattle.wire.specs.Limits.{widest}
-use Rattle.numeral.specs.Whole.{isDigit, allDigits, valueFrom, valueOf, isNatural, malformed, whole, naturalOf, negativeOf, wholeOf, isWithin, wholeAnswer}
+use Rattle.numeral.specs.Whole.{isDigit, allDigits, valueFrom, valueOf, isNatural, malformed, whole, naturalOf}
+use Rattle.numeral.specs.Whole.{negativeOf, wholeOf, isWithin, wholeAnswer}
 use Rattle.numeral.specs.Inner.{aboveWidest, digitsSum, naturalSum, aboveOf, belowOf}
 use Rattle.numeral.specs.declared.Whole.{Whole}
 use Rattle.numeral.specs.declared.Whole.the-variants.{Value, Malformed}

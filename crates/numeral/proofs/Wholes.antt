@@ -1,4 +1,5 @@
--- The form that 01 asks for is shortest decimal and nothing else: what is written is read, and what is read is what would be written.
+-- The form that 01 asks for is shortest decimal and nothing else: what is written is read, and what is read is what
+-- would be written.
 use mathlib.Core.Path.{_≡_, refl, sym, ap, _∙_}
 use mathlib.Core.Bool.{Bool, true, false, cond, _&&_}
 use mathlib.Core.List.{List, [], _∷_, _++_, append-assoc, append-nil}
@@ -11,9 +12,11 @@ use lib.Signed.{mag}
 use lib.ListN.{length, getD}
 use Rattle.numeral.specs.Decimal.{digits, decimal}
 use Rattle.wire.specs.Limits.{widest}
-use Rattle.numeral.specs.Whole.{isDigit, allDigits, valueFrom, valueOf, isEmpty, isNatural, Spelled, malformed, whole, naturalOf, negativeOf, wholeOf, isWithin, wholeAnswer}
+use Rattle.numeral.specs.Whole.{isDigit, allDigits, valueFrom, valueOf, isEmpty, isNatural, Spelled, malformed}
+use Rattle.numeral.specs.Whole.{whole, naturalOf, negativeOf, wholeOf, isWithin, wholeAnswer}
 use Rattle.numeral.specs.declared.Whole.the-variants.{Value, Large}
-use Rattle.numeral.proofs.Digits.{digits-one, digits-more, digits-all, digits-first, value-digits, digits-few, digits-20}
+use Rattle.numeral.proofs.Digits.{digits-one, digits-more, digits-all, digits-first, value-digits, digits-few}
+use Rattle.numeral.proofs.Digits.{digits-20}
 
 and-true : (a b : Bool) → a && b ≡ true → (a ≡ true) × (b ≡ true)
 and-true true true e = (refl, refl)

@@ -5,7 +5,8 @@ use lib.IntN.{pos, negsuc}
 use Rattle.wire.specs.Ascii.{ascii}
 use Rattle.wire.specs.Bytes.{those}
 use Rattle.numeral.specs.Decimal.{digitsIn, digits, decimal}
-use Rattle.numeral.specs.Whole.{malformed, whole, isDigit, allDigits, valueFrom, isNatural, naturalOf, negativeOf, wholeOf, isWithin, wholeAnswer}
+use Rattle.numeral.specs.Whole.{malformed, whole, isDigit, allDigits, valueFrom, isNatural, naturalOf, negativeOf}
+use Rattle.numeral.specs.Whole.{wholeOf, isWithin, wholeAnswer}
 use Rattle.numeral.specs.declared.Whole.the-variants.{Value, Large}
 
 -- -7200, 0 and 9007199254740991

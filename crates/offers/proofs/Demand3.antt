@@ -22,7 +22,10 @@ use Rattle.table.proofs.Formatted.{formatted-capacity}
 use Rattle.table.proofs.Stored.{length-view}
 use Rattle.table.proofs.Valid.{valid-hashed}
 use Rattle.table.proofs.WrongRelays.{stores-something, takes-something, stores-later, counts, answers-differ, two-ids}
-use Rattle.offers.specs.Demand3.{Call, InTurn, left, Session, atEnd, offersOf, validOf, lacksRoom, heldIn, isFresh, relayOf, HeldAtEnd, HeldAfterEach, AnyOrder, RoomRunsOut, RelaysEndAlike, Brought, SignatureBrought, SignatureStays, Demand3OfCalls, Keeps, NoneOfThese}
+use Rattle.offers.specs.Demand3.{Call, InTurn, left, Session, atEnd, offersOf, validOf, lacksRoom, heldIn}
+use Rattle.offers.specs.Demand3.{isFresh, relayOf, HeldAtEnd, HeldAfterEach, AnyOrder, RoomRunsOut}
+use Rattle.offers.specs.Demand3.{RelaysEndAlike, Brought, SignatureBrought, SignatureStays, Demand3OfCalls, Keeps}
+use Rattle.offers.specs.Demand3.{NoneOfThese}
 
 -- ---- calls in turn are a run
 run : (b : List ℕ) (cs : List Call) → InTurn b cs → left b cs ≡ runOn tableEvents Signature relay b (offersOf cs)

@@ -1,4 +1,5 @@
--- Digits of hex: a part that is as long as the digits that it spells is these digits; the number of one, and the bytes of pairs.
+-- Digits of hex: a part that is as long as the digits that it spells is these digits; the number of one, and the bytes
+-- of pairs.
 use mathlib.Core.Path.{_≡_, refl, sym, ap, ap₂, _∙_}
 use mathlib.Core.Bool.{Bool, true, false, cond, false≢true}
 use mathlib.Core.List.{List, [], _∷_, _++_}
@@ -12,9 +13,11 @@ use lib.Seq.{drop-cons}
 use Rattle.wire.specs.Bytes.{isHex}
 use Rattle.wire.specs.Put.{Puts}
 use Rattle.wire.proofs.Laws.{length-put, Rest, puts-one, rest-turn, rest-end}
-use Rattle.spell.specs.Spell.{hexVal, unhex, shortOf, isPair, pairOf, unicodeOf, charOf, chars, charsFrom, utf8Of, charBytes, charsBytes, decode, all, isHexOf}
+use Rattle.spell.specs.Spell.{hexVal, unhex, shortOf, isPair, pairOf, unicodeOf, charOf, chars, charsFrom, utf8Of}
+use Rattle.spell.specs.Spell.{charBytes, charsBytes, decode, all, isHexOf}
 use Rattle.spell.specs.declared.Char.{Char}
-use Rattle.spell.proofs.Laws.{HexDigit, digit, letter, hex-digit, hex-length, hex-all, decode-raw, decode-short, decode-length}
+use Rattle.spell.proofs.Laws.{HexDigit, digit, letter, hex-digit, hex-length, hex-all, decode-raw, decode-short}
+use Rattle.spell.proofs.Laws.{decode-length}
 use Rattle.text.proofs.Pieces.{both}
 use Rattle.table.proofs.Hex.{unhex-length}
 

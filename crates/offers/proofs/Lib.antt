@@ -1,5 +1,6 @@
--- First: the first entry of a list that passes a test. Held: the verdict over the bytes of the held slots. Digits: digits of hex. Verdicts,
--- Stores, Makes, From, Offers, Takes: a law for each way out of the code: the verdict, the store, the slot made from parts, from a message, the calls. Demand3: lists of calls.
+-- First: the first entry of a list that passes a test. Held: the verdict over the bytes of the held slots. Digits:
+-- digits of hex. Verdicts, Stores, Makes, From, Offers, Takes: a law for each way out of the code: the verdict, the
+-- store, the slot made from parts, from a message, the calls. Demand3: lists of calls.
 pub mod First
 pub mod Held
 pub mod Verdicts

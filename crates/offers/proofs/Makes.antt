@@ -5,7 +5,8 @@ use mathlib.Core.List.{List, [], _++_, append-assoc, append-nil}
 use Prim.Native.Nat.{ℕ, _+_, _-_, _≤_, _<_}
 use native.Mathlib.Omega.{arith}
 use lib.Dec.{eqb}
-use lib.ListN.{length, take, drop, replicate, length-append, length-replicate, replicate-append-replicate, drop-of-length-le}
+use lib.ListN.{length, take, drop, replicate, length-append, length-replicate, replicate-append-replicate}
+use lib.ListN.{drop-of-length-le}
 use lib.Seq.{take-all, take-append-seam, drop-append-seam}
 use borrow.Author.Tests.{eqb-true, eq-eqb, not-false}
 use borrow.Rule.Slice.PartMut.{putMid}

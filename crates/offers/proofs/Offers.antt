@@ -16,7 +16,8 @@ use Rattle.law.specs.Table as law
 use Rattle.table.specs.Layout.{Held, Fits, slotPlace, countPlace, capacityOf, countOf, slotBytes}
 use Rattle.table.specs.Events.{signedEvents, classIn, classOfEvent, classOfText, inSlot, ofHeld, view}
 use Rattle.table.specs.Sound.{sound}
-use Rattle.table.specs.Offer.{Offering, offeringRow, isValid, offeredOf, offeredBy, answer, offerNumber, isStored, countAfter, slotFor, storedIn, next}
+use Rattle.table.specs.Offer.{Offering, offeringRow, isValid, offeredOf, offeredBy, answer, offerNumber, isStored}
+use Rattle.table.specs.Offer.{countAfter, slotFor, storedIn, next}
 use Rattle.table.specs.declared.Offered.{Offered}
 use Rattle.table.specs.declared.Offered.the-variants.{Refused}
 use Rattle.table.proofs.Valid.{valid-fits, valid-read}

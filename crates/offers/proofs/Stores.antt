@@ -1,4 +1,5 @@
--- The store: a law for each way out. The slot's part of the table came back as its bytes, and the count was put after it.
+-- The store: a law for each way out. The slot's part of the table came back as its bytes, and the count was put after
+-- it.
 use mathlib.Core.Path.{_≡_, refl, sym, ap, ap₂, _∙_}
 use mathlib.Core.Bool.{Bool, true, false, cond, not, _&&_, false≢true}
 use mathlib.Core.List.{List, _++_, append-nil, append-assoc}
@@ -24,7 +25,8 @@ use Rattle.table.specs.declared.Offered.{Offered}
 use Rattle.table.specs.declared.Offered.the-variants.{Stored, Refused}
 use Rattle.table.proofs.Bytes.{clauses}
 use Rattle.table.proofs.Stored.{length-view}
-use Rattle.offers.specs.Inner.{New, answerFor, offeredTo, slotOf, DecidedAs, Decides, HasRoom, countFrom, storedFor, offeredNext}
+use Rattle.offers.specs.Inner.{New, answerFor, offeredTo, slotOf, DecidedAs, Decides, HasRoom, countFrom}
+use Rattle.offers.specs.Inner.{storedFor, offeredNext}
 use Rattle.offers.specs.declared.Decided.{Decided}
 use Rattle.offers.specs.declared.Decided.the-variants.{Fills, Answered}
 use Rattle.offers.proofs.First.{find-most}

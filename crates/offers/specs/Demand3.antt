@@ -1,5 +1,5 @@
--- Demand 3 for whoever calls: calls are known by their promises alone (src/lib.rt, and `format` of slots/src/lib.rt), and this is what a list of
--- them leaves. Quotes are from demand 3 where nothing else is said. Proofs: proofs/Demand3.
+-- Demand 3 for whoever calls: calls are known by their promises alone (src/lib.rt, and `format` of slots/src/lib.rt),
+-- and this is what a list of them leaves. Quotes are from demand 3 where nothing else is said. Proofs: proofs/Demand3.
 use mathlib.Core.Path.{_≡_, sym, _∙_}
 use mathlib.Core.Bool.{Bool, true, false}
 use mathlib.Core.Logic.{_↔_, _≢_}
@@ -47,7 +47,8 @@ abbrev pub left : Bytes → List Call → Bytes
 left b [] = b
 left b (c ∷ cs) = left (c .exit) cs
 
--- "the first made to a fresh table": `format` is called with a capacity and a buffer, promises its answer and the table at exit, and answers 0
+-- "the first made to a fresh table": `format` is called with a capacity and a buffer, promises its answer and the table
+-- at exit, and answers 0
 pub record Session (cs : List Call) : Type 0 where
   pub capacity : ℕ
   pub buffer : List ℕ
@@ -77,21 +78,27 @@ abbrev pub heldIn : Bytes → Table tableEvents
 heldIn b = law.view tableEvents Signature relay b
 
 -- ---- what they leave
--- "Suppose none lacked room and no two valid events .. share an id .. Then at the list's end an event is held exactly when .. Each is held once."
+-- "Suppose none lacked room and no two valid events .. share an id .. Then at the list's end an event is held exactly
+-- when .. Each is held once."
 abbrev pub HeldAtEnd : Type 0
 HeldAtEnd = (cs : List Call) (s : Session cs) → IdPremise tableEvents (validOf cs) → lacksRoom cs ≡ false →
     Settled tableEvents (heldIn (atEnd s)) (validOf cs)
 
 -- 01: "every beginning of a list is a list too, so it holds after each offer"
 abbrev pub HeldAfterEach : Type 0
-HeldAfterEach = (cs ds : List Call) (s : Session (cs ++ ds)) → IdPremise tableEvents (validOf (cs ++ ds)) → lacksRoom (cs ++ ds) ≡ false →
+HeldAfterEach =
+    (cs ds : List Call) (s : Session (cs ++ ds)) → IdPremise tableEvents (validOf (cs ++ ds)) →
+    lacksRoom (cs ++ ds) ≡ false →
     Settled tableEvents (heldIn (left (s .table) cs)) (validOf cs)
 
--- "any other list with the same valid events from a fresh table of no smaller capacity .. leaves an equal set in as many slots"
+-- "any other list with the same valid events from a fresh table of no smaller capacity .. leaves an equal set in as
+-- many slots"
 abbrev pub AnyOrder : Type 0
-AnyOrder = (cs ds : List Call) (s : Session cs) (t : Session ds) → IdPremise tableEvents (validOf cs) → lacksRoom cs ≡ false →
+AnyOrder =
+    (cs ds : List Call) (s : Session cs) (t : Session ds) → IdPremise tableEvents (validOf cs) → lacksRoom cs ≡ false →
     SameValid tableEvents (validOf cs) (validOf ds) → s .capacity ≤ t .capacity →
-    (lacksRoom ds ≡ false) × SameHeld tableEvents (heldIn (atEnd t)) (heldIn (atEnd s)) × (countOf (atEnd t) ≡ countOf (atEnd s))
+    (lacksRoom ds ≡ false) × SameHeld tableEvents (heldIn (atEnd t)) (heldIn (atEnd s)) ×
+    (countOf (atEnd t) ≡ countOf (atEnd s))
 
 -- "Given the id premise alone, some offer of a list lacks room exactly when .. together outnumber the slots."
 abbrev pub RoomRunsOut : Type 0
@@ -123,13 +130,15 @@ isFresh s = record { capacity = s .capacity; buffer = s .buffer; passes = sym (s
 
 -- a history, then calls up to the moment at which this relay's table is taken for the other, and calls after it
 abbrev pub relayOf : (hs es ls : List Call) (s : Session (hs ++ (es ++ ls))) → RelayOn tableEvents Signature relay
-relayOf hs es ls s = record { table = s .table; fresh = isFresh s; history = offersOf hs; early = offersOf es; late = offersOf ls }
+relayOf hs es ls s =
+    record { table = s .table; fresh = isFresh s; history = offersOf hs; early = offersOf es; late = offersOf ls }
 
--- "Two relays that offer each other, as parts, all they hold end with equal sets, if neither lacks room and the id premise holds over both
--- histories."
+-- "Two relays that offer each other, as parts, all they hold end with equal sets, if neither lacks room and the id
+-- premise holds over both histories."
 abbrev pub RelaysEndAlike : Type 0
 RelaysEndAlike = (hs es ls ks fs ms : List Call) (s : Session (hs ++ (es ++ ls))) (t : Session (ks ++ (fs ++ ms))) →
-    ExchangeOn tableEvents Signature relay (relayOf hs es ls s) (relayOf ks fs ms t) → IdPremise tableEvents (validOf hs ++ validOf ks) →
+    ExchangeOn tableEvents Signature relay (relayOf hs es ls s) (relayOf ks fs ms t) →
+    IdPremise tableEvents (validOf hs ++ validOf ks) →
     lacksRoom (hs ++ (es ++ ls)) ≡ false → lacksRoom (ks ++ (fs ++ ms)) ≡ false →
     Settled tableEvents (heldIn (atEnd s)) (validOf hs ++ validOf ks)
     × Settled tableEvents (heldIn (atEnd t)) (validOf hs ++ validOf ks)
@@ -145,7 +154,8 @@ pub record Demand3OfCalls : Type 0 where
   pub signature-brought : SignatureBrought
   pub signature-stays : SignatureStays
 
--- ---- 01, "How far each promise must reach: .. Check it against these": whatever answers and leaves tables as promised is none of them
+-- ---- 01, "How far each promise must reach: .. Check it against these": whatever answers and leaves tables as promised
+-- is none of them
 module _ (says : List ℕ → Offering → Offered) (exit : List ℕ → Offering → List ℕ) where
   pub record Keeps : Type 0 where
     pub answers : (b : List ℕ) (o : Offering) → says b o ≡ answer b o

@@ -1,5 +1,5 @@
--- An offer by the bytes s of the slot that it would fill, to the table b: the steps of the code. That `offeredTo` and `offeredNext` are
--- table/specs/Offer `answer` and `next` is proved: proofs/Offers.
+-- An offer by the bytes s of the slot that it would fill, to the table b: the steps of the code. That `offeredTo` and
+-- `offeredNext` are table/specs/Offer `answer` and `next` is proved: proofs/Offers.
 use mathlib.Core.Path.{_≡_}
 use mathlib.Core.Bool.{Bool, true, false, cond}
 use mathlib.Core.Option.{some}

@@ -1,4 +1,5 @@
--- 01's number of what an offer o to the table b is answered: "offering one tests 1 to 12", "Where several hold, the lowest number is given".
+-- 01's number of what an offer o to the table b is answered: "offering one tests 1 to 12", "Where several hold, the
+-- lowest number is given".
 use mathlib.Core.Bool.{Bool, cond, not, _&&_}
 use mathlib.Core.List.{List}
 use Prim.Native.Nat.{ℕ}

@@ -51,9 +51,11 @@ tableAs b t (message.Refused r) = b
 unfoldable pub takenTable : Bytes → Bytes → Bytes
 takenTable b m = tableAs b (next b (asMessage m)) (readOf m)
 
--- ---- what private functions hand on: the parts of the event of m, and o the bytes of its slot; or the row that refuses its offer
+-- ---- what private functions hand on: the parts of the event of m, and o the bytes of its slot; or the row that
+-- refuses its offer
 abbrev pub Made : (m : Bytes) (x : SentText) (o : Bytes) → Type 0
-Made m (sent.Wrote p n) o = (readOf m ≡ message.Event p) × ((0 ≡ messageOfferRow m) × (o ≡ slotBytes (heldOf m (partsOf m))))
+Made m (sent.Wrote p n) o =
+    (readOf m ≡ message.Event p) × ((0 ≡ messageOfferRow m) × (o ≡ slotBytes (heldOf m (partsOf m))))
 Made m (sent.Refused r) o = (r ≡ messageOfferRow m) × (r ≡ 0 → ⊥)
 
 pub record Makes (m : List ℕ) (s : SentText) (o : List ℕ) : Type 0 where

@@ -1,5 +1,5 @@
-// Offers to a table (01, "The table"), as a message and as parts: the rows and the verdict, and the one slot and the count that a store
-// writes. The definitions are table/specs/Offer; what the code goes by on the way stands in specs/.
+// Offers to a table (01, "The table"), as a message and as parts: the rows and the verdict, and the one slot and the
+// count that a store writes. The definitions are table/specs/Offer; what the code goes by on the way stands in specs/.
 ghost use mathlib.Core.Path.{_≡_};
 ghost use mathlib.Core.Bool.{true};
 ghost use Prim.Native.Nat.{ℕ, _+_, _≤_};
@@ -24,7 +24,9 @@ ghost use Rattle.table.specs.Offer.{asMessage, asParts, partsOf, messageOfferRo
 ghost use Rattle.slots.specs.Slots.{sameIdIn, sameKeyIn, slotsFrom};
 ghost use Rattle.offers.specs.Row.{offerRow};
 ghost use Rattle.offers.specs.Taken.{Makes, takenAs, taken, takenNumber, takenRow, takenTable};
-ghost use Rattle.offers.specs.Inner.{newerIn, dLast, New, answerFor, offeredTo, Decides, HasRoom, slotOf, storedFor, offeredNext, countFrom, SpellsHex, ifAddressable, slotNumbers, headOf};
+ghost use Rattle.offers.specs.Inner.{newerIn, dLast, New, answerFor, offeredTo, Decides, HasRoom, slotOf};
+ghost use Rattle.offers.specs.Inner.{storedFor, offeredNext, countFrom, SpellsHex, ifAddressable, slotNumbers};
+ghost use Rattle.offers.specs.Inner.{headOf};
 
 // What taking a message gives: the place of an EVENT's id in it, and what its offer is answered; or what else was read.
 pub enum Taken {
@@ -119,7 +121,8 @@ fn put_head(out: &mut [u8], b: &[u8], p: message::EventParts, n: usize, t: text:
 fn put_fields(out: &mut [u8], b: &[u8], p: message::EventParts, n: usize) -> usize
     requires { ⌜ SpellsHex (now b) (p .id) hexLength × SpellsHex (now b) (p .sig) sigLength ⌝ }
     requires { ⌜ slotSize ≤ length (now out) ⌝ }
-    ensures { λ r. ⌜ ((e : Event) → readText (part (now (out .entry)) textPlace n) ≡ read e → Puts (now (out .entry)) 0 (headOf (now (b .entry)) p n (textParts e)) r (now (out .exit))) ⌝ }
+    ensures { λ r. ⌜ ((e : Event) → readText (part (now (out .entry)) textPlace n) ≡ read e →
+        Puts (now (out .entry)) 0 (headOf (now (b .entry)) p n (textParts e)) r (now (out .exit))) ⌝ }
 {
     match text::read_text(wire::piece(out, slots::TEXT_PLACE, n)) {
         text::TextAnswer::Read(t) => put_head(out, b, p, n, t),
@@ -128,8 +131,8 @@ fn put_fields(out: &mut [u8], b: &[u8], p: message::EventParts, n: usize) -> usi
     }
 }
 
-// The whole slot, in bytes that are zero; or the lowest of rows 2 and 4 to 10 that refuses the parts. The slot's own place for the text is
-// lent on, so the text is serialised once and hashed once.
+// The whole slot, in bytes that are zero; or the lowest of rows 2 and 4 to 10 that refuses the parts. The slot's own
+// place for the text is lent on, so the text is serialised once and hashed once.
 fn make_slot(out: &mut [u8], b: &[u8], p: message::EventParts) -> u8
     requires { ⌜ now out ≡ replicate slotSize 0 ⌝ }
     ensures { λ r. ⌜ r ≡ offeredRow (now (b .entry)) p ⌝ }
@@ -144,7 +147,8 @@ fn make_slot(out: &mut [u8], b: &[u8], p: message::EventParts) -> u8
     }
 }
 
-// The same, of the event of a message, with its parts; or the lowest of rows 1 to 10: the reader tests its parts, and nobody tests them again.
+// The same, of the event of a message, with its parts; or the lowest of rows 1 to 10: the reader tests its parts, and
+// nobody tests them again.
 fn make_event(out: &mut [u8], m: &[u8]) -> event::SentText
     requires { ⌜ now out ≡ replicate slotSize 0 ⌝ }
     ensures { λ r. ⌜ Makes (now (m .entry)) r (now (out .exit)) ⌝ }
@@ -255,12 +259,13 @@ fn newer_than(s: &[u8], t: &[u8]) -> bool
     )
 }
 
-// "Verdicts of an offer .. first that applies", and row 12 where a new slot is needed and all are in use. The key is looked for once: the slot
-// found is the one that a store fills.
+// "Verdicts of an offer .. first that applies", and row 12 where a new slot is needed and all are in use. The key is
+// looked for once: the slot found is the one that a store fills.
 fn verdict(table: &[u8], new: &[u8]) -> Decided
     requires { ⌜ sound (now table) ≡ true ⌝ }
     requires { ⌜ New (now new) ⌝ }
-    ensures { λ r. ⌜ Decides (now (table .entry)) (now (new .entry)) (answerFor (now (table .entry)) (now (new .entry))) r ⌝ }
+    ensures { λ r. ⌜ Decides (now (table .entry)) (now (new .entry)) (answerFor (now (table .entry)) (now (new .entry)))
+        r ⌝ }
 {
     if is_ephemeral(wire::le_at(new, slots::KIND_PLACE, 2)) {
         return Decided::Answered(table::Offered::Ephemeral);
@@ -287,7 +292,8 @@ fn verdict(table: &[u8], new: &[u8]) -> Decided
 // Row 11, then the verdict, on an event that would fill the slot `new`.
 fn judge(table: &[u8], new: &[u8]) -> Decided
     requires { ⌜ New (now new) ⌝ }
-    ensures { λ r. ⌜ Decides (now (table .entry)) (now (new .entry)) (offeredTo (now (table .entry)) (now (new .entry))) r ⌝ }
+    ensures { λ r. ⌜ Decides (now (table .entry)) (now (new .entry)) (offeredTo (now (table .entry)) (now (new .entry)))
+        r ⌝ }
 {
     if !slots::sound(table) {
         return Decided::Answered(table::Offered::Refused(11));
@@ -315,7 +321,8 @@ fn count_after(c: usize, k: usize) -> usize
     c + 1
 }
 
-// "stored, over the slot with its key, else in slot C. A store writes only the bytes of the one slot it fills, and the count."
+// "stored, over the slot with its key, else in slot C. A store writes only the bytes of the one slot it fills, and the
+// count."
 fn store(table: &mut [u8], new: &[u8], k: usize)
     requires { ⌜ New (now new) ⌝ }
     requires { ⌜ HasRoom (now table) (now new) ⌝ }
@@ -403,7 +410,8 @@ fn untaken(m: &[u8], row: u8) -> Taken
     }
 }
 
-// A message taken: an EVENT is offered, and its id told; of anything else what was read is told, and the table stays. A valid EVENT is read once.
+// A message taken: an EVENT is offered, and its id told; of anything else what was read is told, and the table stays. A
+// valid EVENT is read once.
 pub fn take(table: &mut [u8], m: &[u8]) -> Taken
     ensures { λ r. ⌜ r ≡ taken (now (table .entry)) (now (m .entry)) ⌝ }
     ensures { λ r. ⌜ takenNumber r ≡ takenRow (now (table .entry)) (now (m .entry)) ⌝ }

@@ -1,16 +1,17 @@
-// Calls that take parts lent by anybody, numbers and texts, one call a line. A line is a letter and its fields with single spaces between:
-// a buffer in lower-case hex (`-` for the empty one), then decimal numbers (`x` for an absent one). Of a field that is none of these
-// nothing is claimed.
+// Calls that take parts lent by anybody, numbers and texts, one call a line. A line is a letter and its fields with
+// single spaces between: a buffer in lower-case hex (`-` for the empty one), then decimal numbers (`x` for an absent
+// one). Of a field that is none of these nothing is claimed.
 //
-//   B BUF pubkey pubkey_len created_at kind tags content content_len room    the row of a body; its id; its text into `room` bytes
+//   B BUF pubkey pubkey_len created_at kind tags content content_len room the row of a body; its id; its text into
+// `room` bytes
 //   E BUF id id_len (the seven of B) sig sig_len                             the row of an event, and of one offered
 //   F BUF ids authors kinds since until limit conditions                     the row of a filter
-//   M BUF                                                                    a message: rows, what its reply names, its parts
-//   N IDS len time time                                                      is the first event newer? The first id has len bytes
+//   M BUF a message: rows, what its reply names, its parts
+//   N IDS len time time is the first event newer? The first id has len bytes
 //   K - kind                                                                 the class of a kind
 //   T BUF                                                                    a text read back: its parts, and d's bytes
-//   L BUF at width number                                                    the number into the buffer, and out of it again
-//   D BUF times                                                              the digest of the bytes, so many times over
+//   L BUF at width number the number into the buffer, and out of it again
+//   D BUF times the digest of the bytes, so many times over
 use digest::Sha256;
 use event::Written;
 use message::Body;

@@ -1,4 +1,5 @@
--- An EVENT message that is accepted, by computation: it is read, its text is hashed to its id, and a fresh table stores it.
+-- An EVENT message that is accepted, by computation: it is read, its text is hashed to its id, and a fresh table stores
+-- it.
 use mathlib.Core.Path.{_≡_, refl, sym, ap, ap₂, _∙_}
 use mathlib.Core.Bool.{true}
 use mathlib.Core.Option.{none, some}
@@ -9,14 +10,19 @@ use lib.IntN.{pos}
 use lib.ListN.{length, getD, replicate}
 use Rattle.wire.specs.Bytes.{sameBytes, isHex}
 use Rattle.utf8.specs.Utf8.{isUtf8, utf8From, leadOf}
-use Rattle.json.specs.Grammar.{inClass, run, past, oneAt, tokenAt, wordAt, literalAt, digitsAt, intAt, fracAt, expAt, numberAt, hexAt, escapedAt, charAt, charsUpTo, charsAt, stringAt, scalarAt}
+use Rattle.json.specs.Grammar.{inClass, run, past, oneAt, tokenAt, wordAt, literalAt, digitsAt, intAt, fracAt, expAt}
+use Rattle.json.specs.Grammar.{numberAt, hexAt, escapedAt, charAt, charsUpTo, charsAt, stringAt, scalarAt}
 use Rattle.json.specs.Tree.{itemsAt, treeAt}
-use Rattle.numeral.specs.Whole.{isDigit, allDigits, valueFrom, isNatural, naturalOf, negativeOf, wholeOf, isWithin, wholeAnswer}
+use Rattle.numeral.specs.Whole.{isDigit, allDigits, valueFrom, isNatural, naturalOf, negativeOf, wholeOf, isWithin}
+use Rattle.numeral.specs.Whole.{wholeAnswer}
 use Rattle.spell.specs.Spell as spell
-use Rattle.spell.specs.Spell.{hexVal, charOf, charsFrom, charBytes, charsBytes, decode, isRefused, refuses, isHexOf, points, characterCount}
+use Rattle.spell.specs.Spell.{hexVal, charOf, charsFrom, charBytes, charsBytes, decode, isRefused, refuses, isHexOf}
+use Rattle.spell.specs.Spell.{points, characterCount}
 use Rattle.rows.specs.Strings.{spelledAt, refusedIn}
-use Rattle.shape.specs.Shape.{anyItem, allItems, countItems, nameAt, noNameTwice, once, eventMember, isEvent, isFilter, wordOf}
-use Rattle.shape.specs.Rows.{row6, row7, row8, eventNumber, eventHex, eventCount, wrongTime, wrongSmall, wrongHex, wrongTag, filterCounts, wrongSubscription, treeRow, messageRow}
+use Rattle.shape.specs.Shape.{anyItem, allItems, countItems, nameAt, noNameTwice, once, eventMember, isEvent, isFilter}
+use Rattle.shape.specs.Shape.{wordOf}
+use Rattle.shape.specs.Rows.{row6, row7, row8, eventNumber, eventHex, eventCount, wrongTime, wrongSmall, wrongHex}
+use Rattle.shape.specs.Rows.{wrongTag, filterCounts, wrongSubscription, treeRow, messageRow}
 use Rattle.message.specs.Parts.{memberOf, bodyOf, eventPartsOf, membersAt, filterAt}
 use Rattle.message.specs.Read.{readOf}
 use Rattle.message.specs.declared.EventParts.{EventParts}
@@ -30,7 +36,8 @@ use Rattle.event.specs.Answer.{hexOf}
 use Rattle.text.specs.Event.{Event, isPubkey, isTime}
 use Rattle.text.specs.Event as texts
 use Rattle.text.specs.Read as reading
-use Rattle.text.specs.Read.{read, readText, openedText, standsAt, fieldsAt, pairAt, closedAt, pubkeyAt, timeAt, runOf, kindAt, bodyFrom}
+use Rattle.text.specs.Read.{read, readText, openedText, standsAt, fieldsAt, pairAt, closedAt, pubkeyAt, timeAt, runOf}
+use Rattle.text.specs.Read.{kindAt, bodyFrom}
 use Rattle.text.specs.Kinds as kinds
 use Rattle.law.specs.Table.{regular, stored, verdict, after}
 use Rattle.table.specs.Events.{SignedEvent, signedEvents, inSlot, ofHeld, classOfEvent, classOfText, view}
@@ -48,13 +55,15 @@ use Rattle.table.proofs.Stored.{length-view}
 use Rattle.table.proofs.Shown.{view-at}
 use Rattle.query.specs.Filter.{Filter, filterOf}
 use Rattle.query.specs.Match.{matches}
-use Rattle.query.specs.Answer.{keep, among, numbersFrom, newestFirst, insert, picked, union, answerList, filtersMeant, matchesSlot}
+use Rattle.query.specs.Answer.{keep, among, numbersFrom, newestFirst, insert, picked, union, answerList, filtersMeant}
+use Rattle.query.specs.Answer.{matchesSlot}
 use Rattle.message.specs.Lists.{elementsFrom, upTo, nextOf}
 use Rattle.message.specs.Parts as msg
 use Rattle.message.specs.declared.Bound.the-variants.{Absent}
 use Rattle.reply.specs.Replies.{ok, event, eose, replyText, objectText}
 use Rattle.program.specs.Program.{isAccepted, verdictReason}
-use Rattle.program.specs.Program.{eventsOf, requestReplies, repliesTo, tableAfter, lines, written, outputFrom, programSlots, freshTable, output}
+use Rattle.program.specs.Program.{eventsOf, requestReplies, repliesTo, tableAfter, lines, written, outputFrom}
+use Rattle.program.specs.Program.{programSlots, freshTable, output}
 use Rattle.program.proofs.Example.{row-0, request}
 use Rattle.program.proofs.Which.{read-event}
 use Rattle.digest.specs.Block.{K, H0, words, schedule, round, rounds, chained, compress}

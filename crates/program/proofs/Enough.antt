@@ -47,7 +47,8 @@ use Rattle.wire.proofs.Cases.{no-left, no-right}
 use Rattle.query.proofs.Tables.{answer-means}
 use Rattle.reply.specs.Replies.{Reply, ok, eose, closed, notice, truth, replyText, reasonOf}
 use Rattle.program.specs.Program.{verdictReason}
-use Rattle.program.specs.Program.{refusalNaming, refusal, offerReply, requestReplies, repliesTo, replyLine, written}
+use Rattle.program.specs.Program.{refusalNaming, refusal, offerReply, requestReplies, repliesTo, replyLine}
+use Rattle.program.specs.Program.{written}
 use Rattle.program.specs.Respond.{response, respondRow, slotLine, joined, slotLines}
 use Rattle.program.specs.Claims.Respond.{enoughFor, Enough}
 use Rattle.program.proofs.Which.{names-id, names-subscription}

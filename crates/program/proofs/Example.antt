@@ -7,10 +7,12 @@ use Prim.Native.Nat.{ℕ}
 use Rattle.wire.specs.Bytes.{sameBytes}
 use Rattle.wire.specs.Escape.{letterOf, escOne, escape}
 use Rattle.utf8.specs.Utf8.{isUtf8, utf8From, leadOf}
-use Rattle.json.specs.Grammar.{inClass, run, past, oneAt, tokenAt, wordAt, literalAt, digitsAt, intAt, fracAt, expAt, numberAt, hexAt, escapedAt, charAt, charsUpTo, charsAt, stringAt, scalarAt}
+use Rattle.json.specs.Grammar.{inClass, run, past, oneAt, tokenAt, wordAt, literalAt, digitsAt, intAt, fracAt, expAt}
+use Rattle.json.specs.Grammar.{numberAt, hexAt, escapedAt, charAt, charsUpTo, charsAt, stringAt, scalarAt}
 use Rattle.json.specs.Tree.{itemsAt, treeAt}
 use Rattle.spell.specs.Spell as spell
-use Rattle.spell.specs.Spell.{charOf, charsFrom, charBytes, charsBytes, decode, isRefused, refuses, points, characterCount}
+use Rattle.spell.specs.Spell.{charOf, charsFrom, charBytes, charsBytes, decode, isRefused, refuses, points}
+use Rattle.spell.specs.Spell.{characterCount}
 use Rattle.rows.specs.Strings.{spelledAt, refusedIn}
 use Rattle.shape.specs.Shape.{anyItem, allItems, countItems, nameAt, noNameTwice, isFilter, wordOf}
 use Rattle.shape.specs.Rows.{row6, row7, row8, filterCounts, wrongSubscription, treeRow, messageRow}
@@ -28,7 +30,8 @@ use Rattle.table.proofs.Formatted.{formatted-view, formatted-sound}
 use Rattle.query.specs.Answer.{keep, numbersFrom, newestFirst, union, answerList, filtersMeant}
 use Rattle.wire.specs.Ascii.{ascii}
 use Rattle.reply.specs.Replies.{Reply, eose, notice, replyText, reasonOf}
-use Rattle.program.specs.Program.{refusal, eventsOf, requestReplies, repliesTo, tableAfter, lines, written, outputFrom, programSlots, freshTable, output}
+use Rattle.program.specs.Program.{refusal, eventsOf, requestReplies, repliesTo, tableAfter, lines, written}
+use Rattle.program.specs.Program.{outputFrom, programSlots, freshTable, output}
 
 braces : readOf (ascii "{}") ≡ message.Refused 5
 unfolding inClass run past oneAt tokenAt wordAt literalAt digitsAt intAt fracAt expAt numberAt hexAt escapedAt charAt charsUpTo charsAt stringAt scalarAt itemsAt treeAt isUtf8 utf8From leadOf charOf charsFrom charBytes charsBytes decode isRefused spell.any refuses sameBytes points characterCount spelledAt refusedIn anyItem countItems nameAt noNameTwice isFilter wordOf allItems row6 row7 row8 filterCounts wrongSubscription treeRow messageRow readOf

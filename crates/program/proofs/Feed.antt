@@ -1,5 +1,5 @@
--- The program as a state that bytes are fed to: a cut line is answered as the whole one, the input may be cut anywhere, what is said is the
--- output, and a turn over lent buffers leaves the state in them.
+-- The program as a state that bytes are fed to: a cut line is answered as the whole one, the input may be cut anywhere,
+-- what is said is the output, and a turn over lent buffers leaves the state in them.
 use mathlib.Core.Path.{_≡_, refl, sym, ap, ap₂, _∙_}
 use mathlib.Core.Bool.{Bool, true, false, cond, _||_, false≢true}
 use mathlib.Core.Logic.{_⊎_, inl, inr, ⊎-elim, _≢_}
@@ -18,7 +18,9 @@ use Rattle.program.specs.Program.{repliesTo, tableAfter, lines, written,
 use Rattle.reply.specs.Claims.{Plain}
 use Rattle.program.specs.Respond.{response}
 use Rattle.program.specs.declared.Turned.the-variants as turning
-use Rattle.program.specs.Feed.{State, mostLine, kept, isEnd, afterByte, saidAt, afterBytes, saidBy, lastLine, saidLast, feedState, before, usedOf, turnText, turnState, turnRow, turned, turnTable, turnLine, turnOut, turnedNumber, turnedUsed, turnedLine, turnedBytes}
+use Rattle.program.specs.Feed.{State, mostLine, kept, isEnd, afterByte, saidAt, afterBytes, saidBy, lastLine}
+use Rattle.program.specs.Feed.{saidLast, feedState, before, usedOf, turnText, turnState, turnRow, turned}
+use Rattle.program.specs.Feed.{turnTable, turnLine, turnOut, turnedNumber, turnedUsed, turnedLine, turnedBytes}
 use Rattle.program.specs.Claims.Respond.{KeptSame, InPieces, SaysOutput, TurnMeans, TurnRowIs, TurnedMeans}
 use Rattle.program.proofs.Which.{overlong}
 use Rattle.program.proofs.Lines.{line-ends, last-line}

@@ -1,4 +1,5 @@
--- What a text without white space spells is read as JSON: a number of decimal digits, a member with its name, items one after the other.
+-- What a text without white space spells is read as JSON: a number of decimal digits, a member with its name, items one
+-- after the other.
 use mathlib.Core.Bool.{Bool, true, false, cond}
 use mathlib.Core.Path.{_≡_, refl, sym, ap, _∙_}
 use mathlib.Core.List.{List, [], _∷_, _++_, append-assoc}
@@ -13,7 +14,8 @@ use lib.Seq.{take-append-seam}
 use Rattle.wire.specs.Escape.{escape}
 use Rattle.utf8.specs.Utf8.{utf8From}
 use Rattle.utf8.specs.declared.Want.the-variants.{Lead}
-use Rattle.json.specs.Grammar.{inClass, run, past, oneAt, digitsAt, intAt, fracAt, expAt, numberAt, stringAt, scalarAt, headAt, nextAt, startAt}
+use Rattle.json.specs.Grammar.{inClass, run, past, oneAt, digitsAt, intAt, fracAt, expAt, numberAt, stringAt, scalarAt}
+use Rattle.json.specs.Grammar.{headAt, nextAt, startAt}
 use Rattle.json.specs.Tree.{Json, num, obj, Items, nil, item, got, itemsAt, treeAt}
 use Rattle.json.specs.declared.Class.the-variants.{Digit, Byte}
 use Rattle.json.specs.declared.Out.the-variants.{End}

@@ -1,5 +1,5 @@
--- An EVENT whose object has its seven members in the order listed under Shape, each as it should be: rows 4 to 8 do not hold, and its parts are
--- the members' places. Over any text s: only what its names and values are is used.
+-- An EVENT whose object has its seven members in the order listed under Shape, each as it should be: rows 4 to 8 do not
+-- hold, and its parts are the members' places. Over any text s: only what its names and values are is used.
 use mathlib.Core.Bool.{true, false}
 use mathlib.Core.Path.{_≡_, refl}
 use mathlib.Core.List.{List}
@@ -14,8 +14,11 @@ use Rattle.numeral.specs.declared.Whole.the-variants.{Value}
 use Rattle.rows.specs.Strings.{part, spelledAt, refusedIn}
 use Rattle.spell.specs.Spell as spell
 use Rattle.spell.specs.Spell.{charOf, charsFrom, charBytes, charsBytes, decode, isRefused, refuses, isHexOf}
-use Rattle.shape.specs.Shape.{anyItem, allItems, countItems, nameAt, idName, pubkeyName, createdAtName, kindName, tagsName, contentName, sigName, eventWord, eventMember, once, isEvent, event, wordOf, opened}
-use Rattle.shape.specs.Rows.{row5, row6, row7, row8, eventNumber, eventHex, eventCount, wrongTime, wrongSmall, wrongHex, treeRow, wrongTags}
+use Rattle.shape.specs.Shape.{anyItem, allItems, countItems, nameAt, idName, pubkeyName, createdAtName, kindName}
+use Rattle.shape.specs.Shape.{tagsName, contentName, sigName, eventWord, eventMember, once, isEvent, event, wordOf}
+use Rattle.shape.specs.Shape.{opened}
+use Rattle.shape.specs.Rows.{row5, row6, row7, row8, eventNumber, eventHex, eventCount, wrongTime, wrongSmall, wrongHex}
+use Rattle.shape.specs.Rows.{treeRow, wrongTags}
 use Rattle.text.specs.Event.{all, isPlainByte}
 use Rattle.message.specs.Lent.{isTagsShape}
 use Rattle.message.specs.Parts.{memberOf, bodyOf, eventPartsOf}

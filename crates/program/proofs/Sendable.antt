@@ -1,5 +1,6 @@
--- Each event within the limits has a valid message: the one that spells it as replies do. Its bytes are taken apart member by member, so its
--- tree is known; rows 1 to 8 do not hold of that tree, and its parts tell the event, so rows 9 and 10 do not hold either.
+-- Each event within the limits has a valid message: the one that spells it as replies do. Its bytes are taken apart
+-- member by member, so its tree is known; rows 1 to 8 do not hold of that tree, and its parts tell the event, so rows 9
+-- and 10 do not hold either.
 use mathlib.Core.Bool.{true, false}
 use mathlib.Core.Path.{_≡_, refl, ap, _∙_}
 use mathlib.Core.Option.{some}
@@ -54,15 +55,18 @@ use Rattle.table.proofs.Hex.{hex-is, digest-length, digest-bytes}
 use Rattle.table.proofs.Refused.{not-refused}
 use Rattle.table.proofs.Again.{hex-string, tags-pass}
 use Rattle.table.proofs.Strings.{ws-none, string-read}
-use Rattle.table.proofs.Arrays.{Tight, Stands, next-more, next-done, array-many, tags-read, tags-spelled, quoted-utf8, tags-utf8}
+use Rattle.table.proofs.Arrays.{Tight, Stands, next-more, next-done, array-many, tags-read, tags-spelled, quoted-utf8}
+use Rattle.table.proofs.Arrays.{tags-utf8}
 use Rattle.table.proofs.Passes.{pubkey-hex, judged-again}
 use Rattle.table.proofs.Rows.{rows-in-order}
 use Rattle.wire.specs.Ascii.{ascii}
 use Rattle.reply.specs.Replies.{objectText}
 use Rattle.program.specs.Claims.Program.{eventMessage, Sendable}
 use Rattle.program.proofs.Sizes.{quoted-length, object-length}
-use Rattle.program.proofs.Members.{decimal-utf8, number-tight, number-read, string-told, Member, member, item-more, item-last, next-closed, object-read}
-use Rattle.program.proofs.Ordered.{verbatim-names, Entry, itemOf, string, number, objectOf, messageOf, Fine, partsAt, rows-none, parts-are}
+use Rattle.program.proofs.Members.{decimal-utf8, number-tight, number-read, string-told, Member, member}
+use Rattle.program.proofs.Members.{item-more, item-last, next-closed, object-read}
+use Rattle.program.proofs.Ordered.{verbatim-names, Entry, itemOf, string, number, objectOf, messageOf, Fine}
+use Rattle.program.proofs.Ordered.{partsAt, rows-none, parts-are}
 
 -- ---- the bytes of a member w with the value x, the byte c after it, and then r
 abbrev spelled : (w x : List ℕ) (c : ℕ) (r : List ℕ) → List ℕ

@@ -1,4 +1,5 @@
--- An accepted REQ over a sound table: an EVENT for each slot number, then EOSE. Its numbers are of held slots, and each held text reads.
+-- An accepted REQ over a sound table: an EVENT for each slot number, then EOSE. Its numbers are of held slots, and each
+-- held text reads.
 use mathlib.Core.Path.{_≡_, refl, ap}
 use mathlib.Core.Bool.{true}
 use mathlib.Core.List.{List, [], _∷_, List·Memᴰ·head, List·Memᴰ·tail}

@@ -11,7 +11,8 @@ use Rattle.wire.specs.Limits.{hexLength}
 use Rattle.wire.specs.Escape.{letterOf, escOne, escape}
 use Rattle.wire.proofs.Escapes.{esc-two}
 use Rattle.utf8.specs.Utf8.{isUtf8}
-use Rattle.utf8.specs.Abnf.{Octets, none, utf8-1, utf8-2, utf8-3-e0, utf8-3-e1, utf8-3-ed, utf8-3-ee, utf8-4-f0, utf8-4-f1, utf8-4-f4}
+use Rattle.utf8.specs.Abnf.{Octets, none, utf8-1, utf8-2, utf8-3-e0, utf8-3-e1, utf8-3-ed, utf8-3-ee, utf8-4-f0}
+use Rattle.utf8.specs.Abnf.{utf8-4-f1, utf8-4-f4}
 use Rattle.utf8.proofs.Abnf.{as-in-abnf}
 use Rattle.json.specs.Grammar.{isSpelling}
 use Rattle.spell.specs.Spell.{decode, refuses, points, characterCount, isHexOf}

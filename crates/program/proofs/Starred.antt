@@ -14,10 +14,12 @@ use Rattle.wire.specs.Bytes.{sameBytes, isHex}
 use Rattle.wire.specs.Escape.{letterOf, escOne, escape}
 use Rattle.utf8.specs.Utf8.{isUtf8, utf8From, leadOf}
 use Rattle.json.specs.Grammar as json
-use Rattle.json.specs.Grammar.{run, past, oneAt, tokenAt, wordAt, literalAt, digitsAt, intAt, fracAt, expAt, numberAt, hexAt, escapedAt, charAt, charsUpTo, charsAt, stringAt, scalarAt}
+use Rattle.json.specs.Grammar.{run, past, oneAt, tokenAt, wordAt, literalAt, digitsAt, intAt, fracAt, expAt, numberAt}
+use Rattle.json.specs.Grammar.{hexAt, escapedAt, charAt, charsUpTo, charsAt, stringAt, scalarAt}
 use Rattle.json.specs.Tree.{arr, nil, got, itemsAt, treeAt}
 use Rattle.numeral.specs.Decimal.{digitsIn, digits, decimal}
-use Rattle.numeral.specs.Whole.{isDigit, allDigits, valueFrom, isNatural, naturalOf, negativeOf, wholeOf, wholeAnswer, isWithin}
+use Rattle.numeral.specs.Whole.{isDigit, allDigits, valueFrom, isNatural, naturalOf, negativeOf, wholeOf, wholeAnswer}
+use Rattle.numeral.specs.Whole.{isWithin}
 use Rattle.spell.specs.Spell as spell
 use Rattle.spell.specs.Spell.{charOf, charsFrom, charBytes as bytesOfChar, charsBytes, decode, isHexOf}
 use Rattle.spell.proofs.Laws.{decode-escape}
@@ -33,7 +35,8 @@ use Rattle.message.specs.declared.Body.{Body}
 use Rattle.message.specs.declared.Bound.the-variants.{Absent, Number}
 use Rattle.message.specs.Parts as parts
 use Rattle.message.specs.Parts.{membersAt, filterAt}
-use Rattle.message.specs.Lent.{spanBytes, isInside, isSpelled, string2, string4, string5, string7, wrongNumber, value2, value4, value5, body2, body4, body5, body6, body7, body8, bodyRow}
+use Rattle.message.specs.Lent.{spanBytes, isInside, isSpelled, string2, string4, string5, string7, wrongNumber, value2}
+use Rattle.message.specs.Lent.{value4, value5, body2, body4, body5, body6, body7, body8, bodyRow}
 use Rattle.event.specs.Lent.{said, stringsOf, tagsOf, lentTagsAt, eventOf, textOf}
 use Rattle.event.specs.Answer.{isLarge, bodyTextRow}
 use Rattle.event.specs.Order.{isLower, isNewer}

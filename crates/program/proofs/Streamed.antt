@@ -2,7 +2,8 @@
 use mathlib.Core.Path.{_≡_, refl, sym, ap, ap₂, _∙_}
 use mathlib.Core.Bool.{Bool, true, false, cond, _&&_}
 use mathlib.Core.Logic.{_⊎_, inl, inr, ⊎-elim, _≢_}
-use mathlib.Core.List.{List, [], _∷_, _++_, map, append-assoc, append-nil, List·Memᴰ·head, List·Memᴰ·tail, List·Memᴰ·not-nil, List·Memᴰ·cases-cons}
+use mathlib.Core.List.{List, [], _∷_, _++_, map, append-assoc, append-nil, List·Memᴰ·head, List·Memᴰ·tail}
+use mathlib.Core.List.{List·Memᴰ·not-nil, List·Memᴰ·cases-cons}
 use Prim.Native.Nat.{ℕ, zero, suc, _+_, _-_, _≤_, _<_}
 use native.Mathlib.Omega.{arith}
 use borrow.Author.Tests.{eq-eqb, ne-eqb, ltb-true, ltb-false, lt-ltb, le-ltb}
@@ -29,9 +30,14 @@ use Rattle.reply.specs.Lent.{eoseRow, outputAfter}
 use Rattle.program.specs.Program.{eventReplies, eventsOf, requestReplies, repliesTo, replyLine, written}
 use Rattle.reply.specs.Claims.{PartsHold, WritesOr}
 use Rattle.reply.specs.declared.ReplyParts.the-variants as parts
-use Rattle.program.specs.Respond.{response, slotText, slotLine, slotEventRow, slotEvent, slotEventOut, joined, fitting, slotLines, fittingText, noneFits, allHeld, eventsRow, sentEvents, sentEventsOut, sentNumber, sentBytes, sentSlots}
+use Rattle.program.specs.Respond.{response, slotText, slotLine, slotEventRow, slotEvent, slotEventOut, joined}
+use Rattle.program.specs.Respond.{fitting, slotLines, fittingText, noneFits, allHeld, eventsRow, sentEvents}
+use Rattle.program.specs.Respond.{sentEventsOut, sentNumber, sentBytes, sentSlots}
 use Rattle.program.specs.declared.Sent.the-variants as sending
-use Rattle.program.specs.Claims.Respond.{OneByOne, SlotTextIs, SlotEventHolds, of-subscription, not-sound, too-short, not-held, SlotEventRowIs, SlotEventMeans, Batches, EventsHold, of-label, bad-table, none-fits, some-not-held, EventsRowIs, SentIs, SentMeans}
+use Rattle.program.specs.Claims.Respond.{OneByOne, SlotTextIs, SlotEventHolds, of-subscription, not-sound}
+use Rattle.program.specs.Claims.Respond.{too-short, not-held, SlotEventRowIs, SlotEventMeans, Batches, EventsHold}
+use Rattle.program.specs.Claims.Respond.{of-label, bad-table, none-fits, some-not-held, EventsRowIs, SentIs}
+use Rattle.program.specs.Claims.Respond.{SentMeans}
 use Rattle.reply.proofs.Lent.{parts-row-is, parts-hold, zero-or, writes-or}
 use Rattle.program.proofs.Lines.{written-append}
 use Rattle.program.proofs.Shown.{answers-held, slot-reads}

@@ -14,14 +14,16 @@ use Rattle.rows.specs.Strings.{part}
 use Rattle.rows.specs.Rows.{row1, row2, row3, textRow}
 use Rattle.rows.specs.Rows as text
 use Rattle.shape.specs.Shape.{Word, event, req, close, other, opened, hasShape}
-use Rattle.shape.specs.Rows.{row4, row5, row6, row7, row8, treeRow, rootRow, messageRow, wrongRequest, wrongSubscription}
+use Rattle.shape.specs.Rows.{row4, row5, row6, row7, row8, treeRow, rootRow, messageRow, wrongRequest}
+use Rattle.shape.specs.Rows.{wrongSubscription}
 use Rattle.message.specs.declared.EventParts.{EventParts}
 use Rattle.message.specs.declared.ReqParts.{ReqParts}
 use Rattle.message.specs.declared.Message.{Message}
 use Rattle.message.specs.declared.Message.the-variants as message
 use Rattle.message.specs.declared.Named.the-variants as names
 use Rattle.message.specs.Parts.{spanOf, eventPartsOf, membersOf}
-use Rattle.message.specs.Read.{firstItem, messageParts, readOf, readNumber, idNamed, namedIn, namedRoot, isEarly, namedOf}
+use Rattle.message.specs.Read.{firstItem, messageParts, readOf, readNumber, idNamed, namedIn, namedRoot, isEarly}
+use Rattle.message.specs.Read.{namedOf}
 use Rattle.message.specs.Lent.{spanBytes, isSpelled, string5, string7, event5, event7, body6, eventRow, event2, event4}
 use Rattle.message.proofs.Reading.{Shaped, shaped, late-shaped, row-read}
 use Rattle.message.proofs.Passes.{event-passes}
@@ -36,14 +38,19 @@ use Rattle.table.specs.Events.{Signature, SignedEvent, tableEvents, signedEvent
 use Rattle.table.specs.Demand3.{relay}
 use Rattle.table.specs.Sound.{sound}
 use Rattle.table.specs.Offer as offers
-use Rattle.table.specs.Offer.{asMessage, isEvent, isEventWord, messageOfferRow, isValid, judge, offeredBy, verdictOn, answer, isStored, next}
+use Rattle.table.specs.Offer.{asMessage, isEvent, isEventWord, messageOfferRow, isValid, judge, offeredBy, verdictOn}
+use Rattle.table.specs.Offer.{answer, isStored, next}
 use Rattle.table.specs.declared.Offered.{Offered}
 use Rattle.table.specs.declared.Offered.the-variants as offered
 use Rattle.table.proofs.Valid.{or-else}
 use Rattle.reply.specs.Replies.{Reply, ok, closed, notice, reasonOf}
 use Rattle.program.specs.Program.{isAccepted, verdictReason}
-use Rattle.program.specs.Program.{refusalNaming, refusal, offerReply, requestReplies, repliesTo, tableIn, tableAfter}
-use Rattle.program.specs.Claims.Program.{openedIn, wordIn, restItems, idField, subscriptionField, Covered, EarlyRow, LateWord, LateEvent, LateRequest, LateClose, NamesId, NamesSubscription, LastRows, ReadEvent, ReadClose, BadTable, OnlyStored, Overlong, AllOffered}
+use Rattle.program.specs.Program.{refusalNaming, refusal, offerReply, requestReplies, repliesTo, tableIn}
+use Rattle.program.specs.Program.{tableAfter}
+use Rattle.program.specs.Claims.Program.{openedIn, wordIn, restItems, idField, subscriptionField, Covered}
+use Rattle.program.specs.Claims.Program.{EarlyRow, LateWord, LateEvent, LateRequest, LateClose, NamesId}
+use Rattle.program.specs.Claims.Program.{NamesSubscription, LastRows, ReadEvent, ReadClose, BadTable, OnlyStored}
+use Rattle.program.specs.Claims.Program.{Overlong, AllOffered}
 
 -- ---- refused when read
 read-refused : (m : List ℕ) → 1 ≤ messageRow m → readOf m ≡ message.Refused (messageRow m)

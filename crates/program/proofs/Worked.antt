@@ -10,16 +10,21 @@ use Rattle.wire.specs.Bytes.{sameBytes, isHex}
 use Rattle.wire.specs.Escape.{letterOf, escOne, escape}
 use Rattle.numeral.specs.Decimal.{digitsIn, digits, decimal}
 use Rattle.text.specs.Event.{Event, quoted, membersText, tagText, tagsText}
-use Rattle.numeral.specs.Whole.{wholeOf, wholeAnswer, isWithin, isNatural, allDigits, isDigit, valueFrom, naturalOf, negativeOf}
+use Rattle.numeral.specs.Whole.{wholeOf, wholeAnswer, isWithin, isNatural, allDigits, isDigit, valueFrom, naturalOf}
+use Rattle.numeral.specs.Whole.{negativeOf}
 use Rattle.utf8.specs.Utf8.{isUtf8, utf8From, leadOf}
-use Rattle.json.specs.Grammar.{inClass, run, past, oneAt, tokenAt, wordAt, literalAt, digitsAt, intAt, fracAt, expAt, numberAt, hexAt, escapedAt, charAt, charsUpTo, charsAt, stringAt, scalarAt}
+use Rattle.json.specs.Grammar.{inClass, run, past, oneAt, tokenAt, wordAt, literalAt, digitsAt, intAt, fracAt, expAt}
+use Rattle.json.specs.Grammar.{numberAt, hexAt, escapedAt, charAt, charsUpTo, charsAt, stringAt, scalarAt}
 use Rattle.json.specs.Tree.{itemsAt, treeAt}
 use Rattle.spell.specs.Spell as spell
-use Rattle.spell.specs.Spell.{charOf, charsFrom, charBytes, charsBytes, decode, isRefused, refuses, points, characterCount, isHexOf}
+use Rattle.spell.specs.Spell.{charOf, charsFrom, charBytes, charsBytes, decode, isRefused, refuses, points}
+use Rattle.spell.specs.Spell.{characterCount, isHexOf}
 use Rattle.rows.specs.Strings.{spelledAt, refusedIn}
 use Rattle.shape.specs.Shape as word
-use Rattle.shape.specs.Shape.{anyItem, allItems, countItems, nameAt, noNameTwice, filterMember, isFilter, isCondition, wordOf, isEvent, eventMember, once}
-use Rattle.shape.specs.Rows.{row6, row7, row8, wrongFilter, filterNumber, filterHex, filterCounts, wrongList, wrongHex, wrongSubscription, treeRow, messageRow, eventNumber, wrongTime, wrongSmall}
+use Rattle.shape.specs.Shape.{anyItem, allItems, countItems, nameAt, noNameTwice, filterMember, isFilter, isCondition}
+use Rattle.shape.specs.Shape.{wordOf, isEvent, eventMember, once}
+use Rattle.shape.specs.Rows.{row6, row7, row8, wrongFilter, filterNumber, filterHex, filterCounts, wrongList, wrongHex}
+use Rattle.shape.specs.Rows.{wrongSubscription, treeRow, messageRow, eventNumber, wrongTime, wrongSmall}
 use Rattle.message.specs.Parts.{memberOf}
 use Rattle.message.specs.declared.Span.{Span}
 use Rattle.message.specs.Lent.{spanBytes as bytes}
@@ -39,7 +44,8 @@ pub without-filter :
 unfolding inClass run past oneAt tokenAt wordAt literalAt digitsAt intAt fracAt expAt numberAt hexAt escapedAt charAt charsUpTo charsAt stringAt scalarAt itemsAt treeAt isUtf8 utf8From leadOf charOf charsFrom charBytes charsBytes decode isRefused spell.any refuses sameBytes points characterCount spelledAt refusedIn anyItem countItems nameAt noNameTwice isFilter wordOf allItems row6 row7 row8 filterCounts wrongSubscription treeRow messageRow readOf namedOf repliesTo refusal spell.shortOf spell.unicodeOf spell.isPair spell.fourAt spell.four spell.hexVal spell.utf8Of
 without-filter = ((λ b. refl), (λ b. refl), (λ b. refl))
 
--- the lowest row over the whole message, also past a bound; hex of the wrong length; names and shapes; what is no JSON text
+-- the lowest row over the whole message, also past a bound; hex of the wrong length; names and shapes; what is no JSON
+-- text
 pub more-refused :
     ((b : List ℕ) → repliesTo b (ascii "[\"REQ\",\"s\",{\"limit\":-0}]") ≡ closed (ascii "s") (reasonOf 6) ∷ [])
     × ((b : List ℕ) → repliesTo b (ascii "[\"REQ\",\"\",{\"limit\":-0}]") ≡ notice (reasonOf 6) ∷ [])

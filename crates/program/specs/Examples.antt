@@ -1,8 +1,10 @@
--- 01, "Shape": the names and first words that the reader compares, spelled out, and the borders of "# with one letter a-z or A-Z", by
--- computation.
+-- 01, "Shape": the names and first words that the reader compares, spelled out, and the borders of "# with one letter
+-- a-z or A-Z", by computation.
 use mathlib.Core.Path.{_≡_, refl}
 use mathlib.Core.Bool.{true, false}
-use Rattle.shape.specs.Shape.{idName, pubkeyName, createdAtName, kindName, tagsName, contentName, sigName, idsName, authorsName, kindsName, sinceName, untilName, limitName, eventWord, reqWord, closeWord, isCondition}
+use Rattle.shape.specs.Shape.{idName, pubkeyName, createdAtName, kindName, tagsName, contentName, sigName, idsName}
+use Rattle.shape.specs.Shape.{authorsName, kindsName, sinceName, untilName, limitName, eventWord, reqWord, closeWord}
+use Rattle.shape.specs.Shape.{isCondition}
 use Rattle.wire.specs.Ascii.{ascii}
 
 pub names :

@@ -1,6 +1,6 @@
--- The program as a state that bytes are fed to, and one turn of feeding over lent buffers. 01: "One program reads messages from standard input,
--- one a line, over a fresh table of 8 slots. 0A ends a line and is no part of the message; a last line without it counts if not empty; an
--- overlong line gives one reply."
+-- The program as a state that bytes are fed to, and one turn of feeding over lent buffers. 01: "One program reads
+-- messages from standard input, one a line, over a fresh table of 8 slots. 0A ends a line and is no part of the
+-- message; a last line without it counts if not empty; an overlong line gives one reply."
 use mathlib.Core.Bool.{Bool, cond}
 use mathlib.Core.List.{List, [], _∷_, _++_}
 use Prim.Native.Nat.{ℕ, suc, _-_, min}
@@ -36,7 +36,8 @@ isEnd x = eqb x 0x0a
 -- ---- one byte of the input: the state afterwards, and what is said
 unfoldable pub afterByte : State → ℕ → State
 afterByte s x =
-    cond (isEnd x) (record { table = tableAfter (s .table) (s .line); line = [] }) (record { table = s .table; line = kept (s .line ++ (x ∷ [])) })
+    cond (isEnd x) (record { table = tableAfter (s .table) (s .line); line = [] })
+    (record { table = s .table; line = kept (s .line ++ (x ∷ [])) })
 
 unfoldable pub saidAt : State → ℕ → Bytes
 saidAt s x = cond (isEnd x) (response (s .table) (s .line)) []
@@ -58,8 +59,8 @@ lastLine b (x ∷ l) = response b (x ∷ l)
 unfoldable pub saidLast : State → Bytes
 saidLast s = lastLine (s .table) (s .line)
 
--- ---- one turn: a piece of the input is fed up to its first line's end, and with it. The first n bytes of the lent line buffer are the line so
--- far
+-- ---- one turn: a piece of the input is fed up to its first line's end, and with it. The first n bytes of the lent
+-- line buffer are the line so far
 abbrev pub feedState : (b line : Bytes) (n : ℕ) → State
 feedState b line n = record { table = b; line = take n (kept line) }
 
@@ -95,7 +96,8 @@ turnTable b line n piece out = cond (eqb (turnRow b line n piece out) 0) (turnSt
 -- what is kept of the piece stands behind the line so far, and the buffer's rest stays
 unfoldable pub turnLine : (b line : Bytes) (n : ℕ) (piece out : Bytes) → Bytes
 turnLine b line n piece out =
-    cond (eqb (turnRow b line n piece out) 0) (put line (min n mostLine) (take (mostLine - min n mostLine) (before piece))) line
+    cond (eqb (turnRow b line n piece out) 0)
+    (put line (min n mostLine) (take (mostLine - min n mostLine) (before piece))) line
 
 unfoldable pub turnOut : (b line : Bytes) (n : ℕ) (piece out : Bytes) → Bytes
 turnOut b line n piece out = outputAfter (turnRow b line n piece out) (turnText b line n piece) out

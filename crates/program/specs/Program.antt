@@ -38,8 +38,8 @@ verdictReason offered.Duplicate = ascii "duplicate: already have this event"
 verdictReason offered.Older = ascii "duplicate: have a newer version"
 verdictReason (offered.Refused r) = reasonOf r
 
--- ---- "Rows 1-5 give NOTICE. Rows 6-12 give OK with false if the id field is 64 lower-case hex; CLOSED for a REQ whose subscription id is
--- within bounds; otherwise NOTICE."
+-- ---- "Rows 1-5 give NOTICE. Rows 6-12 give OK with false if the id field is 64 lower-case hex; CLOSED for a REQ whose
+-- subscription id is within bounds; otherwise NOTICE."
 abbrev pub refusalNaming : (m : Bytes) (x : Named) (reason : Bytes) → Reply
 refusalNaming m (names.Id p) reason = ok (said m p) false reason
 refusalNaming m (names.Subscription p) reason = closed (said m p) reason
@@ -72,7 +72,8 @@ eventsOf b sub [] = []
 eventsOf b sub (k ∷ ks) = eventReplies sub (slotAt b k) (readText (textIn (slotAt b k))) ++ eventsOf b sub ks
 
 unfoldable pub requestReplies : (b m sub : Bytes) (v : ℕ) → List Reply
-requestReplies b m sub v = cond (sound b) (eventsOf b sub (answerList b (filtersMeant m v)) ++ (eose sub ∷ [])) (refusal m 11 ∷ [])
+requestReplies b m sub v =
+    cond (sound b) (eventsOf b sub (answerList b (filtersMeant m v)) ++ (eose sub ∷ [])) (refusal m 11 ∷ [])
 
 -- ---- one message m to the table b: the replies, and the table afterwards
 abbrev pub repliesIn : (b m : Bytes) (x : Message) → List Reply
@@ -94,8 +95,8 @@ tableIn b m (message.Refused r) = b
 unfoldable pub tableAfter : Bytes → Bytes → Bytes
 tableAfter b m = tableIn b m (readOf m)
 
--- ---- "One program reads messages from standard input, one a line, over a fresh table of 8 slots. 0A ends a line and is no part of the
--- message; a last line without it counts if not empty; an overlong line gives one reply."
+-- ---- "One program reads messages from standard input, one a line, over a fresh table of 8 slots. 0A ends a line and
+-- is no part of the message; a last line without it counts if not empty; an overlong line gives one reply."
 abbrev pub pushByte : ℕ → List (List ℕ) → List (List ℕ)
 pushByte x [] = (x ∷ []) ∷ []
 pushByte x (l ∷ ls) = (x ∷ l) ∷ ls

@@ -1,4 +1,5 @@
--- One message answered into a lent output, over a lent table; and a REQ's answer a reply at a time, for an output that does not hold it whole.
+-- One message answered into a lent output, over a lent table; and a REQ's answer a reply at a time, for an output that
+-- does not hold it whole.
 use mathlib.Core.Bool.{Bool, false, cond}
 use mathlib.Core.List.{List, [], _∷_, _++_, map}
 use Prim.Native.Nat.{ℕ, suc, _-_}
@@ -20,7 +21,8 @@ use Rattle.program.specs.declared.Sent.{Sent}
 use Rattle.program.specs.declared.Sent.the-variants as sending
 use Rattle.wire.specs.Bytes.{Bytes, Row}
 
--- ---- the message m to the table b, answered to the output: what refuses the message is a reply, so the call is refused by row 13 alone
+-- ---- the message m to the table b, answered to the output: what refuses the message is a reply, so the call is
+-- refused by row 13 alone
 unfoldable pub response : Bytes → Bytes → Bytes
 response b m = written (repliesTo b m)
 
@@ -52,8 +54,8 @@ slotText b sub k = firstText (slotReplies b sub k)
 unfoldable pub slotLine : (b sub : Bytes) (k : ℕ) → Bytes
 slotLine b sub k = written (slotReplies b sub k)
 
--- ---- the EVENT of slot k alone, for the subscription id that stands at s in the buffer m: rows 2, 4, 5 and 8 of that id, then 11; then 14,
--- "slot not held", or 13
+-- ---- the EVENT of slot k alone, for the subscription id that stands at s in the buffer m: rows 2, 4, 5 and 8 of that
+-- id, then 11; then 14, "slot not held", or 13
 unfoldable pub slotEventRow : (b : Bytes) (k : ℕ) (m : Bytes) (s : Span) (out : Bytes) → Row
 slotEventRow b k m s out = orElse (eoseRow m s) (orElse (shownRow b k) (shortRow (slotText b (said m s) k) out))
 
@@ -88,7 +90,8 @@ allHeld b ks = all (λ k. ltb k (countOf b)) ks
 
 unfoldable pub eventsRow : (b : Bytes) (ks : List ℕ) (m : Bytes) (s : Span) (out : Bytes) → Row
 eventsRow b ks m s out =
-    orElse (eoseRow m s) (cond (sound b) (cond (noneFits (length out) (slotLines b (said m s) ks)) 13 (cond (allHeld b ks) 0 14)) 11)
+    orElse (eoseRow m s) (cond (sound b)
+    (cond (noneFits (length out) (slotLines b (said m s) ks)) 13 (cond (allHeld b ks) 0 14)) 11)
 
 -- how many bytes, and of how many slots
 unfoldable pub sentEvents : (b : Bytes) (ks : List ℕ) (m : Bytes) (s : Span) (out : Bytes) → Sent

@@ -1,5 +1,5 @@
--- 01, "Cases on either side (starred ones are proved)": "The starred cases go into a single table, proved by one statement over the
--- definitions". The statement is `AllCases starred`; proofs/Starred has it.
+-- 01, "Cases on either side (starred ones are proved)": "The starred cases go into a single table, proved by one
+-- statement over the definitions". The statement is `AllCases starred`; proofs/Starred has it.
 use mathlib.Core.Path.{_≡_}
 use mathlib.Core.Bool.{true, false}
 use mathlib.Core.List.{List, [], _∷_, _++_}

@@ -2,7 +2,8 @@
 use mathlib.Core.Path.{_≡_, refl, sym, ap, ap₂, _∙_}
 use mathlib.Core.Bool.{Bool, true, false, cond, _||_}
 use mathlib.Core.Logic.{_↔_, _⊎_, inl, inr, ⊎-elim, _≢_}
-use mathlib.Core.List.{List, [], _∷_, List·Memᴰ·head, List·Memᴰ·tail, List·Memᴰ·not-nil, List·Memᴰ·cases-cons, List·Memᴰ·append-cases, Memᴰ·append-left, Memᴰ·append-right}
+use mathlib.Core.List.{List, [], _∷_, List·Memᴰ·head, List·Memᴰ·tail, List·Memᴰ·not-nil, List·Memᴰ·cases-cons}
+use mathlib.Core.List.{List·Memᴰ·append-cases, Memᴰ·append-left, Memᴰ·append-right}
 use Prim.Native.Nat.{ℕ, zero, suc, min, _+_, _≤_, _<_}
 use native.Mathlib.Omega.{arith}
 use borrow.Author.Tests.{eqb-true, eqb-false}
@@ -16,8 +17,12 @@ use Rattle.law.proofs.Lists.{any-yes, any-has, count-law}
 use Rattle.table.proofs.Lists.{is-true}
 use Rattle.query.specs.Filter.{Filter}
 use Rattle.query.specs.Answer.{keep, among, numbersFrom, newestFirst, cut, picked, pickedBySome, union}
-use Rattle.query.specs.Claims.{Orders, Distinct, NoneNewer, Descending, Match, Picked, PickedMeans, UnionMeans, UnionOnce, UnionNewest, UnionDescends, allPicked, UnionSize, UnionShort, MoreFilters, FilterOrder, KeepMeans, FromMeans}
-use Rattle.query.proofs.Sorting.{among-here, among-later, among-cases, keep-among, keep-same, keep-length, from-among, Once, Sorted, sort-among, sort-sorted, sort-length, once-sort, sort-same}
+use Rattle.query.specs.Claims.{Orders, Distinct, NoneNewer, Descending, Match, Picked, PickedMeans, UnionMeans}
+use Rattle.query.specs.Claims.{UnionOnce, UnionNewest, UnionDescends, allPicked, UnionSize, UnionShort}
+use Rattle.query.specs.Claims.{MoreFilters, FilterOrder, KeepMeans, FromMeans}
+use Rattle.query.proofs.Sorting.{among-here, among-later, among-cases, keep-among, keep-same, keep-length}
+use Rattle.query.proofs.Sorting.{from-among, Once, Sorted, sort-among, sort-sorted, sort-length, once-sort}
+use Rattle.query.proofs.Sorting.{sort-same}
 use Rattle.wire.proofs.Cases.{bool, clash}
 
 -- ---- tests and entries

@@ -1,4 +1,5 @@
--- Matching, Answers, Tables, Lent, ReadFilters, Listings and Unread prove the claims of specs/Claims; Worked and Texts have cases by computation.
+-- Matching, Answers, Tables, Lent, ReadFilters, Listings and Unread prove the claims of specs/Claims; Worked and Texts
+-- have cases by computation.
 pub mod Sorting
 pub mod Matching
 pub mod Answers

@@ -12,7 +12,8 @@ use lib.ListN.{length, take, drop, length-append, length-drop}
 use lib.Seq.{take-at, drop-at}
 use Rattle.message.specs.declared.EventParts.{EventParts}
 use Rattle.message.specs.declared.FilterParts.{FilterParts}
-use Rattle.message.specs.Lent.{body6, body8, event2, event4, event5, event7, eventRow, filter2, filter4, filter5, filter6, filter7, filter8, filterRow}
+use Rattle.message.specs.Lent.{body6, body8, event2, event4, event5, event7, eventRow, filter2, filter4, filter5}
+use Rattle.message.specs.Lent.{filter6, filter7, filter8, filterRow}
 use Rattle.message.specs.Inner.{lowestBy}
 use Rattle.event.specs.Lent.{said, eventOf}
 use Rattle.event.specs.Answer.{orElse, isLarge}
@@ -20,9 +21,12 @@ use Rattle.table.specs.Sound.{sound}
 use Rattle.query.specs.Match.{matchesSome}
 use Rattle.query.specs.declared.Matched.the-variants.{Matches, Differs}
 use Rattle.query.specs.declared.Matched.the-variants as matching
-use Rattle.query.specs.Answer.{meant, filtersRow, answerTo, matchedRow, matched, matchNumber, matchValue, listingRow, listed, listedRow, listingNumber, listedCount}
+use Rattle.query.specs.Answer.{meant, filtersRow, answerTo, matchedRow, matched, matchNumber, matchValue}
+use Rattle.query.specs.Answer.{listingRow, listed, listedRow, listingNumber, listedCount}
 use Rattle.query.specs.declared.Listing.the-variants.{Count, Refused}
-use Rattle.query.specs.Claims.{RowHolds, of-filter, miscounted, MatchedHolds, of-event, of-filters, too-large, MatchedRowIs, MatchedMeans, ListingHolds, of-lent, not-sound, too-short, ListingRowIs, ListingIs, ListingMeans}
+use Rattle.query.specs.Claims.{RowHolds, of-filter, miscounted, MatchedHolds, of-event, of-filters, too-large}
+use Rattle.query.specs.Claims.{MatchedRowIs, MatchedMeans, ListingHolds, of-lent, not-sound, too-short}
+use Rattle.query.specs.Claims.{ListingRowIs, ListingIs, ListingMeans}
 use Rattle.wire.specs.Lowest.{Lowest}
 use Rattle.wire.proofs.Cases.{bool, clash}
 use Rattle.query.proofs.Lent.{filters-row-is}

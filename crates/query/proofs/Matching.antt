@@ -3,7 +3,8 @@ use mathlib.Core.Path.{_≡_, refl, sym, ap}
 use mathlib.Core.Bool.{Bool, not, _&&_}
 use mathlib.Core.Logic.{_↔_, _⊎_, ⊎-elim}
 use mathlib.Core.Option.{Option, none, some}
-use mathlib.Core.List.{List, [], _∷_, _++_, List·Memᴰ·head, List·Memᴰ·tail, List·Memᴰ·not-nil, List·Memᴰ·cases-cons, List·Memᴰ·eq-of-singleton, Memᴰ·cast}
+use mathlib.Core.List.{List, [], _∷_, _++_, List·Memᴰ·head, List·Memᴰ·tail, List·Memᴰ·not-nil, List·Memᴰ·cases-cons}
+use mathlib.Core.List.{List·Memᴰ·eq-of-singleton, Memᴰ·cast}
 use Prim.Native.Nat.{ℕ}
 use native.Mathlib.Omega.{arith}
 use lib.Dec.{T, T-not, not-T}
@@ -20,8 +21,11 @@ use Rattle.law.proofs.Lists.{and-both, and-left, and-right, any-yes, any-has}
 use Rattle.wire.proofs.Bytes.{same-bytes}
 use Rattle.law.proofs.Order.{strict-times}
 use Rattle.query.specs.Filter.{Condition, Strings}
-use Rattle.query.specs.Match.{isMember, sameNumber, isListed, kindListed, sinceHolds, untilHolds, tagFits, conditionHolds, matches, matchesSome}
-use Rattle.query.specs.Claims.{ExactMember, NoPrefix, SameNumber, ExactKind, SinceInclusive, UntilInclusive, AtTheBound, Tagged, ConditionMeans, MatchMeans, AnySuffices, LimitAside, EmptyMatches}
+use Rattle.query.specs.Match.{isMember, sameNumber, isListed, kindListed, sinceHolds, untilHolds, tagFits}
+use Rattle.query.specs.Match.{conditionHolds, matches, matchesSome}
+use Rattle.query.specs.Claims.{ExactMember, NoPrefix, SameNumber, ExactKind, SinceInclusive, UntilInclusive}
+use Rattle.query.specs.Claims.{AtTheBound, Tagged, ConditionMeans, MatchMeans, AnySuffices, LimitAside}
+use Rattle.query.specs.Claims.{EmptyMatches}
 
 -- a test that means equality, asked of each entry
 exact : {A : Type 0} (same : A → A → Bool) → ((a b : A) → T (same a b) ↔ (a ≡ b)) → (l : List A) (v : A) → T (any (same v) l) ↔ (v ∈ l)

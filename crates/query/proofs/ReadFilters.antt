@@ -1,5 +1,5 @@
--- The filters that were read from an accepted REQ: they are all the elements of its array after the subscription id, and lent as parts they
--- pass the test of lent filters (message/proofs/Passes has each filter and their number).
+-- The filters that were read from an accepted REQ: they are all the elements of its array after the subscription id,
+-- and lent as parts they pass the test of lent filters (message/proofs/Passes has each filter and their number).
 use mathlib.Core.Path.{_≡_, refl, sym, ap, ap₂, _∙_}
 use mathlib.Core.Bool.{Bool, true, false, cond, false≢true}
 use mathlib.Core.List.{List, _∷_, map, Memᴰ·of-map}
@@ -10,7 +10,8 @@ use Rattle.json.specs.Grammar.{wsAt}
 use Rattle.json.specs.Tree.{Json, word, num, str, arr, obj, Items, nil, item, got, treeAt, root}
 use Rattle.rows.specs.Rows.{row1, row2, row3}
 use Rattle.shape.specs.Shape.{Word, event, req, close, other, opened, countItems, count}
-use Rattle.shape.specs.Rows.{row4, row5, row6, row7, row8, treeRow, rootRow, messageRow, wrongRequest, wrongSubscription}
+use Rattle.shape.specs.Rows.{row4, row5, row6, row7, row8, treeRow, rootRow, messageRow, wrongRequest}
+use Rattle.shape.specs.Rows.{wrongSubscription}
 use Rattle.message.specs.declared.FilterParts.{FilterParts}
 use Rattle.message.specs.declared.Element.the-variants.{At}
 use Rattle.message.specs.declared.ReqParts.{ReqParts}

@@ -2,7 +2,8 @@
 use mathlib.Core.Path.{_≡_, refl, sym, _∙_}
 use mathlib.Core.Bool.{Bool, true, not, _&&_}
 use mathlib.Core.Logic.{_⊎_, inl, inr, ⊎-elim, _≢_}
-use mathlib.Core.List.{List, [], _∷_, map, List·Memᴰ·head, List·Memᴰ·tail, List·Memᴰ·not-nil, List·Memᴰ·eq-of-singleton, Memᴰ·map}
+use mathlib.Core.List.{List, [], _∷_, map, List·Memᴰ·head, List·Memᴰ·tail, List·Memᴰ·not-nil, List·Memᴰ·eq-of-singleton}
+use mathlib.Core.List.{Memᴰ·map}
 use Prim.Native.Nat.{ℕ, zero, suc, _<_}
 use native.Mathlib.Omega.{arith}
 use native.Mathlib.Decide.{decLt}
@@ -25,16 +26,19 @@ use Rattle.law.proofs.Order.{strict-times, strict-bytes, newer-means, laws}
 use Rattle.table.proofs.Cells.{length-cells}
 use Rattle.table.specs.Layout.{slotSize, headerSize, countOf, slotAt, heldSlots, idIn, textIn, lengthIn}
 use Rattle.table.specs.Events.{signedEvents, timeOfText, inSlot, view}
-use Rattle.table.specs.Sound.{sound, hasHeader, capacityFits, slotsFit, countFits, othersAsAbove, slotsSound, slotSound, noIdTwice, noKeyTwice, laterZero, noneTwice, isRead, textReads}
+use Rattle.table.specs.Sound.{sound, hasHeader, capacityFits, slotsFit, countFits, othersAsAbove, slotsSound, slotSound}
+use Rattle.table.specs.Sound.{noIdTwice, noKeyTwice, laterZero, noneTwice, isRead, textReads}
 use Rattle.table.proofs.Lists.{is-true}
 use Rattle.table.proofs.Shown.{slot-entry, slot-sound-at}
 use Rattle.query.specs.Filter.{Filter}
 use Rattle.query.specs.Match.{matches}
 use Rattle.query.specs.Answer.{numbersFrom, union, newerSlot, matchesIn, matchesSlot, answerList}
-use Rattle.query.specs.Claims.{Distinct, Descending, NewerMeans, SlotsOrdered, SlotMatches, AnswerIs, AnswerMeans, limited, LimitZero}
+use Rattle.query.specs.Claims.{Distinct, Descending, NewerMeans, SlotsOrdered, SlotMatches, AnswerIs, AnswerMeans}
+use Rattle.query.specs.Claims.{limited, LimitZero}
 use Rattle.query.proofs.Sorting.{from-length, once-from}
 use Rattle.wire.proofs.Cases.{bool, clash}
-use Rattle.query.proofs.Answers.{same-order, true-T, once-distinct, from-means, picked-means, union-means, union-once, union-newest, union-descends, union-size, union-short}
+use Rattle.query.proofs.Answers.{same-order, true-T, once-distinct, from-means, picked-means, union-means}
+use Rattle.query.proofs.Answers.{union-once, union-newest, union-descends, union-size, union-short}
 
 -- ---- the order of two slots
 pub newer-slot-means : NewerMeans

@@ -8,9 +8,11 @@ use Prim.Native.String.{String, [] as []ˢ, _∷_ as _∷ˢ_}
 use lib.IntN.{pos, negsuc}
 use Rattle.wire.specs.Bytes.{sameBytes}
 use Rattle.utf8.specs.Utf8.{isUtf8, utf8From, leadOf}
-use Rattle.json.specs.Grammar.{inClass, run, past, oneAt, tokenAt, wordAt, literalAt, digitsAt, intAt, fracAt, expAt, numberAt, hexAt, escapedAt, charAt, charsUpTo, charsAt, stringAt, scalarAt}
+use Rattle.json.specs.Grammar.{inClass, run, past, oneAt, tokenAt, wordAt, literalAt, digitsAt, intAt, fracAt, expAt}
+use Rattle.json.specs.Grammar.{numberAt, hexAt, escapedAt, charAt, charsUpTo, charsAt, stringAt, scalarAt}
 use Rattle.json.specs.Tree.{itemsAt, treeAt}
-use Rattle.numeral.specs.Whole.{isDigit, allDigits, valueFrom, isNatural, naturalOf, negativeOf, wholeOf, isWithin, wholeAnswer}
+use Rattle.numeral.specs.Whole.{isDigit, allDigits, valueFrom, isNatural, naturalOf, negativeOf, wholeOf, isWithin}
+use Rattle.numeral.specs.Whole.{wholeAnswer}
 use Rattle.spell.specs.Spell as spell
 use Rattle.spell.specs.Spell.{charOf, charsFrom, charBytes, charsBytes, decode, isRefused, refuses}
 use Rattle.rows.specs.Strings.{spelledAt, refusedIn}
@@ -20,7 +22,8 @@ use Rattle.message.specs.declared.Bound.the-variants.{Absent, Number}
 use Rattle.message.specs.Lists.{nextOf, upTo, elementsFrom}
 use Rattle.message.specs.Parts as parts
 use Rattle.message.specs.Parts.{membersAt, filterAt}
-use Rattle.message.specs.Lent.{wrongNumber, value2, value4, value5, filter2, filter4, filter5, filter6, filter7, filter8, filterRow}
+use Rattle.message.specs.Lent.{wrongNumber, value2, value4, value5, filter2, filter4, filter5, filter6, filter7}
+use Rattle.message.specs.Lent.{filter8, filterRow}
 use Rattle.event.specs.Lent.{stringsOf}
 use Rattle.query.specs.Filter.{filterOf}
 use Rattle.query.specs.Answer.{filterPartsAt, filtersMeant, lowestOf, filtersRow}

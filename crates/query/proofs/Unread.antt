@@ -19,7 +19,8 @@ use Rattle.table.proofs.Bytes.{clauses}
 use Rattle.table.proofs.Unread.{count-append, sound-append}
 use Rattle.query.specs.Filter.{Filter}
 use Rattle.query.specs.declared.Listing.the-variants.{Count, Refused}
-use Rattle.query.specs.Answer.{among, numbersFrom, union, newerSlot, matchesIn, matchesSlot, answerList, meant, filtersRow, listingRow, listed, listedRow}
+use Rattle.query.specs.Answer.{among, numbersFrom, union, newerSlot, matchesIn, matchesSlot, answerList, meant}
+use Rattle.query.specs.Answer.{filtersRow, listingRow, listed, listedRow}
 use Rattle.query.specs.Claims.{not-sound, ListingNeverRead}
 use Rattle.query.proofs.Sorting.{from-among}
 use Rattle.wire.proofs.Cases.{bool}

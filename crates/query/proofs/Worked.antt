@@ -1,4 +1,5 @@
--- The definitions at work. Slots are numbers, and the higher is the newer, where nothing else is said; a filter is known by its limit.
+-- The definitions at work. Slots are numbers, and the higher is the newer, where nothing else is said; a filter is
+-- known by its limit.
 use mathlib.Core.Path.{_≡_, refl}
 use mathlib.Core.Bool.{Bool, true, false, _&&_}
 use mathlib.Core.Option.{none}
@@ -62,7 +63,8 @@ pub none-of-all : union higher fits slots (last 0 ∷ []) ≡ []
 unfolding union picked newestFirst insert keep among
 none-of-all = refl
 
--- the order is that of the events and not that of the slots: "later time, then lower id"; a limit over the number of matches cuts nothing
+-- the order is that of the events and not that of the slots: "later time, then lower id"; a limit over the number of
+-- matches cuts nothing
 abbrev eventIn : ℕ → law.Event
 eventIn k = record { id = getD (7 ∷ 3 ∷ 4 ∷ 2 ∷ []) k 0 ∷ []; text = getD (5 ∷ 1 ∷ 9 ∷ 5 ∷ []) k 0 ∷ [] }
 

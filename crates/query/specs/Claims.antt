@@ -1,5 +1,5 @@
--- What the definitions of this crate mean, as claims; proofs/Matching, Answers, Tables, Lent, ReadFilters, Listings and Unread
--- prove them.
+-- What the definitions of this crate mean, as claims; proofs/Matching, Answers, Tables, Lent, ReadFilters, Listings and
+-- Unread prove them.
 -- Quotes are from 01, "Filters and replies", where nothing else is said.
 use mathlib.Core.Path.{_≡_}
 use mathlib.Core.Bool.{Bool, true, false, cond}
@@ -33,8 +33,12 @@ use Rattle.table.specs.Layout.{tableSize, capacityOf, countOf, slotAt, idIn, te
 use Rattle.table.specs.Events.{timeOfText}
 use Rattle.table.specs.Sound.{sound}
 use Rattle.query.specs.Filter.{Condition, Filter, filterOf}
-use Rattle.query.specs.Match.{isMember, sameNumber, kindListed, sinceHolds, untilHolds, conditionHolds, matches, matchesSome}
-use Rattle.query.specs.Answer.{keep, numbersFrom, picked, union, newerSlot, matchesSlot, answerList, filterPartsAt, filtersMeant, meant, lowestOf, filtersRow, answerTo, matchedRow, matched, matchNumber, matchValue, listingRow, listed, listedRow, listingNumber, listedCount}
+use Rattle.query.specs.Match.{isMember, sameNumber, kindListed, sinceHolds, untilHolds, conditionHolds, matches}
+use Rattle.query.specs.Match.{matchesSome}
+use Rattle.query.specs.Answer.{keep, numbersFrom, picked, union, newerSlot, matchesSlot, answerList}
+use Rattle.query.specs.Answer.{filterPartsAt, filtersMeant, meant, lowestOf, filtersRow, answerTo, matchedRow}
+use Rattle.query.specs.Answer.{matched, matchNumber, matchValue, listingRow, listed, listedRow, listingNumber}
+use Rattle.query.specs.Answer.{listedCount}
 use Rattle.wire.specs.Bytes.{Bytes}
 use Rattle.wire.specs.Lowest.{Lowest}
 
@@ -43,7 +47,8 @@ use Rattle.wire.specs.Lowest.{Lowest}
 abbrev pub ExactMember : Type 0
 ExactMember = (l : List (List ℕ)) (v : List ℕ) → T (isMember l v) ↔ (v ∈ l)
 
--- 01, "Errors": "002 matches prefixes; 001 wants whole values": neither of two values of which one begins the other is taken for it
+-- 01, "Errors": "002 matches prefixes; 001 wants whole values": neither of two values of which one begins the other is
+-- taken for it
 abbrev pub NoPrefix : Type 0
 NoPrefix = (v w : List ℕ) → w ≢ [] → (T (isMember (v ∷ []) (v ++ w)) → ⊥) × (T (isMember ((v ++ w) ∷ []) v) → ⊥)
 
@@ -88,7 +93,8 @@ MatchMeans = (f : Filter) (i : List ℕ) (e : Event) → T (matches f i e) ↔ A
 
 -- "any filter suffices."
 abbrev pub AnySuffices : Type 0
-AnySuffices = (fs : List Filter) (i : List ℕ) (e : Event) → T (matchesSome fs i e) ↔ ((f : Filter) × (f ∈ fs) × T (matches f i e))
+AnySuffices =
+    (fs : List Filter) (i : List ℕ) (e : Event) → T (matchesSome fs i e) ↔ ((f : Filter) × (f ∈ fs) × T (matches f i e))
 
 -- the filter f with another limit, which is no condition on an event
 abbrev pub limited : Filter → Bound → Filter
@@ -107,7 +113,8 @@ LimitAside = (f : Filter) (l : Bound) (i : List ℕ) (e : Event) → matches (li
 
 -- "`{}` matches all."
 abbrev pub everything : Filter
-everything = record { ids = none; authors = none; kinds = none; since = Absent; until = Absent; limit = Absent; conditions = [] }
+everything =
+    record { ids = none; authors = none; kinds = none; since = Absent; until = Absent; limit = Absent; conditions = [] }
 
 abbrev pub EmptyMatches : Type 0
 EmptyMatches = (i : List ℕ) (e : Event) → T (matches everything i e)
@@ -145,9 +152,11 @@ module _ (newer : ℕ → ℕ → Bool) (fits : Filter → ℕ → Bool) (held :
     pub once : Distinct held → Distinct (picked newer fits held f)
     pub newest-first : Orders newer → NoneNewer newer (picked newer fits held f)
     -- no match left out is newer than one picked
-    pub left-out : Orders newer → (s t : ℕ) → s ∈ picked newer fits held f → Match f t → (t ∈ picked newer fits held f → ⊥) → T (newer t s) → ⊥
+    pub left-out : Orders newer → (s t : ℕ) → s ∈ picked newer fits held f → Match f t →
+        (t ∈ picked newer fits held f → ⊥) → T (newer t s) → ⊥
     pub absent : f .limit ≡ Absent → (s : ℕ) → (s ∈ picked newer fits held f) ↔ Match f s
-    pub number : (z : ℤ) → f .limit ≡ Number z → length (picked newer fits held f) ≡ min (natural z) (length (keep (fits f) held))
+    pub number : (z : ℤ) → f .limit ≡ Number z → length (picked newer fits held f) ≡ min (natural z)
+        (length (keep (fits f) held))
     -- 01, "Errors": "002's "if filter.limit" .. take 0 for absent"
     pub zero : f .limit ≡ Number (pos 0) → picked newer fits held f ≡ []
 
@@ -166,7 +175,9 @@ module _ (newer : ℕ → ℕ → Bool) (fits : Filter → ℕ → Bool) (held :
 
   -- where of any two held slots one is newer
   abbrev pub UnionDescends : Type 0
-  UnionDescends = (fs : List Filter) → Orders newer → Distinct held → ((s t : ℕ) → s ∈ held → t ∈ held → s ≢ t → T (newer s t) ⊎ T (newer t s)) → Descending newer (union newer fits held fs)
+  UnionDescends = (fs : List Filter) → Orders newer → Distinct held →
+      ((s t : ℕ) → s ∈ held → t ∈ held → s ≢ t → T (newer s t) ⊎ T (newer t s)) →
+      Descending newer (union newer fits held fs)
 
   -- what the filters pick, one list behind the other; the union has as many entries as are different in it
   unfoldable pub allPicked : List Filter → List ℕ
@@ -181,10 +192,12 @@ module _ (newer : ℕ → ℕ → Bool) (fits : Filter → ℕ → Bool) (held :
 
   -- more filters lose no slot; neither the order of the filters matters nor how often one is given
   abbrev pub MoreFilters : Type 0
-  MoreFilters = (fs gs : List Filter) → ((f : Filter) → f ∈ fs → f ∈ gs) → (s : ℕ) → s ∈ union newer fits held fs → s ∈ union newer fits held gs
+  MoreFilters = (fs gs : List Filter) → ((f : Filter) → f ∈ fs → f ∈ gs) → (s : ℕ) → s ∈ union newer fits held fs →
+      s ∈ union newer fits held gs
 
   abbrev pub FilterOrder : Type 0
-  FilterOrder = (fs gs : List Filter) → ((f : Filter) → (f ∈ fs) ↔ (f ∈ gs)) → union newer fits held fs ≡ union newer fits held gs
+  FilterOrder = (fs gs : List Filter) → ((f : Filter) → (f ∈ fs) ↔ (f ∈ gs)) →
+      union newer fits held fs ≡ union newer fits held gs
 
 -- those that pass, and the numbers from 0 on
 abbrev pub KeepMeans : Type 0
@@ -198,31 +211,38 @@ FromMeans = (n s : ℕ) → (s ∈ numbersFrom 0 n) ↔ (s < n)
 abbrev pub NewerMeans : Type 0
 NewerMeans = (b : List ℕ) (j k : ℕ) → T (newerSlot b j k) ↔ (
     T (earlier (timeOfText (textIn (slotAt b k))) (timeOfText (textIn (slotAt b j))))
-    ⊎ ((timeOfText (textIn (slotAt b k)) ≡ timeOfText (textIn (slotAt b j))) × T (lower (idIn (slotAt b j)) (idIn (slotAt b k))))
+    ⊎ ((timeOfText (textIn (slotAt b k)) ≡ timeOfText (textIn (slotAt b j))) ×
+    T (lower (idIn (slotAt b j)) (idIn (slotAt b k))))
     )
 
 -- in every table, sound or not
 abbrev pub SlotsOrdered : Type 0
 SlotsOrdered = (b : List ℕ) → Orders (newerSlot b)
 
--- in a sound table every held slot has an event, with its id in hex, and it is that event which the filters are asked of
+-- in a sound table every held slot has an event, with its id in hex, and it is that event which the filters are asked
+-- of
 abbrev pub SlotMatches : Type 0
 SlotMatches = (b : List ℕ) → sound b ≡ true → (k : ℕ) → k < countOf b →
-    (e : Event) × (readText (textIn (slotAt b k)) ≡ read e) × ((f : Filter) → matchesSlot b f k ≡ matches f (hexOf (idIn (slotAt b k))) e)
+    (e : Event) × (readText (textIn (slotAt b k)) ≡ read e) ×
+    ((f : Filter) → matchesSlot b f k ≡ matches f (hexOf (idIn (slotAt b k))) e)
 
 pub record AnswerIs (b : List ℕ) (fs : List Filter) : Type 0 where
   -- "Slots 0 to C-1 are held"
-  pub exactly : (s : ℕ) → (s ∈ answerList b fs) ↔ ((s < countOf b) × Picked (newerSlot b) (matchesSlot b) (numbersFrom 0 (countOf b)) fs s)
+  pub exactly : (s : ℕ) → (s ∈ answerList b fs) ↔
+      ((s < countOf b) × Picked (newerSlot b) (matchesSlot b) (numbersFrom 0 (countOf b)) fs s)
   pub matching : (s : ℕ) → s ∈ answerList b fs → (f : Filter) × (f ∈ fs) × T (matchesSlot b f s)
   -- with no limit, all that match
-  pub unlimited : ((f : Filter) → f ∈ fs → f .limit ≡ Absent) → (s : ℕ) (f : Filter) → s < countOf b → f ∈ fs → T (matchesSlot b f s) → s ∈ answerList b fs
+  pub unlimited : ((f : Filter) → f ∈ fs → f .limit ≡ Absent) → (s : ℕ) (f : Filter) → s < countOf b → f ∈ fs →
+      T (matchesSlot b f s) → s ∈ answerList b fs
   pub once : Distinct (answerList b fs)
   pub newest-first : NoneNewer (newerSlot b) (answerList b fs)
   pub descends : sound b ≡ true → Descending (newerSlot b) (answerList b fs)
   -- no other list has these slots in that order
-  pub only : sound b ≡ true → (l : List ℕ) → ((s : ℕ) → (s ∈ l) ↔ (s ∈ answerList b fs)) → Descending (newerSlot b) l → l ≡ answerList b fs
+  pub only : sound b ≡ true → (l : List ℕ) → ((s : ℕ) → (s ∈ l) ↔ (s ∈ answerList b fs)) → Descending (newerSlot b) l →
+      l ≡ answerList b fs
   -- "its length is the count answered": 01, "How far": "the union's size"
-  pub size : length (answerList b fs) ≡ different eqb (allPicked (newerSlot b) (matchesSlot b) (numbersFrom 0 (countOf b)) fs)
+  pub size : length (answerList b fs) ≡ different eqb
+      (allPicked (newerSlot b) (matchesSlot b) (numbersFrom 0 (countOf b)) fs)
   pub short : length (answerList b fs) ≤ countOf b
 
 abbrev pub AnswerMeans : Type 0
@@ -238,15 +258,19 @@ unfoldable pub filtersOfItems : Bytes → Items → List Filter
 filtersOfItems m nil = []
 filtersOfItems m (item p v t ts) = filterOf m (parts.filterPartsOf m v (membersOf t)) ∷ filtersOfItems m ts
 
--- a REQ is answered by all its filters, in their order: those after the first word and the subscription id, as many as there are
+-- a REQ is answered by all its filters, in their order: those after the first word and the subscription id, as many as
+-- there are
 abbrev pub AllFilters : Type 0
 AllFilters = (m : List ℕ) (r : ReqParts) → readOf m ≡ Req r →
-    (p v q w n : ℕ) (first subscription : Json) (ts : Items) → root m ≡ got (arr (item p v first (item q w subscription ts))) n →
+    (p v q w n : ℕ) (first subscription : Json) (ts : Items) →
+    root m ≡ got (arr (item p v first (item q w subscription ts))) n →
     (filtersMeant m (r .filters) ≡ filtersOfItems m ts) × (length (filtersMeant m (r .filters)) ≡ count ts)
 
 -- lent parts that are those of the text mean what the text means
 abbrev pub TextFilters : Type 0
-TextFilters = (m : List ℕ) (v : ℕ) (fs : List FilterParts) (n : ℕ) → take n fs ≡ filterPartsAt m v → meant m fs n ≡ filtersMeant m v
+TextFilters =
+    (m : List ℕ) (v : ℕ) (fs : List FilterParts) (n : ℕ) → take n fs ≡ filterPartsAt m v →
+    meant m fs n ≡ filtersMeant m v
 
 -- ---- lent filters
 -- the row r holds of the first n of fs
@@ -269,7 +293,8 @@ pub record AllPass (m : List ℕ) (fs : List FilterParts) (n : ℕ) : Type 0 whe
 abbrev pub LentPass : Type 0
 LentPass = (m : List ℕ) (fs : List FilterParts) (n : ℕ) → (filtersRow m fs n ≡ 0) ↔ AllPass m fs n
 
--- what was read from an accepted REQ passes as lent parts, so the program's own call is never refused by rows 2 and 4 to 8
+-- what was read from an accepted REQ passes as lent parts, so the program's own call is never refused by rows 2 and 4
+-- to 8
 abbrev pub ReadPasses : Type 0
 ReadPasses = (m : List ℕ) (r : ReqParts) → readOf m ≡ Req r →
     (fs : List FilterParts) (n : ℕ) → n ≤ length fs → take n fs ≡ filterPartsAt m (r .filters) → filtersRow m fs n ≡ 0
@@ -282,12 +307,16 @@ pub data MatchedHolds (b : List ℕ) (p : EventParts) (m : List ℕ) (fs : List 
   too-large : isLarge b (p .body) ≡ true → MatchedHolds b p m fs n 9
 
 abbrev pub MatchedRowIs : Type 0
-MatchedRowIs = (b : List ℕ) (p : EventParts) (m : List ℕ) (fs : List FilterParts) (n : ℕ) → Lowest (MatchedHolds b p m fs n) (matchedRow b p m fs n)
+MatchedRowIs =
+    (b : List ℕ) (p : EventParts) (m : List ℕ) (fs : List FilterParts) (n : ℕ) →
+    Lowest (MatchedHolds b p m fs n) (matchedRow b p m fs n)
 
--- "matches an event against filters": the answer is yes where no row holds and some filter matches, and it is no value of a refusal
+-- "matches an event against filters": the answer is yes where no row holds and some filter matches, and it is no value
+-- of a refusal
 pub record MatchedIs (b : List ℕ) (p : EventParts) (m : List ℕ) (fs : List FilterParts) (n : ℕ) : Type 0 where
   pub number : matchNumber (matched b p m fs n) ≡ matchedRow b p m fs n
-  pub value : T (matchValue (matched b p m fs n)) ↔ ((matchedRow b p m fs n ≡ 0) × T (matchesSome (meant m fs n) (said b (p .id)) (eventOf b (p .body))))
+  pub value : T (matchValue (matched b p m fs n)) ↔
+      ((matchedRow b p m fs n ≡ 0) × T (matchesSome (meant m fs n) (said b (p .id)) (eventOf b (p .body))))
 
 abbrev pub MatchedMeans : Type 0
 MatchedMeans = (b : List ℕ) (p : EventParts) (m : List ℕ) (fs : List FilterParts) (n : ℕ) → MatchedIs b p m fs n
@@ -299,15 +328,19 @@ pub data ListingHolds (b m : List ℕ) (fs : List FilterParts) (n : ℕ) (row : 
   too-short : length row < length (answerTo b m fs n) → ListingHolds b m fs n row 13
 
 abbrev pub ListingRowIs : Type 0
-ListingRowIs = (b m : List ℕ) (fs : List FilterParts) (n : ℕ) (row : List ℕ) → Lowest (ListingHolds b m fs n row) (listingRow b m fs n row)
+ListingRowIs =
+    (b m : List ℕ) (fs : List FilterParts) (n : ℕ) (row : List ℕ) →
+    Lowest (ListingHolds b m fs n row) (listingRow b m fs n row)
 
--- "It is written to a lent row of 16-bit numbers, and its length is the count answered." "Output is written from its start, and its rest
--- stays. A refusal carries its number and no other value .., and every lent buffer stays as found."
+-- "It is written to a lent row of 16-bit numbers, and its length is the count answered." "Output is written from its
+-- start, and its rest stays. A refusal carries its number and no other value .., and every lent buffer stays as found."
 pub record ListingIs (b m : List ℕ) (fs : List FilterParts) (n : ℕ) (row : List ℕ) : Type 0 where
   pub number : listingNumber (listed b m fs n row) ≡ listingRow b m fs n row
   pub count : listingRow b m fs n row ≡ 0 → listedCount (listed b m fs n row) ≡ length (answerTo b m fs n)
-  pub written : listingRow b m fs n row ≡ 0 → take (length (answerTo b m fs n)) (listedRow b m fs n row) ≡ answerTo b m fs n
-  pub rest : listingRow b m fs n row ≡ 0 → drop (length (answerTo b m fs n)) (listedRow b m fs n row) ≡ drop (length (answerTo b m fs n)) row
+  pub written : listingRow b m fs n row ≡ 0 → take (length (answerTo b m fs n)) (listedRow b m fs n row) ≡ answerTo b m
+      fs n
+  pub rest : listingRow b m fs n row ≡ 0 → drop (length (answerTo b m fs n)) (listedRow b m fs n row) ≡ drop
+      (length (answerTo b m fs n)) row
   pub as-long : length (listedRow b m fs n row) ≡ length row
   pub refused : listingRow b m fs n row ≢ 0 → (listedRow b m fs n row ≡ row) × (listedCount (listed b m fs n row) ≡ 0)
 
@@ -319,7 +352,8 @@ abbrev pub ReadListing : Type 0
 ReadListing = (b m : List ℕ) (r : ReqParts) → readOf m ≡ Req r →
     (fs : List FilterParts) (n : ℕ) → n ≤ length fs → take n fs ≡ filterPartsAt m (r .filters) → (row : List ℕ) →
     (answerTo b m fs n ≡ answerList b (filtersMeant m (r .filters)))
-    × (listingRow b m fs n row ≡ cond (sound b) (cond (ltb (length row) (length (answerList b (filtersMeant m (r .filters))))) 13 0) 11)
+    × (listingRow b m fs n row ≡ cond (sound b)
+    (cond (ltb (length row) (length (answerList b (filtersMeant m (r .filters))))) 13 0) 11)
 
 -- 01, "The table": "Bytes after slot N-1 are never read": whatever they are, a REQ's answer is the same
 abbrev pub ListingNeverRead : Type 0

@@ -53,7 +53,8 @@ numbersIn b (tree.got t n) = ofArray [] (numbersOf b) t
 abbrev pub conditionsOf : Bytes → Items → List Condition
 conditionsOf b nil = []
 conditionsOf b (item p v t ts) =
-    cond (isCondition (nameAt b p)) (record { letter = getD (nameAt b p) 1 0; members = tagOf b t } ∷ conditionsOf b ts) (conditionsOf b ts)
+    cond (isCondition (nameAt b p)) (record { letter = getD (nameAt b p) 1 0; members = tagOf b t } ∷ conditionsOf b ts)
+    (conditionsOf b ts)
 
 -- ---- the parts
 abbrev pub ifListed : {A : Type 0} → (ℕ → A) → Listed → Option A

@@ -55,7 +55,8 @@ matches f i e =
     isListed (f .ids) i
     && (isListed (f .authors) (e .pubkey)
     && (kindListed (f .kinds) (e .kind)
-    && (sinceHolds (f .since) (e .time) && (untilHolds (f .until) (e .time) && all (conditionHolds (e .tags)) (f .conditions)))))
+    && (sinceHolds (f .since) (e .time) &&
+    (untilHolds (f .until) (e .time) && all (conditionHolds (e .tags)) (f .conditions)))))
 
 -- "any filter suffices."
 unfoldable pub matchesSome : (fs : List Filter) (i : Bytes) (e : Event) → Bool

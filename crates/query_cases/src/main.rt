@@ -1,6 +1,7 @@
-// Filters asked of events, one call a line: of the events of a table, or of an event that is lent. The table stands in one room that is as
-// large as 64 slots and some bytes more; beside it lie lent bytes: messages, and the parts of events and filters. A line is a letter and
-// decimal numbers with single spaces between, `x` for an absent one. Of any other line nothing is claimed.
+// Filters asked of events, one call a line: of the events of a table, or of an event that is lent. The table stands in
+// one room that is as large as 64 slots and some bytes more; beside it lie lent bytes: messages, and the parts of
+// events and filters. A line is a letter and decimal numbers with single spaces between, `x` for an absent one. Of any
+// other line nothing is claimed.
 //
 //   L len fill                  every byte of the room becomes `fill`; its first `len` bytes are the table
 //   B bytes                     these bytes to the start of the lent ones
@@ -12,11 +13,12 @@
 //   W at len at len             does the EVENT there match a filter of the REQ there?
 //   E EVENT n FILTERS           does the event of lent parts match one of the first n of lent filters?
 //
-//   EVENT is id id_len pubkey pubkey_len created_at kind tags content content_len sig sig_len; FILTERS is four times ids authors kinds since
+//   EVENT is id id_len pubkey pubkey_len created_at kind tags content content_len sig sig_len; FILTERS is four times
+// ids authors kinds since
 //   until limit conditions, and what is missing at the line's end is absent.
 //
-// A listing prints its row of 01, then the count and the row of numbers, up to the last that is not `fill`: also numbers behind the lent
-// ones would show.
+// A listing prints its row of 01, then the count and the row of numbers, up to the last that is not `fill`: also
+// numbers behind the lent ones would show.
 ghost use Prim.Native.Nat.{_≤_};
 ghost use lib.ListN.{length};
 use message::EventParts;

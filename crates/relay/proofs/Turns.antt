@@ -1,4 +1,5 @@
--- A turn leaves the buffers ready, and goes on in the chunk or writes what waits. With the whole output free it is never refused.
+-- A turn leaves the buffers ready, and goes on in the chunk or writes what waits. With the whole output free it is
+-- never refused.
 use mathlib.Core.Path.{_≡_, refl, sym, ap, _∙_}
 use mathlib.Core.List.{List}
 use Prim.Native.Nat.{ℕ, _+_, _-_, _≤_, _<_}
@@ -14,7 +15,8 @@ use Rattle.table.specs.Format.{formatted}
 use Rattle.table.proofs.Formatted.{formatted-capacity}
 use Rattle.program.specs.Claims.Respond.{enoughFor}
 use Rattle.program.specs.Program.{programSlots, freshTable}
-use Rattle.program.specs.Feed.{mostLine, usedOf, turnText, turnState, turned, turnRow, turnTable, turnLine, turnOut, turnedNumber, turnedUsed, turnedBytes}
+use Rattle.program.specs.Feed.{mostLine, usedOf, turnText, turnState, turned, turnRow, turnTable, turnLine, turnOut}
+use Rattle.program.specs.Feed.{turnedNumber, turnedUsed, turnedBytes}
 use Rattle.program.specs.declared.Turned.{Turned}
 use Rattle.program.specs.declared.Turned.the-variants as turning
 use Rattle.program.proofs.Example.{row-0}

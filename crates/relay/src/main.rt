@@ -1,5 +1,5 @@
-// The relay: messages on standard input, one a line, over a fresh table of 8 slots; their replies on standard output, each ended with 0A.
-// What matters is proved of `feed`; here are the buffers, and the order of reading and writing.
+// The relay: messages on standard input, one a line, over a fresh table of 8 slots; their replies on standard output,
+// each ended with 0A. What matters is proved of `feed`; here are the buffers, and the order of reading and writing.
 ghost use mathlib.Core.Path.{_≡_};
 ghost use Prim.Native.Nat.{_≤_, _<_};
 ghost use lib.ListN.{length, replicate};
@@ -31,7 +31,8 @@ fn write(out: &[u8], w: usize)
     io::write_all(STDOUT_FILENO, &out[..w]);
 }
 
-// One turn, into the free rest of the output. Where that is too short, what waits is written, and the next turn has the whole output.
+// One turn, into the free rest of the output. Where that is too short, what waits is written, and the next turn has the
+// whole output.
 fn step(table: &mut [u8], line: &mut [u8], chunk: &[u8], out: &mut [u8], p: Place) -> Place
     requires { ⌜ Ready (now table) (now line) (now out) ⌝ }
     requires { ⌜ Stands (now chunk) (now out) p ⌝ }

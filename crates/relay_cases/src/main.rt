@@ -1,4 +1,5 @@
-// Runs of the relay, each over a fresh table of 8 slots. A line is a letter and, with nothing between, what belongs to it:
+// Runs of the relay, each over a fresh table of 8 slots. A line is a letter and, with nothing between, what belongs to
+// it:
 //
 //   N cut       a new run, fed in pieces of `cut` bytes; 0: as they come
 //   L bytes     feeds these bytes and 0A

@@ -23,7 +23,9 @@ use Rattle.text.proofs.Pieces.{both}
 use Rattle.message.specs.declared.Span.{Span}
 use Rattle.message.specs.declared.Body.{Body}
 use Rattle.message.specs.declared.EventParts.{EventParts}
-use Rattle.message.specs.Lent.{spanBytes, isSpelled, string2, string4, string5, string7, subscription8, stringRow, hexRow, subscriptionRow, event2, event4, event5, event7, body5, body6, body7, body8, eventRow}
+use Rattle.message.specs.Lent.{spanBytes, isSpelled, string2, string4, string5, string7, subscription8, stringRow}
+use Rattle.message.specs.Lent.{hexRow, subscriptionRow, event2, event4, event5, event7, body5, body6, body7, body8}
+use Rattle.message.specs.Lent.{eventRow}
 use Rattle.wire.specs.Lowest.{lowerRow}
 use Rattle.message.specs.Inner.{lowestBy}
 use Rattle.message.proofs.Facts.{or-not}
@@ -36,11 +38,13 @@ use Rattle.event.specs.declared.Written.the-variants.{Wrote, Refused}
 use Rattle.event.proofs.Answers.{refused, passed, too-short, room-for}
 use Rattle.wire.specs.Ascii.{ascii}
 use Rattle.reply.specs.Replies.{event, truth, objectText, replyText}
-use Rattle.reply.specs.Lent.{replyOf, okRow, eventReplyRow, eoseRow, closedRow, noticeRow, partsRow, shortRow, replyRow, replied, repliedOut}
+use Rattle.reply.specs.Lent.{replyOf, okRow, eventReplyRow, eoseRow, closedRow, noticeRow, partsRow, shortRow, replyRow}
+use Rattle.reply.specs.Lent.{replied, repliedOut}
 use Rattle.reply.specs.declared.ReplyParts.{ReplyParts}
 use Rattle.table.proofs.Valid.{or-else}
 use Rattle.program.proofs.Sizes.{quoted-length, event-length}
-use Rattle.replies.specs.Inner.{frontText, middleText, backText, okParts, eventParts, eoseParts, closedParts, noticeParts, Room}
+use Rattle.replies.specs.Inner.{frontText, middleText, backText, okParts, eventParts, eoseParts, closedParts}
+use Rattle.replies.specs.Inner.{noticeParts, Room}
 
 -- ---- true or false
 pub truth-put : {a : Bool} (b : Bool) {d o : List ℕ} {i r : ℕ} → a ≡ b → Puts d i (truth b) r o → Puts d i (truth a) r o

@@ -14,10 +14,14 @@ use Rattle.wire.specs.Bytes.{Bytes}
 
 -- ---- the EVENT of the event e, for the subscription id sub, with the id i and the signature s, in pieces
 unfoldable pub frontText : (sub i : Bytes) (e : Event) → Bytes
-frontText sub i e = ascii "[\"EVENT\"," ++ (quoted sub ++ (ascii ",{\"id\":" ++ (quoted i ++ (ascii ",\"pubkey\":" ++ quoted (e .pubkey)))))
+frontText sub i e =
+    ascii "[\"EVENT\"," ++ (quoted sub ++
+    (ascii ",{\"id\":" ++ (quoted i ++ (ascii ",\"pubkey\":" ++ quoted (e .pubkey)))))
 
 unfoldable pub middleText : Event → Bytes
-middleText e = ascii ",\"created_at\":" ++ (decimal (e .time) ++ (ascii ",\"kind\":" ++ (digits (e .kind) ++ (ascii ",\"tags\":" ++ tagsText (e .tags)))))
+middleText e =
+    ascii ",\"created_at\":" ++ (decimal (e .time) ++
+    (ascii ",\"kind\":" ++ (digits (e .kind) ++ (ascii ",\"tags\":" ++ tagsText (e .tags)))))
 
 unfoldable pub backText : Event → (s : Bytes) → Bytes
 backText e s = ascii ",\"content\":" ++ (quoted (e .content) ++ (ascii ",\"sig\":" ++ (quoted s ++ ascii "}]")))

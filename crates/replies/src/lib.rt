@@ -1,5 +1,5 @@
-// Replies written into lent bytes, from lent parts. 01: "Writers copy byte-string heads such as ["OK", and reason texts". Every row is
-// tested before the first byte is written.
+// Replies written into lent bytes, from lent parts. 01: "Writers copy byte-string heads such as ["OK", and reason
+// texts". Every row is tested before the first byte is written.
 ghost use mathlib.Core.Path.{_≡_};
 ghost use Prim.Native.Nat.{_+_, _≤_};
 ghost use lib.ListN.{length};
@@ -8,7 +8,8 @@ ghost use Rattle.event.specs.Lent.{said, eventOf};
 ghost use Rattle.event.specs.Answer.{writtenNumber};
 ghost use Rattle.reply.specs.Replies.{truth, replyText};
 ghost use Rattle.reply.specs.Lent.{replyOf, partsRow, replyRow, replied, repliedOut};
-ghost use Rattle.replies.specs.Inner.{frontText, middleText, backText, okParts, eventParts, eoseParts, closedParts, noticeParts, Room};
+ghost use Rattle.replies.specs.Inner.{frontText, middleText, backText, okParts, eventParts, eoseParts};
+ghost use Rattle.replies.specs.Inner.{closedParts, noticeParts, Room};
 use event::Written;
 use message::Body;
 use message::EventParts;
@@ -36,7 +37,8 @@ fn truth_len(accepted: bool) -> usize
 
 // ["OK",ID,ACCEPTED,REASON]
 fn put_ok(out: &mut [u8], b: &[u8], id: Span, accepted: bool, reason: Span) -> usize
-    ensures { λ r. ⌜ Puts (now (out .entry)) 0 (replyText (replyOf (now (b .entry)) (okParts id accepted reason))) r (now (out .exit)) ⌝ }
+    ensures { λ r. ⌜ Puts (now (out .entry)) 0 (replyText (replyOf (now (b .entry)) (okParts id accepted reason))) r
+        (now (out .exit)) ⌝ }
 {
     let a = wire::put(out, 0, b"[\"OK\",");
     let c = event::put_part(out, a, b, id);
@@ -49,7 +51,8 @@ fn put_ok(out: &mut [u8], b: &[u8], id: Span, accepted: bool, reason: Span) -> u
 
 // ["EOSE",SUB]
 fn put_eose(out: &mut [u8], b: &[u8], sub: Span) -> usize
-    ensures { λ r. ⌜ Puts (now (out .entry)) 0 (replyText (replyOf (now (b .entry)) (eoseParts sub))) r (now (out .exit)) ⌝ }
+    ensures { λ r. ⌜ Puts (now (out .entry)) 0 (replyText (replyOf (now (b .entry)) (eoseParts sub))) r
+        (now (out .exit)) ⌝ }
 {
     let a = wire::put(out, 0, b"[\"EOSE\",");
     let c = event::put_part(out, a, b, sub);
@@ -58,7 +61,8 @@ fn put_eose(out: &mut [u8], b: &[u8], sub: Span) -> usize
 
 // ["NOTICE",REASON]
 fn put_notice(out: &mut [u8], b: &[u8], reason: Span) -> usize
-    ensures { λ r. ⌜ Puts (now (out .entry)) 0 (replyText (replyOf (now (b .entry)) (noticeParts reason))) r (now (out .exit)) ⌝ }
+    ensures { λ r. ⌜ Puts (now (out .entry)) 0 (replyText (replyOf (now (b .entry)) (noticeParts reason))) r
+        (now (out .exit)) ⌝ }
 {
     let a = wire::put(out, 0, b"[\"NOTICE\",");
     let c = event::put_part(out, a, b, reason);
@@ -67,7 +71,8 @@ fn put_notice(out: &mut [u8], b: &[u8], reason: Span) -> usize
 
 // ["CLOSED",SUB,REASON]
 fn put_closed(out: &mut [u8], b: &[u8], sub: Span, reason: Span) -> usize
-    ensures { λ r. ⌜ Puts (now (out .entry)) 0 (replyText (replyOf (now (b .entry)) (closedParts sub reason))) r (now (out .exit)) ⌝ }
+    ensures { λ r. ⌜ Puts (now (out .entry)) 0 (replyText (replyOf (now (b .entry)) (closedParts sub reason))) r
+        (now (out .exit)) ⌝ }
 {
     let a = wire::put(out, 0, b"[\"CLOSED\",");
     let c = event::put_part(out, a, b, sub);
@@ -78,7 +83,8 @@ fn put_closed(out: &mut [u8], b: &[u8], sub: Span, reason: Span) -> usize
 
 // ["EVENT",SUB,{"id":ID,"pubkey":PUBKEY
 fn put_front(out: &mut [u8], b: &[u8], sub: Span, id: Span, p: Body) -> usize
-    ensures { λ r. ⌜ Puts (now (out .entry)) 0 (frontText (said (now (b .entry)) sub) (said (now (b .entry)) id) (eventOf (now (b .entry)) p)) r (now (out .exit)) ⌝ }
+    ensures { λ r. ⌜ Puts (now (out .entry)) 0 (frontText (said (now (b .entry)) sub) (said (now (b .entry)) id)
+        (eventOf (now (b .entry)) p)) r (now (out .exit)) ⌝ }
 {
     let pubkey = p.pubkey;
     let a = wire::put(out, 0, b"[\"EVENT\",");
@@ -106,7 +112,8 @@ fn put_middle(out: &mut [u8], at: usize, b: &[u8], p: Body) -> usize
 
 // ,"content":CONTENT,"sig":SIG}]
 fn put_back(out: &mut [u8], at: usize, b: &[u8], p: Body, sig: Span) -> usize
-    ensures { λ r. ⌜ Puts (now (out .entry)) at (backText (eventOf (now (b .entry)) p) (said (now (b .entry)) sig)) r (now (out .exit)) ⌝ }
+    ensures { λ r. ⌜ Puts (now (out .entry)) at (backText (eventOf (now (b .entry)) p) (said (now (b .entry)) sig)) r
+        (now (out .exit)) ⌝ }
 {
     let content = p.content;
     let a = wire::put(out, at, b",\"content\":");
@@ -118,7 +125,8 @@ fn put_back(out: &mut [u8], at: usize, b: &[u8], p: Body, sig: Span) -> usize
 
 // ["EVENT",SUB,EVENT]
 fn put_event(out: &mut [u8], b: &[u8], sub: Span, p: EventParts) -> usize
-    ensures { λ r. ⌜ Puts (now (out .entry)) 0 (replyText (replyOf (now (b .entry)) (eventParts sub p))) r (now (out .exit)) ⌝ }
+    ensures { λ r. ⌜ Puts (now (out .entry)) 0 (replyText (replyOf (now (b .entry)) (eventParts sub p))) r
+        (now (out .exit)) ⌝ }
 {
     let id = p.id;
     let body = p.body;

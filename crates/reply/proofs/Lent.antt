@@ -1,4 +1,5 @@
--- A reply given as lent parts: its row, its answer and the output; and the number of other answers. The last claims of specs/Claims/Replies.
+-- A reply given as lent parts: its row, its answer and the output; and the number of other answers. The last claims of
+-- specs/Claims/Replies.
 use mathlib.Core.Path.{_≡_, refl, sym, ap, _∙_}
 use mathlib.Core.Bool.{Bool, true, false, cond, _||_, false≢true}
 use mathlib.Core.Logic.{_⊎_, inl, inr, ⊎-elim, _≢_}
@@ -22,7 +23,13 @@ use Rattle.wire.proofs.Lowest.{alike}
 use Rattle.reply.specs.declared.ReplyParts.{ReplyParts}
 use Rattle.reply.specs.declared.ReplyParts.the-variants as parts
 use Rattle.reply.specs.Lent.{subscription8, partsRow, outputAfter, replyRow, replied, repliedOut}
-use Rattle.reply.specs.Claims.{lentText, ok-id, ok-reason, event-subscription, eose-subscription, closed-subscription, closed-reason, notice-reason, of-event, of-eose, of-closed, EventHolds, event-utf8, event-string, event-shape, event-number, event-hex, event-count, event-large, PartsHold, not-utf8, not-allowed, not-spelled, not-hex, miscounted, in-event, PartsRowIs, PartsPass, ReplyHolds, of-parts, too-short, ReplyRowIs, PartsFirst, ShortOutput, ReplyFits, WritesOr, RepliedMeans, SerialisedNumber}
+use Rattle.reply.specs.Claims.{lentText, ok-id, ok-reason, event-subscription, eose-subscription}
+use Rattle.reply.specs.Claims.{closed-subscription, closed-reason, notice-reason, of-event, of-eose, of-closed}
+use Rattle.reply.specs.Claims.{EventHolds, event-utf8, event-string, event-shape, event-number, event-hex}
+use Rattle.reply.specs.Claims.{event-count, event-large, PartsHold, not-utf8, not-allowed, not-spelled, not-hex}
+use Rattle.reply.specs.Claims.{miscounted, in-event, PartsRowIs, PartsPass, ReplyHolds, of-parts, too-short}
+use Rattle.reply.specs.Claims.{ReplyRowIs, PartsFirst, ShortOutput, ReplyFits, WritesOr, RepliedMeans}
+use Rattle.reply.specs.Claims.{SerialisedNumber}
 
 pub zero-or : (r : ℕ) → (r ≡ 0) ⊎ (r ≢ 0)
 zero-or r = ⊎-elim (λ e. inl (eqb-true r 0 e)) (λ e. inr (eqb-false r 0 e)) (bool (eqb r 0))
@@ -386,4 +393,3 @@ serialised-number b p out = (
   λ e. rw (eq-eqb (serialisedRow b p out) 0 e),
   λ ne. rw (ne-eqb (serialisedRow b p out) 0 ne),
 )
-

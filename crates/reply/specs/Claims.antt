@@ -65,7 +65,8 @@ pub data EventHolds (b : List ℕ) (p : EventParts) : ℕ → Type 0 where
   event-count : body8 b (p .body) ≡ true → EventHolds b p 8
   event-large : isLarge b (p .body) ≡ true → EventHolds b p 9
 
--- the row k holds of the reply q: an id is 64 of lower-case hex, a subscription id has "1 to 64 characters", a reason is any string
+-- the row k holds of the reply q: an id is 64 of lower-case hex, a subscription id has "1 to 64 characters", a reason
+-- is any string
 pub data PartsHold (b : List ℕ) : ReplyParts → ℕ → Type 0 where
   not-utf8 : {q : ReplyParts} {s : Span} → StringOf q s → string2 b s ≡ true → PartsHold b q 2
   not-allowed : {q : ReplyParts} {s : Span} → StringOf q s → string4 b s ≡ true → PartsHold b q 4
@@ -94,13 +95,18 @@ abbrev pub PartsFirst : Type 0
 PartsFirst = (b : List ℕ) (q : ReplyParts) (out : List ℕ) → partsRow b q ≢ 0 → replyRow b q out ≡ partsRow b q
 
 abbrev pub ShortOutput : Type 0
-ShortOutput = (b : List ℕ) (q : ReplyParts) (out : List ℕ) → (replyRow b q out ≡ 13) ↔ ((partsRow b q ≡ 0) × (length out < length (lentText b q)))
+ShortOutput =
+    (b : List ℕ) (q : ReplyParts) (out : List ℕ) →
+    (replyRow b q out ≡ 13) ↔ ((partsRow b q ≡ 0) × (length out < length (lentText b q)))
 
 abbrev pub ReplyFits : Type 0
-ReplyFits = (b : List ℕ) (q : ReplyParts) (out : List ℕ) → (replyRow b q out ≡ 0) ↔ ((partsRow b q ≡ 0) × (length (lentText b q) ≤ length out))
+ReplyFits =
+    (b : List ℕ) (q : ReplyParts) (out : List ℕ) →
+    (replyRow b q out ≡ 0) ↔ ((partsRow b q ≡ 0) × (length (lentText b q) ≤ length out))
 
--- what a call answers, and the output o afterwards, that row r refuses or that writes the text t: "Output is written from its start, and its
--- rest stays. A refusal carries its number and no other value .., and every lent buffer stays as found."
+-- what a call answers, and the output o afterwards, that row r refuses or that writes the text t: "Output is written
+-- from its start, and its rest stays. A refusal carries its number and no other value .., and every lent buffer stays
+-- as found."
 pub record WritesOr (row : ℕ) (t out : List ℕ) (w : Written) (o : List ℕ) : Type 0 where
   pub number : writtenNumber w ≡ row
   pub wrote : row ≡ 0 → w ≡ sent.Wrote (length t)
@@ -111,7 +117,9 @@ pub record WritesOr (row : ℕ) (t out : List ℕ) (w : Written) (o : List ℕ) 
   pub refused : row ≢ 0 → (w ≡ sent.Refused row) × (writtenLength w ≡ 0) × (o ≡ out)
 
 abbrev pub RepliedMeans : Type 0
-RepliedMeans = (b : List ℕ) (q : ReplyParts) (out : List ℕ) → WritesOr (replyRow b q out) (lentText b q) out (replied b q out) (repliedOut b q out)
+RepliedMeans =
+    (b : List ℕ) (q : ReplyParts) (out : List ℕ) → WritesOr (replyRow b q out) (lentText b q) out (replied b q out)
+    (repliedOut b q out)
 
 -- ---- the number and value of other answers: "A refusal carries its number and no other value"
 abbrev pub SerialisedNumber : Type 0

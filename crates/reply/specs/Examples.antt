@@ -11,7 +11,15 @@ use Rattle.reply.specs.Replies.{ok, event, eose, closed, notice, objectT
 
 -- ids, keys and signatures are shortened here
 abbrev small : Event
-small = record { pubkey = ascii "aa"; time = negsuc 7199; kind = 1; tags = (ascii "d" ∷ ascii "t\n1" ∷ []) ∷ []; content = ascii "a\"b" }
+small =
+    record {
+      pubkey = ascii "aa";
+      time = negsuc 7199;
+      kind = 1;
+      tags = (ascii "d" ∷ ascii "t\n1" ∷ []) ∷ [];
+      content =
+          ascii "a\"b";
+    }
 
 pub texts :
     (replyText (ok (ascii "0f") true []) ≡ ascii "[\"OK\",\"0f\",true,\"\"]")
@@ -22,8 +30,10 @@ pub texts :
     × (replyText (closed (ascii "s") (reasonOf 8)) ≡ ascii "[\"CLOSED\",\"s\",\"invalid: count or length\"]")
     × (replyText (notice (reasonOf 2)) ≡ ascii "[\"NOTICE\",\"invalid: not UTF-8\"]")
     -- "0A, 22, 5C, 0D, 09, 08, 0C become .."
-    × (replyText (notice (0x0a ∷ 0x22 ∷ 0x5c ∷ 0x0d ∷ 0x09 ∷ 0x08 ∷ 0x0c ∷ [])) ≡ ascii "[\"NOTICE\",\"\\n\\\"\\\\\\r\\t\\b\\f\"]")
-unfolding replyText objectText reasonOf quoted membersText tagText tagsText letterOf escOne escape digitsIn digits decimal
+    × (replyText (notice (0x0a ∷ 0x22 ∷ 0x5c ∷ 0x0d ∷ 0x09 ∷ 0x08 ∷ 0x0c ∷ [])) ≡ ascii
+    "[\"NOTICE\",\"\\n\\\"\\\\\\r\\t\\b\\f\"]")
+unfolding replyText objectText reasonOf quoted membersText tagText tagsText letterOf escOne escape digitsIn digits
+    decimal
 texts = (refl, refl, refl, refl, refl, refl, refl)
 
 -- 01, "Numbers the relay answers with", the column "Reply text": rows 1 to 12, and none past them

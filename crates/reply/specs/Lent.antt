@@ -1,5 +1,6 @@
--- A reply given as lent parts over the buffer b: "Parts of an event, filter or reply are tested by rows 2 and 4 to 8 .., an event by 9 too";
--- then 13, "lent output .. too short". The reason is any string; ids are "Hex", subscription ids are bounded by "Counts".
+-- A reply given as lent parts over the buffer b: "Parts of an event, filter or reply are tested by rows 2 and 4 to 8
+-- .., an event by 9 too"; then 13, "lent output .. too short". The reason is any string; ids are "Hex", subscription
+-- ids are bounded by "Counts".
 use mathlib.Core.Bool.{Bool, false, cond, _||_, _&&_}
 use mathlib.Core.List.{List}
 use Prim.Native.Nat.{ℕ}
@@ -32,53 +33,53 @@ none = false
 
 abbrev pub okRow : (b : Bytes) (i r : Span) → Row
 okRow b i r = lowest (record {
-      row2 = string2 b i || string2 b r;
-      row4 = string4 b i || string4 b r;
-      row5 = string5 b i || string5 b r;
-      row6 = none;
-      row7 = string7 hexLength b i;
-      row8 = none;
-    })
+  row2 = string2 b i || string2 b r;
+  row4 = string4 b i || string4 b r;
+  row5 = string5 b i || string5 b r;
+  row6 = none;
+  row7 = string7 hexLength b i;
+  row8 = none;
+})
 
 abbrev pub eventReplyRow : (b : Bytes) (s : Span) (p : EventParts) → Row
 eventReplyRow b s p = lowest (record {
-      row2 = string2 b s || event2 b p;
-      row4 = string4 b s || event4 b p;
-      row5 = string5 b s || event5 b p;
-      row6 = body6 (p .body);
-      row7 = event7 b p;
-      row8 = subscription8 b s || body8 b (p .body);
-    })
+  row2 = string2 b s || event2 b p;
+  row4 = string4 b s || event4 b p;
+  row5 = string5 b s || event5 b p;
+  row6 = body6 (p .body);
+  row7 = event7 b p;
+  row8 = subscription8 b s || body8 b (p .body);
+})
 
 abbrev pub eoseRow : Bytes → Span → Row
 eoseRow b s = lowest (record {
-      row2 = string2 b s;
-      row4 = string4 b s;
-      row5 = string5 b s;
-      row6 = none;
-      row7 = none;
-      row8 = subscription8 b s;
-    })
+  row2 = string2 b s;
+  row4 = string4 b s;
+  row5 = string5 b s;
+  row6 = none;
+  row7 = none;
+  row8 = subscription8 b s;
+})
 
 abbrev pub closedRow : (b : Bytes) (s r : Span) → Row
 closedRow b s r = lowest (record {
-      row2 = string2 b s || string2 b r;
-      row4 = string4 b s || string4 b r;
-      row5 = string5 b s || string5 b r;
-      row6 = none;
-      row7 = none;
-      row8 = subscription8 b s;
-    })
+  row2 = string2 b s || string2 b r;
+  row4 = string4 b s || string4 b r;
+  row5 = string5 b s || string5 b r;
+  row6 = none;
+  row7 = none;
+  row8 = subscription8 b s;
+})
 
 abbrev pub noticeRow : Bytes → Span → Row
 noticeRow b r = lowest (record {
-      row2 = string2 b r;
-      row4 = string4 b r;
-      row5 = string5 b r;
-      row6 = none;
-      row7 = none;
-      row8 = none;
-    })
+  row2 = string2 b r;
+  row4 = string4 b r;
+  row5 = string5 b r;
+  row6 = none;
+  row7 = none;
+  row8 = none;
+})
 
 abbrev pub partsRow : Bytes → ReplyParts → Row
 partsRow b (parts.Ok i accepted r) = okRow b i r

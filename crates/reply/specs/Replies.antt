@@ -1,5 +1,6 @@
--- 01, "Filters and replies": the five replies. "Each reply begins with fixed bytes, copied exactly .. No white space; strings escaped as
--- above; event fields in the order listed under Shape." 001, "From relay to client", says what follows the fixed bytes.
+-- 01, "Filters and replies": the five replies. "Each reply begins with fixed bytes, copied exactly .. No white space;
+-- strings escaped as above; event fields in the order listed under Shape." 001, "From relay to client", says what
+-- follows the fixed bytes.
 use mathlib.Core.Bool.{Bool, true, false}
 use mathlib.Core.List.{List, [], _∷_, _++_}
 use Prim.Native.Nat.{ℕ}
@@ -37,7 +38,8 @@ objectText i e s =
     ++ (ascii ",\"content\":" ++ (quoted (e .content) ++ (ascii ",\"sig\":" ++ (quoted s ++ ascii "}")))))))))))))
 
 unfoldable pub replyText : Reply → Bytes
-replyText (ok i accepted reason) = ascii "[\"OK\"," ++ (quoted i ++ (ascii "," ++ (truth accepted ++ (ascii "," ++ (quoted reason ++ ascii "]")))))
+replyText (ok i accepted reason) =
+    ascii "[\"OK\"," ++ (quoted i ++ (ascii "," ++ (truth accepted ++ (ascii "," ++ (quoted reason ++ ascii "]")))))
 replyText (event s i e sig) = ascii "[\"EVENT\"," ++ (quoted s ++ (ascii "," ++ (objectText i e sig ++ ascii "]")))
 replyText (eose s) = ascii "[\"EOSE\"," ++ (quoted s ++ ascii "]")
 replyText (closed s reason) = ascii "[\"CLOSED\"," ++ (quoted s ++ (ascii "," ++ (quoted reason ++ ascii "]")))

@@ -44,7 +44,8 @@ use Rattle.table.proofs.Rows.{event-rows}
 use Rattle.offers.specs.Taken as taking
 use Rattle.offers.specs.declared.Taken.{Taken}
 use Rattle.offers.specs.declared.Taken.the-variants as takes
-use Rattle.offers.proofs.Takes.{took-event, took-req, took-close, took-refused, table-event, table-req, table-close, table-refused}
+use Rattle.offers.proofs.Takes.{took-event, took-req, took-close, took-refused, table-event, table-req, table-close}
+use Rattle.offers.proofs.Takes.{table-refused}
 use Rattle.query.specs.Answer.{answerList, filtersMeant, answerTo, listingRow, listed, listedRow}
 use Rattle.query.specs.declared.Listing.{Listing}
 use Rattle.query.specs.declared.Listing.the-variants as listing
@@ -63,7 +64,8 @@ use Rattle.slot_replies.specs.Left.{linesSize, leftIn}
 use Rattle.slot_replies.specs.declared.Left.{Left}
 use Rattle.slot_replies.specs.declared.Left.the-variants as left
 use Rattle.slot_replies.proofs.Lines.{lines-size}
-use Rattle.responses.specs.Inner.{verdictText, okText, namedFor, namingText, ended, eoseLine, answerText, AllHeld, Said}
+use Rattle.responses.specs.Inner.{verdictText, okText, namedFor, namingText, ended, eoseLine, answerText, AllHeld}
+use Rattle.responses.specs.Inner.{Said}
 use Rattle.responses.specs.Refused.{refusedText, refusedRow, refusedReply, refusedOut}
 use Rattle.responses.proofs.Lines.{ok-length, eose-length, naming-is}
 

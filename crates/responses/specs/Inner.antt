@@ -1,4 +1,5 @@
--- What private functions hand on: the replies by what the code has of them, and what is answered where a text is to be written.
+-- What private functions hand on: the replies by what the code has of them, and what is answered where a text is to be
+-- written.
 use mathlib.Core.Path.{_≡_}
 use mathlib.Core.Bool.{true, cond}
 use mathlib.Core.List.{List, [], _∷_, _++_}

@@ -1,5 +1,5 @@
--- The reply to the message m that a row of 01 refuses, alone and without 0A, to a lent output: `refusal` of program/specs/Program. The call is
--- refused by row 13 alone.
+-- The reply to the message m that a row of 01 refuses, alone and without 0A, to a lent output: `refusal` of
+-- program/specs/Program. The call is refused by row 13 alone.
 use mathlib.Core.List.{List}
 use Prim.Native.Nat.{ℕ}
 use lib.ListN.{length}

@@ -1,5 +1,5 @@
-// One message answered into a lent output, over a lent table; and the reply to a refused message alone. Every reply's length is known before
-// its first byte is written.
+// One message answered into a lent output, over a lent table; and the reply to a refused message alone. Every reply's
+// length is known before its first byte is written.
 ghost use mathlib.Core.Path.{_≡_};
 ghost use mathlib.Core.Bool.{true};
 ghost use Prim.Native.Nat.{_+_, _≤_};
@@ -14,7 +14,8 @@ ghost use Rattle.reply.specs.Replies.{reasonOf};
 ghost use Rattle.program.specs.Respond.{response, responded, respondRow, respondedOut, respondedTable};
 ghost use Rattle.replies.specs.Inner.{Room};
 ghost use Rattle.responses.specs.Refused.{refusedReply, refusedRow, refusedOut};
-ghost use Rattle.responses.specs.Inner.{verdictText, okText, closedText, noticeText, namedFor, namingText, ended, eoseLine, answerText, AllHeld, Said};
+ghost use Rattle.responses.specs.Inner.{verdictText, okText, closedText, noticeText, namedFor, namingText, ended};
+ghost use Rattle.responses.specs.Inner.{eoseLine, answerText, AllHeld, Said};
 use event::Written;
 use message::EventParts;
 use message::Message;
@@ -154,7 +155,8 @@ fn named_for(m: &[u8], row: u8) -> Named
     message::names(m)
 }
 
-// "OK with false if the id field is 64 lower-case hex; CLOSED for a REQ whose subscription id is within bounds; otherwise NOTICE"
+// "OK with false if the id field is 64 lower-case hex; CLOSED for a REQ whose subscription id is within bounds;
+// otherwise NOTICE"
 fn put_refusal(out: &mut [u8], m: &[u8], n: Named, row: u8) -> usize
     ensures { λ r. ⌜ Puts (now (out .entry)) 0 (namingText (now (m .entry)) n row) r (now (out .exit)) ⌝ }
 {
@@ -205,8 +207,8 @@ fn respond_refused(m: &[u8], n: Named, row: u8, out: &mut [u8]) -> Written
     Written::Refused(13)
 }
 
-// Whether the OK to an EVENT that was read has room. Its length depends on the verdict, which is asked for before the offer only where the
-// longest OK has no room.
+// Whether the OK to an EVENT that was read has room. Its length depends on the verdict, which is asked for before the
+// offer only where the longest OK has no room.
 fn ok_fits(table: &[u8], m: &[u8], p: EventParts, room: usize) -> bool
     requires { ⌜ readOf (now m) ≡ message.Event p ⌝ }
     ensures { λ r. ⌜ Room (length (response (now (table .entry)) (now (m .entry)))) room r ⌝ }
@@ -235,7 +237,8 @@ fn respond_event(table: &mut [u8], m: &[u8], p: EventParts, out: &mut [u8]) -> W
 // The EVENTs of held slots, then EOSE.
 fn put_answer(table: &[u8], m: &[u8], sub: Span, ks: &[u16], out: &mut [u8]) -> Written
     requires { ⌜ AllHeld (now table) (now ks) ⌝ }
-    ensures { λ r. ⌜ Said (answerText (now (table .entry)) (said (now (m .entry)) sub) (now (ks .entry))) (now (out .entry)) r (now (out .exit)) ⌝ }
+    ensures { λ r. ⌜ Said (answerText (now (table .entry)) (said (now (m .entry)) sub) (now (ks .entry)))
+        (now (out .entry)) r (now (out .exit)) ⌝ }
 {
     let id = wire::piece(m, sub.start, sub.len);
     match slot_replies::events_left(table, id, ks, out.len()) {
@@ -266,8 +269,8 @@ fn respond_request(table: &[u8], m: &[u8], q: ReqParts, out: &mut [u8]) -> Writt
     }
 }
 
-// Whether a message is taken before it is known what it is: the longest OK has room, and the message begins as EVENTs mostly do. Either way it gets
-// the same reply.
+// Whether a message is taken before it is known what it is: the longest OK has room, and the message begins as EVENTs
+// mostly do. Either way it gets the same reply.
 fn taken_first(m: &[u8], room: usize) -> bool
     ensures { λ r. ⌜ (r ≡ true → 116 ≤ room) ⌝ }
 {
@@ -299,7 +302,8 @@ fn respond_taken(table: &mut [u8], m: &[u8], out: &mut [u8]) -> Written
     }
 }
 
-// One message answered, each reply ended with 0A, and the table updated. 13 is the only refusal; table and output then stay as found.
+// One message answered, each reply ended with 0A, and the table updated. 13 is the only refusal; table and output then
+// stay as found.
 pub fn respond(table: &mut [u8], m: &[u8], out: &mut [u8]) -> Written
     ensures { λ r. ⌜ r ≡ responded (now (table .entry)) (now (m .entry)) (now (out .entry)) ⌝ }
     ensures { λ r. ⌜ writtenNumber r ≡ respondRow (now (table .entry)) (now (m .entry)) (now (out .entry)) ⌝ }

@@ -1,12 +1,13 @@
--- 01, "Counts": "subscription ids of 1 to 64 characters (code points)". On UTF-8, which row 2 asks for, spell's count of the octets that are
--- no tails is the number of UTF8-char of RFC 3629.
+-- 01, "Counts": "subscription ids of 1 to 64 characters (code points)". On UTF-8, which row 2 asks for, spell's count
+-- of the octets that are no tails is the number of UTF8-char of RFC 3629.
 use mathlib.Core.Path.{_≡_, refl, ap, _∙_}
 use mathlib.Core.List.{List, [], _∷_}
 use Prim.Native.Nat.{ℕ, suc, _≤_}
 use native.Mathlib.Omega.{arith}
 use borrow.Author.Tests.{le-leb, lt-leb}
 use Rattle.spell.specs.Spell.{points}
-use Rattle.utf8.specs.Abnf.{Range, TailOctet, Octets, none, utf8-1, utf8-2, utf8-3-e0, utf8-3-e1, utf8-3-ed, utf8-3-ee, utf8-4-f0, utf8-4-f1, utf8-4-f4}
+use Rattle.utf8.specs.Abnf.{Range, TailOctet, Octets, none, utf8-1, utf8-2, utf8-3-e0, utf8-3-e1, utf8-3-ed, utf8-3-ee}
+use Rattle.utf8.specs.Abnf.{utf8-4-f0, utf8-4-f1, utf8-4-f4}
 
 -- how many times UTF8-char is taken: one constructor is one character
 abbrev pub characters : {s : List ℕ} → Octets s → ℕ

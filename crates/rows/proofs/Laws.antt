@@ -1,4 +1,5 @@
--- A walk's answer a step at a time: what stands between a string's quotes, what a name says of its item, and what a turn of the walk does.
+-- A walk's answer a step at a time: what stands between a string's quotes, what a name says of its item, and what a
+-- turn of the walk does.
 use mathlib.Core.Path.{_≡_, refl, sym, ap, _∙_}
 use mathlib.Core.List.{List}
 use mathlib.Core.Bool.{Bool, true, false, cond, not, _&&_, _||_, or-false}
@@ -9,7 +10,8 @@ use lib.ListN.{length}
 use lib.Dec.{eqb}
 use borrow.Author.Tests.{lt-ltb, le-ltb}
 use Rattle.json.specs.Grammar.{case, stringAt, numberAt, literalAt, scalarAt, startAt, headAt, nextAt}
-use Rattle.json.specs.Tree.{Json, Items, nil, item, foldItems, Got, none, got, endOf, bind, node, itemsAt, treeAt, endsAt, root}
+use Rattle.json.specs.Tree.{Json, Items, nil, item, foldItems, Got, none, got, endOf, bind, node, itemsAt, treeAt}
+use Rattle.json.specs.Tree.{endsAt, root}
 use Rattle.json.specs.declared.Out.{Out}
 use Rattle.json.specs.declared.Out.the-variants.{End, Bad}
 use Rattle.json.specs.declared.Kind.the-variants.{Str, Num, Word, None}

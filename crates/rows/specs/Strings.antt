@@ -1,4 +1,5 @@
--- 01, row 4: "some string, names included, decodes to an unpaired surrogate, or to a character below U+0020 other than 08, 09, 0A, 0C, 0D".
+-- 01, row 4: "some string, names included, decodes to an unpaired surrogate, or to a character below U+0020 other than
+-- 08, 09, 0A, 0C, 0D".
 use Prim.Native.Nat.{ℕ, _+_, _-_}
 use mathlib.Core.List.{List, []}
 use mathlib.Core.Bool.{Bool, true, false, _&&_, _||_}
@@ -23,4 +24,5 @@ unfoldable mutual
 
   pub refusedItems : List ℕ → Bool → Items → Bool
   refusedItems s named nil = false
-  refusedItems s named (item p v t ts) = (named && refuses (spelledAt s p)) || (refusedIn s t || refusedItems s named ts)
+  refusedItems s named (item p v t ts) =
+      (named && refuses (spelledAt s p)) || (refusedIn s t || refusedItems s named ts)

@@ -165,7 +165,8 @@ fn whole(s: &[u8]) -> Seen
     walk(s, json::space(s, 0), json::DEPTH)
 }
 
-// Row 4: whether some string of a text, names included, decodes to what no string may have; false where the text has no value.
+// Row 4: whether some string of a text, names included, decodes to what no string may have; false where the text has no
+// value.
 pub fn refused(s: &[u8]) -> bool
     ensures { λ r. ⌜ r ≡ row4 (now (s .entry)) ⌝ }
 {

@@ -2,7 +2,8 @@
 use mathlib.Core.Path.{_≡_, refl, sym, ap, _∙_}
 use mathlib.Core.Bool.{Bool, true, false, _&&_, _||_, or-true, or-false}
 use Prim.Native.Nat.{ℕ, zero, suc, _+_, _*_, _/_, _%_, _^_, _<_, _≤_}
-use native.Mathlib.Nat.{pow-le-pow-right, pow-suc, div-one, div-eq-of-lt, mul-mod-left, mul-div-mul-right, mod-lt, zero-div, mul-add-mod-self-right, mod-eq-of-lt}
+use native.Mathlib.Nat.{pow-le-pow-right, pow-suc, div-one, div-eq-of-lt, mul-mod-left, mul-div-mul-right, mod-lt}
+use native.Mathlib.Nat.{zero-div, mul-add-mod-self-right, mod-eq-of-lt}
 use native.Mathlib.Omega.{arith}
 use borrow.Author.Tests.{eq-eqb, ne-eqb, eqb-true, eqb-false}
 use lib.Dec.{eqb}

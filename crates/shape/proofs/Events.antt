@@ -1,4 +1,5 @@
--- EVENT: the seven members, each once. Where no slot is taken twice and all seven are taken, each name is there once, and the other way.
+-- EVENT: the seven members, each once. Where no slot is taken twice and all seven are taken, each name is there once,
+-- and the other way.
 use mathlib.Core.Path.{_≡_, refl, sym, ap, _∙_}
 use mathlib.Core.List.{List}
 use mathlib.Core.Bool.{Bool, true, false, cond, not, _&&_, _||_, or-false}
@@ -9,16 +10,19 @@ use lib.Dec.{eqb, ltb}
 use Rattle.json.specs.Tree.{Json, word, num, str, arr, obj, Items, nil, item, onObject}
 use Rattle.wire.specs.Bytes.{sameBytes}
 use Rattle.rows.specs.Strings.{refusedIn}
-use Rattle.shape.specs.Shape.{allItems, anyItem, countItems, nameAt, named, idName, pubkeyName, createdAtName, kindName, tagsName, contentName, sigName, eventMember, once, isEvent}
+use Rattle.shape.specs.Shape.{allItems, anyItem, countItems, nameAt, named, idName, pubkeyName, createdAtName}
+use Rattle.shape.specs.Shape.{kindName, tagsName, contentName, sigName, eventMember, once, isEvent}
 use Rattle.shape.specs.Rows.{eventNumber, eventHex, eventCount}
-use Rattle.shape.specs.Inner.{SHAPE, noRow, UNKNOWN, EVENT, stringForm, stringFormRow, numberRow, groupForm, nameSlot, eventSlot, eventForm, slotForm, isIn, isFull, fresh, endRow, rowOf}
+use Rattle.shape.specs.Inner.{SHAPE, noRow, UNKNOWN, EVENT, stringForm, stringFormRow, numberRow, groupForm}
+use Rattle.shape.specs.Inner.{nameSlot, eventSlot, eventForm, slotForm, isIn, isFull, fresh, endRow, rowOf}
 use Rattle.shape.proofs.Names.{no, and-left, and-right, both-ways}
 use Rattle.shape.proofs.Bits.{in-none, full-bits}
 use Rattle.shape.proofs.Low.{low, Lowest, said, begins}
 use Rattle.shape.proofs.Never.{never, never-after}
 use Rattle.shape.proofs.Leaves.{text, hex64, hex128, time, small}
 use Rattle.shape.proofs.Lists.{tags}
-use Rattle.shape.proofs.Objects.{twice, taken, noTwo, slotAt, object-after, count-same, any-count, twice-none, taken-is, most-one, one-each, eqb-turned}
+use Rattle.shape.proofs.Objects.{twice, taken, noTwo, slotAt, object-after, count-same, any-count, twice-none}
+use Rattle.shape.proofs.Objects.{taken-is, most-one, one-each, eqb-turned}
 use Rattle.shape.proofs.Known.{event-cases, eventBack, event-back, same-slot}
 
 module _ (s : List ℕ) where

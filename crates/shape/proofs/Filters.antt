@@ -1,4 +1,5 @@
--- Filters: each name at most once, which is each slot at most once; and the # conditions counted to one more than may be.
+-- Filters: each name at most once, which is each slot at most once; and the # conditions counted to one more than may
+-- be.
 use mathlib.Core.Path.{_≡_, refl, sym, ap, _∙_}
 use mathlib.Core.List.{List, [], _∷_}
 use mathlib.Core.Bool.{Bool, true, false, cond, not, _&&_, _||_, or-false}
@@ -11,9 +12,12 @@ use Rattle.json.specs.Grammar.{isBetween}
 use Rattle.wire.specs.Limits.{mostConditions}
 use Rattle.wire.specs.Bytes.{sameBytes}
 use Rattle.rows.specs.Strings.{refusedIn}
-use Rattle.shape.specs.Shape.{allItems, anyItem, countItems, nameAt, isLetter, isCondition, filterMember, noNameTwice, isFilter}
+use Rattle.shape.specs.Shape.{allItems, anyItem, countItems, nameAt, isLetter, isCondition, filterMember}
+use Rattle.shape.specs.Shape.{noNameTwice, isFilter}
 use Rattle.shape.specs.Rows.{outside, filterNumber, filterHex, wrongFilter, filterCounts}
-use Rattle.shape.specs.Inner.{UNKNOWN, LOWER, UPPER, FILTER, stringForm, stringFormRow, numberRow, groupForm, nameSlot, letterSlot, conditionSlot, filterSlot, filterForm, slotForm, marksAfter, fresh, endRow, rowOf}
+use Rattle.shape.specs.Inner.{UNKNOWN, LOWER, UPPER, FILTER, stringForm, stringFormRow, numberRow, groupForm}
+use Rattle.shape.specs.Inner.{nameSlot, letterSlot, conditionSlot, filterSlot, filterForm, slotForm, marksAfter}
+use Rattle.shape.specs.Inner.{fresh, endRow, rowOf}
 use Rattle.shape.proofs.Names.{no, and-left, and-right}
 use Rattle.shape.proofs.Low.{low, Lowest, said, begins}
 use Rattle.shape.proofs.Never.{never, never-after}

@@ -9,7 +9,9 @@ use lib.Dec.{eqb, ltb}
 use lib.ListN.{getD}
 use Rattle.json.specs.Grammar.{isBetween}
 use Rattle.wire.specs.Bytes.{sameBytes}
-use Rattle.shape.specs.Shape.{idName, pubkeyName, createdAtName, kindName, tagsName, contentName, sigName, idsName, authorsName, kindsName, sinceName, untilName, limitName, isLetter, isCondition}
+use Rattle.shape.specs.Shape.{idName, pubkeyName, createdAtName, kindName, tagsName, contentName, sigName}
+use Rattle.shape.specs.Shape.{idsName, authorsName, kindsName, sinceName, untilName, limitName, isLetter}
+use Rattle.shape.specs.Shape.{isCondition}
 use Rattle.shape.specs.Inner.{SIG, UNKNOWN, LOWER, UPPER, among, eventSlot, letterSlot, conditionSlot, filterSlot}
 use Rattle.wire.proofs.Bytes.{same-equal, same-self}
 use Rattle.shape.proofs.Names.{no, both-ways, within-ends, condition-is, condition-letter, among-none}

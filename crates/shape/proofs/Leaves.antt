@@ -12,7 +12,8 @@ use Rattle.numeral.specs.Whole.{wholeOf, wholeAnswer, isWithin}
 use Rattle.rows.specs.Strings.{part, refusedIn}
 use Rattle.shape.specs.Shape.{isString, isNumber}
 use Rattle.shape.specs.Rows.{outside, wrongTime, wrongSmall, wrongHex, wrongSubscription}
-use Rattle.shape.specs.Inner.{COUNT, noRow, TEXT, LABEL, HEX64, HEX128, TIME, SMALL, bounds, hexFormRow, stringForm, stringFormRow, rangeRow, numberRow, groupForm, fresh, rowOf}
+use Rattle.shape.specs.Inner.{COUNT, noRow, TEXT, LABEL, HEX64, HEX128, TIME, SMALL, bounds, hexFormRow}
+use Rattle.shape.specs.Inner.{stringForm, stringFormRow, rangeRow, numberRow, groupForm, fresh, rowOf}
 use Rattle.shape.proofs.Low.{low, Lowest, begins}
 use Rattle.shape.proofs.Never.{never-after}
 

@@ -1,4 +1,5 @@
--- Arrays: where every element from a number on has one form, the rows of the whole are those of some element, and of the count.
+-- Arrays: where every element from a number on has one form, the rows of the whole are those of some element, and of
+-- the count.
 use mathlib.Core.Path.{_≡_, refl, sym, ap, _∙_}
 use mathlib.Core.List.{List}
 use mathlib.Core.Bool.{Bool, true, false, cond, not, _&&_, _||_, or-false, or-comm}
@@ -11,7 +12,9 @@ use Rattle.shape.specs.declared.Tally.{Tally}
 use Rattle.shape.specs.Shape.{anyItem, allItems, countItems, count, isString, isNumber, isArrayOf}
 use Rattle.wire.specs.Limits.{mostTags, mostStrings, mostMembers}
 use Rattle.shape.specs.Rows.{outside, wrongSmall, wrongHex, wrongTag, wrongTags, wrongList}
-use Rattle.shape.specs.Inner.{TEXT, HEX64, SMALL, TAGLIST, TAG, TEXTS, HEXES, SMALLS, stringForm, stringFormRow, numberRow, groupForm, placeSlot, itemOf, slotForm, fresh, endRow, closed, rowOf, rowItems}
+use Rattle.shape.specs.Inner.{TEXT, HEX64, SMALL, TAGLIST, TAG, TEXTS, HEXES, SMALLS, stringForm, stringFormRow}
+use Rattle.shape.specs.Inner.{numberRow, groupForm, placeSlot, itemOf, slotForm, fresh, endRow, closed, rowOf}
+use Rattle.shape.specs.Inner.{rowItems}
 use Rattle.shape.proofs.Low.{low, Lowest, After, said, after-said, ends, begins, not-both, either-first}
 use Rattle.shape.proofs.Never.{turn-after, never-after}
 use Rattle.shape.proofs.Leaves.{bounds-is, text, hex64, small}

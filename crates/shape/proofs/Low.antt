@@ -1,4 +1,5 @@
--- The lowest of rows 4 to 8 as a number, 9 where none holds. The least of two such numbers is the lowest that holds on either side.
+-- The lowest of rows 4 to 8 as a number, 9 where none holds. The least of two such numbers is the lowest that holds on
+-- either side.
 use mathlib.Core.Path.{_≡_, refl, ap, _∙_}
 use mathlib.Core.Bool.{Bool, true, false, cond, not, _&&_, _||_}
 use Prim.Native.Nat.{ℕ, _≤_, min}

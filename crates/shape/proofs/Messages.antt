@@ -10,12 +10,17 @@ use Rattle.json.specs.Tree.{Json, word, num, str, arr, obj, Items, nil, item, o
 use Rattle.spell.specs.Spell.{decode}
 use Rattle.rows.specs.Strings.{part, refusedIn, refusedItems}
 use Rattle.shape.specs.declared.Tally.{Tally}
-use Rattle.shape.specs.Shape.{anyItem, allItems, countItems, count, isString, isEvent, isFilter, isOne, Word, event, req, close, other, wordOf, opened, hasShape}
+use Rattle.shape.specs.Shape.{anyItem, allItems, countItems, count, isString, isEvent, isFilter, isOne, Word}
+use Rattle.shape.specs.Shape.{event, req, close, other, wordOf, opened, hasShape}
 use Rattle.wire.specs.Limits.{mostFilters}
-use Rattle.shape.specs.Rows.{row4, row5, row6, row7, row8, treeRow, inMessage, wrongRequest, outside, eventNumber, eventHex, eventCount, filterNumber, filterHex, filterCounts, wrongSubscription}
-use Rattle.shape.specs.Inner.{SHAPE, noRow, NEVER, TEXT, LABEL, EVENT, FILTER, OFFER, REQUEST, CLOSING, FIRST, SECOND, LATER, bounds, groupForm, placeSlot, itemOf, elementForm, slotForm, fresh, endRow, closed, rowOf, rowItems, wordForm, toldOf}
+use Rattle.shape.specs.Rows.{row4, row5, row6, row7, row8, treeRow, inMessage, wrongRequest, outside, eventNumber}
+use Rattle.shape.specs.Rows.{eventHex, eventCount, filterNumber, filterHex, filterCounts, wrongSubscription}
+use Rattle.shape.specs.Inner.{SHAPE, noRow, NEVER, TEXT, LABEL, EVENT, FILTER, OFFER, REQUEST, CLOSING, FIRST}
+use Rattle.shape.specs.Inner.{SECOND, LATER, bounds, groupForm, placeSlot, itemOf, elementForm, slotForm, fresh}
+use Rattle.shape.specs.Inner.{endRow, closed, rowOf, rowItems, wordForm, toldOf}
 use Rattle.shape.proofs.Names.{both-ways}
-use Rattle.shape.proofs.Low.{low, Lowest, After, said, after-said, after-hidden, ends, begins, not-both, between-last}
+use Rattle.shape.proofs.Low.{low, Lowest, After, said, after-said, after-hidden, ends, begins, not-both}
+use Rattle.shape.proofs.Low.{between-last}
 use Rattle.shape.proofs.Never.{turn-after, never}
 use Rattle.shape.proofs.Leaves.{bounds-is, text, label}
 use Rattle.shape.proofs.Lists.{array-after, no-item}

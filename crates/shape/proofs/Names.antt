@@ -11,7 +11,8 @@ use Rattle.json.specs.Grammar.{isBetween}
 use Rattle.wire.proofs.Bytes.{same-self}
 use Rattle.wire.specs.Bytes.{sameBytes}
 use Rattle.spell.specs.Spell.{charOf, charsFrom, charBytes, charsBytes, decode}
-use Rattle.shape.specs.Shape.{idName, pubkeyName, createdAtName, kindName, tagsName, contentName, idsName, authorsName, kindsName, sinceName, untilName, limitName, isLetter, isCondition}
+use Rattle.shape.specs.Shape.{idName, pubkeyName, createdAtName, kindName, tagsName, contentName, idsName}
+use Rattle.shape.specs.Shape.{authorsName, kindsName, sinceName, untilName, limitName, isLetter, isCondition}
 use Rattle.shape.specs.Inner.{UNKNOWN, LOWER, UPPER, among, letterSlot, conditionSlot}
 
 pub no : {A : Type 0} → _≡_ {A = ℕ} 0 1 → A

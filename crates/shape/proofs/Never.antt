@@ -7,7 +7,8 @@ use Rattle.json.specs.Tree.{Json, word, num, str, arr, obj, Items, nil, item}
 use Rattle.spell.specs.Spell.{refuses}
 use Rattle.rows.specs.Strings.{spelledAt, refusedIn, refusedItems}
 use Rattle.shape.specs.declared.Tally.{Tally}
-use Rattle.shape.specs.Inner.{NEVER, stringForm, stringFormRow, numberRow, groupForm, nameRow, memberItem, itemOf, slotForm, isIn, onceRow, stepped, fresh, endRow, closed, rowOf, rowItems}
+use Rattle.shape.specs.Inner.{NEVER, stringForm, stringFormRow, numberRow, groupForm, nameRow, memberItem, itemOf}
+use Rattle.shape.specs.Inner.{slotForm, isIn, onceRow, stepped, fresh, endRow, closed, rowOf, rowItems}
 use Rattle.shape.proofs.Low.{low, Lowest, After, ends, goes-on, begins}
 
 -- ---- an item's name, and whether it is there already

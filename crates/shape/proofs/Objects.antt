@@ -1,5 +1,5 @@
--- Objects: the rows of the whole are those of some member, of a member that is there twice, of the members that are there, and of the number
--- of # conditions.
+-- Objects: the rows of the whole are those of some member, of a member that is there twice, of the members that are
+-- there, and of the number of # conditions.
 use mathlib.Core.Path.{_≡_, refl, sym, ap, _∙_}
 use mathlib.Core.List.{List}
 use mathlib.Core.Bool.{Bool, true, false, cond, not, _&&_, _||_, or-false}
@@ -12,7 +12,8 @@ use Rattle.json.specs.Tree.{Json, Items, nil, item}
 use Rattle.rows.specs.Strings.{refusedIn, refusedItems}
 use Rattle.shape.specs.declared.Tally.{Tally}
 use Rattle.shape.specs.Shape.{anyItem, allItems, countItems, nameAt}
-use Rattle.shape.specs.Inner.{nameSlot, memberItem, itemOf, slotForm, isIn, marksAfter, stepped, endRow, closed, rowOf, rowItems}
+use Rattle.shape.specs.Inner.{nameSlot, memberItem, itemOf, slotForm, isIn, marksAfter, stepped, endRow, closed}
+use Rattle.shape.specs.Inner.{rowOf, rowItems}
 use Rattle.shape.proofs.Names.{no, and-left, and-right, both-ways}
 use Rattle.shape.proofs.Bits.{in-more, in-none}
 use Rattle.shape.proofs.Low.{Lowest, After, after-said, ends, either-first, broken-first}

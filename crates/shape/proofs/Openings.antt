@@ -7,8 +7,10 @@ use native.Mathlib.Omega.{arith}
 use borrow.Author.Tests.{eqb-true, eq-eqb, ne-eqb, le-ltb}
 use lib.Dec.{eqb, ltb}
 use lib.ListN.{length, getD}
-use Rattle.json.specs.Grammar.{case, wsAt, inClass, oneAt, tokenAt, stringAt, numberAt, literalAt, scalarAt, openedAt, startAt, nextAt}
-use Rattle.json.specs.Tree.{Json, word, num, str, arr, obj, Items, nil, item, Got, none, got, bind, follow, node, onLeaf, itemsAt, groupAt, treeAt, root, depth, endOf, endsAt}
+use Rattle.json.specs.Grammar.{case, wsAt, inClass, oneAt, tokenAt, stringAt, numberAt, literalAt, scalarAt, openedAt}
+use Rattle.json.specs.Grammar.{startAt, nextAt}
+use Rattle.json.specs.Tree.{Json, word, num, str, arr, obj, Items, nil, item, Got, none, got, bind, follow, node}
+use Rattle.json.specs.Tree.{onLeaf, itemsAt, groupAt, treeAt, root, depth, endOf, endsAt}
 use Rattle.json.specs.declared.Out.{Out}
 use Rattle.json.specs.declared.Out.the-variants.{End, Bad}
 use Rattle.json.specs.declared.Kind.{Kind}

@@ -10,9 +10,11 @@ use Rattle.json.specs.Grammar.{isBetween}
 use Rattle.rows.specs.Strings.{spelledAt}
 use Rattle.wire.specs.Bytes.{sameBytes}
 use Rattle.spell.specs.Spell.{decode}
-use Rattle.shape.specs.Shape.{idName, pubkeyName, createdAtName, kindName, tagsName, contentName, sigName, idsName, authorsName, kindsName, sinceName, untilName, limitName, isCondition}
+use Rattle.shape.specs.Shape.{idName, pubkeyName, createdAtName, kindName, tagsName, contentName, sigName}
+use Rattle.shape.specs.Shape.{idsName, authorsName, kindsName, sinceName, untilName, limitName, isCondition}
 use Rattle.shape.specs.declared.Item.{Item}
-use Rattle.shape.specs.Inner.{EVENT, FILTER, UNKNOWN, LOWER, UPPER, placeSlot, eventSlot, letterSlot, conditionSlot, filterSlot, nameSlot, memberItem, itemOf}
+use Rattle.shape.specs.Inner.{EVENT, FILTER, UNKNOWN, LOWER, UPPER, placeSlot, eventSlot, letterSlot}
+use Rattle.shape.specs.Inner.{conditionSlot, filterSlot, nameSlot, memberItem, itemOf}
 use Rattle.shape.proofs.Names.{within-ends}
 
 either : (b : Bool) {x y : ℕ} → x < 64 → y < 64 → cond b x y < 64

@@ -1,4 +1,5 @@
--- The walk over a value by itself answers its lowest row of 4 to 8, the law of its form, and where it ends: so row 2 is tested on its text.
+-- The walk over a value by itself answers its lowest row of 4 to 8, the law of its form, and where it ends: so row 2 is
+-- tested on its text.
 use mathlib.Core.Path.{_≡_, refl, sym, ap, _∙_}
 use mathlib.Core.List.{List}
 use mathlib.Core.Bool.{true, false, cond, not}

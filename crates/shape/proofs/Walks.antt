@@ -7,7 +7,8 @@ use native.Mathlib.Nat.{sub-zero}
 use native.Mathlib.Omega.{arith}
 use lib.ListN.{length}
 use Rattle.json.specs.Grammar.{startAt, headAt, nextAt}
-use Rattle.json.specs.Tree.{Json, Items, nil, item, foldItems, Got, none, got, endOf, bind, node, itemsAt, groupAt, treeAt}
+use Rattle.json.specs.Tree.{Json, Items, nil, item, foldItems, Got, none, got, endOf, bind, node, itemsAt, groupAt}
+use Rattle.json.specs.Tree.{treeAt}
 use Rattle.json.specs.declared.Out.the-variants.{End, Bad}
 use Rattle.json.specs.declared.Start.the-variants.{Empty, Many}
 use Rattle.json.specs.declared.Next.{Next}

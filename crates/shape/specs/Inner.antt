@@ -1,5 +1,5 @@
--- The walk behind the code: a form for each place of a message, a slot for each item, and the lowest row that a part breaks where its form
--- must stand, noRow for none. Only private contracts speak of it; the proofs join it to Rows.
+-- The walk behind the code: a form for each place of a message, a slot for each item, and the lowest row that a part
+-- breaks where its form must stand, noRow for none. Only private contracts speak of it; the proofs join it to Rows.
 use Prim.Native.Nat.{ℕ, _+_, _-_, _/_, _%_, _^_, min}
 use mathlib.Core.List.{List}
 use mathlib.Core.Bool.{Bool, true, false, cond}
@@ -12,7 +12,8 @@ use Rattle.json.specs.Tree.{Json, word, num, str, arr, obj, Items, nil, item, G
 use Rattle.json.specs.declared.Start.{Start}
 use Rattle.json.specs.declared.Start.the-variants.{Leaf, Empty, Many}
 use Rattle.rows.specs.Strings.{part, spelledAt}
-use Rattle.wire.specs.Limits.{widest, mostSmall, hexLength, sigLength, mostTags, mostStrings, mostFilters, mostMembers, mostConditions, mostCharacters}
+use Rattle.wire.specs.Limits.{widest, mostSmall, hexLength, sigLength, mostTags, mostStrings, mostFilters, mostMembers}
+use Rattle.wire.specs.Limits.{mostConditions, mostCharacters}
 use Rattle.wire.specs.Bytes.{Bytes, Row, sameBytes}
 use Rattle.spell.specs.Spell.{decode, refuses, characterCount, isHexOf}
 use Rattle.numeral.specs.Whole.{wholeOf, wholeAnswer, isWithin}
@@ -20,7 +21,9 @@ use Rattle.shape.specs.declared.Judged.{Judged}
 use Rattle.shape.specs.declared.Judged.the-variants.{Ends, Wrong}
 use Rattle.shape.specs.declared.Item.{Item}
 use Rattle.shape.specs.declared.Tally.{Tally}
-use Rattle.shape.specs.Shape.{nameAt, idName, pubkeyName, createdAtName, kindName, tagsName, contentName, sigName, idsName, authorsName, kindsName, sinceName, untilName, limitName, isCondition, Word, event, req, close, other, wordOf}
+use Rattle.shape.specs.Shape.{nameAt, idName, pubkeyName, createdAtName, kindName, tagsName, contentName, sigName}
+use Rattle.shape.specs.Shape.{idsName, authorsName, kindsName, sinceName, untilName, limitName, isCondition, Word}
+use Rattle.shape.specs.Shape.{event, req, close, other, wordOf}
 
 -- ---- the rows, and a number above them all
 abbrev pub STRING : ℕ
@@ -176,11 +179,14 @@ unfoldable pub rangeRow : (low high : ℤ) (p : Bytes) → Row
 rangeRow low high p = cond (isWithin (wholeAnswer (wholeOf p)) low high) noRow NUMBER
 
 unfoldable pub numberRow : ℕ → Bytes → Row
-numberRow f p = cond (eqb f TIME) (rangeRow (negℤ (pos widest)) (pos widest) p) (cond (eqb f SMALL) (rangeRow (pos 0) (pos mostSmall) p) SHAPE)
+numberRow f p =
+    cond (eqb f TIME) (rangeRow (negℤ (pos widest)) (pos widest) p)
+    (cond (eqb f SMALL) (rangeRow (pos 0) (pos mostSmall) p) SHAPE)
 
 -- ---- arrays and objects: the form inside
 unfoldable pub groupForm : ℕ → Bool → ℕ
-groupForm f named = cond named (cond (eqb f EVENT) EVENT (cond (eqb f FILTER) FILTER NEVER)) (cond (ltb f TAGLIST) NEVER f)
+groupForm f named =
+    cond named (cond (eqb f EVENT) EVENT (cond (eqb f FILTER) FILTER NEVER)) (cond (ltb f TAGLIST) NEVER f)
 
 -- ---- slots
 unfoldable pub placeSlot : ℕ → ℕ
@@ -257,7 +263,8 @@ slotForm f slot =
     (cond (eqb f REQUEST) (elementForm slot LABEL FILTER)
     (cond (eqb f CLOSING) (elementForm slot LABEL NEVER) NEVER)))))))))
 
--- ---- from item to item: the lowest row so far, the slots taken, a bit each, and the # conditions, to one more than may be
+-- ---- from item to item: the lowest row so far, the slots taken, a bit each, and the # conditions, to one more than
+-- may be
 unfoldable pub isIn : ℕ → ℕ → Bool
 isIn slot seen = eqb (seen / 2 ^ slot % 2) 1
 
@@ -310,7 +317,8 @@ unfoldable mutual
   pub rowItems : List ℕ → Bool → ℕ → ℕ → Tally → Items → ℕ
   rowItems s named f k a nil = closed f k a
   rowItems s named f k a (item p v t ts) =
-      rowItems s named f (k + 1) (stepped named a (itemOf s f named k p) (rowOf s (slotForm f (itemOf s f named k p .slot)) t)) ts
+      rowItems s named f (k + 1) (stepped named a (itemOf s f named k p)
+      (rowOf s (slotForm f (itemOf s f named k p .slot)) t)) ts
 
 -- where a value ends, and the lowest row in it
 unfoldable pub judgedOf : (s : Bytes) (f : ℕ) (none : Got Json) → Judged

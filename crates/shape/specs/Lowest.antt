@@ -1,4 +1,5 @@
--- 01: "Where several hold, the lowest number is given". Whether row r of 1 to 8 holds of a message, and that no lower one does.
+-- 01: "Where several hold, the lowest number is given". Whether row r of 1 to 8 holds of a message, and that no lower
+-- one does.
 use Prim.Native.Nat.{ℕ, _<_}
 use mathlib.Core.Path.{_≡_}
 use mathlib.Core.List.{List}

@@ -1,5 +1,5 @@
--- 01, "Numbers the relay answers with": rows 4 to 8 of a message, each by itself, over the tree t of the text s. Row r holds where its
--- sentence is broken anywhere in the message.
+-- 01, "Numbers the relay answers with": rows 4 to 8 of a message, each by itself, over the tree t of the text s. Row r
+-- holds where its sentence is broken anywhere in the message.
 use Prim.Native.Nat.{ℕ}
 use mathlib.Core.List.{List}
 use mathlib.Core.Bool.{Bool, true, false, cond, not, _||_}
@@ -9,9 +9,13 @@ use Rattle.json.specs.Tree.{Json, Items, nil, item, Got, none, got, root, onStr
 use Rattle.rows.specs.Strings.{part, refusedIn}
 use Rattle.rows.specs.Rows.{row1, row2, row3}
 use Rattle.spell.specs.Spell.{characterCount, isHexOf}
-use Rattle.wire.specs.Limits.{widest, mostSmall, hexLength, sigLength, mostTags, mostStrings, mostFilters, mostMembers, mostConditions, mostCharacters}
+use Rattle.wire.specs.Limits.{widest, mostSmall, hexLength, sigLength, mostTags, mostStrings, mostFilters, mostMembers}
+use Rattle.wire.specs.Limits.{mostConditions, mostCharacters}
 use Rattle.numeral.specs.Whole.{wholeOf, wholeAnswer, isWithin}
-use Rattle.shape.specs.Shape.{anyItem, countItems, count, nameAt, named, idName, pubkeyName, createdAtName, kindName, tagsName, contentName, sigName, idsName, authorsName, kindsName, sinceName, untilName, limitName, isCondition, Word, event, req, close, other, opened, hasShape}
+use Rattle.shape.specs.Shape.{anyItem, countItems, count, nameAt, named, idName, pubkeyName, createdAtName}
+use Rattle.shape.specs.Shape.{kindName, tagsName, contentName, sigName, idsName, authorsName, kindsName}
+use Rattle.shape.specs.Shape.{sinceName, untilName, limitName, isCondition, Word, event, req, close, other}
+use Rattle.shape.specs.Shape.{opened, hasShape}
 use Rattle.wire.specs.Bytes.{Bytes, Row}
 
 -- ---- row 4: "some string, names included, decodes to .."
@@ -49,7 +53,9 @@ filterNumber s p t =
     (cond (named s limitName p) (wrongSmall s t) false)))
 
 unfoldable pub row6 : Bytes → Json → Bool
-row6 s t = inMessage (onObject (anyItem (eventNumber s))) (onObject (anyItem (filterNumber s))) (opened s t .first) (opened s t .rest)
+row6 s t =
+    inMessage (onObject (anyItem (eventNumber s))) (onObject (anyItem (filterNumber s))) (opened s t .first)
+    (opened s t .rest)
 
 -- ---- row 7: "Lower case: 64 characters for id, pubkey and members of ids and authors; 128 for sig"
 unfoldable pub wrongHex : (k : ℕ) (s : Bytes) (t : Json) → Bool
@@ -57,7 +63,8 @@ wrongHex k s t = onString (λ a n. not (isHexOf k (part s a n))) t
 
 unfoldable pub eventHex : (s : Bytes) (p : ℕ) (t : Json) → Bool
 eventHex s p t =
-    cond (named s idName p) (wrongHex hexLength s t) (cond (named s pubkeyName p) (wrongHex hexLength s t) (cond (named s sigName p) (wrongHex sigLength s t) false))
+    cond (named s idName p) (wrongHex hexLength s t)
+    (cond (named s pubkeyName p) (wrongHex hexLength s t) (cond (named s sigName p) (wrongHex sigLength s t) false))
 
 unfoldable pub filterHex : (s : Bytes) (p : ℕ) (t : Json) → Bool
 filterHex s p t =
@@ -65,10 +72,12 @@ filterHex s p t =
     (cond (named s authorsName p) (onArray (anyItem (λ q u. wrongHex hexLength s u)) t) false)
 
 unfoldable pub row7 : Bytes → Json → Bool
-row7 s t = inMessage (onObject (anyItem (eventHex s))) (onObject (anyItem (filterHex s))) (opened s t .first) (opened s t .rest)
+row7 s t =
+    inMessage (onObject (anyItem (eventHex s))) (onObject (anyItem (filterHex s))) (opened s t .first)
+    (opened s t .rest)
 
--- ---- row 8: "At most 64 tags, 1 to 16 strings in a tag; 1 to 4 filters; 1 to 16 members in a list; at most 4 # conditions in a filter;
--- subscription ids of 1 to 64 characters (code points)"
+-- ---- row 8: "At most 64 tags, 1 to 16 strings in a tag; 1 to 4 filters; 1 to 16 members in a list; at most 4 #
+-- conditions in a filter; subscription ids of 1 to 64 characters (code points)"
 abbrev pub outside : (low high n : ℕ) → Bool
 outside low high n = ltb n low || ltb high n
 
@@ -92,7 +101,8 @@ wrongFilter s p t =
     (cond (isCondition (nameAt s p)) (wrongList t) false)))
 
 unfoldable pub filterCounts : Bytes → Items → Bool
-filterCounts s ts = anyItem (wrongFilter s) ts || outside 0 mostConditions (countItems (λ p t. isCondition (nameAt s p)) ts)
+filterCounts s ts =
+    anyItem (wrongFilter s) ts || outside 0 mostConditions (countItems (λ p t. isCondition (nameAt s p)) ts)
 
 unfoldable pub wrongSubscription : Bytes → Json → Bool
 wrongSubscription s t = onString (λ a n. outside 1 mostCharacters (characterCount (part s a n))) t

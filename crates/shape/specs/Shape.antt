@@ -1,5 +1,5 @@
--- 01, "Shape": what an EVENT, a REQ and a CLOSE are, over the tree of a text s. Names and the first word compare as decoded. A name that
--- begins at p is a member's; t is its value.
+-- 01, "Shape": what an EVENT, a REQ and a CLOSE are, over the tree of a text s. Names and the first word compare as
+-- decoded. A name that begins at p is a member's; t is its value.
 use Prim.Native.Nat.{ℕ, suc}
 use mathlib.Core.List.{List}
 use mathlib.Core.Bool.{Bool, true, false, cond, not, _&&_, _||_}
@@ -82,7 +82,9 @@ once s w ts = eqb (countItems (λ p t. named s w p) ts) 1
 
 unfoldable pub isEvent : Bytes → Json → Bool
 isEvent s t = onObject (λ ts. allItems (eventMember s) ts &&
-    (once s idName ts && (once s pubkeyName ts && (once s createdAtName ts && (once s kindName ts && (once s tagsName ts && (once s contentName ts && once s sigName ts))))))) t
+    (once s idName ts && (once s pubkeyName ts &&
+    (once s createdAtName ts && (once s kindName ts &&
+    (once s tagsName ts && (once s contentName ts && once s sigName ts))))))) t
 
 -- ---- "Filters may have ids, authors, kinds, since, until, limit and # with one letter a-z or A-Z, each at most once"
 -- lists: ids, authors, kinds, and those whose name is # with a letter
@@ -142,7 +144,8 @@ pub data Word : Type 0 where
   event req close other : Word
 
 unfoldable pub wordOf : Bytes → Word
-wordOf w = cond (sameBytes w eventWord) event (cond (sameBytes w reqWord) req (cond (sameBytes w closeWord) close other))
+wordOf w =
+    cond (sameBytes w eventWord) event (cond (sameBytes w reqWord) req (cond (sameBytes w closeWord) close other))
 
 -- the first word of a message, and what follows it; `other` where no string comes first
 pub record Opened : Type 0 where

@@ -1,5 +1,6 @@
--- A value by itself, where the tags of an event, a list of a filter or a filter must stand. 01: "Parts of an event, filter or reply are tested by
--- rows 2 and 4 to 8": the lowest that holds, 0 where none does, 5 where there is no value.
+-- A value by itself, where the tags of an event, a list of a filter or a filter must stand. 01: "Parts of an event,
+-- filter or reply are tested by rows 2 and 4 to 8": the lowest that holds, 0 where none does, 5 where there is no
+-- value.
 use Prim.Native.Nat.{ℕ, _-_}
 use mathlib.Core.List.{List}
 use mathlib.Core.Bool.{Bool, true, false, cond, not}
@@ -44,7 +45,9 @@ ownText s at none = false
 ownText s at (got t n) = not (isUtf8 (part s at (n - at)))
 
 unfoldable pub sortRow : (s : Bytes) (k : Sort) (t : Json) → Row
-sortRow s k t = cond (refusedIn s t) 4 (cond (not (fits s k t)) 5 (cond (sort6 s k t) 6 (cond (sort7 s k t) 7 (cond (sort8 s k t) 8 0))))
+sortRow s k t =
+    cond (refusedIn s t) 4 (cond (not (fits s k t)) 5
+    (cond (sort6 s k t) 6 (cond (sort7 s k t) 7 (cond (sort8 s k t) 8 0))))
 
 abbrev pub gotRow : (s : Bytes) (k : Sort) (none : Got Json) → Row
 gotRow s k none = 5

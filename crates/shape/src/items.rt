@@ -2,7 +2,8 @@
 ghost use mathlib.Core.Path.{_≡_};
 ghost use mathlib.Core.Bool.{cond};
 ghost use Rattle.spell.specs.Spell.{decode};
-ghost use Rattle.shape.specs.Inner.{placeSlot, among, eventSlot, letterSlot, conditionSlot, filterSlot, nameSlot, nameRow, memberItem, itemOf};
+ghost use Rattle.shape.specs.Inner.{placeSlot, among, eventSlot, letterSlot, conditionSlot, filterSlot, nameSlot};
+ghost use Rattle.shape.specs.Inner.{nameRow, memberItem, itemOf};
 use crate::Item;
 use crate::forms;
 

@@ -1,5 +1,6 @@
-// Rows 1 to 8 of 01 for a client message: the lowest that holds anywhere in it. Every part answers the lowest row that it breaks, and NO_ROW
-// for none; parts are joined by the least. What must stand at a place is its form, a small number.
+// Rows 1 to 8 of 01 for a client message: the lowest that holds anywhere in it. Every part answers the lowest row that
+// it breaks, and NO_ROW for none; parts are joined by the least. What must stand at a place is its form, a small
+// number.
 ghost use mathlib.Core.Path.{_≡_};
 ghost use Rattle.json.specs.Grammar.{startAt};
 ghost use Rattle.json.specs.Tree.{treeAt};
@@ -28,7 +29,8 @@ struct Item {
     row: u8,
 }
 
-// What is kept from item to item: the lowest row, the slots taken, a bit each, and the # conditions, to one more than may be.
+// What is kept from item to item: the lowest row, the slots taken, a bit each, and the # conditions, to one more than
+// may be.
 struct Tally {
     row: u8,
     seen: u64,
@@ -121,7 +123,8 @@ pub fn message_row(s: &[u8]) -> u8
     }
 }
 
-// What may have to stand at a place, apart from a message: the tags of an event, a list of 64 hex characters each, a list of kinds, a filter.
+// What may have to stand at a place, apart from a message: the tags of an event, a list of 64 hex characters each, a
+// list of kinds, a filter.
 pub enum Sort {
     Tags,
     Hexes,
@@ -129,7 +132,8 @@ pub enum Sort {
     Filter,
 }
 
-// The lowest of rows 2 and 4 to 8 that holds of the value at a place, where a sort must stand; 0 where none does, 5 where there is no value.
+// The lowest of rows 2 and 4 to 8 that holds of the value at a place, where a sort must stand; 0 where none does, 5
+// where there is no value.
 pub fn value_row(s: &[u8], at: usize, k: Sort) -> u8
     ensures { λ r. ⌜ r ≡ valueRow (now (s .entry)) at k ⌝ }
 {

@@ -25,14 +25,16 @@ use Rattle.table.specs.Layout.{countOf, slotAt, textIn}
 use Rattle.table.specs.Sound.{sound}
 use Rattle.reply.specs.Lent.{eoseRow, outputAfter}
 use Rattle.program.specs.Program.{eventReplies, eventsOf, written}
-use Rattle.program.specs.Respond.{slotLine, joined, fitting, slotLines, fittingText, noneFits, allHeld, eventsRow, sentEvents, sentEventsOut, sentNumber}
+use Rattle.program.specs.Respond.{slotLine, joined, fitting, slotLines, fittingText, noneFits, allHeld, eventsRow}
+use Rattle.program.specs.Respond.{sentEvents, sentEventsOut, sentNumber}
 use Rattle.program.specs.declared.Sent.{Sent}
 use Rattle.program.specs.declared.Sent.the-variants.{Wrote, Refused}
 use Rattle.program.proofs.Lines.{written-append}
 use Rattle.program.proofs.Sizes.{line-length}
 use Rattle.program.proofs.Streamed.{batches}
 use Rattle.replies.proofs.Written.{eose-row}
-use Rattle.slot_replies.specs.Inner.{lineSize, sizes, stopped, fittedIn, heldLen, fitRow, linesRow, sentBy, sentLines, sentLinesOut}
+use Rattle.slot_replies.specs.Inner.{lineSize, sizes, stopped, fittedIn, heldLen, fitRow, linesRow, sentBy}
+use Rattle.slot_replies.specs.Inner.{sentLines, sentLinesOut}
 use Rattle.slot_replies.specs.declared.Fitted.{Fitted}
 
 -- ---- held from the first on

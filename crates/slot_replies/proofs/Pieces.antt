@@ -26,7 +26,8 @@ use Rattle.wire.specs.Ascii.{ascii}
 use Rattle.reply.specs.Replies.{objectText, replyText}
 use Rattle.program.specs.Program.{eventReplies}
 use Rattle.program.specs.Respond.{firstText}
-use Rattle.slot_replies.specs.Inner.{numbersText, heldStrings, numberBytes, stringBytes, ReadAs, frontText, backText, heldText}
+use Rattle.slot_replies.specs.Inner.{numbersText, heldStrings, numberBytes, stringBytes, ReadAs, frontText}
+use Rattle.slot_replies.specs.Inner.{backText, heldText}
 
 -- ---- the puts in a row
 module _ (t : List ℕ) (x : Text) (w : ReadAs t x) where

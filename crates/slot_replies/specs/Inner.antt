@@ -1,4 +1,5 @@
--- What private functions hand on: the EVENT of a slot's bytes in pieces. Id and signature in hex, the rest as the slot's text spells it.
+-- What private functions hand on: the EVENT of a slot's bytes in pieces. Id and signature in hex, the rest as the
+-- slot's text spells it.
 use mathlib.Core.Path.{_≡_}
 use mathlib.Core.Bool.{cond, _&&_}
 use mathlib.Core.List.{List, [], _∷_, _++_, map}
@@ -28,7 +29,9 @@ unfoldable pub frontText : (sub i : Bytes) → Bytes
 frontText sub i = ascii "[\"EVENT\"," ++ (quoted sub ++ (ascii ",{\"id\":" ++ quoted i))
 
 abbrev pub numbersText : Event → Bytes
-numbersText e = ascii ",\"pubkey\":" ++ (quoted (e .pubkey) ++ (ascii ",\"created_at\":" ++ (decimal (e .time) ++ (ascii ",\"kind\":" ++ digits (e .kind)))))
+numbersText e =
+    ascii ",\"pubkey\":" ++ (quoted (e .pubkey) ++
+    (ascii ",\"created_at\":" ++ (decimal (e .time) ++ (ascii ",\"kind\":" ++ digits (e .kind)))))
 
 abbrev pub heldStrings : Event → Bytes
 heldStrings e = ascii ",\"tags\":" ++ (tagsText (e .tags) ++ (ascii ",\"content\":" ++ quoted (e .content)))
@@ -93,7 +96,8 @@ abbrev pub sentBy : (row n k : Row) → Sent
 sentBy row n k = cond (eqb row 0) (Wrote n k) (Refused row)
 
 unfoldable pub sentLines : (b sub ks out : Bytes) → Sent
-sentLines b sub ks out = sentBy (linesRow b sub ks out) (length (fittingText b sub ks out)) (fitting (length out) (slotLines b sub ks))
+sentLines b sub ks out =
+    sentBy (linesRow b sub ks out) (length (fittingText b sub ks out)) (fitting (length out) (slotLines b sub ks))
 
 unfoldable pub sentLinesOut : (b sub ks out : Bytes) → Bytes
 sentLinesOut b sub ks out = outputAfter (linesRow b sub ks out) (fittingText b sub ks out) out

@@ -1,5 +1,5 @@
-// EVENT replies of held slots, written into lent bytes. The text of a slot is copied, never decoded. Every row is tested before the first
-// byte is written.
+// EVENT replies of held slots, written into lent bytes. The text of a slot is copied, never decoded. Every row is
+// tested before the first byte is written.
 ghost use mathlib.Core.Path.{_≡_};
 ghost use mathlib.Core.Bool.{true};
 ghost use Prim.Native.Nat.{_+_};
@@ -13,9 +13,11 @@ ghost use Rattle.table.specs.Layout.{lengthIn};
 ghost use Rattle.table.specs.Sound.{sound};
 ghost use Rattle.table.specs.Format.{shownRow};
 ghost use Rattle.program.specs.Program.{eventsOf, written};
-ghost use Rattle.program.specs.Respond.{slotEvent, slotEventRow, slotEventOut, eventsRow, sentEvents, sentEventsOut, sentNumber};
+ghost use Rattle.program.specs.Respond.{slotEvent, slotEventRow, slotEventOut, eventsRow, sentEvents, sentEventsOut};
+ghost use Rattle.program.specs.Respond.{sentNumber};
 ghost use Rattle.replies.specs.Inner.{Room};
-ghost use Rattle.slot_replies.specs.Inner.{numberBytes, stringBytes, ReadAs, frontText, backText, heldText, heldLine, sizes, fittedIn, heldLen, fitRow, sentLines, sentLinesOut};
+ghost use Rattle.slot_replies.specs.Inner.{numberBytes, stringBytes, ReadAs, frontText, backText, heldText};
+ghost use Rattle.slot_replies.specs.Inner.{heldLine, sizes, fittedIn, heldLen, fitRow, sentLines, sentLinesOut};
 ghost use Rattle.slot_replies.specs.Left.{linesSize, leftIn};
 use event::Written;
 use message::Span;
@@ -41,7 +43,8 @@ fn put_hex(out: &mut [u8], at: usize, s: &[u8]) -> usize
 
 // ["EVENT",SUB,{"id":ID
 fn put_front(out: &mut [u8], at: usize, sub: &[u8], id: &[u8]) -> usize
-    ensures { λ r. ⌜ Puts (now (out .entry)) at (frontText (decode (now (sub .entry))) (hexOf (now (id .entry)))) r (now (out .exit)) ⌝ }
+    ensures { λ r. ⌜ Puts (now (out .entry)) at (frontText (decode (now (sub .entry))) (hexOf (now (id .entry)))) r
+        (now (out .exit)) ⌝ }
 {
     let a = wire::put(out, at, b"[\"EVENT\",");
     let b = event::put_quoted(out, a, sub);
@@ -92,7 +95,8 @@ fn put_back(out: &mut [u8], at: usize, sig: &[u8]) -> usize
 
 // The EVENT of a slot; nothing where its text does not read.
 fn put_slot(out: &mut [u8], at: usize, sub: &[u8], s: &[u8]) -> usize
-    ensures { λ r. ⌜ Puts (now (out .entry)) at (heldText (decode (now (sub .entry))) (now (s .entry))) r (now (out .exit)) ⌝ }
+    ensures { λ r. ⌜ Puts (now (out .entry)) at (heldText (decode (now (sub .entry))) (now (s .entry))) r
+        (now (out .exit)) ⌝ }
 {
     let n = wire::le_at(s, slots::LENGTH_PLACE, 2) as usize;
     let t = wire::piece(s, slots::TEXT_PLACE, n);
@@ -113,8 +117,8 @@ fn put_slot(out: &mut [u8], at: usize, sub: &[u8], s: &[u8]) -> usize
     }
 }
 
-// Whether the EVENT of a sound slot has room: it is 266 bytes longer than its text and the subscription id. By subtraction: the sum may be
-// more than a number holds.
+// Whether the EVENT of a sound slot has room: it is 266 bytes longer than its text and the subscription id. By
+// subtraction: the sum may be more than a number holds.
 fn slot_fits(s: &[u8], sub: &[u8], room: usize) -> bool
     ensures { λ r. ⌜ Room (lengthIn (now (s .entry)) + length (escape (decode (now (sub .entry)))) + 266) room r ⌝ }
 {
@@ -181,7 +185,8 @@ fn number(ks: &[u16], i: usize) -> usize
 
 // The EVENT of a slot, ended with 0A; nothing where its text does not read.
 fn put_line(out: &mut [u8], at: usize, sub: &[u8], s: &[u8]) -> usize
-    ensures { λ r. ⌜ Puts (now (out .entry)) at (heldLine (decode (now (sub .entry))) (now (s .entry))) r (now (out .exit)) ⌝ }
+    ensures { λ r. ⌜ Puts (now (out .entry)) at (heldLine (decode (now (sub .entry))) (now (s .entry))) r
+        (now (out .exit)) ⌝ }
 {
     let n = put_slot(out, at, sub, s);
     if n == at {
@@ -190,10 +195,11 @@ fn put_line(out: &mut [u8], at: usize, sub: &[u8], s: &[u8]) -> usize
     wire::put(out, n, b"\n")
 }
 
-// The EVENTs of the slots ks, each ended with 0A, from `at` on; nothing of a slot whose text does not read. `sub` is the subscription id as
-// spelled.
+// The EVENTs of the slots ks, each ended with 0A, from `at` on; nothing of a slot whose text does not read. `sub` is
+// the subscription id as spelled.
 pub fn put_events(out: &mut [u8], at: usize, table: &[u8], sub: &[u8], ks: &[u16]) -> usize
-    ensures { λ r. ⌜ Puts (now (out .entry)) at (written (eventsOf (now (table .entry)) (decode (now (sub .entry))) (now (ks .entry)))) r (now (out .exit)) ⌝ }
+    ensures { λ r. ⌜ Puts (now (out .entry)) at
+        (written (eventsOf (now (table .entry)) (decode (now (sub .entry))) (now (ks .entry)))) r (now (out .exit)) ⌝ }
 {
     if out.len() < at {
         return out.len();
@@ -209,8 +215,8 @@ pub fn put_events(out: &mut [u8], at: usize, table: &[u8], sub: &[u8], ks: &[u16
     o
 }
 
-// What the line of a sound slot leaves of a room: it is 267 bytes longer than the slot's text and the subscription id, which has n bytes
-// when escaped. By subtraction: the sum may be more than a number holds.
+// What the line of a sound slot leaves of a room: it is 267 bytes longer than the slot's text and the subscription id,
+// which has n bytes when escaped. By subtraction: the sum may be more than a number holds.
 fn line_left(s: &[u8], n: usize, room: usize) -> Left
     ensures { λ r. ⌜ r ≡ leftIn room (lengthIn (now (s .entry)) + n + 267) ⌝ }
 {
@@ -293,8 +299,10 @@ fn fit_row(lines: usize, held: usize, all: usize) -> u8
 // As many lines as fit, of a sound table. `sub` is the subscription id as spelled.
 fn send(table: &[u8], ks: &[u16], sub: &[u8], out: &mut [u8]) -> Sent
     requires { ⌜ sound (now table) ≡ true ⌝ }
-    ensures { λ r. ⌜ r ≡ sentLines (now (table .entry)) (decode (now (sub .entry))) (now (ks .entry)) (now (out .entry)) ⌝ }
-    ensures { λ _. ⌜ now (out .exit) ≡ sentLinesOut (now (table .entry)) (decode (now (sub .entry))) (now (ks .entry)) (now (out .entry)) ⌝ }
+    ensures { λ r. ⌜ r ≡ sentLines (now (table .entry)) (decode (now (sub .entry))) (now (ks .entry)) (now (out .entry))
+        ⌝ }
+    ensures { λ _. ⌜ now (out .exit) ≡ sentLinesOut (now (table .entry)) (decode (now (sub .entry))) (now (ks .entry))
+        (now (out .entry)) ⌝ }
 {
     let n = spell::escaped_len(sub);
     let held = held_len(table, ks);
@@ -307,12 +315,14 @@ fn send(table: &[u8], ks: &[u16], sub: &[u8], out: &mut [u8]) -> Sent
     Sent::Wrote(put_events(out, 0, table, sub, &ks[..lines]), lines)
 }
 
-// As many whole EVENTs of the slots ks as fit, each ended with 0A, from the start of `out`; for the subscription id that stands at `sub` in
-// m. The table is tested once.
+// As many whole EVENTs of the slots ks as fit, each ended with 0A, from the start of `out`; for the subscription id
+// that stands at `sub` in m. The table is tested once.
 pub fn events(table: &[u8], ks: &[u16], m: &[u8], sub: Span, out: &mut [u8]) -> Sent
     ensures { λ r. ⌜ r ≡ sentEvents (now (table .entry)) (now (ks .entry)) (now (m .entry)) sub (now (out .entry)) ⌝ }
-    ensures { λ r. ⌜ sentNumber r ≡ eventsRow (now (table .entry)) (now (ks .entry)) (now (m .entry)) sub (now (out .entry)) ⌝ }
-    ensures { λ _. ⌜ now (out .exit) ≡ sentEventsOut (now (table .entry)) (now (ks .entry)) (now (m .entry)) sub (now (out .entry)) ⌝ }
+    ensures { λ r. ⌜ sentNumber r ≡ eventsRow (now (table .entry)) (now (ks .entry)) (now (m .entry)) sub
+        (now (out .entry)) ⌝ }
+    ensures { λ _. ⌜ now (out .exit) ≡ sentEventsOut (now (table .entry)) (now (ks .entry)) (now (m .entry)) sub
+        (now (out .entry)) ⌝ }
 {
     let row = message::subscription_row(m, sub);
     if row != 0 {

@@ -13,7 +13,8 @@ use Rattle.wire.specs.Put.{put, Puts}
 use Rattle.wire.specs.Field.{leBytes, fieldAt}
 use Rattle.wire.proofs.Laws.{puts-whole}
 use Rattle.wire.proofs.Fields.{length-leBytes}
-use Rattle.table.specs.Layout.{headerSize, slotSize, slotPlace, tableSize, countOf, lengthIn, headerBytes, slotAt, textPlace}
+use Rattle.table.specs.Layout.{headerSize, slotSize, slotPlace, tableSize, countOf, lengthIn, headerBytes, slotAt}
+use Rattle.table.specs.Layout.{textPlace}
 use Rattle.table.specs.Sound.{sound}
 use Rattle.table.specs.Format.{formatRow, formatted, shownRow, shown}
 use Rattle.table.proofs.Shown.{shown-inside, shown-rows}

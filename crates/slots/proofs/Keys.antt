@@ -1,4 +1,5 @@
--- Two slots: in sound ones the test on bytes is the test on keys, so no two clash exactly where no id and no key is held twice.
+-- Two slots: in sound ones the test on bytes is the test on keys, so no two clash exactly where no id and no key is
+-- held twice.
 use mathlib.Core.Path.{_≡_, refl, sym, ap, ap₂, _∙_}
 use mathlib.Core.Bool.{Bool, true, false, not, cond, _&&_, _||_, and-comm}
 use mathlib.Core.Logic.{_≢_, inl}

@@ -13,7 +13,8 @@ use Rattle.wire.specs.Field.{fieldAt}
 use Rattle.text.specs.Event.{all}
 use Rattle.text.proofs.Pieces.{both}
 use Rattle.table.specs.Layout.{headerSize, slotSize, tableSize, capacityOf, countOf, slotSizeOf, firstSlotOf}
-use Rattle.table.specs.Sound.{isZero, hasHeader, capacityFits, slotsFit, countFits, othersAsAbove, slotSound, slotsSound, noIdTwice, noKeyTwice, laterZero, noneTwice, sound}
+use Rattle.table.specs.Sound.{isZero, hasHeader, capacityFits, slotsFit, countFits, othersAsAbove, slotSound}
+use Rattle.table.specs.Sound.{slotsSound, noIdTwice, noKeyTwice, laterZero, noneTwice, sound}
 use Rattle.slots.specs.Slots.{clash, slotsFrom, headerSound}
 use Rattle.slots.proofs.Keys.{apart-is}
 

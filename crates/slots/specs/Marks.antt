@@ -1,4 +1,5 @@
--- Numbers of four bytes that slots with one id, or with one key, have alike: slots whose marks differ need not be compared.
+-- Numbers of four bytes that slots with one id, or with one key, have alike: slots whose marks differ need not be
+-- compared.
 use mathlib.Core.Path.{_≡_}
 use mathlib.Core.Bool.{cond}
 use mathlib.Core.List.{List}
@@ -20,9 +21,12 @@ idMark s = fieldAt (idIn s) 0 4
 unfoldable pub lastOf : Bytes → ℕ
 lastOf d = fieldAt d (length d - 4) 4
 
--- of a slot with a key: the last bytes of d and of the pubkey, and the kind; of any other its id's, which tells it from the others
+-- of a slot with a key: the last bytes of d and of the pubkey, and the kind; of any other its id's, which tells it from
+-- the others
 unfoldable pub keyMark : Bytes → ℕ
-keyMark s = cond (hasKeyIn (classOf (kindIn s))) (bitXor (bitXor (lastOf (dBytesIn s)) (lastOf (pubkeyBytes s))) (kindIn s)) (idMark s)
+keyMark s =
+    cond (hasKeyIn (classOf (kindIn s))) (bitXor (bitXor (lastOf (dBytesIn s)) (lastOf (pubkeyBytes s))) (kindIn s))
+    (idMark s)
 
 -- the rows hold the marks of slots 0 to c-1 of the table b
 pub record Marked (b : List ℕ) (c : ℕ) (ids keys : List ℕ) : Type 0 where

@@ -1,4 +1,5 @@
--- "Showing a slot hands back the very bytes of its text, inside the table": what the call that gives their place answers.
+-- "Showing a slot hands back the very bytes of its text, inside the table": what the call that gives their place
+-- answers.
 use mathlib.Core.Bool.{cond}
 use mathlib.Core.List.{List, []}
 use Prim.Native.Nat.{ℕ, _+_}
@@ -11,7 +12,8 @@ use Rattle.slots.specs.declared.Shown.the-variants.{At, Refused}
 
 -- the row, or the place and the length of the text of slot k
 unfoldable pub shownAt : Bytes → ℕ → Shown
-shownAt b k = cond (eqb (shownRow b k) 0) (At (slotPlace k + textPlace) (lengthIn (slotAt b k))) (Refused (shownRow b k))
+shownAt b k =
+    cond (eqb (shownRow b k) 0) (At (slotPlace k + textPlace) (lengthIn (slotAt b k))) (Refused (shownRow b k))
 
 -- the number of 01
 abbrev pub shownNumber : Shown → ℕ

@@ -1,5 +1,5 @@
--- A table's slots by their bytes: the fields of a slot against what its text answers, and two slots compared. That these tests are those of
--- table/specs on the events held is proved: proofs/Fields and proofs/Keys.
+-- A table's slots by their bytes: the fields of a slot against what its text answers, and two slots compared. That
+-- these tests are those of table/specs on the events held is proved: proofs/Fields and proofs/Keys.
 use mathlib.Core.Bool.{Bool, true, false, _&&_, _||_}
 use mathlib.Core.List.{List}
 use Prim.Native.Nat.{ℕ}
@@ -17,8 +17,8 @@ use Rattle.table.specs.Layout.{slotSize, slotPlace, pubkeyPlace, timeIn, kindIn
 use Rattle.table.specs.Sound.{hasHeader, capacityFits, slotsFit, countFits, othersAsAbove}
 
 -- ---- one slot s, whose text answers t
--- "d offset 2 and d length 2 .. (both 0 unless addressable with a non-empty d)": the slot's at and len, the text's d and n. "no ephemeral
--- kind"
+-- "d offset 2 and d length 2 .. (both 0 unless addressable with a non-empty d)": the slot's at and len, the text's d
+-- and n. "no ephemeral kind"
 abbrev pub dAgrees : (x : Class) (at len d n : Place) → Bool
 dAgrees Regular at len d n = eqb at 0 && eqb len 0
 dAgrees Replaceable at len d n = eqb at 0 && eqb len 0
@@ -28,7 +28,8 @@ dAgrees Addressable at len d n = eqb at d && eqb len n
 -- time, kind and d's place agree
 unfoldable pub agreesText : Bytes → Text → Bool
 agreesText s t =
-    eqb (timeIn s) (unsigned (t .time)) && (eqb (kindIn s) (t .kind) && dAgrees (classOf (t .kind)) (dIn s .at) (dIn s .len) (t .d) (t .«d_len»))
+    eqb (timeIn s) (unsigned (t .time)) &&
+    (eqb (kindIn s) (t .kind) && dAgrees (classOf (t .kind)) (dIn s .at) (dIn s .len) (t .d) (t .«d_len»))
 
 -- ---- two slots
 -- slot t has the id of slot s
@@ -53,7 +54,8 @@ dBytesIn s = part (textIn s) (dIn s .at) (dIn s .len)
 -- slot t has the key of slot s
 unfoldable pub sameKeyIn : Bytes → Bytes → Bool
 sameKeyIn s t =
-    eqb (kindIn t) (kindIn s) && (hasKeyIn (classOf (kindIn t)) && (sameBytes (pubkeyBytes t) (pubkeyBytes s) && sameBytes (dBytesIn t) (dBytesIn s)))
+    eqb (kindIn t) (kindIn s) && (hasKeyIn (classOf (kindIn t)) &&
+    (sameBytes (pubkeyBytes t) (pubkeyBytes s) && sameBytes (dBytesIn t) (dBytesIn s)))
 
 -- it has the one or the other
 unfoldable pub clash : Bytes → Bytes → Bool

@@ -49,7 +49,8 @@ pub(crate) fn header_sound(table: &[u8]) -> bool
 // The header of a table of n slots that holds none, and its slots.
 pub(crate) fn put_fresh(table: &mut [u8], n: usize) -> usize
     requires { ⌜ n ≤ mostSlots ⌝ }
-    ensures { λ r. ⌜ Puts (now (table .entry)) 0 (leBytes 4 n ++ leBytes 4 0 ++ leBytes 4 slotSize ++ leBytes 4 headerSize ++ replicate (n * slotSize) 0) r (now (table .exit)) ⌝ }
+    ensures { λ r. ⌜ Puts (now (table .entry)) 0 (leBytes 4 n ++ leBytes 4 0 ++ leBytes 4 slotSize ++ leBytes 4
+        headerSize ++ replicate (n * slotSize) 0) r (now (table .exit)) ⌝ }
 {
     let a = wire::put_le(table, CAPACITY_PLACE, 4, n as u64);
     let b = wire::put_le(table, a, 4, 0);

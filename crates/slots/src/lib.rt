@@ -1,5 +1,5 @@
-// The bytes of a table (01, "The table"): whether it is sound, a buffer formatted, a slot shown, and two slots compared. The definitions
-// stand in table/specs and, for the tests that the code makes, in specs/.
+// The bytes of a table (01, "The table"): whether it is sound, a buffer formatted, a slot shown, and two slots
+// compared. The definitions stand in table/specs and, for the tests that the code makes, in specs/.
 ghost use mathlib.Core.Path.{_≡_};
 ghost use Rattle.table.specs.Layout.{slotAt};
 ghost use Rattle.table.specs.Sound.{sound};

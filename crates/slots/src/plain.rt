@@ -20,7 +20,8 @@ pub(crate) fn same(a: &[u8], b: &[u8]) -> bool
     true
 }
 
-// Whether all bytes are zero. They are or-ed together with no way out of the loop, so that the compiler takes many at a time.
+// Whether all bytes are zero. They are or-ed together with no way out of the loop, so that the compiler takes many at a
+// time.
 pub(crate) fn is_zero(s: &[u8]) -> bool
     ensures { λ r. ⌜ r ≡ isZero (now (s .entry)) ⌝ }
 {

@@ -116,7 +116,8 @@ fn maybe(ids: &[u32], keys: &[u32], c: usize, i: usize) -> bool
 fn again(table: &[u8], c: usize, ids: &[u32], keys: &[u32], i: usize) -> bool
     requires { ⌜ Marked (now table) c (now ids) (now keys) ⌝ }
     requires { ⌜ (c ≤ mostSlots) × (i < c) ⌝ }
-    ensures { λ r. ⌜ r ≡ any (clash (slotAt (now (table .entry)) i)) (slotsFrom (now (table .entry)) (i + 1) (c - (i + 1))) ⌝ }
+    ensures { λ r. ⌜ r ≡ any (clash (slotAt (now (table .entry)) i))
+        (slotsFrom (now (table .entry)) (i + 1) (c - (i + 1))) ⌝ }
 {
     if !maybe(ids, keys, c, i) {
         return false;

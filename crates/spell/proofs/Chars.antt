@@ -13,7 +13,8 @@ use lib.Seq.{drop-cons, drop-drop, drop-nil, drop-append-le, getD-drop}
 use Rattle.wire.proofs.Laws.{tests}
 use Rattle.wire.specs.Bytes.{isControl}
 use Rattle.spell.specs.declared.Char.{Char}
-use Rattle.spell.specs.Spell.{hexVal, four, isPair, unicodeOf, pairOf, fourAt, shortOf, charOf, charsFrom, chars, utf8Of, charBytes, charsBytes, decode, isRefused, any}
+use Rattle.spell.specs.Spell.{hexVal, four, isPair, unicodeOf, pairOf, fourAt, shortOf, charOf, charsFrom, chars}
+use Rattle.spell.specs.Spell.{utf8Of, charBytes, charsBytes, decode, isRefused, any}
 use Rattle.spell.specs.Inner.{Sized, leftOf, Within, Stepped}
 
 pub and-left : (a b : Bool) → (a && b) ≡ true → a ≡ true
@@ -256,7 +257,8 @@ module _ (p : List ℕ) (i : ℕ) {b : Bool} (inv : b ≡ any isRefused (chars (
   unfolding any
   refused-none h = inv ∙ rw (over p i h)
 
--- no spelling decodes to more bytes than it has: a character has no more than spell it, and one that the end cuts off no more than are there
+-- no spelling decodes to more bytes than it has: a character has no more than spell it, and one that the end cuts off
+-- no more than are there
 pub choose : {A : Type 0} (P : A → Type 0) (b : Bool) {x y : A} → (b ≡ true → P x) → (b ≡ false → P y) → P (cond b x y)
 choose P true p q = p refl
 choose P false p q = q refl

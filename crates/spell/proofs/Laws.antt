@@ -8,7 +8,8 @@ use borrow.Author.Tests.{ne-eqb, eqb-true, eqb-false, leb-true, lt-leb, not-true
 use lib.Dec.{leb, eqb}
 use lib.ListN.{length, getD}
 use Rattle.wire.specs.Bytes.{isHex}
-use Rattle.spell.specs.Spell.{shortOf, charOf, chars, charsFrom, charBytes, charsBytes, decode, points, characterCount, all, isHexOf, notSlash}
+use Rattle.spell.specs.Spell.{shortOf, charOf, chars, charsFrom, charBytes, charsBytes, decode, points}
+use Rattle.spell.specs.Spell.{characterCount, all, isHexOf, notSlash}
 use Rattle.wire.specs.Escape.{letterOf, escOne, escape}
 use Rattle.spell.proofs.Chars.{and-left, and-right, char-raw, char-short, first, choose, decode-few}
 

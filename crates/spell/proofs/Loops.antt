@@ -1,5 +1,5 @@
--- What a loop over the decoded bytes knows of the list left, an element a turn: a comparison, a count of characters, hex, escapes, pairs of
--- hex digits.
+-- What a loop over the decoded bytes knows of the list left, an element a turn: a comparison, a count of characters,
+-- hex, escapes, pairs of hex digits.
 use mathlib.Core.Bool.{Bool, true, false, cond, _&&_, and-true, and-false}
 use mathlib.Core.Path.{_≡_, refl, sym, _∙_, ap}
 use mathlib.Core.List.{List, [], _∷_, _++_}

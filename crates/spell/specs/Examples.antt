@@ -1,12 +1,14 @@
--- Worked cases: the escapes of RFC 8259 section 7, its pair of surrogates, row 4, hex, the count of characters, and tables of the bytes
--- that the definitions tell apart.
+-- Worked cases: the escapes of RFC 8259 section 7, its pair of surrogates, row 4, hex, the count of characters, and
+-- tables of the bytes that the definitions tell apart.
 use mathlib.Core.Bool.{true, false, not}
 use mathlib.Core.Path.{_≡_, refl}
 use mathlib.Core.List.{[], _∷_}
 use lib.Dec.{ltb, eqb}
 use Rattle.wire.specs.Ascii.{ascii}
 use Rattle.wire.specs.Bytes.{sameBytes, isHex, those}
-use Rattle.spell.specs.Spell.{hexVal, unhex, four, fourAt, shortOf, isPair, pairOf, unicodeOf, charOf, charsFrom, utf8Of, charBytes, charsBytes, decode, isSurrogate, isRefused, any, refuses, points, characterCount, all, isHexOf}
+use Rattle.spell.specs.Spell.{hexVal, unhex, four, fourAt, shortOf, isPair, pairOf, unicodeOf, charOf, charsFrom}
+use Rattle.spell.specs.Spell.{utf8Of, charBytes, charsBytes, decode, isSurrogate, isRefused, any, refuses, points}
+use Rattle.spell.specs.Spell.{characterCount, all, isHexOf}
 use Rattle.wire.specs.Escape.{letterOf, escOne, escape}
 
 -- \" \\ \/ \b \f \n \r \t
@@ -32,7 +34,8 @@ long :
 unfolding decode charsBytes charsFrom charOf unicodeOf isPair pairOf fourAt four hexVal shortOf charBytes utf8Of
 long = (refl, refl, refl, refl, refl)
 
--- \u0000, \u001f, \u0008, \n\u000d; unpaired surrogates: high, low, high and a letter, high and \u0061, low and high; the pair; ab
+-- \u0000, \u001f, \u0008, \n\u000d; unpaired surrogates: high, low, high and a letter, high and \u0061, low and high;
+-- the pair; ab
 row4 :
     (refuses (ascii "\\u0000") ≡ true)
     × (refuses (ascii "\\u001f") ≡ true)
@@ -57,7 +60,8 @@ hex :
     × (isHexOf 2 (ascii "9fa") ≡ false)
     × (isHexOf 2 (ascii "9") ≡ false)
     × (isHexOf 0 [] ≡ true)
-unfolding isHexOf all isHex decode charsBytes charsFrom charOf unicodeOf isPair pairOf fourAt four hexVal shortOf charBytes utf8Of
+unfolding isHexOf all isHex decode charsBytes charsFrom charOf unicodeOf isPair pairOf fourAt four hexVal shortOf
+    charBytes utf8Of
 hex = (refl, refl, refl, refl, refl, refl, refl)
 
 -- an escape counts one, and so does what it stands for
@@ -66,7 +70,8 @@ counts :
     × (characterCount (0xc3 ∷ 0xa9 ∷ []) ≡ 1)
     × (characterCount (ascii "\\uD834\\uDD1Ea") ≡ 2)
     × (characterCount (0xf0 ∷ 0x9d ∷ 0x84 ∷ 0x9e ∷ 0x61 ∷ []) ≡ 2)
-unfolding characterCount points decode charsBytes charsFrom charOf unicodeOf isPair pairOf fourAt four hexVal shortOf charBytes utf8Of
+unfolding characterCount points decode charsBytes charsFrom charOf unicodeOf isPair pairOf fourAt four hexVal shortOf
+    charBytes utf8Of
 counts = (refl, refl, refl, refl)
 
 -- d and \u0064, a\/b and a/b; a and aa
@@ -74,14 +79,16 @@ alike :
     (sameBytes (decode (ascii "d")) (decode (ascii "\\u0064")) ≡ true)
     × (sameBytes (decode (ascii "a\\/b")) (decode (ascii "a/b")) ≡ true)
     × (sameBytes (decode (ascii "a")) (decode (ascii "aa")) ≡ false)
-unfolding sameBytes decode charsBytes charsFrom charOf unicodeOf isPair pairOf fourAt four hexVal shortOf charBytes utf8Of
+unfolding sameBytes decode charsBytes charsFrom charOf unicodeOf isPair pairOf fourAt four hexVal shortOf charBytes
+    utf8Of
 alike = (refl, refl, refl)
 
 -- the seven escapes, and all else verbatim
 written :
     (escape (0x74 ∷ 0x0a ∷ 0x31 ∷ []) ≡ ascii "t\\n1")
     × (escape (ascii "a\"b") ≡ ascii "a\\\"b")
-    × (escape (0x5c ∷ 0x0d ∷ 0x09 ∷ 0x08 ∷ 0x0c ∷ 0x2f ∷ 0xe9 ∷ []) ≡ 0x5c ∷ 0x5c ∷ 0x5c ∷ 0x72 ∷ 0x5c ∷ 0x74 ∷ 0x5c ∷ 0x62 ∷ 0x5c ∷ 0x66 ∷ 0x2f ∷ 0xe9 ∷ [])
+    × (escape (0x5c ∷ 0x0d ∷ 0x09 ∷ 0x08 ∷ 0x0c ∷ 0x2f ∷ 0xe9 ∷ []) ≡ 0x5c ∷ 0x5c ∷ 0x5c ∷ 0x72 ∷ 0x5c ∷ 0x74 ∷ 0x5c ∷
+    0x62 ∷ 0x5c ∷ 0x66 ∷ 0x2f ∷ 0xe9 ∷ [])
 unfolding escape escOne letterOf
 written = (refl, refl, refl)
 

@@ -1,5 +1,5 @@
--- A string as it is spelled between its quotes (RFC 8259 section 7), and what it decodes to: the bytes of its UTF-8. Every list of bytes
--- decodes to something; what is no RFC spelling is refused elsewhere.
+-- A string as it is spelled between its quotes (RFC 8259 section 7), and what it decodes to: the bytes of its UTF-8.
+-- Every list of bytes decodes to something; what is no RFC spelling is refused elsewhere.
 use mathlib.Core.Bool.{Bool, true, false, cond, not, _&&_, _||_}
 use mathlib.Core.List.{List, [], _∷_, _++_}
 use Prim.Native.Nat.{ℕ, zero, suc, pred, _+_, _-_, _*_, _/_, _%_}
@@ -34,7 +34,9 @@ fourAt l k = four (getD l k 0) (getD l (k + 1) 0) (getD l (k + 2) 0) (getD l (k 
 
 -- the character of a backslash and y, which is no u: b, f, n, r and t, and any other byte is itself
 unfoldable pub shortOf : ℕ → ℕ
-shortOf y = cond (eqb y 0x62) 0x8 (cond (eqb y 0x66) 0xc (cond (eqb y 0x6e) 0xa (cond (eqb y 0x72) 0xd (cond (eqb y 0x74) 0x9 y))))
+shortOf y =
+    cond (eqb y 0x62) 0x8 (cond (eqb y 0x66) 0xc
+    (cond (eqb y 0x6e) 0xa (cond (eqb y 0x72) 0xd (cond (eqb y 0x74) 0x9 y))))
 
 -- a pair of surrogates: u is high, the bytes x and y are \u, and v is low
 unfoldable pub isPair : (u x y v : ℕ) → Bool
@@ -45,7 +47,9 @@ pairOf u v = 0x10000 + (u - 0xd800) * 0x400 + (v - 0xdc00)
 
 -- \u and the digits of u, after which stand the bytes x and y and the digits of v
 unfoldable pub unicodeOf : (u x y v : ℕ) → Char
-unicodeOf u x y v = cond (isPair u x y v) (record { code = pairOf u v; raw = false; width = 12 }) (record { code = u; raw = false; width = 6 })
+unicodeOf u x y v =
+    cond (isPair u x y v) (record { code = pairOf u v; raw = false; width = 12 })
+    (record { code = u; raw = false; width = 6 })
 
 -- the character that a spelling begins with
 unfoldable pub charOf : Bytes → Char

@@ -3,14 +3,15 @@ ghost use mathlib.Core.Path.{_≡_};
 ghost use lib.ListN.{length};
 ghost use Rattle.wire.specs.Put.{Puts};
 ghost use Rattle.wire.specs.Bytes.{sameBytes};
-ghost use Rattle.spell.specs.Spell.{unhex, isSurrogate, isRefused, refuses, decode, isTail, characterCount, isHexOf};
+ghost use Rattle.spell.specs.Spell.{unhex, isSurrogate, isRefused, refuses, decode, isTail, characterCount};
+ghost use Rattle.spell.specs.Spell.{isHexOf};
 ghost use Rattle.wire.specs.Escape.{escape};
 
 mod escapes;
 mod steps;
 
-// One character of a spelling, and how many bytes spell it: a byte of the decoded string (raw), which stands as it is or after a
-// backslash, or the code point of an escape with u.
+// One character of a spelling, and how many bytes spell it: a byte of the decoded string (raw), which stands as it is
+// or after a backslash, or the code point of an escape with u.
 pub struct Char {
     pub code: u32,
     pub raw: bool,
@@ -23,7 +24,8 @@ fn is_surrogate(n: u32) -> bool
     0xd800 <= n && n <= 0xdfff
 }
 
-// A byte of the decoded string, and where what is left after it begins: how many bytes of the character at which place are taken.
+// A byte of the decoded string, and where what is left after it begins: how many bytes of the character at which place
+// are taken.
 struct Step {
     pub byte: u8,
     pub at: usize,
@@ -294,7 +296,8 @@ pub fn put_escaped(out: &mut [u8], at: usize, p: &[u8]) -> usize
     o
 }
 
-// The bytes that pairs of hex digits stand for, into `out` from `at` on; the index after them. Any other byte counts as the digit 0.
+// The bytes that pairs of hex digits stand for, into `out` from `at` on; the index after them. Any other byte counts as
+// the digit 0.
 pub fn put_unhex(out: &mut [u8], at: usize, s: &[u8]) -> usize
     ensures { λ r. ⌜ Puts (now (out .entry)) at (unhex (now (s .entry))) r (now (out .exit)) ⌝ }
 {

@@ -98,7 +98,8 @@ pub(crate) fn stays(y: u8) -> bool
     }
 }
 
-// The first place from i on that holds no character which stands in the text that is hashed as in the spelling, or the end.
+// The first place from i on that holds no character which stands in the text that is hashed as in the spelling, or the
+// end.
 pub(crate) fn past_same(p: &[u8], i: usize) -> usize
     requires { ⌜ i ≤ length (now p) ⌝ }
     ensures { λ r. ⌜ Same (now (p .entry)) i r ⌝ }

@@ -1,5 +1,6 @@
--- The converse of event/proofs/Fit for tags and strings: parts whose decoded strings, tags and counts are within the limits break none of
--- rows 4, 7 and 8. Over the tree as in Fit, an item at a time; that its own text is UTF-8 is known of all of it.
+-- The converse of event/proofs/Fit for tags and strings: parts whose decoded strings, tags and counts are within the
+-- limits break none of rows 4, 7 and 8. Over the tree as in Fit, an item at a time; that its own text is UTF-8 is known
+-- of all of it.
 use mathlib.Core.Bool.{Bool, true, false, not, _||_}
 use mathlib.Core.Path.{_≡_, refl}
 use mathlib.Core.List.{List, [], _∷_}
@@ -23,13 +24,15 @@ use Rattle.shape.specs.Rows.{outside, wrongTag, wrongTags}
 use Rattle.text.specs.Event.{all, isPlainByte, isStringBytes, isTag, isTags}
 use Rattle.text.proofs.Pieces.{both, and-true}
 use Rattle.message.specs.declared.Span.{Span}
-use Rattle.message.specs.Lent.{spanBytes, isInside, isSpelled, string2, string4, string5, string7, value2, value4, value5, onValue, ownText}
+use Rattle.message.specs.Lent.{spanBytes, isInside, isSpelled, string2, string4, string5, string7, value2, value4}
+use Rattle.message.specs.Lent.{value5, onValue, ownText}
 use Rattle.message.specs.Lent as lent
 use Rattle.event.specs.Lent.{stringOf, stringsOf, tagOf, tagsOf, tagsIn, lentTagsAt}
 use Rattle.event.proofs.Walks.{Walk, last, more}
 use Rattle.utf8.proofs.States.{lead-low}
 use Rattle.event.proofs.Decoded.{plain-high}
-use Rattle.event.proofs.Fit.{inner, ws-after, more-after, done-after, quoted, Array, bare, full, array, string-after, walk-after, tag-after, strings-count, tags-count}
+use Rattle.event.proofs.Fit.{inner, ws-after, more-after, done-after, quoted, Array, bare, full, array, string-after}
+use Rattle.event.proofs.Fit.{walk-after, tag-after, strings-count, tags-count}
 use Rattle.table.specs.Demand3.{Spells}
 use Rattle.table.proofs.Refused.{not-refused}
 

@@ -1,5 +1,5 @@
--- The tags as the text spells them are JSON: an array of arrays of strings, that say just these tags. Members one after the other, once for
--- strings and once for tags; no white space stands anywhere, so each thing ends where its bytes do.
+-- The tags as the text spells them are JSON: an array of arrays of strings, that say just these tags. Members one after
+-- the other, once for strings and once for tags; no white space stands anywhere, so each thing ends where its bytes do.
 use mathlib.Core.Bool.{Bool, true, false}
 use mathlib.Core.Path.{_≡_, refl, sym, ap, _∙_}
 use mathlib.Core.List.{List, [], _∷_, _++_}
@@ -22,7 +22,8 @@ use Rattle.json.proofs.Trees.{tree-open}
 use Rattle.rows.specs.Strings.{part}
 use Rattle.shape.specs.Shape.{allItems, isArrayOf}
 use Rattle.shape.specs.Shape as shape
-use Rattle.text.specs.Event.{Tag, quoted, membersText, tagText, tagsText, all, isPlainByte, isStringBytes, isTag, isTags}
+use Rattle.text.specs.Event.{Tag, quoted, membersText, tagText, tagsText, all, isPlainByte, isStringBytes, isTag}
+use Rattle.text.specs.Event.{isTags}
 use Rattle.text.proofs.Pieces.{Spelt, left, right, tail, byte-is, both, spelt-inside}
 use Rattle.text.proofs.Strings.{utf8-escape}
 use Rattle.wire.specs.Escape.{escape}

@@ -1,4 +1,5 @@
--- A slot and the count written into a table: what the header says, where the slots stand, and what every other byte keeps.
+-- A slot and the count written into a table: what the header says, where the slots stand, and what every other byte
+-- keeps.
 use mathlib.Core.Path.{_≡_, sym, ap, _∙_}
 use mathlib.Core.Bool.{Bool, true, _&&_}
 use mathlib.Core.Logic.{_⊎_, inl, inr}
@@ -17,8 +18,10 @@ use Rattle.wire.proofs.Laws.{length-put, take-put, drop-put}
 use Rattle.wire.proofs.Fields.{length-leBytes, field-put, field-before, field-after}
 use Rattle.text.proofs.Pieces.{both}
 use Rattle.table.proofs.Cells.{drop-sets}
-use Rattle.table.specs.Layout.{headerSize, slotSize, tableSize, slotPlace, countPlace, capacityOf, countOf, slotSizeOf, firstSlotOf}
-use Rattle.table.specs.Sound.{hasHeader, capacityFits, slotsFit, countFits, othersAsAbove, slotsSound, noIdTwice, noKeyTwice, laterZero, sound}
+use Rattle.table.specs.Layout.{headerSize, slotSize, tableSize, slotPlace, countPlace, capacityOf, countOf}
+use Rattle.table.specs.Layout.{slotSizeOf, firstSlotOf}
+use Rattle.table.specs.Sound.{hasHeader, capacityFits, slotsFit, countFits, othersAsAbove, slotsSound, noIdTwice}
+use Rattle.table.specs.Sound.{noKeyTwice, laterZero, sound}
 
 -- ---- soundness, clause by clause
 pub record Clauses (b : List ℕ) : Type 0 where

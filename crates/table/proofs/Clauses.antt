@@ -1,5 +1,5 @@
--- Soundness is 01's clauses: SoundExactly of specs/Claims. Each test of specs/Sound means its clause; what is tested of a list of slots is
--- said of slot k.
+-- Soundness is 01's clauses: SoundExactly of specs/Claims. Each test of specs/Sound means its clause; what is tested of
+-- a list of slots is said of slot k.
 use mathlib.Core.Path.{_≡_, refl, sym, ap, _∙_}
 use mathlib.Core.Bool.{Bool, true, false, cond, false≢true}
 use mathlib.Core.Logic.{_≢_}
@@ -23,12 +23,16 @@ use Rattle.law.specs.Table.{keyed, shareKey}
 use Rattle.law.specs.Table as law
 use Rattle.table.proofs.Cells.{length-cells}
 use Rattle.law.proofs.Sound.{Distinct}
-use Rattle.table.specs.Layout.{headerSize, slotSize, tableSize, slotPlace, capacityOf, countOf, slotAt, heldSlots, laterSlots, kindIn, lengthIn, dIn, textIn, restIn, dPlace}
-use Rattle.table.specs.Events.{SignedEvent, signedEvents, inSlot, classFor, classOfEvent, classIn, classOfText, view}
-use Rattle.table.specs.Sound.{isZero, textReads, agreesWith, fieldsAgree, isLasting, zeroAfterText, slotSound, slotsSound, laterZero, sound}
+use Rattle.table.specs.Layout.{headerSize, slotSize, tableSize, slotPlace, capacityOf, countOf, slotAt, heldSlots}
+use Rattle.table.specs.Layout.{laterSlots, kindIn, lengthIn, dIn, textIn, restIn, dPlace}
+use Rattle.table.specs.Events.{SignedEvent, signedEvents, inSlot, classFor, classOfEvent, classIn, classOfText}
+use Rattle.table.specs.Events.{view}
+use Rattle.table.specs.Sound.{isZero, textReads, agreesWith, fieldsAgree, isLasting, zeroAfterText, slotSound}
+use Rattle.table.specs.Sound.{slotsSound, laterZero, sound}
 use Rattle.table.specs.Claims.{Holds, SoundClauses, SoundExactly}
 use Rattle.table.proofs.Fields.{zero-at, zero-from}
-use Rattle.table.proofs.Slots.{sound-event, sound-lasting, sound-rest, sound-text-length, sound-time, sound-kind, sound-d, part-length}
+use Rattle.table.proofs.Slots.{sound-event, sound-lasting, sound-rest, sound-text-length, sound-time, sound-kind}
+use Rattle.table.proofs.Slots.{sound-d, part-length}
 use Rattle.table.proofs.Lists.{all-from, pairwise-from, pairwise-at}
 use Rattle.table.proofs.Distinct.{event-laws, not-both, distinct, distinct-lasting, distinct-ids, distinct-keys}
 use Rattle.table.proofs.Bytes.{clauses, is-sound}

@@ -20,8 +20,10 @@ use Rattle.law.proofs.Signature.{signed-laws}
 use Rattle.law.proofs.Sound.{Distinct}
 use Rattle.table.specs.Layout.{kindIn, textIn, heldSlots, dIn, dPlace}
 use Rattle.wire.specs.Field.{fieldAt, unsigned}
-use Rattle.table.specs.Events.{SignedEvent, Signature, tableEvents, signedEvents, inSlot, classFor, classOfEvent, classIn, classOfText, timeOfText, view}
-use Rattle.table.specs.Sound.{agreesWith, agreesIn, fieldsAgree, isLasting, textReads, zeroAfterText, slotSound, slotsSound, noIdTwice, noKeyTwice}
+use Rattle.table.specs.Events.{SignedEvent, Signature, tableEvents, signedEvents, inSlot, classFor, classOfEvent}
+use Rattle.table.specs.Events.{classIn, classOfText, timeOfText, view}
+use Rattle.table.specs.Sound.{agreesWith, agreesIn, fieldsAgree, isLasting, textReads, zeroAfterText, slotSound}
+use Rattle.table.specs.Sound.{slotsSound, noIdTwice, noKeyTwice}
 use Rattle.table.proofs.Lists.{is-true, all-has, pairwise-as, twice-apart, apart-twice}
 
 -- ---- the laws of ids, keys and "newer"

@@ -1,5 +1,6 @@
--- That specs/Demand3's `Tells` is neither too narrow nor empty: parts that rows 2 to 10 let pass, and that have the id, text and signature of s,
--- tell s; and of what a list of offers leaves there are offers that tell all of it and nothing else, so exchanges exist.
+-- That specs/Demand3's `Tells` is neither too narrow nor empty: parts that rows 2 to 10 let pass, and that have the id,
+-- text and signature of s, tell s; and of what a list of offers leaves there are offers that tell all of it and nothing
+-- else, so exchanges exist.
 use mathlib.Core.Bool.{Bool, true, false, cond}
 use mathlib.Core.Path.{_≡_, refl, sym, ap, _∙_}
 use mathlib.Core.Option.{none, some}
@@ -22,7 +23,8 @@ use Rattle.text.specs.Event.{serialise}
 use Rattle.text.proofs.Pieces.{both}
 use Rattle.message.specs.declared.Span.{Span}
 use Rattle.message.specs.declared.EventParts.{EventParts}
-use Rattle.message.specs.Lent.{spanBytes, isInside, isSpelled, isTagsShape, string2, string5, string7, value2, value5, wrongNumber, time6, body2, body5, body6, body7, event2, event5, event7}
+use Rattle.message.specs.Lent.{spanBytes, isInside, isSpelled, isTagsShape, string2, string5, string7, value2, value5}
+use Rattle.message.specs.Lent.{wrongNumber, time6, body2, body5, body6, body7, event2, event5, event7}
 use Rattle.event.specs.Lent.{said, natural, eventOf, textOf}
 use Rattle.event.specs.Answer.{hexDigit, hexOf, hasId, offeredRow}
 use Rattle.event.proofs.Decoded.{or-neither}

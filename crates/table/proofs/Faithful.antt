@@ -1,4 +1,5 @@
--- One offer does at the table's bytes what the law says of the events that they hold, and writes no byte but those of one slot and the count.
+-- One offer does at the table's bytes what the law says of the events that they hold, and writes no byte but those of
+-- one slot and the count.
 use mathlib.Core.Path.{_≡_, refl, sym, ap, _∙_}
 use mathlib.Core.Bool.{Bool, true, false, cond, not, false≢true}
 use mathlib.Core.Logic.{_⊎_, inl, inr, ⊎-elim}
@@ -11,15 +12,18 @@ use lib.ListN.{length, getD, drop}
 use borrow.Author.Tests.{ne-eqb, leb-false}
 use Rattle.text.specs.Kinds.{keyOf, isEphemeral}
 use Rattle.law.specs.Lists.{_∈_, any}
-use Rattle.law.specs.Table.{Verdict, refused, wasEphemeral, duplicate, older, stored, noRoom, firstVerdict, hasId, hasKeyNewer, lacksSlot, verdict, after}
+use Rattle.law.specs.Table.{Verdict, refused, wasEphemeral, duplicate, older, stored, noRoom, firstVerdict, hasId}
+use Rattle.law.specs.Table.{hasKeyNewer, lacksSlot, verdict, after}
 use Rattle.law.specs.Table as law
 use Rattle.law.proofs.Machine.{Faithful}
 use Rattle.law.proofs.Lists.{either, store-from}
 use Rattle.law.proofs.Sound.{after-stored, after-other, distinct-after}
 use Rattle.table.specs.Layout.{Fits, tableSize, capacityOf, slotBytes}
-use Rattle.table.specs.Events.{SignedEvent, Signature, tableEvents, signedEvents, ofHeld, classOfEvent, classOfText, view}
+use Rattle.table.specs.Events.{SignedEvent, Signature, tableEvents, signedEvents, ofHeld, classOfEvent}
+use Rattle.table.specs.Events.{classOfText, view}
 use Rattle.table.specs.Sound.{sound}
-use Rattle.table.specs.Offer.{Offering, offeringRow, isValid, offeredOf, judge, offeredBy, verdictOn, answer, isStored, slotFor, countAfter, storedIn, next}
+use Rattle.table.specs.Offer.{Offering, offeringRow, isValid, offeredOf, judge, offeredBy, verdictOn, answer}
+use Rattle.table.specs.Offer.{isStored, slotFor, countAfter, storedIn, next}
 use Rattle.table.specs.Demand3.{verdictOf, relay}
 use Rattle.table.specs.Claims.{Unchanged, OtherBytes, BytesAfter}
 use Rattle.table.specs.declared.Offered.{Offered}
@@ -28,7 +32,8 @@ use Rattle.table.proofs.Lists.{is-true}
 use Rattle.table.proofs.Distinct.{class-lasts, signed-event-laws, distinct}
 use Rattle.table.proofs.Bytes.{Clauses, clauses, written-after, written-byte}
 use Rattle.table.proofs.Slots.{slot-length, slot-sound}
-use Rattle.table.proofs.Stored.{length-view, shares, HasSlot, stored-length, stored-capacity, After, after-store, stored-sound}
+use Rattle.table.proofs.Stored.{length-view, shares, HasSlot, stored-length, stored-capacity, After, after-store}
+use Rattle.table.proofs.Stored.{stored-sound}
 use Rattle.table.proofs.Good.{Good, fresh-good, fresh-view}
 use Rattle.table.proofs.Valid.{valid-fits, valid-hashed, valid-read, refused-row}
 

@@ -14,9 +14,11 @@ use Rattle.wire.specs.Field.{leBytes}
 use Rattle.wire.proofs.Fields.{length-leBytes}
 use Rattle.text.specs.Event.{all}
 use Rattle.text.proofs.Pieces.{both}
-use Rattle.table.specs.Layout.{headerSize, slotSize, tableSize, capacityOf, countOf, slotSizeOf, firstSlotOf, headerBytes, laterSlots}
+use Rattle.table.specs.Layout.{headerSize, slotSize, tableSize, capacityOf, countOf, slotSizeOf, firstSlotOf}
+use Rattle.table.specs.Layout.{headerBytes, laterSlots}
 use Rattle.table.specs.Events.{view}
-use Rattle.table.specs.Sound.{isCapacity, hasHeader, capacityFits, slotsFit, countFits, othersAsAbove, slotsSound, noneTwice, noIdTwice, noKeyTwice, laterZero, sound}
+use Rattle.table.specs.Sound.{isCapacity, hasHeader, capacityFits, slotsFit, countFits, othersAsAbove, slotsSound}
+use Rattle.table.specs.Sound.{noneTwice, noIdTwice, noKeyTwice, laterZero, sound}
 use Rattle.table.specs.Format.{formatRow, formatted}
 use Rattle.table.specs.Demand3.{Fresh}
 use Rattle.table.specs.Claims.{FormattedFresh, FormatRows}

@@ -1,6 +1,6 @@
--- What a table holds passes rows 2 to 10 when it is offered again as parts, and is judged the very event and signature held. Its text is read
--- back to an event within the limits, and the parts spell that event: so rows 2 and 5 hold of no part, and rows 4 and 6 to 9 of nothing that
--- it says; its id is its text's hash, so row 10 does not hold.
+-- What a table holds passes rows 2 to 10 when it is offered again as parts, and is judged the very event and signature
+-- held. Its text is read back to an event within the limits, and the parts spell that event: so rows 2 and 5 hold of no
+-- part, and rows 4 and 6 to 9 of nothing that it says; its id is its text's hash, so row 10 does not hold.
 use mathlib.Core.Bool.{true, false}
 use mathlib.Core.Path.{_≡_, sym, ap, _∙_}
 use mathlib.Core.Option.{some}
@@ -24,7 +24,8 @@ use Rattle.text.proofs.Limits.{Limits, limits-of}
 use Rattle.text.proofs.Rows.{pubkey-length}
 use Rattle.text.proofs.RoundTrip.{read-same}
 use Rattle.message.specs.declared.EventParts.{EventParts}
-use Rattle.message.specs.Lent.{wrongNumber, body2, body4, body5, body6, body7, body8, event2, event4, event5, event7, eventRow}
+use Rattle.message.specs.Lent.{wrongNumber, body2, body4, body5, body6, body7, body8, event2, event4, event5, event7}
+use Rattle.message.specs.Lent.{eventRow}
 use Rattle.event.specs.Lent.{said, eventOf, textOf}
 use Rattle.event.specs.Answer.{isLarge, hexOf, hasId, offeredRow}
 use Rattle.event.proofs.Answers.{hex-length}

@@ -1,6 +1,7 @@
--- The converse of event/proofs/Decoded: a spelling whose decoded bytes are a string within the limits is not refused by row 4. A character at a
--- time, with the state that UTF-8 is in before it: a refused control would stand among the decoded bytes and is not plain, and a refused
--- surrogate's octets would stand where a character begins, and are no UTF-8.
+-- The converse of event/proofs/Decoded: a spelling whose decoded bytes are a string within the limits is not refused by
+-- row 4. A character at a time, with the state that UTF-8 is in before it: a refused control would stand among the
+-- decoded bytes and is not plain, and a refused surrogate's octets would stand where a character begins, and are no
+-- UTF-8.
 use mathlib.Core.Bool.{Bool, true, false}
 use mathlib.Core.Path.{_≡_, refl}
 use mathlib.Core.List.{List, [], _∷_, _++_}
@@ -13,15 +14,18 @@ use Rattle.wire.specs.Bytes.{isControl}
 use Rattle.utf8.specs.Utf8.{nextWant, utf8From, isUtf8}
 use Rattle.utf8.specs.declared.Want.{Want}
 use Rattle.utf8.specs.declared.Want.the-variants.{Lead}
-use Rattle.utf8.specs.Abnf.{Octets, utf8-1, utf8-2, utf8-3-e0, utf8-3-e1, utf8-3-ed, utf8-3-ee, utf8-4-f0, utf8-4-f1, utf8-4-f4}
+use Rattle.utf8.specs.Abnf.{Octets, utf8-1, utf8-2, utf8-3-e0, utf8-3-e1, utf8-3-ed, utf8-3-ee, utf8-4-f0, utf8-4-f1}
+use Rattle.utf8.specs.Abnf.{utf8-4-f4}
 use Rattle.utf8.proofs.Abnf.{as-in-abnf}
 use Rattle.utf8.proofs.States.{Reached, lead-reached, next-reached, low-lead, byte-few}
 use Rattle.json.specs.Grammar.{isSpelling}
 use Rattle.spell.specs.declared.Char as spell
-use Rattle.spell.specs.Spell.{four, fourAt, shortOf, isPair, pairOf, chars, charsFrom, utf8Of, charBytes, decode, isSurrogate, isRefused, any, refuses}
+use Rattle.spell.specs.Spell.{four, fourAt, shortOf, isPair, pairOf, chars, charsFrom, utf8Of, charBytes, decode}
+use Rattle.spell.specs.Spell.{isSurrogate, isRefused, any, refuses}
 use Rattle.text.specs.Event.{all, isPlainByte, isStringBytes}
 use Rattle.text.proofs.Pieces.{both}
-use Rattle.event.proofs.Decoded.{Short, Spelling, end, plain, short, code, is-spelling, chars-plain, chars-short, chars-one, chars-pair, decode-more, paired, six-lead}
+use Rattle.event.proofs.Decoded.{Short, Spelling, end, plain, short, code, is-spelling, chars-plain, chars-short}
+use Rattle.event.proofs.Decoded.{chars-one, chars-pair, decode-more, paired, six-lead}
 
 -- ---- tests
 all-right : (p : ℕ → Bool) (s t : List ℕ) → all p (s ++ t) ≡ true → all p t ≡ true

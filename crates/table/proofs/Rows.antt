@@ -25,7 +25,8 @@ use Rattle.message.specs.declared.Message.the-variants as message
 use Rattle.message.proofs.Passes.{event-passes}
 use Rattle.event.specs.Lent.{said, textOf}
 use Rattle.event.specs.Answer.{orElse, isLarge, hexOf, hasId, offeredRow}
-use Rattle.table.specs.Offer.{Offering, asMessage, asParts, isEventWord, isEvent, messageOfferRow, offeringRow, judge}
+use Rattle.table.specs.Offer.{Offering, asMessage, asParts, isEventWord, isEvent, messageOfferRow, offeringRow}
+use Rattle.table.specs.Offer.{judge}
 use Rattle.table.specs.Offer as offer
 use Rattle.table.specs.Claims.{OfferRows, MessageRows, EventRows, RowsInOrder}
 use Rattle.table.proofs.Valid.{refused-row}

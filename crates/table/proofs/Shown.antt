@@ -13,7 +13,8 @@ use Rattle.table.proofs.Cells.{length-cells, cell-at}
 use Rattle.wire.specs.Limits.{mostText}
 use Rattle.wire.specs.Field.{signed}
 use Rattle.rows.specs.Strings.{part}
-use Rattle.table.specs.Layout.{headerSize, slotSize, tableSize, slotPlace, capacityOf, countOf, slotAt, heldSlots, textPlace, timeIn, lengthIn, textIn}
+use Rattle.table.specs.Layout.{headerSize, slotSize, tableSize, slotPlace, capacityOf, countOf, slotAt, heldSlots}
+use Rattle.table.specs.Layout.{textPlace, timeIn, lengthIn, textIn}
 use Rattle.table.specs.Events.{timeOfText, inSlot, view}
 use Rattle.table.specs.Events as events
 use Rattle.table.specs.Sound.{slotSound, slotsSound, sound}

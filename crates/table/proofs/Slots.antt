@@ -1,5 +1,5 @@
--- An event written to a slot is read back from it, and a slot that is sound is what its event writes; the fields of slot k as parts of the
--- table.
+-- An event written to a slot is read back from it, and a slot that is sound is what its event writes; the fields of
+-- slot k as parts of the table.
 use mathlib.Core.Path.{_≡_, refl, sym, ap, ap₂, _∙_}
 use mathlib.Core.Bool.{true, false, not, _&&_}
 use mathlib.Core.List.{List, [], _∷_, _++_}
@@ -25,10 +25,14 @@ use Rattle.text.proofs.Pieces.{both}
 use Rattle.text.proofs.Limits.{limits-of}
 use Rattle.text.proofs.RoundTrip.{read-back, read-same}
 use Rattle.text.proofs.Places.{d-inside}
-use Rattle.table.specs.Layout.{Held, Fits, slotSize, slotPlace, slotAt, textPlace, idIn, sigIn, timeIn, kindIn, lengthIn, dIn, textIn, restIn, isByte, dIfAddressable, dPlace, textBytes, slotBytes}
+use Rattle.table.specs.Layout.{Held, Fits, slotSize, slotPlace, slotAt, textPlace, idIn, sigIn, timeIn, kindIn}
+use Rattle.table.specs.Layout.{lengthIn, dIn, textIn, restIn, isByte, dIfAddressable, dPlace, textBytes}
+use Rattle.table.specs.Layout.{slotBytes}
 use Rattle.table.specs.Events.{inSlot, ofHeld}
-use Rattle.table.specs.Sound.{isRead, textReads, agreesWith, fieldsAgree, isLasting, isZero, zeroAfterText, slotSound}
-use Rattle.table.proofs.Fields.{piece, after, cut, field, after-field, field-back, byte-small, zeros-zero, zero-zeros}
+use Rattle.table.specs.Sound.{isRead, textReads, agreesWith, fieldsAgree, isLasting, isZero, zeroAfterText}
+use Rattle.table.specs.Sound.{slotSound}
+use Rattle.table.proofs.Fields.{piece, after, cut, field, after-field, field-back, byte-small, zeros-zero}
+use Rattle.table.proofs.Fields.{zero-zeros}
 
 -- ---- the numbers are small enough for their fields
 small-time : (z : ℤ) → isTime z ≡ true → unsigned z < 256 ^ 8

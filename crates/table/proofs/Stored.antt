@@ -1,4 +1,5 @@
--- An event stored in a sound table, over the slot with its key or behind the last one: what the table holds then, and that it is sound.
+-- An event stored in a sound table, over the slot with its key or behind the last one: what the table holds then, and
+-- that it is sound.
 use mathlib.Core.Path.{_≡_, refl, sym, ap, ap₂, _∙_}
 use mathlib.Core.Bool.{Bool, true, not}
 use mathlib.Core.Logic.{_⊎_, inl, inr}
@@ -18,14 +19,16 @@ use Rattle.law.specs.Table.{hasKey}
 use Rattle.law.proofs.Lists.{find-lt, find-none}
 use Rattle.law.proofs.Sound.{Distinct}
 use Rattle.table.proofs.Cells.{length-cells, cells-over, cells-behind, stored-over, stored-behind}
-use Rattle.table.specs.Layout.{Held, Fits, headerSize, slotSize, slotPlace, capacityOf, countOf, slotSizeOf, firstSlotOf, heldSlots, laterSlots, slotBytes}
+use Rattle.table.specs.Layout.{Held, Fits, headerSize, slotSize, slotPlace, capacityOf, countOf, slotSizeOf}
+use Rattle.table.specs.Layout.{firstSlotOf, heldSlots, laterSlots, slotBytes}
 use Rattle.table.specs.Events.{SignedEvent, signedEvents, inSlot, ofHeld, view}
 use Rattle.table.specs.Sound.{slotSound, slotsSound, isZero, laterZero, sound}
 use Rattle.table.specs.Offer.{slotFor, countAfter, storedIn}
 use Rattle.table.proofs.Lists.{all-set, all-append, all-one, all-behind}
 use Rattle.table.proofs.Distinct.{distinct-ids, distinct-keys}
 use Rattle.table.proofs.Slots.{slot-length, slot-holds}
-use Rattle.table.proofs.Bytes.{Clauses, is-sound, written, written-length, written-capacity, written-count, written-size, written-first, written-slots, written-after}
+use Rattle.table.proofs.Bytes.{Clauses, is-sound, written, written-length, written-capacity, written-count}
+use Rattle.table.proofs.Bytes.{written-size, written-first, written-slots, written-after}
 
 pub length-view : (b : List ℕ) → length (view b) ≡ countOf b
 unfolding view

@@ -1,5 +1,5 @@
--- A string as the text spells it, between quotes, is a JSON string that decodes to itself: its escapes are characters of RFC 8259, a byte at
--- a time by the view `Seven`.
+-- A string as the text spells it, between quotes, is a JSON string that decodes to itself: its escapes are characters
+-- of RFC 8259, a byte at a time by the view `Seven`.
 use mathlib.Core.Bool.{true, false, cond}
 use mathlib.Core.Path.{_≡_, refl, sym, ap, _∙_}
 use mathlib.Core.List.{List, [], _∷_}

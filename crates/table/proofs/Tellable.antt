@@ -1,5 +1,5 @@
--- What a table holds can be told: parts of it exist. They lie in the text itself, with the hex of the id and of the signature behind it; each
--- is what a buffer p, q, r has at the length of p.
+-- What a table holds can be told: parts of it exist. They lie in the text itself, with the hex of the id and of the
+-- signature behind it; each is what a buffer p, q, r has at the length of p.
 use mathlib.Core.Bool.{true}
 use mathlib.Core.Path.{_≡_, refl, sym, ap, _∙_}
 use mathlib.Core.Logic.{⊎-elim}
@@ -20,7 +20,8 @@ use Rattle.digest.specs.Digest.{digest}
 use Rattle.spell.specs.Spell.{decode}
 use Rattle.spell.specs.Spell as spell
 use Rattle.spell.proofs.Laws.{decode-escape, hex-itself, hex-escape}
-use Rattle.text.specs.Event.{Event, opening, closing, comma, bracket, quoted, tagsText, serialise, all, isPlainByte, isStringBytes}
+use Rattle.text.specs.Event.{Event, opening, closing, comma, bracket, quoted, tagsText, serialise, all, isPlainByte}
+use Rattle.text.specs.Event.{isStringBytes}
 use Rattle.text.specs.Read.{read, readText, IsTextOf}
 use Rattle.text.specs.Answer.{tagsPlace, contentPlace}
 use Rattle.text.proofs.Pieces.{spelt, left, right, byte-is, both}

@@ -1,4 +1,5 @@
--- 01: "Bytes after slot N-1 are never read or written." Whatever stands behind the last slot, an offer is answered the same and it stays.
+-- 01: "Bytes after slot N-1 are never read or written." Whatever stands behind the last slot, an offer is answered the
+-- same and it stays.
 use mathlib.Core.Path.{_≡_, refl, sym, ap, ap₂, _∙_}
 use mathlib.Core.Bool.{Bool, true, false, cond}
 use mathlib.Core.Option.{some}
@@ -15,10 +16,12 @@ use Rattle.text.specs.Event.{all}
 use Rattle.law.specs.Lists.{find}
 use Rattle.table.specs.Cells.{cells}
 use Rattle.law.specs.Table.{hasId, hasKey, verdict}
-use Rattle.table.specs.Layout.{headerSize, slotSize, tableSize, slotPlace, countPlace, capacityOf, countOf, slotSizeOf, firstSlotOf, heldSlots, laterSlots, slotBytes}
+use Rattle.table.specs.Layout.{headerSize, slotSize, tableSize, slotPlace, countPlace, capacityOf, countOf}
+use Rattle.table.specs.Layout.{slotSizeOf, firstSlotOf, heldSlots, laterSlots, slotBytes}
 use Rattle.table.specs.Events.{signedEvents, inSlot, ofHeld, view}
 use Rattle.table.specs.Sound.{slotSound, slotsSound, noneTwice, noIdTwice, noKeyTwice, isZero, laterZero, sound}
-use Rattle.table.specs.Offer.{Offering, offeringRow, isValid, offeredOf, offeredBy, answer, isStored, slotFor, countAfter, storedIn, next}
+use Rattle.table.specs.Offer.{Offering, offeringRow, isValid, offeredOf, offeredBy, answer, isStored, slotFor}
+use Rattle.table.specs.Offer.{countAfter, storedIn, next}
 use Rattle.table.proofs.Slots.{slot-length}
 use Rattle.table.specs.Claims.{NeverRead}
 use Rattle.table.proofs.Bytes.{Clauses, clauses, is-sound}

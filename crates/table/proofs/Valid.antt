@@ -1,5 +1,5 @@
--- What holds of an offer that none of rows 1 to 10 refuses: its event fits a slot, its id is its text's hash, and its text is read back.
--- Each row's number is a chain of tests, and where it comes to 0 every test of it failed.
+-- What holds of an offer that none of rows 1 to 10 refuses: its event fits a slot, its id is its text's hash, and its
+-- text is read back. Each row's number is a chain of tests, and where it comes to 0 every test of it failed.
 use mathlib.Core.Bool.{Bool, true, false, cond}
 use mathlib.Core.Path.{_≡_, refl, ap, _∙_}
 use mathlib.Core.List.{List}
@@ -21,14 +21,16 @@ use Rattle.text.specs.Read.{read, readText}
 use Rattle.text.proofs.RoundTrip.{read-back}
 use Rattle.message.specs.declared.Span.{Span}
 use Rattle.message.specs.declared.EventParts.{EventParts}
-use Rattle.message.specs.Lent.{isSpelled, string5, string7, body2, body4, body5, body6, body7, body8, bodyRow, event2, event4, event5, event7, eventRow, string2, string4}
+use Rattle.message.specs.Lent.{isSpelled, string5, string7, body2, body4, body5, body6, body7, body8, bodyRow, event2}
+use Rattle.message.specs.Lent.{event4, event5, event7, eventRow, string2, string4}
 use Rattle.message.specs.Inner.{lowestBy}
 use Rattle.event.specs.Lent.{said, eventOf, textOf}
 use Rattle.event.specs.Answer.{orElse, isLarge, hexOf, hasId, offeredRow}
 use Rattle.event.proofs.Decoded.{or-neither}
 use Rattle.event.proofs.Fit.{lent-fit, and-fails}
 use Rattle.table.specs.Layout.{Fits}
-use Rattle.table.specs.Offer.{Offering, asMessage, asParts, isEvent, partsOf, messageOfferRow, offeringRow, isValid, heldOf, offeredOf}
+use Rattle.table.specs.Offer.{Offering, asMessage, asParts, isEvent, partsOf, messageOfferRow, offeringRow}
+use Rattle.table.specs.Offer.{isValid, heldOf, offeredOf}
 use Rattle.table.proofs.Hex.{unhex-hex, unhex-length, unhex-bytes, digest-length, digest-bytes}
 
 -- ---- chains of tests

@@ -1,5 +1,5 @@
--- Relays over the same table, offers and judge that do not meet the claims of demand 3, and that this one does: 01, "How far each promise must
--- reach". Law's WrongRelays, with two events and a fresh table in bytes.
+-- Relays over the same table, offers and judge that do not meet the claims of demand 3, and that this one does: 01,
+-- "How far each promise must reach". Law's WrongRelays, with two events and a fresh table in bytes.
 use mathlib.Core.Path.{_≡_, refl, sym, ap, _∙_}
 use mathlib.Core.Bool.{true, false}
 use mathlib.Core.Logic.{_≢_}
@@ -16,7 +16,8 @@ use Rattle.numeral.specs.Whole.{isWithin}
 use Rattle.utf8.specs.Utf8.{leadOf, utf8From, isUtf8}
 use Rattle.digest.specs.Block.{K, H0, words, schedule, round, rounds, chained, compress}
 use Rattle.digest.specs.Digest.{bigEndian, padding, padded, hashAfter, digestBytes, digest}
-use Rattle.text.specs.Event.{Event, quoted, membersText, tagText, tagsText, serialise, all, isPubkey, isTime, isTag, isTags, isStringBytes, isPlainByte, isFit}
+use Rattle.text.specs.Event.{Event, quoted, membersText, tagText, tagsText, serialise, all, isPubkey, isTime, isTag}
+use Rattle.text.specs.Event.{isTags, isStringBytes, isPlainByte, isFit}
 use Rattle.text.specs.Kinds.{classOf}
 use Rattle.law.specs.Table.{regular, IdPremise, slotsNeeded}
 use Rattle.law.specs.Event as law
@@ -109,7 +110,8 @@ module _ (answer′ : List ℕ → Offering → Offered) (next′ : List ℕ →
   of-regular r = record { signature = r .signature; valid = r .valid; kind = r .kind }
 
   module _ (held : HeldSetOn tableEvents Signature another) (room : RoomLawOn tableEvents Signature another) where
-    -- "a relay that refuses everything or stores nothing (shut out by the table of numbers and by the held set of demand 3)"
+    -- "a relay that refuses everything or stores nothing (shut out by the table of numbers and by the held set of
+    -- demand 3)"
     pub stores-nothing : ((b : List ℕ) (o : Offering) → view (next′ b o) ≡ view b) → ⊥
     stores-nothing idle =
         let (o, v, _) = offer-of 0 suits₀ in

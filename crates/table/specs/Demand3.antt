@@ -1,5 +1,5 @@
--- Demand 3 at the table's bytes. Law/Demand3 has its claims for a relay in any form; here the relay is a table in a buffer, with the
--- answers and the bytes of specs/Offer. Quotes are from 01.
+-- Demand 3 at the table's bytes. Law/Demand3 has its claims for a relay in any form; here the relay is a table in a
+-- buffer, with the answers and the bytes of specs/Offer. Quotes are from 01.
 use mathlib.Core.Path.{_≡_}
 use mathlib.Core.Bool.{true, false, cond}
 use mathlib.Core.List.{List}

@@ -1,5 +1,5 @@
--- The events of demand 3 at this table: "The set held is the pairs of id and text in slots 0 to C-1." Class, key and time are those of the
--- event that the text is a serialisation of.
+-- The events of demand 3 at this table: "The set held is the pairs of id and text in slots 0 to C-1." Class, key and
+-- time are those of the event that the text is a serialisation of.
 use mathlib.Core.List.{List, map}
 use Prim.Native.Nat.{ℕ}
 use lib.IntN.{ℤ, pos}

@@ -16,7 +16,8 @@ use Rattle.text.specs.declared.Class.the-variants.{Regular, Replaceable, Epheme
 use Rattle.table.specs.Cells.{cells}
 use Rattle.wire.specs.Bytes.{Bytes}
 
--- ---- "Slot: id 32; sig 64; created_at 8, two's complement; kind 2; text length 2; d offset 2 and d length 2 ..; text 4,096":
+-- ---- "Slot: id 32; sig 64; created_at 8, two's complement; kind 2; text length 2; d offset 2 and d length 2 ..; text
+-- 4,096":
 -- where each field begins
 abbrev pub idSize : ℕ
 idSize = 32

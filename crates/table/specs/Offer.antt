@@ -1,5 +1,5 @@
--- 01, "The table": what an offer is answered, and the table's bytes afterwards. "Valid is judged from what is offered, whatever the table
--- holds."
+-- 01, "The table": what an offer is answered, and the table's bytes afterwards. "Valid is judged from what is offered,
+-- whatever the table holds."
 use mathlib.Core.Bool.{Bool, true, false, cond, not, _&&_}
 use mathlib.Core.Option.{Option, none, some}
 use mathlib.Core.List.{List}

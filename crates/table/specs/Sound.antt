@@ -1,6 +1,7 @@
--- 01, "The table": "Sound: the buffer has at least 16 bytes, N is 1 to 64 and its slots fit the buffer, C is at most N, the other header
--- numbers as above, held texts are serialisations of events that agree with their slot fields, no ephemeral kind, no id or key held
--- twice, zeros where said. Ids are not hashed again." A definition for each clause, in this order.
+-- 01, "The table": "Sound: the buffer has at least 16 bytes, N is 1 to 64 and its slots fit the buffer, C is at most N,
+-- the other header numbers as above, held texts are serialisations of events that agree with their slot fields, no
+-- ephemeral kind, no id or key held twice, zeros where said. Ids are not hashed again." A definition for each clause,
+-- in this order.
 use mathlib.Core.Bool.{Bool, true, false, not, _&&_}
 use mathlib.Core.List.{List, [], _∷_}
 use Prim.Native.Nat.{ℕ}
@@ -13,7 +14,8 @@ use Rattle.text.specs.Read.{Read, tooLarge, wrongShape, read, readText}
 use Rattle.text.specs.Kinds.{isEphemeral}
 use Rattle.law.specs.Lists.{any}
 use Rattle.law.specs.Table.{hasId, hasKey}
-use Rattle.table.specs.Layout.{headerSize, slotSize, capacityOf, countOf, slotSizeOf, firstSlotOf, tableSize, heldSlots, laterSlots, timeIn, kindIn, lengthIn, dIn, textIn, restIn, dPlace}
+use Rattle.table.specs.Layout.{headerSize, slotSize, capacityOf, countOf, slotSizeOf, firstSlotOf, tableSize}
+use Rattle.table.specs.Layout.{heldSlots, laterSlots, timeIn, kindIn, lengthIn, dIn, textIn, restIn, dPlace}
 use Rattle.table.specs.Events.{SignedEvent, signedEvents, view}
 use Rattle.wire.specs.Bytes.{Bytes}
 
@@ -102,4 +104,5 @@ laterZero b = isZero (laterSlots b)
 unfoldable pub sound : Bytes → Bool
 sound b =
     hasHeader b
-    && (capacityFits b && (slotsFit b && (countFits b && (othersAsAbove b && (slotsSound b && (noIdTwice b && (noKeyTwice b && laterZero b)))))))
+    && (capacityFits b && (slotsFit b &&
+    (countFits b && (othersAsAbove b && (slotsSound b && (noIdTwice b && (noKeyTwice b && laterZero b)))))))

@@ -1,5 +1,5 @@
-// The table of held events (01, "The table"). What its calls answer; the definitions stand in specs/, and that demand 3 holds of them, at
-// the table's bytes, in proofs/.
+// The table of held events (01, "The table"). What its calls answer; the definitions stand in specs/, and that demand 3
+// holds of them, at the table's bytes, in proofs/.
 
 // What an offer is answered: 01, "Verdicts of an offer", or the lowest of rows 1 to 12.
 pub enum Offered {

@@ -1,17 +1,19 @@
-// The calls on a table, one a line, over one room that is as large as 64 slots and some bytes more. Beside it lie lent bytes: messages,
-// and the parts of events. A line is a letter and decimal numbers with single spaces between. Of any other line nothing is claimed.
+// The calls on a table, one a line, over one room that is as large as 64 slots and some bytes more. Beside it lie lent
+// bytes: messages, and the parts of events. A line is a letter and decimal numbers with single spaces between. Of any
+// other line nothing is claimed.
 //
-//   L len fill                                        every byte of the room becomes `fill`; its first `len` bytes are the table
+//   L len fill every byte of the room becomes `fill`; its first `len` bytes are the table
 //   B bytes                                           these bytes to the start of the lent ones
 //   F capacity                                        formats the table
 //   M at len                                          offers that part of the lent bytes as a message
 //   J at len                                          asks what the same offer would be answered
-//   P id id_len pubkey pubkey_len created_at kind tags content content_len sig sig_len     offers parts of the lent bytes
+//   P id id_len pubkey pubkey_len created_at kind tags content content_len sig sig_len offers parts of the lent bytes
 //   S                                                 is the table sound?
 //   H slot                                            shows a slot: its place, its length, a print of its bytes
-//   X at bits                                         turns these bits of a byte of the room over; is the table then sound?
+//   X at bits turns these bits of a byte of the room over; is the table then sound?
 //
-// Each line prints its answer, the table's count and a print of the table and the 64 bytes behind it: what a call wrote shows in it.
+// Each line prints its answer, the table's count and a print of the table and the 64 bytes behind it: what a call wrote
+// shows in it.
 use slots::Shown;
 use table::Offered;
 

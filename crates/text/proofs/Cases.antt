@@ -12,7 +12,8 @@ use Rattle.wire.specs.Escape.{letterOf, escOne, escape}
 use Rattle.numeral.specs.Decimal.{digitsIn, digits, decimal}
 use Rattle.numeral.specs.Whole.{isWithin}
 use Rattle.utf8.specs.Utf8.{isUtf8, utf8From, leadOf}
-use Rattle.text.specs.Event.{Tag, Event, quoted, membersText, tagText, tagsText, serialise, all, isPubkey, isTime, isPlainByte, isStringBytes, isTag, isTags, isFit}
+use Rattle.text.specs.Event.{Tag, Event, quoted, membersText, tagText, tagsText, serialise, all, isPubkey, isTime}
+use Rattle.text.specs.Event.{isPlainByte, isStringBytes, isTag, isTags, isFit}
 use Rattle.text.specs.Read.{tooLarge, read, readText}
 use Rattle.text.specs.Kinds.{classOf, dOf, addressable, keyOf}
 use Rattle.text.specs.declared.Class.the-variants.{Regular, Replaceable, Ephemeral, Addressable}

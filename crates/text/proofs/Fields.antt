@@ -19,7 +19,8 @@ use Rattle.numeral.specs.Whole as numeral
 use Rattle.numeral.specs.declared.Whole.{Whole}
 use Rattle.numeral.specs.declared.Whole.the-variants.{Value, Large, Malformed}
 use Rattle.text.specs.Event.{opening, closing, comma, isPubkey, isTime, isKind}
-use Rattle.text.specs.Read.{Got, none, got, bind, standsAt, closedAt, runOf, timeOf, kindOf, timeAt, kindAt, pubkeyAt}
+use Rattle.text.specs.Read.{Got, none, got, bind, standsAt, closedAt, runOf, timeOf, kindOf, timeAt, kindAt}
+use Rattle.text.specs.Read.{pubkeyAt}
 use Rattle.text.specs.Inner.Parts.{timeGot, kindGot, isGot, opens}
 use Rattle.text.specs.declared.Time.the-variants as time
 use Rattle.text.specs.declared.Kind.the-variants as kind

@@ -1,5 +1,5 @@
--- Laws: the two round trips and 01's sentence on a text read back (RoundTrip), the places (Places), limits by name (Limits), keys (Keys),
--- the starred cases (Cases).
+-- Laws: the two round trips and 01's sentence on a text read back (RoundTrip), the places (Places), limits by name
+-- (Limits), keys (Keys), the starred cases (Cases).
 pub mod Pieces
 pub mod Strings
 pub mod Lists

@@ -1,4 +1,5 @@
--- d: the text is canonical, so a tag is named d exactly where `["d"` stands, and its second string stands six bytes after its bracket.
+-- d: the text is canonical, so a tag is named d exactly where `["d"` stands, and its second string stands six bytes
+-- after its bracket.
 use mathlib.Core.Path.{_≡_, refl, sym, ap, _∙_}
 use mathlib.Core.Bool.{Bool, true, false, cond, _&&_, and-true, and-false, false≢true}
 use mathlib.Core.List.{List, [], _∷_, _++_, append-assoc}
@@ -22,7 +23,8 @@ use Rattle.text.specs.declared.Tagged.the-variants as tagged
 use Rattle.text.proofs.Pieces.{both, first-of}
 use Rattle.text.proofs.Strings.{Seven, bs, tab, lf, ff, cr, quote, slash, other, seven, body-back}
 use Rattle.text.proofs.Lists.{tag-exact}
-use Rattle.text.proofs.Ways.{members-out, members-bad, members-more, members-done, members-wrong, end-bad, end-got}
+use Rattle.text.proofs.Ways.{members-out, members-bad, members-more, members-done, members-wrong, end-bad}
+use Rattle.text.proofs.Ways.{end-got}
 
 -- ---- the bytes that a list begins with
 abbrev begins : List ℕ → List ℕ → Bool

@@ -1,5 +1,5 @@
--- The places that a text is answered with hold what they are named for: pubkey, tags, content and d. The strings stand there escaped,
--- so that a part of the text can be copied to where the event is written again.
+-- The places that a text is answered with hold what they are named for: pubkey, tags, content and d. The strings stand
+-- there escaped, so that a part of the text can be copied to where the event is written again.
 use mathlib.Core.Path.{_≡_, refl, sym, ap, _∙_}
 use mathlib.Core.Bool.{Bool, true, false, cond, _&&_, _||_, false≢true}
 use mathlib.Core.List.{List, [], _∷_, _++_, append-assoc}
@@ -13,7 +13,8 @@ use Rattle.wire.specs.Bytes.{part, isHex}
 use Rattle.wire.specs.Escape.{letterOf, escOne, escape}
 use Rattle.numeral.specs.Decimal.{digits, decimal}
 use Rattle.wire.specs.Limits.{mostText, hexLength}
-use Rattle.text.specs.Event.{Tag, Event, quoted, membersText, tagText, tagsText, opening, closing, comma, bracket, serialise, all, isPubkey}
+use Rattle.text.specs.Event.{Tag, Event, quoted, membersText, tagText, tagsText, opening, closing, comma, bracket}
+use Rattle.text.specs.Event.{serialise, all, isPubkey}
 use Rattle.text.specs.Read.{Read, tooLarge, wrongShape, read, readText, IsTextOf}
 use Rattle.text.specs.Kinds.{isNamedD, second, dOf}
 use Rattle.text.specs.Answer.{Span, spanBehind, dSpan, tagsPlace, contentPlace, textParts, textAnswerOf}

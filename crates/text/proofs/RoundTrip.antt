@@ -1,5 +1,5 @@
--- An event that is written and read back is the same event; a text that is read and written again is the same text. So 01's sentence on a
--- text read back alone holds word for word: `too-large`, `wrong-shape`, `accepted`.
+-- An event that is written and read back is the same event; a text that is read and written again is the same text. So
+-- 01's sentence on a text read back alone holds word for word: `too-large`, `wrong-shape`, `accepted`.
 use mathlib.Core.Path.{_≡_, refl, sym, ap, _∙_}
 use mathlib.Core.Bool.{Bool, true, false, cond}
 use mathlib.Core.List.{List, _++_, append-assoc}
@@ -13,7 +13,8 @@ use Rattle.wire.specs.Escape.{escape}
 use Rattle.numeral.specs.Decimal.{digits, decimal}
 use Rattle.wire.specs.Limits.{mostText}
 use Rattle.text.specs.Event.{Event, quoted, tagsText, opening, serialise, isFit}
-use Rattle.text.specs.Read.{Got, none, got, standsAt, Fields, fieldsAt, eventOfFields, openedText, ending, Read, tooLarge, wrongShape, read, readText, IsTextOf}
+use Rattle.text.specs.Read.{Got, none, got, standsAt, Fields, fieldsAt, eventOfFields, openedText, ending, Read}
+use Rattle.text.specs.Read.{tooLarge, wrongShape, read, readText, IsTextOf}
 use Rattle.text.specs.Answer.{textAnswerOf, textNumber}
 use Rattle.text.proofs.Pieces.{Spelt, join, left, right, whole, all-of}
 use Rattle.text.proofs.Limits.{limits-of}

@@ -12,10 +12,13 @@ use borrow.Author.Tests.{eq-eqb, eqb-true, ltb-true}
 use Rattle.numeral.specs.Decimal.{digits, decimal}
 use Rattle.wire.specs.Limits.{hexLength}
 use Rattle.wire.specs.Bytes.{isHex}
-use Rattle.text.specs.Event.{Tag, quoted, tagsText, closing, comma, bracket, all, isPubkey, isTime, isKind, isTags, isStringBytes}
-use Rattle.text.specs.Read.{Got, none, got, bind, standsAt, closedAt, pairAt, stringAt, tagsAt, timeAt, kindAt, pubkeyAt, Fields, fieldsAt}
+use Rattle.text.specs.Event.{Tag, quoted, tagsText, closing, comma, bracket, all, isPubkey, isTime, isKind}
+use Rattle.text.specs.Event.{isTags, isStringBytes}
+use Rattle.text.specs.Read.{Got, none, got, bind, standsAt, closedAt, pairAt, stringAt, tagsAt, timeAt, kindAt}
+use Rattle.text.specs.Read.{pubkeyAt, Fields, fieldsAt}
 use Rattle.text.specs.Inner.Parts.{noZeroByte}
-use Rattle.text.proofs.Pieces.{Spelt, Piece, Exact, both, and-true, spelt, join, left, right, byte-is, byte-at, tail, spelt-inside}
+use Rattle.text.proofs.Pieces.{Spelt, Piece, Exact, both, and-true, spelt, join, left, right, byte-is, byte-at}
+use Rattle.text.proofs.Pieces.{tail, spelt-inside}
 use Rattle.text.proofs.Strings.{string-exact}
 use Rattle.text.proofs.Lists.{tags-exact}
 use Rattle.text.proofs.Numbers.{time-same, time-back, kind-same, kind-back}

@@ -1,4 +1,5 @@
--- A string: what is read is what was written, and the other way round. The seven escapes by a view, an eighth case for all other bytes.
+-- A string: what is read is what was written, and the other way round. The seven escapes by a view, an eighth case for
+-- all other bytes.
 use mathlib.Core.Path.{_≡_, refl, sym, ap, _∙_}
 use mathlib.Core.Bool.{Bool, true, false, cond, _&&_}
 use mathlib.Core.List.{List, [], _∷_, _++_, append-assoc}

@@ -1,4 +1,5 @@
--- A way out at a time: the rest after the kind, and the whole text. The places are functions of the event, by the lengths of its pieces.
+-- A way out at a time: the rest after the kind, and the whole text. The places are functions of the event, by the
+-- lengths of its pieces.
 use mathlib.Core.Path.{_≡_, refl, sym, ap, _∙_}
 use mathlib.Core.Bool.{Bool, true, false, cond, _&&_, false≢true}
 use mathlib.Core.List.{List, [], _∷_}
@@ -12,7 +13,8 @@ use Rattle.wire.specs.Escape.{escape}
 use Rattle.numeral.specs.Decimal.{digits, decimal}
 use Rattle.wire.specs.Limits.{mostText}
 use Rattle.text.specs.Event.{Tag, quoted, tagsText, opening, closing, comma, isPubkey}
-use Rattle.text.specs.Read.{Got, none, got, bind, standsAt, closedAt, pairAt, stringAt, tagsAt, timeAt, kindAt, pubkeyAt, fieldsAt, openedText, Read, tooLarge, wrongShape, read, readText}
+use Rattle.text.specs.Read.{Got, none, got, bind, standsAt, closedAt, pairAt, stringAt, tagsAt, timeAt, kindAt}
+use Rattle.text.specs.Read.{pubkeyAt, fieldsAt, openedText, Read, tooLarge, wrongShape, read, readText}
 use Rattle.text.specs.Answer.{dSpan, textAnswerOf, textNumber, textReadRow}
 use Rattle.text.specs.Inner.Parts.{gotEnd, timeGot, kindGot, isGot, opens, taggedOf, restAt, restOf}
 use Rattle.text.specs.declared.Out.the-variants.{End, Bad}

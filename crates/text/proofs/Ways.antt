@@ -15,7 +15,8 @@ use Rattle.wire.specs.Escape.{escape}
 use Rattle.wire.specs.Limits.{mostStrings}
 use Rattle.wire.specs.Bytes.{isHex}
 use Rattle.text.specs.Event.{all}
-use Rattle.text.specs.Read.{Got, none, got, standsAt, isRaw, escapedByte, moveOf, saidOf, pushBytes, bodyFrom, checked, stringAt, cons, follow, textMembersAt, tagAt, runOf}
+use Rattle.text.specs.Read.{Got, none, got, standsAt, isRaw, escapedByte, moveOf, saidOf, pushBytes, bodyFrom}
+use Rattle.text.specs.Read.{checked, stringAt, cons, follow, textMembersAt, tagAt, runOf}
 use Rattle.text.specs.Kinds.{isEphemeral, isAddressable, classOf}
 use Rattle.text.specs.Inner.Parts.{gotEnd, isLetter, noZeroByte}
 use Rattle.text.specs.declared.Class.the-variants.{Regular, Replaceable, Ephemeral, Addressable}

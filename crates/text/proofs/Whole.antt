@@ -1,4 +1,5 @@
--- The text of an event within the limits is UTF-8, since its strings are and all else in it is ASCII. So a text that is not is none.
+-- The text of an event within the limits is UTF-8, since its strings are and all else in it is ASCII. So a text that is
+-- not is none.
 use mathlib.Core.Path.{_≡_, refl, sym, ap, _∙_}
 use mathlib.Core.Bool.{Bool, true, false, _&&_, _||_, false≢true}
 use mathlib.Core.List.{List, [], _∷_, _++_, append-assoc, append-nil}
@@ -16,7 +17,8 @@ use Rattle.wire.specs.Bytes.{isHex}
 use Rattle.wire.specs.Limits.{mostText, hexLength, mostTags, mostStrings}
 use Rattle.numeral.specs.Decimal.{digits, decimal}
 use Rattle.numeral.proofs.Digits.{digits-one, digits-split, by-digits}
-use Rattle.text.specs.Event.{Tag, Event, quoted, membersText, tagText, tagsText, opening, closing, comma, bracket, serialise, all, isPlainByte, isPubkey, isStringBytes, isTag, isTags, isFit}
+use Rattle.text.specs.Event.{Tag, Event, quoted, membersText, tagText, tagsText, opening, closing, comma, bracket}
+use Rattle.text.specs.Event.{serialise, all, isPlainByte, isPubkey, isStringBytes, isTag, isTags, isFit}
 use Rattle.text.specs.Read.{wrongShape, readText}
 use Rattle.text.specs.Answer.{textAnswerOf, textNumber, textReadRow}
 use Rattle.text.specs.declared.TextAnswer.the-variants as answer

@@ -59,7 +59,9 @@ bracket = ascii "]"
 -- [0,pubkey,created_at,kind,tags,content] with no white space
 unfoldable pub serialise : Event → Bytes
 serialise e =
-    opening ++ (e .pubkey ++ (closing ++ (decimal (e .time) ++ (comma ++ (digits (e .kind) ++ (comma ++ (tagsText (e .tags) ++ (comma ++ (quoted (e .content) ++ bracket)))))))))
+    opening ++ (e .pubkey ++ (closing ++
+    (decimal (e .time) ++ (comma ++
+    (digits (e .kind) ++ (comma ++ (tagsText (e .tags) ++ (comma ++ (quoted (e .content) ++ bracket)))))))))
 
 -- ---- limits
 unfoldable pub all : {A : Type 0} → (A → Bool) → List A → Bool
@@ -90,4 +92,5 @@ isTags ts = leb (length ts) mostTags && all isTag ts
 
 -- an event within the limits, but for its text's length
 unfoldable pub isFit : Event → Bool
-isFit e = isPubkey (e .pubkey) && (isTime (e .time) && (isKind (e .kind) && (isTags (e .tags) && isStringBytes (e .content))))
+isFit e =
+    isPubkey (e .pubkey) && (isTime (e .time) && (isKind (e .kind) && (isTags (e .tags) && isStringBytes (e .content))))

@@ -1,4 +1,5 @@
--- Worked tables of the text's bytes and escapes, of kinds, and of d: each computed, so that a slip in a definition shows.
+-- Worked tables of the text's bytes and escapes, of kinds, and of d: each computed, so that a slip in a definition
+-- shows.
 use mathlib.Core.Path.{_≡_, refl}
 use mathlib.Core.Bool.{not}
 use mathlib.Core.List.{[], _∷_, map}
@@ -24,11 +25,13 @@ letters : those (λ c. not (eqb (escapedByte c) 0)) 256 ≡ 34 ∷ 92 ∷ 98 ∷
 unfolding escapedByte
 letters = refl
 
-stand-for : map escapedByte (34 ∷ 92 ∷ 98 ∷ 102 ∷ 110 ∷ 114 ∷ 116 ∷ []) ≡ 0x22 ∷ 0x5c ∷ 0x08 ∷ 0x0c ∷ 0x0a ∷ 0x0d ∷ 0x09 ∷ []
+stand-for : map escapedByte (34 ∷ 92 ∷ 98 ∷ 102 ∷ 110 ∷ 114 ∷ 116 ∷ []) ≡ 0x22 ∷ 0x5c ∷ 0x08 ∷ 0x0c ∷ 0x0a ∷ 0x0d ∷ 0x09
+    ∷ []
 unfolding escapedByte
 stand-for = refl
 
--- the string of ,"\\\"n"] at 1 is \"n and ends before the bracket; "\/", "\u0041" and a raw 09 are no spellings of the text; / and 7F stand as they are
+-- the string of ,"\\\"n"] at 1 is \"n and ends before the bracket; "\/", "\u0041" and a raw 09 are no spellings of the
+-- text; / and 7F stand as they are
 strings :
     (stringAt (ascii ",\"\\\\\\\"n\"]") 1 ≡ got (ascii "\\\"n") 8)
     × (stringAt (ascii "\"\\/\"") 0 ≡ none)
@@ -49,9 +52,11 @@ high-kinds : map classOf (10000 ∷ 19999 ∷ 20000 ∷ 29999 ∷ 30000 ∷ 3999
 unfolding classOf
 high-kinds = refl
 
--- ---- d: of the first tag named d, although a later one has more; not of D, dd or an empty name; the second string, not the third
+-- ---- d: of the first tag named d, although a later one has more; not of D, dd or an empty name; the second string,
+-- not the third
 named :
-    (dOf ((ascii "x" ∷ ascii "1" ∷ []) ∷ (ascii "d" ∷ ascii "2" ∷ ascii "3" ∷ []) ∷ (ascii "d" ∷ ascii "4" ∷ []) ∷ []) ≡ ascii "2")
+    (dOf ((ascii "x" ∷ ascii "1" ∷ []) ∷ (ascii "d" ∷ ascii "2" ∷ ascii "3" ∷ []) ∷ (ascii "d" ∷ ascii "4" ∷ []) ∷ []) ≡
+    ascii "2")
     × (dOf ((ascii "d" ∷ []) ∷ (ascii "d" ∷ ascii "2" ∷ []) ∷ []) ≡ [])
     × (dOf ((ascii "D" ∷ ascii "1" ∷ []) ∷ (ascii "dd" ∷ ascii "2" ∷ []) ∷ ([] ∷ ascii "3" ∷ []) ∷ []) ≡ [])
 unfolding dOf

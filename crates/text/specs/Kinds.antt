@@ -22,7 +22,8 @@ isAddressable k = leb 30000 k && leb k 39999
 
 -- all other kinds are regular
 unfoldable pub classOf : ℕ → Class
-classOf k = cond (isReplaceable k) Replaceable (cond (isEphemeral k) Ephemeral (cond (isAddressable k) Addressable Regular))
+classOf k =
+    cond (isReplaceable k) Replaceable (cond (isEphemeral k) Ephemeral (cond (isAddressable k) Addressable Regular))
 
 -- the tag is named d
 abbrev pub isNamedD : Tag → Bool

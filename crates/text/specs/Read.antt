@@ -1,6 +1,6 @@
--- 01, "A text read back alone". A reader `xAt` of the text s at a place: `got x n` if x stands there and the text goes on at n.
--- Past the end of a text stands 0, which is no byte of a serialisation. That these readers do what 01's sentence says is proved:
--- proofs/RoundTrip, `accepted`, `too-large`, `wrong-shape`.
+-- 01, "A text read back alone". A reader `xAt` of the text s at a place: `got x n` if x stands there and the text goes
+-- on at n. Past the end of a text stands 0, which is no byte of a serialisation. That these readers do what 01's
+-- sentence says is proved: proofs/RoundTrip, `accepted`, `too-large`, `wrong-shape`.
 use mathlib.Core.Bool.{Bool, true, false, cond, _&&_}
 use mathlib.Core.List.{List, [], _∷_, _++_}
 use mathlib.Core.Path.{_≡_}
@@ -13,7 +13,8 @@ use Rattle.numeral.specs.Whole.{wholeOf}
 use Rattle.numeral.specs.Whole as numeral
 use Rattle.utf8.specs.Utf8.{isUtf8}
 use Rattle.wire.specs.Limits.{mostText, hexLength, mostTags, mostStrings}
-use Rattle.text.specs.Event.{Tag, Event, opening, closing, comma, bracket, serialise, isFit, isPubkey, isTime, isKind, isPlainByte}
+use Rattle.text.specs.Event.{Tag, Event, opening, closing, comma, bracket, serialise, isFit, isPubkey, isTime}
+use Rattle.text.specs.Event.{isKind, isPlainByte}
 use Rattle.text.specs.declared.Move.{Move}
 use Rattle.text.specs.declared.Move.the-variants.{Go, Stop, Refuse}
 use Rattle.wire.specs.Bytes.{Bytes, Place}
@@ -44,7 +45,8 @@ pairAt f g at = bind (f at) λ x n. bind (g n) λ y m. got (x, y) m
 unfoldable pub escapedByte : ℕ → ℕ
 escapedByte c =
     cond (eqb c 110) 0x0a
-    (cond (eqb c 34) 0x22 (cond (eqb c 92) 0x5c (cond (eqb c 114) 0x0d (cond (eqb c 116) 0x09 (cond (eqb c 98) 0x08 (cond (eqb c 102) 0x0c 0))))))
+    (cond (eqb c 34) 0x22 (cond (eqb c 92) 0x5c
+    (cond (eqb c 114) 0x0d (cond (eqb c 116) 0x09 (cond (eqb c 98) 0x08 (cond (eqb c 102) 0x0c 0))))))
 
 -- a byte that stands as it is
 unfoldable pub isRaw : ℕ → Bool
@@ -67,7 +69,8 @@ pushBytes p (got v n) = got (p ++ v) n
 -- a string after its opening quote, with the closing one; the list stands at i
 unfoldable pub bodyFrom : (e : Bool) (i : ℕ) (l : Bytes) → Got (List ℕ)
 bodyFrom e i [] = none
-bodyFrom e i (x ∷ l) = elim (moveOf e x) [ Go f ↦ pushBytes (saidOf e x) (bodyFrom f (i + 1) l) | Stop ↦ got [] (i + 1) | Refuse ↦ none ]
+bodyFrom e i (x ∷ l) =
+    elim (moveOf e x) [ Go f ↦ pushBytes (saidOf e x) (bodyFrom f (i + 1) l) | Stop ↦ got [] (i + 1) | Refuse ↦ none ]
 
 abbrev pub checked : Got (List ℕ) → Got (List ℕ)
 checked none = none
@@ -94,7 +97,9 @@ tagAt s at = cond (eqb (getD s at 0) 91) (textMembersAt (stringAt s) s mostStrin
 
 -- or none at all
 unfoldable pub tagsAt : Bytes → Place → Got (List Tag)
-tagsAt s at = cond (eqb (getD s at 0) 91) (cond (eqb (getD s (at + 1) 0) 93) (got [] (at + 2)) (textMembersAt (tagAt s) s mostTags (at + 1))) none
+tagsAt s at =
+    cond (eqb (getD s at 0) 91) (cond (eqb (getD s (at + 1) 0) 93) (got [] (at + 2))
+    (textMembersAt (tagAt s) s mostTags (at + 1))) none
 
 -- ---- numbers
 -- the bytes before the next comma
@@ -132,10 +137,12 @@ Fields = List ℕ × (ℤ × (ℕ × (List Tag × List ℕ)))
 unfoldable pub fieldsAt : Bytes → ℕ → Got Fields
 fieldsAt s =
     pairAt (closedAt s closing (pubkeyAt s))
-    (pairAt (closedAt s comma (timeAt s)) (pairAt (closedAt s comma (kindAt s)) (pairAt (closedAt s comma (tagsAt s)) (closedAt s bracket (stringAt s)))))
+    (pairAt (closedAt s comma (timeAt s))
+    (pairAt (closedAt s comma (kindAt s)) (pairAt (closedAt s comma (tagsAt s)) (closedAt s bracket (stringAt s)))))
 
 abbrev pub eventOfFields : Fields → Event
-eventOfFields x = record { pubkey = x .0; time = x .1 .0; kind = x .1 .1 .0; tags = x .1 .1 .1 .0; content = x .1 .1 .1 .1 }
+eventOfFields x =
+    record { pubkey = x .0; time = x .1 .0; kind = x .1 .1 .0; tags = x .1 .1 .1 .0; content = x .1 .1 .1 .1 }
 
 -- refused by row 9 or row 5, or read
 pub data Read : Type 0 where
@@ -150,7 +157,8 @@ ending t (got x n) = cond (eqb n (length t)) (read (eventOfFields x)) wrongShape
 unfoldable pub openedText : Bytes → Got Fields
 openedText t = cond (standsAt t opening 0) (fieldsAt t (length opening)) none
 
--- refused by 9 if over 4,096 bytes, else by 5 if it isn't byte for byte the serialisation of an event within these limits
+-- refused by 9 if over 4,096 bytes, else by 5 if it isn't byte for byte the serialisation of an event within these
+-- limits
 unfoldable pub readText : Bytes → Read
 readText t = cond (leb (length t) mostText) (ending t (openedText t)) tooLarge
 

@@ -55,8 +55,8 @@ pub(crate) fn end_at(k: u8, raw: bool) -> u8
     if raw { 32 } else { k }
 }
 
-// How many bytes of the 32 at i stand as they are, up to the first that does not. All are tested, with no way out of the loop, so that it is
-// compiled to vector code.
+// How many bytes of the 32 at i stand as they are, up to the first that does not. All are tested, with no way out of
+// the loop, so that it is compiled to vector code.
 pub(crate) fn raw_run(s: &[u8], i: usize) -> usize
     requires { ⌜ i + 32 ≤ length (now s) ⌝ }
     ensures { λ r. ⌜ Raws (now (s .entry)) i r ⌝ }
@@ -103,8 +103,8 @@ pub(crate) fn past_escapes(s: &[u8], at: usize) -> usize
     i
 }
 
-// The place after the closing quote of a string whose opening quote stands before `at`. Bytes go one at a time until 16 in a row stood as they
-// are: short strings, and escapes close to each other, are faster so.
+// The place after the closing quote of a string whose opening quote stands before `at`. Bytes go one at a time until 16
+// in a row stood as they are: short strings, and escapes close to each other, are faster so.
 pub(crate) fn body_end(s: &[u8], at: usize) -> Out
     ensures { λ r. ⌜ r ≡ gotEnd (bodyFrom false at (drop at (now (s .entry)))) ⌝ }
 {

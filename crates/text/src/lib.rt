@@ -43,8 +43,8 @@ enum Out {
     Bad,
 }
 
-// What a byte of a string does: the string goes on, after a backslash or not; it ends; or the byte may not stand there. The definition
-// goes by these; `body_end` takes a backslash and its letter at once.
+// What a byte of a string does: the string goes on, after a backslash or not; it ends; or the byte may not stand there.
+// The definition goes by these; `body_end` takes a backslash and its letter at once.
 enum Move {
     Go(bool),
     Stop,

@@ -10,7 +10,8 @@ ghost use Rattle.text.specs.Event.{Tag, comma, isPubkey};
 ghost use Rattle.text.specs.Read.{got, closedAt, tagAt, tagsAt, runOf, timeAt, kindAt};
 ghost use Rattle.text.specs.Kinds.{isNamedD, second};
 ghost use Rattle.text.specs.Answer.{spanBehind};
-ghost use Rattle.text.specs.Inner.Parts.{gotEnd, timeGot, kindGot, opens, foundOf, lookOf, taggedOf, restAt, restOf};
+ghost use Rattle.text.specs.Inner.Parts.{gotEnd, timeGot, kindGot, opens, foundOf, lookOf, taggedOf, restAt};
+ghost use Rattle.text.specs.Inner.Parts.{restOf};
 use crate::Found;
 use crate::Kind;
 use crate::Out;
@@ -55,7 +56,8 @@ pub(crate) fn tag_end(s: &[u8], at: usize) -> Out
 // The second string of a tag named d.
 pub(crate) fn second_at(s: &[u8], i: usize) -> Found
     requires { ⌜ i + 4 ≤ length (now s) ⌝ }
-    ensures { λ r. ⌜ ((t : Tag) (n : ℕ) → tagAt (now (s .entry)) i ≡ got t n → isNamedD t ≡ true → r ≡ foundOf (spanBehind (i + 6) (escape (second t)))) ⌝ }
+    ensures { λ r. ⌜ ((t : Tag) (n : ℕ) → tagAt (now (s .entry)) i ≡ got t n → isNamedD t ≡ true →
+        r ≡ foundOf (spanBehind (i + 6) (escape (second t)))) ⌝ }
 {
     let a = i + 4;
     if !body::stands(s, a, b",\"") {

@@ -1,5 +1,5 @@
--- The test says yes exactly of what the ABNF derives. One way by the derivation, the other by the bytes: from a state on, `After` says what
--- the bytes left have to be.
+-- The test says yes exactly of what the ABNF derives. One way by the derivation, the other by the bytes: from a state
+-- on, `After` says what the bytes left have to be.
 use mathlib.Core.Bool.{Bool, true, false, cond}
 use mathlib.Core.Path.{_≡_, refl}
 use mathlib.Core.List.{List, [], _∷_}
@@ -11,7 +11,8 @@ use lib.Dec.{leb, ltb, eqb, eqb·suc-zero}
 use Rattle.utf8.specs.declared.Want.{Want}
 use Rattle.utf8.specs.declared.Want.the-variants.{Lead, Tail, Bad}
 use Rattle.utf8.specs.Utf8.{leadOf, nextWant, ends, utf8From, isUtf8}
-use Rattle.utf8.specs.Abnf.{Range, Octets, none, utf8-1, utf8-2, utf8-3-e0, utf8-3-e1, utf8-3-ed, utf8-3-ee, utf8-4-f0, utf8-4-f1, utf8-4-f4, AsInAbnf}
+use Rattle.utf8.specs.Abnf.{Range, Octets, none, utf8-1, utf8-2, utf8-3-e0, utf8-3-e1, utf8-3-ed, utf8-3-ee}
+use Rattle.utf8.specs.Abnf.{utf8-4-f0, utf8-4-f1, utf8-4-f4, AsInAbnf}
 
 -- what a first octet of each range wants next
 module _ {a : ℕ} where

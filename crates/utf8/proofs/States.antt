@@ -1,5 +1,5 @@
--- The states that the scan gets into: within a character it wants tails, which are 80 to BF. So what is below 80 stands only where a
--- character may begin, and whatever is taken is a byte.
+-- The states that the scan gets into: within a character it wants tails, which are 80 to BF. So what is below 80 stands
+-- only where a character may begin, and whatever is taken is a byte.
 use mathlib.Core.Bool.{Bool, true, false, cond}
 use mathlib.Core.Path.{_≡_, refl}
 use mathlib.Core.Logic.{_⊎_, inl, inr}

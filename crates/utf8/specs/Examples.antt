@@ -14,7 +14,8 @@ taken :
 unfolding isUtf8 utf8From leadOf
 taken = (refl, refl, refl, refl, refl, refl)
 
--- C0 80 and E0 9F BF are overlong, ED A1 8C ED BE B4 are surrogates, F4 90 80 80 is past 10FFFF; a tail alone; a character cut off
+-- C0 80 and E0 9F BF are overlong, ED A1 8C ED BE B4 are surrogates, F4 90 80 80 is past 10FFFF; a tail alone; a
+-- character cut off
 refused :
     (isUtf8 (0xc0 ∷ 0x80 ∷ []) ≡ false)
     × (isUtf8 (0xe0 ∷ 0x9f ∷ 0xbf ∷ []) ≡ false)
@@ -25,8 +26,8 @@ refused :
 unfolding isUtf8 utf8From leadOf
 refused = (refl, refl, refl, refl, refl, refl)
 
--- the first and the last character of each rule of section 4; then what lies beyond: C1, a surrogate, an overlong F0, F5, and 7F and C0
--- where a tail is wanted
+-- the first and the last character of each rule of section 4; then what lies beyond: C1, a surrogate, an overlong F0,
+-- F5, and 7F and C0 where a tail is wanted
 borders :
     (isUtf8 (0xc2 ∷ 0x80 ∷ 0xdf ∷ 0xbf ∷ []) ≡ true)
     × (isUtf8 (0xe0 ∷ 0xa0 ∷ 0x80 ∷ 0xe0 ∷ 0xbf ∷ 0xbf ∷ 0xe1 ∷ 0x80 ∷ 0x80 ∷ 0xec ∷ 0xbf ∷ 0xbf ∷ []) ≡ true)

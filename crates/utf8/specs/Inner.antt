@@ -14,7 +14,8 @@ pub record Past (s : List ℕ) (i r : ℕ) : Type 0 where
   pub within : r ≤ length s
   pub same : utf8From Lead (drop i s) ≡ utf8From Lead (drop r s)
 
--- a character that begins at i and of which w is wanted at j: r is the place after it; or r is i, and the bytes are no UTF-8
+-- a character that begins at i and of which w is wanted at j: r is the place after it; or r is i, and the bytes are no
+-- UTF-8
 pub record Passed (w : Want) (s : List ℕ) (j i r : ℕ) : Type 0 where
   pub from : i ≤ r
   pub within : r ≤ length s

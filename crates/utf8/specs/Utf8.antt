@@ -1,4 +1,5 @@
--- RFC 3629 section 4, the syntax of UTF-8 byte sequences, by recursion on the bytes with a state: what the next byte has to be.
+-- RFC 3629 section 4, the syntax of UTF-8 byte sequences, by recursion on the bytes with a state: what the next byte
+-- has to be.
 use mathlib.Core.Bool.{Bool, true, false, cond}
 use mathlib.Core.List.{List, [], _∷_}
 use Prim.Native.Nat.{ℕ, _-_}
@@ -7,7 +8,8 @@ use Rattle.utf8.specs.declared.Want.{Want}
 use Rattle.utf8.specs.declared.Want.the-variants.{Lead, Tail, Bad}
 use Rattle.wire.specs.Bytes.{Bytes}
 
--- what follows the first octet of a character. `Tail lo hi n`: an octet from lo to hi, and after it n times UTF8-tail, which is 80 to BF
+-- what follows the first octet of a character. `Tail lo hi n`: an octet from lo to hi, and after it n times UTF8-tail,
+-- which is 80 to BF
 unfoldable pub leadOf : ℕ → Want
 leadOf x =
     cond (leb x 0x7f) Lead

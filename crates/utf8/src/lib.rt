@@ -5,7 +5,8 @@ ghost use lib.ListN.{length};
 ghost use Rattle.utf8.specs.Inner.{Past, Passed, Small};
 ghost use Rattle.utf8.specs.Utf8.{leadOf, isUtf8};
 
-// What the next byte has to be: the first of a character, one from the first number to the second with so many tails after it, or nothing will do.
+// What the next byte has to be: the first of a character, one from the first number to the second with so many tails
+// after it, or nothing will do.
 pub enum Want {
     Lead,
     Tail(u8, u8, u8),
@@ -56,8 +57,8 @@ fn past_ascii(s: &[u8], i: usize) -> usize
     k
 }
 
-// The place after a character whose first byte stands at i: an octet from lo to hi comes next, and after it so many tails. Or i itself, if
-// that is not what comes.
+// The place after a character whose first byte stands at i: an octet from lo to hi comes next, and after it so many
+// tails. Or i itself, if that is not what comes.
 fn past_tails(s: &[u8], i: usize, lo: u8, hi: u8, more: u8) -> usize
     requires { ⌜ i < length (now s) ⌝ }
     requires { ⌜ Small (Want.Tail lo hi more) ⌝ }

@@ -1,4 +1,5 @@
--- The items from i on, of which at most length s - k are left, end where the value does. The cycle's measure is the depth.
+-- The items from i on, of which at most length s - k are left, end where the value does. The cycle's measure is the
+-- depth.
 use mathlib.Core.Path.{_≡_, refl, sym, ap, _∙_}
 use Prim.Native.Nat.{ℕ, _-_, _<_, _≤_}
 use native.Mathlib.Omega.{arith}
@@ -9,7 +10,8 @@ use lib.ListN.{length}
 use Rattle.json.specs.Tree.{endOf, itemsAt, treeAt}
 use Rattle.json.specs.declared.Start.the-variants.{Leaf, Empty}
 use Rattle.json.specs.declared.Next.the-variants.{More, Done, Wrong}
-use Rattle.json.proofs.Trees.{value-open, value-flat, value-many, endItems, fold-gone, fold-unnamed, fold-bad, fold-next}
+use Rattle.json.proofs.Trees.{value-open, value-flat, value-many, endItems, fold-gone, fold-unnamed, fold-bad}
+use Rattle.json.proofs.Trees.{fold-next}
 use Rattle.json.proofs.value.Reads as value
 use Rattle.json.proofs.value.Kinds as value-kinds
 use Rattle.json.proofs.+value.Lts-value as lts

@@ -1,4 +1,5 @@
--- The invariant: the line lies in its buffer and has no 0A in it, and no more lines are left than before. The measure: the lines that are left.
+-- The invariant: the line lies in its buffer and has no 0A in it, and no more lines are left than before. The measure:
+-- the lines that are left.
 use Prim.Native.Nat.{_≤_}
 use lib.ListN.{length}
 use mathlib.Core.Path.{_≡_}

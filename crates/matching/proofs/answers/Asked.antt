@@ -18,7 +18,8 @@ use Rattle.table.specs.Sound.{sound}
 use Rattle.table.proofs.Bytes.{clauses}
 use Rattle.table.proofs.Lists.{entry-in}
 use Rattle.query.specs.Filter.{Filter, filterOf}
-use Rattle.query.specs.Answer.{among, numbersFrom, matchesSlot, meant, answerTo, filtersRow, listingRow, listed, listedRow, listingNumber}
+use Rattle.query.specs.Answer.{among, numbersFrom, matchesSlot, meant, answerTo, filtersRow, listingRow, listed}
+use Rattle.query.specs.Answer.{listedRow, listingNumber}
 use Rattle.query.specs.Claims.{AllPass}
 use Rattle.query.specs.declared.Listing.{Listing}
 use Rattle.query.specs.declared.Listing.the-variants.{Count, Refused}

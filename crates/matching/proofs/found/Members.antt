@@ -14,7 +14,8 @@ use Rattle.wire.specs.Bytes.{part}
 use Rattle.wire.specs.Limits.{mostSmall}
 use Rattle.spell.specs.Spell.{decode}
 use Rattle.json.specs.Grammar.{scalarAt, startAt}
-use Rattle.json.specs.Tree.{Json, word, num, str, arr, obj, Items, nil, item, Got, none, got, bind, onLeaf, node, itemsAt, groupAt, depth, treeAt, onArray}
+use Rattle.json.specs.Tree.{Json, word, num, str, arr, obj, Items, nil, item, Got, none, got, bind, onLeaf, node}
+use Rattle.json.specs.Tree.{itemsAt, groupAt, depth, treeAt, onArray}
 use Rattle.json.specs.declared.Kind.{Kind}
 use Rattle.json.specs.declared.Kind.the-variants.{Str, Num, Word, None}
 use Rattle.json.specs.declared.Start.{Start}
@@ -38,7 +39,8 @@ use Rattle.query.specs.Filter.{stringsIn, numbersOf, numbersIn}
 use Rattle.matching.specs.Inner.Found.{spelledBy, numbersBy}
 use Rattle.matching.specs.Inner.Steps.{placed}
 use Rattle.matching.specs.Inner.Finds.{Finds, smallFrom, smallOf, smallAt}
-use Rattle.matching.proofs.found.Lists.{Going, going-none, going-full, going-there, going-more, going-start, take-past, store-one, store-two, strings-more, numbers-more}
+use Rattle.matching.proofs.found.Lists.{Going, going-none, going-full, going-there, going-more, going-start}
+use Rattle.matching.proofs.found.Lists.{take-past, store-one, store-two, strings-more, numbers-more}
 
 -- ---- strings
 abbrev pub Strings : List ℕ → ℕ → List ℕ → ℕ → List ℕ → Listed → ℕ → Type 0

@@ -11,14 +11,16 @@ use lib.Seq.{take-suc-set}
 use Rattle.wire.specs.Bytes.{part}
 use Rattle.spell.specs.Spell.{decode}
 use Rattle.json.specs.Grammar.{case, startAt, headAt, nextAt}
-use Rattle.json.specs.Tree.{Json, word, num, str, arr, obj, Items, nil, item, Got, none, got, endOf, depth, treeAt, onObject}
+use Rattle.json.specs.Tree.{Json, word, num, str, arr, obj, Items, nil, item, Got, none, got, endOf, depth, treeAt}
+use Rattle.json.specs.Tree.{onObject}
 use Rattle.json.specs.declared.Out.{Out}
 use Rattle.json.specs.declared.Out.the-variants.{End, Bad}
 use Rattle.json.specs.declared.Start.{Start}
 use Rattle.json.specs.declared.Next.{Next}
 use Rattle.json.specs.declared.Next.the-variants.{More, Done, Wrong}
 use Rattle.rows.specs.Strings.{spelledAt}
-use Rattle.shape.specs.Shape.{anyItem, allItems, countItems, count, nameAt, isString, isArrayOf, isLetter, isCondition, filterMember, noNameTwice, isFilter}
+use Rattle.shape.specs.Shape.{anyItem, allItems, countItems, count, nameAt, isString, isArrayOf, isLetter, isCondition}
+use Rattle.shape.specs.Shape.{filterMember, noNameTwice, isFilter}
 use Rattle.shape.specs.Rows.{outside, wrongList, wrongFilter, filterCounts}
 use Rattle.message.specs.declared.Listed.{Listed}
 use Rattle.message.specs.declared.Listed.the-variants.{Absent, At}
@@ -33,7 +35,8 @@ use Rattle.event.specs.Lent.{tagOf}
 use Rattle.query.specs.Filter.{Condition, stringsIn, conditionsOf, conditionsIn}
 use Rattle.matching.specs.declared.Needed.{Needed}
 use Rattle.matching.specs.Inner.Found.{spelledBy, conditionBy}
-use Rattle.matching.specs.Inner.Finds.{Finds, FindsConditions, firstNamed, moreNamed, nextNamed, valuePlace, conditionLetter}
+use Rattle.matching.specs.Inner.Finds.{Finds, FindsConditions, firstNamed, moreNamed, nextNamed, valuePlace}
+use Rattle.matching.specs.Inner.Finds.{conditionLetter}
 use Rattle.matching.proofs.found.Lists.{take-past}
 
 -- ---- the place of the first name that is left; each name is followed by its value and then by the next name

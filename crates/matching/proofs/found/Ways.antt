@@ -32,7 +32,8 @@ use Rattle.matching.specs.declared.Members.the-variants as members
 use Rattle.matching.specs.declared.Needed.{Needed}
 use Rattle.matching.specs.declared.Known.{Known}
 use Rattle.matching.specs.Inner.Found.{given, spelledBy, numbersBy, conditionBy, filterBy}
-use Rattle.matching.specs.Inner.Finds.{Finds, FindsMembers, FindsConditions, reach, firstNamed, moreNamed, nextNamed, valuePlace, conditionLetter}
+use Rattle.matching.specs.Inner.Finds.{Finds, FindsMembers, FindsConditions, reach, firstNamed, moreNamed}
+use Rattle.matching.specs.Inner.Finds.{nextNamed, valuePlace, conditionLetter}
 use Rattle.matching.proofs.found.Objects.{part-same, take-shorter}
 
 -- ---- a name

@@ -1,7 +1,8 @@
 -- A law for each way out.
 use borrow.Author.Needs.{needs}
 use Rattle.message.proofs.Checked.{event-tags}
-use Rattle.matching.proofs.several.Ways.{row-refuses, event-passed, filters-passed, large-refuses, some-matches, none-matches}
+use Rattle.matching.proofs.several.Ways.{row-refuses, event-passed, filters-passed, large-refuses, some-matches}
+use Rattle.matching.proofs.several.Ways.{none-matches}
 use Rattle.matching.proofs.matched.Statement.{statement}
 use Rattle.matching.proofs.matched.Tie as tie
 

@@ -1,4 +1,5 @@
--- A # condition over the tree: what the second string of a tag says, and the tags that are left while they are passed one by one.
+-- A # condition over the tree: what the second string of a tag says, and the tags that are left while they are passed
+-- one by one.
 use mathlib.Core.Path.{_≡_, refl, sym, ap, _∙_}
 use mathlib.Core.Bool.{Bool, true, false, cond, not, _&&_, _||_}
 use mathlib.Core.List.{List, [], _∷_}
@@ -18,7 +19,8 @@ use Rattle.message.specs.declared.Listed.the-variants.{Absent, At}
 use Rattle.message.specs.Lists.{startElement, nextOf}
 use Rattle.message.specs.Lent.{isTagsShape, onValue, value5}
 use Rattle.message.proofs.Walks.{deeper}
-use Rattle.message.proofs.Elements.{group-of, firstPlace, firstIn, first-in, items-few, Listing, end, one, array-listing}
+use Rattle.message.proofs.Elements.{group-of, firstPlace, firstIn, first-in, items-few, Listing, end, one}
+use Rattle.message.proofs.Elements.{array-listing}
 use Rattle.event.specs.Lent.{stringOf, stringsOf, tagOf, tagsOf, tagsIn, lentTagsAt}
 use Rattle.event.proofs.Strings.{spelled-says}
 use Rattle.law.specs.Lists.{any}

@@ -50,7 +50,8 @@ abbrev pub rowRoom : ℕ
 rowRoom = conditionsPlace + mostConditions * stringsRoom
 
 -- what a list says stands in the row from a place on, in n numbers of at most so many; what stands before it stays
-pub record Finds {X : Type 0} (means : List ℕ → List X) (whole : List X) (most : ℕ) (before : List ℕ) (at n : ℕ) (row : List ℕ) : Type 0 where
+pub record Finds {X : Type 0} (means : List ℕ → List X) (whole : List X) (most : ℕ) (before : List ℕ) (at n : ℕ)
+    (row : List ℕ) : Type 0 where
   pub few : n ≤ most
   pub is : means (part row at n) ≡ whole
   pub same : take at row ≡ take at before
@@ -61,14 +62,17 @@ abbrev pub reach : Members → ℕ
 reach members.Absent = 0
 reach (members.In a n) = a + n
 
-pub record FindsMembers {X : Type 0} (means : List ℕ → List X) (whole : Option (List X)) (most : ℕ) (before : List ℕ) (at : ℕ) (l : Members) (row : List ℕ) : Type 0 where
+pub record FindsMembers {X : Type 0} (means : List ℕ → List X) (whole : Option (List X)) (most : ℕ) (before : List ℕ)
+    (at : ℕ) (l : Members) (row : List ℕ) : Type 0 where
   pub inside : reach l ≤ at + most
   pub is : given means row l ≡ whole
   pub same : take at row ≡ take at before
   pub long : length row ≡ length before
 
--- the conditions that a filter's object has, the first n of a list; their members stand in the row behind the other lists
-pub record FindsConditions (m : List ℕ) (l : Listed) (before : List ℕ) (list : List Needed) (n : ℕ) (row : List ℕ) : Type 0 where
+-- the conditions that a filter's object has, the first n of a list; their members stand in the row behind the other
+-- lists
+pub record FindsConditions (m : List ℕ) (l : Listed) (before : List ℕ) (list : List Needed) (n : ℕ)
+    (row : List ℕ) : Type 0 where
   pub is : map (conditionBy m row) (take n list) ≡ conditionsIn m l
   pub same : take conditionsPlace row ≡ take conditionsPlace before
   pub long : length row ≡ length before

@@ -1,5 +1,5 @@
--- A filter whose list members were found beforehand: they stand in a row of numbers, strings as two numbers each (start and length of
--- what stands between the quotes, in the buffer m), kinds as one.
+-- A filter whose list members were found beforehand: they stand in a row of numbers, strings as two numbers each (start
+-- and length of what stands between the quotes, in the buffer m), kinds as one.
 use mathlib.Core.Option.{Option, none, some}
 use mathlib.Core.List.{List, [], _∷_, map}
 use Prim.Native.Nat.{ℕ}

@@ -1,5 +1,5 @@
--- A byte for each held slot and filter, four to a slot: whether the slot matches the filter. Each pair is matched once, and the order is
--- found over these bytes.
+-- A byte for each held slot and filter, four to a slot: whether the slot matches the filter. Each pair is matched once,
+-- and the order is found over these bytes.
 use mathlib.Core.Path.{_≡_}
 use mathlib.Core.Bool.{Bool, not}
 use mathlib.Core.List.{List}

@@ -1,4 +1,5 @@
--- One pass over slots that stand newest first: each filter has a number of matches that it still takes, to begin with its limit.
+-- One pass over slots that stand newest first: each filter has a number of matches that it still takes, to begin with
+-- its limit.
 use mathlib.Core.Bool.{Bool, true, false, cond}
 use mathlib.Core.List.{List, [], _∷_, _++_, map}
 use Prim.Native.Nat.{ℕ, suc, _+_, _-_, min}
@@ -29,7 +30,8 @@ takers hit s f (k ∷ ks) = (k - after (hit f s) k) + takers hit s (suc f) ks
 -- the slots that some filter takes
 unfoldable pub pass : (hit : ℕ → ℕ → Bool) (ks l : List ℕ) → List ℕ
 pass hit ks [] = []
-pass hit ks (s ∷ l) = cond (ltb 0 (takers hit s 0 ks)) (s ∷ pass hit (lefts hit s 0 ks) l) (pass hit (lefts hit s 0 ks) l)
+pass hit ks (s ∷ l) =
+    cond (ltb 0 (takers hit s 0 ks)) (s ∷ pass hit (lefts hit s 0 ks) l) (pass hit (lefts hit s 0 ks) l)
 
 -- some filter takes s where each has its number to begin with
 unfoldable pub mayTake : (hit : ℕ → ℕ → Bool) (ks : List ℕ) (s : ℕ) → Bool

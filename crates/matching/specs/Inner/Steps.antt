@@ -47,4 +47,5 @@ fitsBy b ms (Is a n) = isMember ms (decode (part b a n))
 -- the conditions on an event's public key, kind and time
 unfoldable pub fieldsHold : (f : Filter) (key : Bytes) (time : ℤ) (kind : ℕ) → Bool
 fieldsHold f key time kind =
-    isListed (f .authors) key && (kindListed (f .kinds) kind && (sinceHolds (f .since) time && untilHolds (f .until) time))
+    isListed (f .authors) key && (kindListed (f .kinds) kind &&
+    (sinceHolds (f .since) time && untilHolds (f .until) time))

@@ -1,5 +1,5 @@
--- What specs/Program, Replies and Lent mean, in the sentences of 01: proved in proofs/Which, Shown, Lines, Plain, Kept, Lent and Sendable,
--- each under its own name in small letters (EarlyRow: early-row).
+-- What specs/Program, Replies and Lent mean, in the sentences of 01: proved in proofs/Which, Shown, Lines, Plain, Kept,
+-- Lent and Sendable, each under its own name in small letters (EarlyRow: early-row).
 use mathlib.Core.Path.{_≡_}
 use mathlib.Core.Bool.{true, false, cond}
 use mathlib.Core.Logic.{_↔_, _⊎_, _≢_}
@@ -72,7 +72,8 @@ Covered = (m : List ℕ) → ((1 ≤ messageRow m) × (messageRow m ≤ 8)) ⊎ 
 -- "Rows 1-5 give NOTICE."
 abbrev pub EarlyRow : Type 0
 EarlyRow =
-    (b m : List ℕ) → 1 ≤ messageRow m → messageRow m ≤ 5 → (repliesTo b m ≡ notice (reasonOf (messageRow m)) ∷ []) × (tableAfter b m ≡ b)
+    (b m : List ℕ) → 1 ≤ messageRow m → messageRow m ≤ 5 → (repliesTo b m ≡ notice (reasonOf (messageRow m)) ∷ []) ×
+    (tableAfter b m ≡ b)
 
 -- rows 6 to 8 are asked of an EVENT, a REQ or a CLOSE
 abbrev pub LateWord : Type 0
@@ -82,7 +83,8 @@ LateWord = (m : List ℕ) → 6 ≤ messageRow m → wordIn m ≢ other
 abbrev pub LateEvent : Type 0
 LateEvent = (b m : List ℕ) → 6 ≤ messageRow m → wordIn m ≡ event →
     (repliesTo b m
-    ≡ cond (isHexOf hexLength (spanBytes m (idField m))) (ok (said m (idField m)) false (reasonOf (messageRow m))) (notice (reasonOf (messageRow m)))
+    ≡ cond (isHexOf hexLength (spanBytes m (idField m))) (ok (said m (idField m)) false (reasonOf (messageRow m)))
+    (notice (reasonOf (messageRow m)))
     ∷ [])
     × (tableAfter b m ≡ b)
 
@@ -90,29 +92,37 @@ LateEvent = (b m : List ℕ) → 6 ≤ messageRow m → wordIn m ≡ event →
 abbrev pub LateRequest : Type 0
 LateRequest = (b m : List ℕ) → 6 ≤ messageRow m → wordIn m ≡ req →
     (repliesTo b m
-    ≡ cond (wrongSubscription m (firstItem (restItems m))) (notice (reasonOf (messageRow m))) (closed (said m (subscriptionField m)) (reasonOf (messageRow m)))
+    ≡ cond (wrongSubscription m (firstItem (restItems m))) (notice (reasonOf (messageRow m)))
+    (closed (said m (subscriptionField m)) (reasonOf (messageRow m)))
     ∷ [])
     × (tableAfter b m ≡ b)
 
 -- a CLOSE has neither: "otherwise NOTICE"
 abbrev pub LateClose : Type 0
-LateClose = (b m : List ℕ) → 6 ≤ messageRow m → wordIn m ≡ close → (repliesTo b m ≡ notice (reasonOf (messageRow m)) ∷ []) × (tableAfter b m ≡ b)
+LateClose =
+    (b m : List ℕ) → 6 ≤ messageRow m → wordIn m ≡ close → (repliesTo b m ≡ notice (reasonOf (messageRow m)) ∷ []) ×
+    (tableAfter b m ≡ b)
 
 -- ---- read: what rows 9 to 12 would name is there
 abbrev pub NamesId : Type 0
 NamesId = (m : List ℕ) (p : EventParts) → readOf m ≡ message.Event p → namedOf m ≡ names.Id (p .id)
 
 abbrev pub NamesSubscription : Type 0
-NamesSubscription = (m : List ℕ) (r : ReqParts) → readOf m ≡ message.Req r → namedOf m ≡ names.Subscription (r .subscription)
+NamesSubscription =
+    (m : List ℕ) (r : ReqParts) → readOf m ≡ message.Req r → namedOf m ≡ names.Subscription (r .subscription)
 
 -- an EVENT that was read is refused, if at all, by one of rows 9 to 12
 abbrev pub LastRows : Type 0
-LastRows = (b m : List ℕ) (p : EventParts) (r : ℕ) → readOf m ≡ message.Event p → answer b (asMessage m) ≡ Refused r → (9 ≤ r) × (r ≤ 12)
+LastRows =
+    (b m : List ℕ) (p : EventParts) (r : ℕ) → readOf m ≡ message.Event p → answer b (asMessage m) ≡ Refused r →
+    (9 ≤ r) × (r ≤ 12)
 
--- one OK that names its id: true with a verdict, false on a refusal; "Replies: ephemeral and stored `true,""`; duplicate .. older .."
+-- one OK that names its id: true with a verdict, false on a refusal; "Replies: ephemeral and stored `true,""`;
+-- duplicate .. older .."
 abbrev pub ReadEvent : Type 0
 ReadEvent = (b m : List ℕ) (p : EventParts) → readOf m ≡ message.Event p →
-    (repliesTo b m ≡ ok (said m (p .id)) (isAccepted (answer b (asMessage m))) (verdictReason (answer b (asMessage m))) ∷ [])
+    (repliesTo b m ≡ ok (said m (p .id)) (isAccepted (answer b (asMessage m))) (verdictReason (answer b (asMessage m)))
+    ∷ [])
     × (tableAfter b m ≡ next b (asMessage m))
 
 -- "CLOSE gives nothing."
@@ -122,7 +132,8 @@ ReadClose = (b m : List ℕ) (p : Span) → readOf m ≡ message.Close p → (re
 -- an EVENT for each slot number, in their order, with the event, id and signature that the slot holds
 pub data Shows (b sub : List ℕ) : List ℕ → List Reply → Type 0 where
   no-slot : Shows b sub [] []
-  slot : {k : ℕ} {e : Event} {ks : List ℕ} {rs : List Reply} → readText (textIn (slotAt b k)) ≡ read e → Shows b sub ks rs
+  slot : {k : ℕ} {e : Event} {ks : List ℕ} {rs : List Reply} → readText (textIn (slotAt b k)) ≡ read e →
+      Shows b sub ks rs
       → Shows b sub (k ∷ ks) (replies.event sub (hexOf (idIn (slotAt b k))) e (hexOf (sigIn (slotAt b k))) ∷ rs)
 
 -- "An accepted REQ gives its EVENTs, then EOSE."
@@ -145,18 +156,24 @@ BadTable = (b m : List ℕ) (r : ReqParts) → readOf m ≡ message.Req r → so
 
 -- only an EVENT that is stored changes the table
 abbrev pub OnlyStored : Type 0
-OnlyStored = (b m : List ℕ) → (tableAfter b m ≡ b) ⊎ ((p : EventParts) × (readOf m ≡ message.Event p) × (answer b (asMessage m) ≡ Stored))
+OnlyStored =
+    (b m : List ℕ) → (tableAfter b m ≡ b) ⊎
+    ((p : EventParts) × (readOf m ≡ message.Event p) × (answer b (asMessage m) ≡ Stored))
 
 -- ---- messages that are valid
--- "EVENT: two elements, the second an object with id, pubkey, created_at, kind, tags, content, sig": the object spelled as in replies
+-- "EVENT: two elements, the second an object with id, pubkey, created_at, kind, tags, content, sig": the object spelled
+-- as in replies
 abbrev pub eventMessage : (id : Bytes) (e : Event) (sig : Bytes) → Bytes
 eventMessage i e s = ascii "[\"EVENT\"," ++ (objectText i e s ++ ascii "]")
 
--- "A valid event is one offered, as a message or as parts, that none of rows 1 to 10 refuses." Each event within the limits has such a message,
--- with its text's hash as id and any 64 bytes as signature: no relay may refuse everything
+-- "A valid event is one offered, as a message or as parts, that none of rows 1 to 10 refuses." Each event within the
+-- limits has such a message, with its text's hash as id and any 64 bytes as signature: no relay may refuse everything
 abbrev pub Sendable : Type 0
-Sendable = (e : Event) (sig : List ℕ) → isFit e ≡ true → length (serialise e) ≤ mostText → length sig ≡ 64 → all isByte sig ≡ true →
-    offers.judge (asMessage (eventMessage (hexOf (digest (serialise e))) e (hexOf sig))) ≡ some (ofHeld (record { id = digest (serialise e); sig = sig; event = e }))
+Sendable =
+    (e : Event) (sig : List ℕ) → isFit e ≡ true → length (serialise e) ≤ mostText → length sig ≡ 64 →
+    all isByte sig ≡ true →
+    offers.judge (asMessage (eventMessage (hexOf (digest (serialise e))) e (hexOf sig))) ≡ some
+    (ofHeld (record { id = digest (serialise e); sig = sig; event = e }))
 
 -- ---- lines
 -- "0A ends a line and is no part of the message"
@@ -172,12 +189,15 @@ NoLine = lines [] ≡ []
 
 -- "an overlong line gives one reply"
 abbrev pub Overlong : Type 0
-Overlong = (b m : List ℕ) → mostMessage < length m → (repliesTo b m ≡ notice (ascii "invalid: message too long") ∷ []) × (tableAfter b m ≡ b)
+Overlong =
+    (b m : List ℕ) → mostMessage < length m → (repliesTo b m ≡ notice (ascii "invalid: message too long") ∷ []) ×
+    (tableAfter b m ≡ b)
 
 -- ---- the program
 -- "over a fresh table of 8 slots"
 abbrev pub FreshTable : Type 0
-FreshTable = (sound freshTable ≡ true) × (capacityOf freshTable ≡ 8) × (view freshTable ≡ []) × (length freshTable ≡ tableSize 8)
+FreshTable =
+    (sound freshTable ≡ true) × (capacityOf freshTable ≡ 8) × (view freshTable ≡ []) × (length freshTable ≡ tableSize 8)
 
 -- each message finds the table that the last one left
 abbrev pub tableFrom : Bytes → List (List ℕ) → Bytes
@@ -201,7 +221,8 @@ GoesOn = (b s rest : List ℕ) →
 -- so no line of the input changes what was written before it
 abbrev pub OutputGoesOn : Type 0
 OutputGoesOn = (s rest : List ℕ) →
-    output (s ++ (0x0a ∷ rest)) ≡ output (s ++ (0x0a ∷ [])) ++ outputFrom (tableFrom freshTable (lines (s ++ (0x0a ∷ [])))) (lines rest)
+    output (s ++ (0x0a ∷ rest)) ≡ output (s ++ (0x0a ∷ [])) ++ outputFrom
+    (tableFrom freshTable (lines (s ++ (0x0a ∷ [])))) (lines rest)
 
 -- "The program ends each reply with 0A": the output is the replies written, and its lines are the replies
 abbrev pub OutputIs : Type 0
@@ -220,7 +241,9 @@ abbrev pub offersIn : List (List ℕ) → List (Offer tableEvents)
 offersIn ms = judged tableEvents Signature relay (map asMessage ms)
 
 abbrev pub ProgramSettles : Type 0
-ProgramSettles = (ms : List (List ℕ)) → IdPremise tableEvents (offersIn ms) → NoneLacksOn tableEvents Signature relay freshTable (map asMessage ms) →
+ProgramSettles =
+    (ms : List (List ℕ)) → IdPremise tableEvents (offersIn ms) → NoneLacksOn tableEvents Signature relay freshTable
+    (map asMessage ms) →
     Settled tableEvents (map (signature.event tableEvents Signature) (view (tableFrom freshTable ms))) (offersIn ms)
 
 -- ---- "A refusal carries its number and no other value": of an offer, the row of a refusal, and 0 for a verdict

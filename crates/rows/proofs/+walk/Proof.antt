@@ -1,4 +1,5 @@
--- The items from i on, of which at most length s - k are left, come to what the value comes to. The cycle's measure is the depth.
+-- The items from i on, of which at most length s - k are left, come to what the value comes to. The cycle's measure is
+-- the depth.
 use mathlib.Core.Path.{_≡_, sym, ap, _∙_}
 use Prim.Native.Nat.{ℕ, _+_, _-_, _<_}
 use native.Mathlib.Omega.{arith}

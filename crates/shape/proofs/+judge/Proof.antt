@@ -1,4 +1,5 @@
--- The rows of the items from i on, after what was tallied before, are those of the whole value. The cycle's measure is the depth.
+-- The rows of the items from i on, after what was tallied before, are those of the whole value. The cycle's measure is
+-- the depth.
 use mathlib.Core.Path.{_≡_, sym, ap, _∙_}
 use Prim.Native.Nat.{ℕ, _-_, _<_}
 use native.Mathlib.Omega.{arith}
@@ -13,7 +14,8 @@ use Rattle.json.proofs.Trees.{value-open, value-flat}
 use Rattle.shape.specs.declared.Judged.the-variants.{Ends}
 use Rattle.shape.specs.Inner.{judgedOf}
 use Rattle.shape.proofs.Slots.{slot-small}
-use Rattle.shape.proofs.Walks.{judgedItems, judge-empty, judge-many, judge-gone, judge-unnamed, judge-bad, judge-next}
+use Rattle.shape.proofs.Walks.{judgedItems, judge-empty, judge-many, judge-gone, judge-unnamed, judge-bad}
+use Rattle.shape.proofs.Walks.{judge-next}
 use Rattle.shape.proofs.judge.Reads as judge
 use Rattle.shape.proofs.judge.Kinds as judge-kinds
 use Rattle.shape.proofs.+judge.Lts-judge as lts

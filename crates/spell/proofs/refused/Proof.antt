@@ -6,7 +6,8 @@ use mathlib.Core.Path.{_≡_, refl, sym, _∙_}
 use Prim.Native.Nat.{_-_}
 use lib.ListN.{length, drop}
 use Rattle.spell.specs.Spell.{refuses, any, isRefused, chars}
-use Rattle.spell.proofs.Chars.{raw-is, raw-refused, short-is, short-refused, refused-here, refused-later, refused-none}
+use Rattle.spell.proofs.Chars.{raw-is, raw-refused, short-is, short-refused, refused-here, refused-later}
+use Rattle.spell.proofs.Chars.{refused-none}
 use Rattle.spell.proofs.refused.Statement.{statement}
 use Rattle.spell.proofs.refused.Tie as tie
 

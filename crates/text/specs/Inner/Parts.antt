@@ -8,7 +8,8 @@ use lib.IntN.{ℤ}
 use lib.ListN.{length, getD, drop}
 use Rattle.wire.specs.Escape.{escape}
 use Rattle.text.specs.Event.{Tag, closing, comma, bracket, opening, tagsText}
-use Rattle.text.specs.Read.{Got, none, got, escapedByte, isRaw, bodyFrom, standsAt, closedAt, pairAt, pubkeyAt, tagsAt, stringAt}
+use Rattle.text.specs.Read.{Got, none, got, escapedByte, isRaw, bodyFrom, standsAt, closedAt, pairAt, pubkeyAt}
+use Rattle.text.specs.Read.{tagsAt, stringAt}
 use Rattle.text.specs.Kinds.{isNamedD, second}
 use Rattle.text.specs.Answer.{Span, spanBehind, dSpan}
 use Rattle.text.specs.declared.Out.{Out}
@@ -89,4 +90,5 @@ restAt s = pairAt (closedAt s comma (tagsAt s)) (closedAt s bracket (stringAt s)
 abbrev pub restOf : (l : ℕ) (at : Place) (none : Got (List Tag × List ℕ)) → Rest
 restOf l at none = rest.Bad
 restOf l at (got x n) =
-    cond (eqb n l) (rest.Is (at + length (tagsText (x .0)) + 2) (length (escape (x .1))) (dSpan (at + 1) (x .0) .at) (dSpan (at + 1) (x .0) .len)) rest.Bad
+    cond (eqb n l) (rest.Is (at + length (tagsText (x .0)) + 2) (length (escape (x .1))) (dSpan (at + 1) (x .0) .at)
+    (dSpan (at + 1) (x .0) .len)) rest.Bad

@@ -1,4 +1,5 @@
--- A turn for each octet: one that is not wanted ends the scan, and the last one that is wanted leaves it where a character may begin.
+-- A turn for each octet: one that is not wanted ends the scan, and the last one that is wanted leaves it where a
+-- character may begin.
 use mathlib.Core.Path.{_∙_}
 use Prim.Native.Nat.{_+_, _-_}
 use native.Mathlib.Omega.{arith}

@@ -1,4 +1,5 @@
--- The rounds over the block's schedule, and the eight sums: each is rewritten by what its callee ensures. Assumes nothing.
+-- The rounds over the block's schedule, and the eight sums: each is rewritten by what its callee ensures. Assumes
+-- nothing.
 use borrow.Author.Needs.{needs}
 use Rattle.digest.specs.Block.{chained, compress}
 use Rattle.digest.proofs.block.block_at.Statement.{statement}

@@ -6,7 +6,8 @@ use lib.ListN.{length}
 use borrow.Author.Needs.{needs}
 use Rattle.table.specs.Layout.{countOf}
 use Rattle.matching.specs.Inner.Order.{told, toldRow}
-use Rattle.matching.proofs.answers.Asked.{Asked, asked-more, taken-is, as-told, few-filters, each-passed, count-is, few-slots}
+use Rattle.matching.proofs.answers.Asked.{Asked, asked-more, taken-is, as-told, few-filters, each-passed}
+use Rattle.matching.proofs.answers.Asked.{count-is, few-slots}
 use Rattle.matching.proofs.answers.answered.Statement.{statement}
 use Rattle.matching.proofs.answers.answered.Tie as tie
 

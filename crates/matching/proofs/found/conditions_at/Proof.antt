@@ -7,7 +7,8 @@ use lib.ListN.{length}
 use Rattle.spell.specs.Spell.{decode}
 use Rattle.shape.specs.Shape.{nameAt}
 use Rattle.matching.specs.Inner.Finds.{conditionLetter}
-use Rattle.matching.proofs.found.Objects.{Passing, object-of, passing-start, passing-none, passing-spent, passing-other, passing-list, passing-more, letter-says}
+use Rattle.matching.proofs.found.Objects.{Passing, object-of, passing-start, passing-none, passing-spent}
+use Rattle.matching.proofs.found.Objects.{passing-other, passing-list, passing-more, letter-says}
 use Rattle.matching.proofs.found.conditions_at.Statement.{statement}
 use Rattle.matching.proofs.found.conditions_at.Tie as tie
 

@@ -7,7 +7,8 @@ use Rattle.event.specs.Lent.{lentTagsAt}
 use Rattle.query.specs.Match.{conditionHolds}
 use Rattle.matching.specs.Inner.Found.{conditionBy}
 use native.Mathlib.Nat.{sub-zero}
-use Rattle.matching.proofs.matcher.Ways.{rest-none, rest-no, rest-more, rest-end, condition-test, was-no, was-yes}
+use Rattle.matching.proofs.matcher.Ways.{rest-none, rest-no, rest-more, rest-end, condition-test, was-no}
+use Rattle.matching.proofs.matcher.Ways.{was-yes}
 use borrow.Author.Needs.{needs}
 use native.Mathlib.Omega.{arith}
 use Rattle.matching.proofs.matcher.all_hold.Statement.{statement}

@@ -6,7 +6,8 @@ use lib.ListN.{length}
 use Rattle.spell.specs.Spell.{decode}
 use Rattle.matching.specs.Inner.Found.{spelledBy}
 use Rattle.matching.specs.Inner.Steps.{asked}
-use Rattle.matching.proofs.matcher.Tags.{Going, going-start, going-none, going-spent, going-hit, going-miss, fits-not, fits-is}
+use Rattle.matching.proofs.matcher.Tags.{Going, going-start, going-none, going-spent, going-hit, going-miss}
+use Rattle.matching.proofs.matcher.Tags.{fits-not, fits-is}
 use Rattle.matching.proofs.matcher.Lists.{Left, left-start, left-end, left-hit, left-miss, test}
 use Rattle.matching.proofs.matcher.holds.Statement.{statement}
 use Rattle.matching.proofs.matcher.holds.Tie as tie

@@ -7,7 +7,8 @@ use Rattle.text.specs.Read.{tagAt, tagsAt, textMembersAt}
 use Rattle.text.specs.Inner.Parts.{taggedOf}
 use Rattle.text.specs.declared.Found.the-variants.{Not}
 use Rattle.text.proofs.Pieces.{in-text}
-use Rattle.text.proofs.Named.{tags-other, tags-empty, tags-open, tags-out, tags-bad, tags-more, tags-done, tags-wrong}
+use Rattle.text.proofs.Named.{tags-other, tags-empty, tags-open, tags-out, tags-bad, tags-more, tags-done}
+use Rattle.text.proofs.Named.{tags-wrong}
 use Rattle.text.proofs.parts.tags_end.Statement.{statement}
 use Rattle.text.proofs.parts.tags_end.Tie as tie
 
