@@ -1,7 +1,7 @@
 """Are the names in docs/MAP.md, and the files that README.md and docs/ link to, there? Exits 1 if not.
 
 A cell of the map is a list of parts with `;` between. `crate/File, File: name, name` are definitions or theorems that stand in specs/ or
-proofs/ of the crate, in one of these files; `crate::call`, and a call without its crate behind it, are public items of its src/;
+proofs/ of the crate, in one of these files (`Claims/Program` is one in a folder); `crate::call`, and a call without its crate behind it, are public items of its src/;
 `crate/edit` in small letters is a must-fail edit. A part without a crate goes by the part before it.
 """
 
@@ -12,8 +12,8 @@ from pathlib import Path
 
 ROOT = Path(__file__).resolve().parent.parent
 NAME = re.compile(r"`([^`]+)`")
-PLACE = re.compile(r"\b([a-z_0-9]+)/([A-Z]\w*)")
-FILE = re.compile(r"\b([A-Z]\w*)\b")
+PLACE = re.compile(r"\b([a-z_0-9]+)/([A-Z]\w*(?:/[A-Z]\w*)*)")
+FILE = re.compile(r"\b([A-Z]\w*(?:/[A-Z]\w*)*)\b")
 EDIT = re.compile(r"([a-z_0-9]+)/([a-z_0-9]+)")
 CALL = re.compile(r"([a-z_0-9]+)::([A-Za-z0-9_]+)")
 LINK = re.compile(r"\]\(([^)#:]+)\)")
