@@ -87,7 +87,7 @@ class Names:
             if not item:
                 return {}
             return {name: item for name, _ in item.parts} if rest[2:] == ["the-variants"] else {item.name: item}
-        module = self.repo.modules.get((match["crate"], match["area"], rest[0]))
+        module = self.repo.modules.get((match["crate"], match["area"], "/".join(rest)))
         return self.exports(module) if module else {}
 
     def lookup(self, scope, word):

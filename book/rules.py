@@ -1,7 +1,7 @@
 """docs/MAP.md: the rules of 01, each with the definitions, calls, claims and edits that its row names."""
 import re
 
-SPAN = re.compile(r"`([^`]+)`|([a-z]\w*)/([A-Z]\w*)")
+SPAN = re.compile(r"`([^`]+)`|([a-z]\w*)/([A-Z]\w*(?:/[A-Z]\w*)*)")
 
 
 class Rule:
@@ -85,7 +85,7 @@ class MapReader:
         """Text between names; after a file a comma may bring another file of the same crate."""
         out = []
         while state["files"] and state["fresh"]:
-            match = re.match(r"(, )([A-Z]\w*)\b", text)
+            match = re.match(r"(, )([A-Z]\w*(?:/[A-Z]\w*)*)\b", text)
             module = match and self.module(state["crate"], match[2])
             if not module:
                 break

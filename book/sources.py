@@ -334,9 +334,10 @@ class Repository:
 
     def read_crate(self, crate):
         base = self.root / "crates" / crate
-        for area in ("specs", "proofs"):
-            for path in sorted((base / area).glob("*.antt")):
-                self.modules[crate, area, path.stem] = SpecReader(Module(crate, area, path.stem, path)).read()
+        for area, paths in (("specs", (base / "specs").rglob("*.antt")), ("proofs", (base / "proofs").glob("*.antt"))):
+            for path in sorted(paths):
+                name = path.relative_to(base / area).with_suffix("").as_posix()
+                self.modules[crate, area, name] = SpecReader(Module(crate, area, name, path)).read()
         for path in sorted((base / "src").glob("*.rt")):
             self.modules[crate, "src", path.stem] = CodeReader(Module(crate, "src", path.stem, path)).read()
         for path in sorted((base / "must-fail").glob("*.edit")):
@@ -344,10 +345,17 @@ class Repository:
 
     def specs_of(self, crate):
         """The files of specs/ in the order in which Lib names them; files that it does not name follow."""
-        lib = self.modules.get((crate, "specs", "Lib"))
-        names = list(lib.mods) if lib else []
+        names = self.listed(crate, "Lib", "")
         names += sorted(n for c, a, n in self.modules if c == crate and a == "specs" and n not in names and n != "Lib")
         return [self.modules[crate, "specs", n] for n in names if (crate, "specs", n) in self.modules]
+
+    def listed(self, crate, file, folder):
+        """The names that a file lists by `pub mod`, and after each those of its folder."""
+        module = self.modules.get((crate, "specs", file))
+        names = []
+        for name in module.mods if module else []:
+            names += [folder + name] + self.listed(crate, folder + name, folder + name + "/")
+        return names
 
     def code_of(self, crate):
         return [m for (c, a, _), m in self.modules.items() if c == crate and a == "src"]

@@ -95,7 +95,7 @@ class Map(unittest.TestCase):
         return MapReader(self.audit, "\n".join(("| 01 | Definition | Public call | Theorem | Edits |", "|---|---|---|---|---|") + rows))
 
     def test_unknown_names_are_told(self):
-        reader = self.read("| a rule | no/Such: `nothing`; table/Sound: `sound` | `slots::none` | | |")
+        reader = self.read("| a rule | no/Such: `no-such-name`; table/Sound: `sound` | `slots::none` | | |")
         self.assertEqual([i.name for i in reader.rules[0].definitions], ["sound"])
         self.assertEqual(len(reader.unknown), 3)
 
