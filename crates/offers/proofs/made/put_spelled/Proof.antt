@@ -8,8 +8,8 @@ use Rattle.spell.specs.Spell.{decode, all}
 use Rattle.wire.specs.Bytes.{isHex}
 use Rattle.offers.proofs.Digits.{spelled-length, spelled-hex, as-spelled, digits-put}
 use Rattle.offers.proofs.Makes.{front-is, front-length}
-use Rattle.offers.proofs.put_spelled.Statement.{statement}
-use Rattle.offers.proofs.put_spelled.Tie as tie
+use Rattle.offers.proofs.made.put_spelled.Statement.{statement}
+use Rattle.offers.proofs.made.put_spelled.Tie as tie
 
 put-digits-requires : tie.Need-put-digits-requires
 put-digits-requires c κs =

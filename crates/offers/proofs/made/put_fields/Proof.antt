@@ -1,8 +1,8 @@
 -- By what is read from the text.
 use borrow.Author.Needs.{needs}
 use Rattle.offers.proofs.Makes.{read-answers, same-read, not-large, not-wrong}
-use Rattle.offers.proofs.put_fields.Statement.{statement}
-use Rattle.offers.proofs.put_fields.Tie as tie
+use Rattle.offers.proofs.made.put_fields.Statement.{statement}
+use Rattle.offers.proofs.made.put_fields.Tie as tie
 
 put-head-requires : tie.Need-put-head-requires
 put-head-requires c κs = c .before .before .before .before .before .before .before .before .before .pre

@@ -4,8 +4,8 @@ use borrow.Author.Needs.{needs}
 use Rattle.wire.proofs.Laws.{puts-then}
 use Rattle.offers.specs.Inner.{headOf}
 use Rattle.offers.proofs.Digits.{room-left}
-use Rattle.offers.proofs.put_head.Statement.{statement}
-use Rattle.offers.proofs.put_head.Tie as tie
+use Rattle.offers.proofs.made.put_head.Statement.{statement}
+use Rattle.offers.proofs.made.put_head.Tie as tie
 
 put-spelled-requires : tie.Need-put-spelled-requires
 put-spelled-requires c κs = let p = c .before .before .before .before .before .pre in (p .0 .0, (omega arith, omega (arith, p .1)))

@@ -1,8 +1,8 @@
 -- By the two ranges of digits.
 use borrow.Author.Needs.{needs}
 use Rattle.offers.proofs.Digits.{digit-is}
-use Rattle.offers.proofs.digit.Statement.{statement}
-use Rattle.offers.proofs.digit.Tie as tie
+use Rattle.offers.proofs.made.digit.Statement.{statement}
+use Rattle.offers.proofs.made.digit.Tie as tie
 
 returns : tie.Need-returns
 returns c = digit-is _ (c .pre)

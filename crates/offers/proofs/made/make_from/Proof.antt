@@ -1,8 +1,8 @@
 -- By what was made.
 use borrow.Author.Needs.{needs}
 use Rattle.offers.proofs.From.{row-none, row-some}
-use Rattle.offers.proofs.make_from.Statement.{statement}
-use Rattle.offers.proofs.make_from.Tie as tie
+use Rattle.offers.proofs.made.make_from.Statement.{statement}
+use Rattle.offers.proofs.made.make_from.Tie as tie
 
 returns : tie.Need-returns
 returns c = row-none _ (c .before .before .before .before .make-event .ensures) (c .enum-told .given .1)

@@ -2,8 +2,8 @@
 use mathlib.Core.Path.{sym, ap, _∙_}
 use borrow.Author.Needs.{needs}
 use Rattle.offers.specs.Inner.{ifAddressable}
-use Rattle.offers.proofs.d_if.Statement.{statement}
-use Rattle.offers.proofs.d_if.Tie as tie
+use Rattle.offers.proofs.made.d_if.Statement.{statement}
+use Rattle.offers.proofs.made.d_if.Tie as tie
 
 pub d-if-spec : {M : Type 1} → statement M
 d-if-spec =

@@ -9,8 +9,8 @@ use Rattle.wire.proofs.Laws.{Rest, rest-start}
 use Rattle.spell.specs.Spell.{unhex}
 use Rattle.spell.proofs.Laws.{all-at}
 use Rattle.offers.proofs.Digits.{pair-turn, pairs-end}
-use Rattle.offers.proofs.put_digits.Statement.{statement}
-use Rattle.offers.proofs.put_digits.Tie as tie
+use Rattle.offers.proofs.made.put_digits.Statement.{statement}
+use Rattle.offers.proofs.made.put_digits.Tie as tie
 
 abbrev Inv-loop : tie.InvT-loop
 Inv-loop out₀ at s n k₀ out k =

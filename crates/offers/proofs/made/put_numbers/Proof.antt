@@ -3,8 +3,8 @@ use borrow.Author.Needs.{needs}
 use Rattle.wire.proofs.Laws.{puts-then}
 use Rattle.wire.proofs.Fields.{bits-back}
 use Rattle.offers.proofs.Makes.{numbers-put}
-use Rattle.offers.proofs.put_numbers.Statement.{statement}
-use Rattle.offers.proofs.put_numbers.Tie as tie
+use Rattle.offers.proofs.made.put_numbers.Statement.{statement}
+use Rattle.offers.proofs.made.put_numbers.Tie as tie
 
 returns : tie.Need-returns
 returns c =
