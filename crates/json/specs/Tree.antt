@@ -96,7 +96,7 @@ abbrev pub isText : Bytes → Bool
 isText s = endsAt (length s) (endOf (root s))
 
 -- f over the items, from the first on
-abbrev pub foldItems : {A : Type 0} (f : A → ℕ → ℕ → Json → A) (a : A) (nil : Items) → A
+abbrev pub foldItems : {A : Type 0} (f : A → ℕ → ℕ → Json → A) (a : A) (ts : Items) → A
 foldItems f a nil = a
 foldItems f a (item p v t ts) = foldItems f (f a p v t) ts
 

@@ -77,7 +77,7 @@ unfoldable pub leafAt : Bytes → Place → Kind
 leafAt s at = onStart (scalarAt s at) (startAt s at)
 
 -- f of the value there
-abbrev pub gotOr : {A : Type 0} (f : Json → A) (z : A) (none : Got Json) → A
+abbrev pub gotOr : {A : Type 0} (f : Json → A) (z : A) (g : Got Json) → A
 gotOr f z none = z
 gotOr f z (got t n) = f t
 

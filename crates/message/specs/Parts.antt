@@ -30,7 +30,7 @@ pub data Member : Type 0 where
   missing : Member
   member : ℕ → Json → Member
 
-unfoldable pub memberOf : (s w : Bytes) (nil : Items) → Member
+unfoldable pub memberOf : (s w : Bytes) (ts : Items) → Member
 memberOf s w nil = missing
 memberOf s w (item p v t ts) = cond (named s w p) (member v t) (memberOf s w ts)
 

@@ -30,7 +30,7 @@ secondPlace (item p v t nil) = 0
 secondPlace (item p v t (item q w u us)) = w
 
 -- the elements after the first word
-abbrev pub messageParts : (s : Bytes) (event : Word) (ts : Items) → Message
+abbrev pub messageParts : (s : Bytes) (word : Word) (ts : Items) → Message
 messageParts s event ts = message.Event (eventPartsOf s (membersOf (firstItem ts)))
 messageParts s req ts = message.Req (record { subscription = spanOf (firstItem ts); filters = secondPlace ts })
 messageParts s close ts = message.Close (spanOf (firstItem ts))
@@ -77,7 +77,7 @@ idNamed s p = cond (isHexOf hexLength (part s (p .start) (p .len))) (names.Id p)
 abbrev pub subscriptionNamed : Bytes → Json → Named
 subscriptionNamed s t = cond (wrongSubscription s t) names.Nothing (names.Subscription (spanOf t))
 
-abbrev pub namedIn : (s : Bytes) (event : Word) (ts : Items) → Named
+abbrev pub namedIn : (s : Bytes) (word : Word) (ts : Items) → Named
 namedIn s event ts = idNamed s (spanIn (memberOf s idName (membersOf (firstItem ts))))
 namedIn s req ts = subscriptionNamed s (firstItem ts)
 namedIn s close ts = names.Nothing

@@ -62,7 +62,7 @@ offerReply m i (offered.Refused r) = refusal m r
 
 -- ---- "An accepted REQ gives its EVENTs, then EOSE."
 -- every held text of a sound table reads, so no slot is left out: specs/Claims/Replies, `ReadRequest`
-abbrev pub eventReplies : (sub s : Bytes) (tooLarge : Read) → List Reply
+abbrev pub eventReplies : (sub s : Bytes) (r : Read) → List Reply
 eventReplies sub s tooLarge = []
 eventReplies sub s wrongShape = []
 eventReplies sub s (read e) = event sub (hexOf (idIn s)) e (hexOf (sigIn s)) ∷ []

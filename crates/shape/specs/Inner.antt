@@ -321,7 +321,7 @@ unfoldable mutual
       (rowOf s (slotForm f (itemOf s f named k p .slot)) t)) ts
 
 -- where a value ends, and the lowest row in it
-unfoldable pub judgedOf : (s : Bytes) (f : ℕ) (none : Got Json) → Judged
+unfoldable pub judgedOf : (s : Bytes) (f : ℕ) (g : Got Json) → Judged
 judgedOf s f none = Wrong
 judgedOf s f (got t n) = Ends n (rowOf s f t)
 

@@ -27,7 +27,7 @@ abbrev pub row5 : Bytes → Json → Bool
 row5 s t = not (hasShape s (opened s t .first) (opened s t .rest))
 
 -- what holds of an event, or of some filter of a REQ
-abbrev pub inMessage : (e f : Json → Bool) (event : Word) (ts : Items) → Bool
+abbrev pub inMessage : (e f : Json → Bool) (word : Word) (ts : Items) → Bool
 inMessage e f event ts = anyItem (λ p t. e t) ts
 inMessage e f req nil = false
 inMessage e f req (item p v t ts) = anyItem (λ q u. f u) ts
@@ -108,7 +108,7 @@ unfoldable pub wrongSubscription : Bytes → Json → Bool
 wrongSubscription s t = onString (λ a n. outside 1 mostCharacters (characterCount (part s a n))) t
 
 -- the subscription id and the number of filters
-abbrev pub wrongRequest : (s : Bytes) (event : Word) (ts : Items) → Bool
+abbrev pub wrongRequest : (s : Bytes) (word : Word) (ts : Items) → Bool
 wrongRequest s event ts = false
 wrongRequest s req nil = false
 wrongRequest s req (item p v t ts) = wrongSubscription s t || outside 1 mostFilters (count ts)

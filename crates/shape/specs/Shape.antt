@@ -170,11 +170,11 @@ isOne f nil = false
 isOne f (item p v t nil) = f t
 isOne f (item p v t (item q w u us)) = false
 
-abbrev pub isThen : (f g : Json → Bool) (nil : Items) → Bool
+abbrev pub isThen : (f g : Json → Bool) (ts : Items) → Bool
 isThen f g nil = false
 isThen f g (item p v t ts) = f t && allItems (λ q u. g u) ts
 
-abbrev pub hasShape : (s : Bytes) (event : Word) (ts : Items) → Bool
+abbrev pub hasShape : (s : Bytes) (word : Word) (ts : Items) → Bool
 hasShape s event ts = isOne (isEvent s) ts
 hasShape s req ts = isThen isString (isFilter s) ts
 hasShape s close ts = isOne isString ts

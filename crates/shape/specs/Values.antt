@@ -40,7 +40,7 @@ sort8 s Smalls t = wrongList t
 sort8 s Filter t = onObject (filterCounts s) t
 
 -- row 2: the value's own text, and the white space after it, is not UTF-8
-abbrev pub ownText : (s : Bytes) (at : Place) (none : Got Json) → Bool
+abbrev pub ownText : (s : Bytes) (at : Place) (g : Got Json) → Bool
 ownText s at none = false
 ownText s at (got t n) = not (isUtf8 (part s at (n - at)))
 
@@ -49,7 +49,7 @@ sortRow s k t =
     cond (refusedIn s t) 4 (cond (not (fits s k t)) 5
     (cond (sort6 s k t) 6 (cond (sort7 s k t) 7 (cond (sort8 s k t) 8 0))))
 
-abbrev pub gotRow : (s : Bytes) (k : Sort) (none : Got Json) → Row
+abbrev pub gotRow : (s : Bytes) (k : Sort) (g : Got Json) → Row
 gotRow s k none = 5
 gotRow s k (got t n) = sortRow s k t
 

@@ -32,7 +32,7 @@ abbrev pub secondSpan : Bytes → Listed → Second
 secondSpan b Absent = Not
 secondSpan b (At j) = case (stringAt b j) (λ n. Is (j + 1) (n - j - 2)) (Is 0 0)
 
-abbrev pub secondFrom : (b : Bytes) (x : ℕ) (x′ : Listed) → Second
+abbrev pub secondFrom : (b : Bytes) (k : ℕ) (l : Listed) → Second
 secondFrom b x Absent = Not
 secondFrom b x (At i) = cond (sameBytes (decode (spelledAt b i)) (x ∷ [])) (secondSpan b (placed (nextOf b i))) Not
 

@@ -79,7 +79,7 @@ abbrev pub spanAfter : (x : Found) (i : ℕ) (ts : List Tag) → Span
 spanAfter (found.At a l) i ts = record { at = a; len = l }
 spanAfter found.Not i ts = dSpan i ts
 
-abbrev pub taggedOf : (d : Found) (i : ℕ) (none : Got (List Tag)) → Tagged
+abbrev pub taggedOf : (d : Found) (i : ℕ) (g : Got (List Tag)) → Tagged
 taggedOf d i none = tagged.Bad
 taggedOf d i (got ts n) = tagged.End n (spanAfter d i ts .at) (spanAfter d i ts .len)
 
@@ -87,7 +87,7 @@ taggedOf d i (got ts n) = tagged.End n (spanAfter d i ts .at) (spanAfter d i ts 
 unfoldable pub restAt : Bytes → ℕ → Got (List Tag × List ℕ)
 restAt s = pairAt (closedAt s comma (tagsAt s)) (closedAt s bracket (stringAt s))
 
-abbrev pub restOf : (l : ℕ) (at : Place) (none : Got (List Tag × List ℕ)) → Rest
+abbrev pub restOf : (l : ℕ) (at : Place) (g : Got (List Tag × List ℕ)) → Rest
 restOf l at none = rest.Bad
 restOf l at (got x n) =
     cond (eqb n l) (rest.Is (at + length (tagsText (x .0)) + 2) (length (escape (x .1))) (dSpan (at + 1) (x .0) .at)
