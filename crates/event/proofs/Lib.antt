@@ -12,3 +12,4 @@ pub mod Decoded
 mod Complete
 pub mod Sent
 pub mod Fit
+pub mod TwoEvents

@@ -190,17 +190,17 @@ module _ (s : List ℕ) (at : ℕ) (m : Members) where
         → part noMembers ≡ Absent → part m ≡ listedIn (memberOf s w (membersAt s at))
     found w part step z = ap part e ∙ fold-first s w (by s event) part step noMembers (membersAt s at) ∙ ap (λ x. orElse x (memberOf s w (membersAt s at))) z
 
-  pub event-is : m ≡ foundIn s true (membersAt s at) → record { id = spanFound s (m .m1); body = bodyFound s m; sig = spanFound s (m .m7) } ≡ eventAt s at
+  pub event-is : m ≡ foundIn s true (membersAt s at) → record { id = spanFound s (m .first); body = bodyFound s m; sig = spanFound s (m .seventh) } ≡ eventAt s at
   unfolding eventAt eventPartsOf bodyOf bodyFound stepOf
   event-is e =
       simp (
-        found true e idName (λ a. a .m1) (λ a p v t. refl) refl,
-        found true e pubkeyName (λ a. a .m2) (λ a p v t. refl) refl,
-        found true e createdAtName (λ a. a .m3) (λ a p v t. refl) refl,
-        found true e kindName (λ a. a .m4) (λ a p v t. refl) refl,
-        found true e tagsName (λ a. a .m5) (λ a p v t. refl) refl,
-        found true e contentName (λ a. a .m6) (λ a p v t. refl) refl,
-        found true e sigName (λ a. a .m7) (λ a p v t. refl) refl,
+        found true e idName (λ a. a .first) (λ a p v t. refl) refl,
+        found true e pubkeyName (λ a. a .second) (λ a p v t. refl) refl,
+        found true e createdAtName (λ a. a .third) (λ a p v t. refl) refl,
+        found true e kindName (λ a. a .fourth) (λ a p v t. refl) refl,
+        found true e tagsName (λ a. a .fifth) (λ a p v t. refl) refl,
+        found true e contentName (λ a. a .sixth) (λ a p v t. refl) refl,
+        found true e sigName (λ a. a .seventh) (λ a p v t. refl) refl,
         span-in s (seen idName),
         span-in s (seen pubkeyName),
         number-in s (seen createdAtName),
@@ -213,10 +213,10 @@ module _ (s : List ℕ) (at : ℕ) (m : Members) where
   pub filter-is : m ≡ foundIn s false (membersAt s at) → filterFound s m (At at) ≡ filterAt s at
   unfolding filterAt filterPartsOf stepOf
   filter-is e =
-      let ids = found false e idsName (λ a. a .m1) (λ a p v t. refl) refl in
-      let authors = found false e authorsName (λ a. a .m2) (λ a p v t. refl) refl in
-      let kinds = found false e kindsName (λ a. a .m3) (λ a p v t. refl) refl in
-      let since = found false e sinceName (λ a. a .m4) (λ a p v t. refl) refl in
-      let until = found false e untilName (λ a. a .m5) (λ a p v t. refl) refl in
-      let limit = found false e limitName (λ a. a .m6) (λ a p v t. refl) refl in
+      let ids = found false e idsName (λ a. a .first) (λ a p v t. refl) refl in
+      let authors = found false e authorsName (λ a. a .second) (λ a p v t. refl) refl in
+      let kinds = found false e kindsName (λ a. a .third) (λ a p v t. refl) refl in
+      let since = found false e sinceName (λ a. a .fourth) (λ a p v t. refl) refl in
+      let until = found false e untilName (λ a. a .fifth) (λ a p v t. refl) refl in
+      let limit = found false e limitName (λ a. a .sixth) (λ a p v t. refl) refl in
       simp (ids, authors, kinds, since, until, limit, bound-in s (seen sinceName), bound-in s (seen untilName), bound-in s (seen limitName))

@@ -52,17 +52,25 @@ keptPlace l w Absent v = cond (sameBytes (decode l) w) (At v) Absent
 -- a member of an event (b) or of a filter: the first of each name, or what was found before it stays
 unfoldable pub stepOf : (s : Bytes) (b : Bool) (a : Members) (p v : ℕ) → Members
 stepOf s b a p v = record {
-  m1 = keptPlace (spelledAt s p) (cond b idName idsName) (a .m1) v;
-  m2 = keptPlace (spelledAt s p) (cond b pubkeyName authorsName) (a .m2) v;
-  m3 = keptPlace (spelledAt s p) (cond b createdAtName kindsName) (a .m3) v;
-  m4 = keptPlace (spelledAt s p) (cond b kindName sinceName) (a .m4) v;
-  m5 = keptPlace (spelledAt s p) (cond b tagsName untilName) (a .m5) v;
-  m6 = keptPlace (spelledAt s p) (cond b contentName limitName) (a .m6) v;
-  m7 = cond b (keptPlace (spelledAt s p) sigName (a .m7) v) (a .m7);
+  first = keptPlace (spelledAt s p) (cond b idName idsName) (a .first) v;
+  second = keptPlace (spelledAt s p) (cond b pubkeyName authorsName) (a .second) v;
+  third = keptPlace (spelledAt s p) (cond b createdAtName kindsName) (a .third) v;
+  fourth = keptPlace (spelledAt s p) (cond b kindName sinceName) (a .fourth) v;
+  fifth = keptPlace (spelledAt s p) (cond b tagsName untilName) (a .fifth) v;
+  sixth = keptPlace (spelledAt s p) (cond b contentName limitName) (a .sixth) v;
+  seventh = cond b (keptPlace (spelledAt s p) sigName (a .seventh) v) (a .seventh);
 }
 
 abbrev pub noMembers : Members
-noMembers = record { m1 = Absent; m2 = Absent; m3 = Absent; m4 = Absent; m5 = Absent; m6 = Absent; m7 = Absent }
+noMembers = record {
+  first = Absent;
+  second = Absent;
+  third = Absent;
+  fourth = Absent;
+  fifth = Absent;
+  sixth = Absent;
+  seventh = Absent;
+}
 
 abbrev pub foundIn : (s : Bytes) (e : Bool) (ts : Items) → Members
 foundIn s e ts = foldItems (λ a p v t. stepOf s e a p v) noMembers ts
@@ -102,12 +110,12 @@ boundFound s (At v) = bound.Number (numberLeaf s v)
 -- a filter by its members, and the place of its # conditions
 abbrev pub filterFound : (s : Bytes) (m : Members) (c : Listed) → FilterParts
 filterFound s m c = record {
-  ids = m .m1;
-  authors = m .m2;
-  kinds = m .m3;
-  since = boundFound s (m .m4);
-  until = boundFound s (m .m5);
-  limit = boundFound s (m .m6);
+  ids = m .first;
+  authors = m .second;
+  kinds = m .third;
+  since = boundFound s (m .fourth);
+  until = boundFound s (m .fifth);
+  limit = boundFound s (m .sixth);
   conditions = c;
 }
 
@@ -117,11 +125,11 @@ placeFound (At v) = v
 
 unfoldable pub bodyFound : Bytes → Members → Body
 bodyFound s m = record {
-  pubkey = spanFound s (m .m2);
-  «created_at» = numberFound s (m .m3);
-  kind = numberFound s (m .m4);
-  tags = placeFound (m .m5);
-  content = spanFound s (m .m6);
+  pubkey = spanFound s (m .second);
+  «created_at» = numberFound s (m .third);
+  kind = numberFound s (m .fourth);
+  tags = placeFound (m .fifth);
+  content = spanFound s (m .sixth);
 }
 
 -- ---- a message by places: its first element, which is a word, and its second at j

@@ -100,16 +100,16 @@ pub enum Named {
     Nothing,
 }
 
-// The places of an object's members, the first of each name: id, pubkey, created_at, kind, tags, content, sig of an
-// event; ids, authors, kinds, since, until, limit of a filter.
+// The places of an object's members, the first of each name, in the order in which 01 lists them under Shape: id,
+// pubkey, created_at, kind, tags, content, sig of an event; ids, authors, kinds, since, until, limit of a filter.
 struct Members {
-    m1: Listed,
-    m2: Listed,
-    m3: Listed,
-    m4: Listed,
-    m5: Listed,
-    m6: Listed,
-    m7: Listed,
+    first: Listed,
+    second: Listed,
+    third: Listed,
+    fourth: Listed,
+    fifth: Listed,
+    sixth: Listed,
+    seventh: Listed,
 }
 
 // The first word of a message.

@@ -46,21 +46,21 @@ pub(crate) fn step(s: &[u8], event: bool, a: Members, p: usize, v: usize) -> Mem
     ensures { λ r. ⌜ r ≡ stepOf (now (s .entry)) event a p v ⌝ }
 {
     let name = rows::spelled(s, p);
-    let a1 = a.m1;
-    let a2 = a.m2;
-    let a3 = a.m3;
-    let a4 = a.m4;
-    let a5 = a.m5;
-    let a6 = a.m6;
-    let a7 = a.m7;
+    let a1 = a.first;
+    let a2 = a.second;
+    let a3 = a.third;
+    let a4 = a.fourth;
+    let a5 = a.fifth;
+    let a6 = a.sixth;
+    let a7 = a.seventh;
     Members {
-        m1: keep(name, either(event, b"id", b"ids"), a1, v),
-        m2: keep(name, either(event, b"pubkey", b"authors"), a2, v),
-        m3: keep(name, either(event, b"created_at", b"kinds"), a3, v),
-        m4: keep(name, either(event, b"kind", b"since"), a4, v),
-        m5: keep(name, either(event, b"tags", b"until"), a5, v),
-        m6: keep(name, either(event, b"content", b"limit"), a6, v),
-        m7: keep_last(name, event, a7, v),
+        first: keep(name, either(event, b"id", b"ids"), a1, v),
+        second: keep(name, either(event, b"pubkey", b"authors"), a2, v),
+        third: keep(name, either(event, b"created_at", b"kinds"), a3, v),
+        fourth: keep(name, either(event, b"kind", b"since"), a4, v),
+        fifth: keep(name, either(event, b"tags", b"until"), a5, v),
+        sixth: keep(name, either(event, b"content", b"limit"), a6, v),
+        seventh: keep_last(name, event, a7, v),
     }
 }
 
@@ -68,13 +68,13 @@ pub(crate) fn no_members() -> Members
     ensures { λ r. ⌜ r ≡ noMembers ⌝ }
 {
     Members {
-        m1: Listed::Absent,
-        m2: Listed::Absent,
-        m3: Listed::Absent,
-        m4: Listed::Absent,
-        m5: Listed::Absent,
-        m6: Listed::Absent,
-        m7: Listed::Absent,
+        first: Listed::Absent,
+        second: Listed::Absent,
+        third: Listed::Absent,
+        fourth: Listed::Absent,
+        fifth: Listed::Absent,
+        sixth: Listed::Absent,
+        seventh: Listed::Absent,
     }
 }
 

@@ -110,16 +110,16 @@ pub(crate) fn place_in(x: Listed) -> usize
 pub(crate) fn body_in(s: &[u8], m: Members) -> Body
     ensures { λ r. ⌜ r ≡ bodyFound (now (s .entry)) m ⌝ }
 {
-    let m2 = m.m2;
-    let m3 = m.m3;
-    let m4 = m.m4;
-    let m5 = m.m5;
-    let m6 = m.m6;
-    let pubkey = span_in(s, m2);
-    let created_at = number_in(s, m3);
-    let kind = number_in(s, m4);
-    let tags = place_in(m5);
-    let content = span_in(s, m6);
+    let pubkey_at = m.second;
+    let time_at = m.third;
+    let kind_at = m.fourth;
+    let tags_at = m.fifth;
+    let content_at = m.sixth;
+    let pubkey = span_in(s, pubkey_at);
+    let created_at = number_in(s, time_at);
+    let kind = number_in(s, kind_at);
+    let tags = place_in(tags_at);
+    let content = span_in(s, content_at);
     Body {
         pubkey,
         created_at,
@@ -134,11 +134,11 @@ pub(crate) fn event_at(s: &[u8], at: usize) -> EventParts
     ensures { λ r. ⌜ r ≡ eventAt (now (s .entry)) at ⌝ }
 {
     let m = object::find(s, at, true);
-    let m1 = m.m1;
-    let m7 = m.m7;
-    let id = span_in(s, m1);
+    let id_at = m.first;
+    let sig_at = m.seventh;
+    let id = span_in(s, id_at);
     let body = body_in(s, m);
-    let sig = span_in(s, m7);
+    let sig = span_in(s, sig_at);
     EventParts { id, body, sig }
 }
 
@@ -146,15 +146,15 @@ pub(crate) fn event_at(s: &[u8], at: usize) -> EventParts
 pub(crate) fn filter_of(s: &[u8], m: Members, conditions: Listed) -> FilterParts
     ensures { λ r. ⌜ r ≡ filterFound (now (s .entry)) m conditions ⌝ }
 {
-    let ids = m.m1;
-    let authors = m.m2;
-    let kinds = m.m3;
-    let m4 = m.m4;
-    let since = bound_in(s, m4);
-    let m5 = m.m5;
-    let until = bound_in(s, m5);
-    let m6 = m.m6;
-    let limit = bound_in(s, m6);
+    let ids = m.first;
+    let authors = m.second;
+    let kinds = m.third;
+    let since_at = m.fourth;
+    let since = bound_in(s, since_at);
+    let until_at = m.fifth;
+    let until = bound_in(s, until_at);
+    let limit_at = m.sixth;
+    let limit = bound_in(s, limit_at);
     FilterParts {
         ids,
         authors,

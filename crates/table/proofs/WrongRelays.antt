@@ -7,18 +7,11 @@ use mathlib.Core.Option.{some}
 use mathlib.Core.List.{List, []}
 use Prim.Native.Nat.{ℕ, _≤_}
 use native.Mathlib.Omega.{arith}
-use lib.IntN.{pos}
 use lib.ListN.{length, getD, replicate, length-replicate}
-use Rattle.wire.specs.Bytes.{isHex}
-use Rattle.wire.specs.Escape.{letterOf, escOne, escape}
-use Rattle.numeral.specs.Decimal.{digitsIn, digits, decimal}
-use Rattle.numeral.specs.Whole.{isWithin}
-use Rattle.utf8.specs.Utf8.{leadOf, utf8From, isUtf8}
-use Rattle.digest.specs.Block.{K, H0, words, schedule, round, rounds, chained, compress}
-use Rattle.digest.specs.Digest.{bigEndian, padding, padded, hashAfter, digestBytes, digest}
-use Rattle.text.specs.Event.{Event, quoted, membersText, tagText, tagsText, serialise, all, isPubkey, isTime, isTag}
-use Rattle.text.specs.Event.{isTags, isStringBytes, isPlainByte, isFit}
+use Rattle.digest.specs.Digest.{digest}
+use Rattle.text.specs.Event.{Event, serialise, all}
 use Rattle.text.specs.Kinds.{classOf}
+use Rattle.event.proofs.TwoEvents.{noted, Suits, suits₀, suits₁, ids-differ}
 use Rattle.law.specs.Table.{regular, IdPremise, slotsNeeded}
 use Rattle.law.specs.Event as law
 use Rattle.law.specs.Lists.{_∈_}
@@ -40,32 +33,9 @@ use Rattle.table.proofs.Faithful.{faithful, unchanged}
 use Rattle.table.proofs.Tellable.{offerable}
 use Rattle.table.proofs.Demand3.{demand-3}
 
--- ---- two events of a regular kind, and an offer of each
-abbrev noted : ℕ → Event
-noted t = record { pubkey = replicate 64 97; time = pos t; kind = 1; tags = []; content = [] }
-
+-- ---- an offer of each of two events of a regular kind
 abbrev named : Event → law.Event
 named e = record { id = digest (serialise e); text = serialise e }
-
-record Suits (e : Event) : Type 0 where
-  fit : isFit e ≡ true
-  size : length (serialise e) ≡ 80
-
-suits₀ : Suits (noted 0)
-unfolding isFit isPubkey isTime isTag isTags isStringBytes isPlainByte all isWithin utf8From leadOf isUtf8 isHex serialise quoted tagsText membersText tagText decimal digits digitsIn escape escOne letterOf
-suits₀ = record { fit = refl; size = refl }
-
-suits₁ : Suits (noted 1)
-unfolding isFit isPubkey isTime isTag isTags isStringBytes isPlainByte all isWithin utf8From leadOf isUtf8 isHex serialise quoted tagsText membersText tagText decimal digits digitsIn escape escOne letterOf
-suits₁ = record { fit = refl; size = refl }
-
--- the first bytes of their ids, computed
-ids-begin : (getD (digest (serialise (noted 0))) 0 0 ≡ 0x3d) × (getD (digest (serialise (noted 1))) 0 0 ≡ 0x99)
-unfolding digest digestBytes hashAfter padded padding bigEndian compress chained rounds round schedule words H0 K serialise quoted tagsText membersText tagText decimal digits digitsIn escape escOne letterOf
-ids-begin = (refl, refl)
-
-ids-differ : digest (serialise (noted 0)) ≢ digest (serialise (noted 1))
-ids-differ q = omega (arith, ids-begin .0, ids-begin .1, ap (λ (l : List ℕ). getD l 0 0) q)
 
 is-regular : (t : ℕ) → Suits (noted t) → classOfText (serialise (noted t)) ≡ regular
 unfolding classOf
