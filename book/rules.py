@@ -199,7 +199,8 @@ class MapReader:
                 rule.crates.append(text)
             return text
         front, _, last = text.rpartition("::")
-        items = [i for i in self.repo.items("src") if i.kind == "fn" and i.name.rpartition("::")[2] == last]
+        kinds = ("fn", "struct", "enum")
+        items = [i for i in self.repo.items("src") if i.kind in kinds and i.name.rpartition("::")[2] == last]
         if front in self.repo.crates:
             state["crate"] = front
             found = [i for i in items if i.crate == front]
