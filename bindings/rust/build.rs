@@ -1,6 +1,6 @@
 //! Finds the static libraries, or makes them with the Rattle kit.
 //!
-//! With PLAVDROSA_LIB set they are taken from that folder. Otherwise `rt staticlib` proves the crates and writes them to target/staticlib of
+//! With PLAVDROSA_LIB set they are taken from that folder. Otherwise the kit proves the crates and writes them to target/staticlib of
 //! the repository that this crate stands in.
 
 use std::env;
@@ -28,10 +28,11 @@ fn made() -> PathBuf {
     let top = Path::new(env!("CARGO_MANIFEST_DIR")).join("../..");
     println!("cargo::rerun-if-changed={}", top.join("crates").display());
     println!("cargo::rerun-if-changed={}", top.join("crates.txt").display());
-    for name in LIBRARIES {
-        let done = Command::new("rt").arg("staticlib").arg(name).current_dir(&top).status();
+    // `rt check` proves several crates at a time, `rt staticlib` one after the other
+    for words in [&["check", "capi", "feed"][..], &["staticlib", "capi"], &["staticlib", "capi_relay"]] {
+        let done = Command::new("rt").args(words).current_dir(&top).status();
         match done {
-            Ok(status) => assert!(status.success(), "rt staticlib {name} failed: {status}"),
+            Ok(status) => assert!(status.success(), "rt {} failed: {status}", words.join(" ")),
             Err(e) => panic!(
                 "the Rattle kit's command rt can't be started ({e}): put it on the PATH, or set PLAVDROSA_LIB to a folder with libcapi.a and libcapi_relay.a"
             ),

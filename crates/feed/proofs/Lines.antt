@@ -17,7 +17,7 @@ use Rattle.wire.proofs.Laws.{length-put, put-over}
 use Rattle.law.specs.Lists.{any}
 use Rattle.program.specs.Program.{tableAfter}
 use Rattle.program.specs.Feed.{State, mostLine, kept, isEnd, afterByte, afterBytes, before, usedOf, turnState}
-use Rattle.program.proofs.Feed.{in-pieces}
+use Rattle.program.proofs.Feed.{in-pieces, so-far}
 use Rattle.feed.specs.Inner.{NoEndFrom, EndFrom, grown, Keeps, Joins}
 
 -- ---- a turn of the search for a line's end: x is the whole answer
@@ -116,16 +116,6 @@ take-more : (n : ℕ) (l k : List ℕ) → take n (take n l ++ k) ≡ take n (l 
 take-more zero l k = refl
 take-more (suc n) [] k = refl
 take-more (suc n) (x ∷ l) k = ap (x ∷_) (take-more n l k)
-
--- what of a line buffer is the line so far
-pub so-far : (n : ℕ) (line : List ℕ) → take n (kept line) ≡ take (min n mostLine) line
-so-far n line = go (decLe n mostLine)
-  where
-    go : Dec (n ≤ mostLine) → take n (kept line) ≡ take (min n mostLine) line
-    go (yes h) = let z : n ≡ min n mostLine = omega arith in take-take n mostLine line h ∙ ap (λ k. take k line) z
-    go (no h) =
-        let z : mostLine ≡ min n mostLine = omega arith in
-        take-all n (kept line) (omega (arith, length-take mostLine line)) ∙ ap (λ k. take k line) z
 
 -- no bytes so far
 pub grown-none : (line p : List ℕ) (n : ℕ) → n ≡ 0 → grown line n p ≡ kept p

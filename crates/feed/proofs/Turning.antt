@@ -20,10 +20,10 @@ use Rattle.program.specs.Feed.{turnRow, turned, turnTable, turnLine, turnOut, t
 use Rattle.program.specs.declared.Turned.{Turned}
 use Rattle.program.specs.declared.Turned.the-variants as turning
 use Rattle.program.proofs.Respond.{fits-if, responded-means}
-use Rattle.program.proofs.Feed.{kept-same, turn-means, turn-row-is}
+use Rattle.program.proofs.Feed.{kept-same, so-far, turn-means, turn-row-is}
 use Rattle.feed.specs.Finish.{finishText, finishRow, feedFinished, finishTable, finishOut, lastTable}
 use Rattle.feed.specs.Inner.{grown, Keeps, Answers}
-use Rattle.feed.proofs.Lines.{within, whole, so-far, state-unended, state-ended}
+use Rattle.feed.proofs.Lines.{within, whole, state-unended, state-ended}
 
 -- ---- one message answered
 -- four promises in a row, as `respond` gives them

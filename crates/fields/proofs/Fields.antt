@@ -13,7 +13,7 @@ use lib.ListN.{replicate-append-replicate}
 use lib.Seq.{drop-cons, drop-drop, take-all, take-suc, take-set-le, getD-set-same}
 use Rattle.wire.specs.Put.{Puts}
 use Rattle.wire.proofs.Laws.{puts-none}
-use Rattle.fields.specs.Line.{spaceIn, restOf, fieldsFrom, fieldOf, gapOf}
+use Rattle.fields.specs.Line.{spaceIn, restOfLine, fieldsFrom, fieldOf, gapOf}
 
 -- ---- the first space from i on
 module _ (l : List ℕ) (i : ℕ) where
@@ -30,19 +30,19 @@ module _ (l : List ℕ) (i : ℕ) where
   space-none h = rw (drop-of-length-le l {i = i} h)
 
   -- behind the space at r, and at the end
-  pub rest-behind : (r : ℕ) → r ≡ i + spaceIn (drop i l) → drop (r + 1) l ≡ restOf (drop i l)
-  unfolding restOf
+  pub rest-behind : (r : ℕ) → r ≡ i + spaceIn (drop i l) → drop (r + 1) l ≡ restOfLine (drop i l)
+  unfolding restOfLine
   rest-behind r e =
       let q : r + 1 ≡ i + suc (spaceIn (drop i l)) = omega arith in
       rw q (sym (drop-drop (suc (spaceIn (drop i l))) i l))
 
-  pub rest-none : (r : ℕ) → r ≡ i + spaceIn (drop i l) → length l ≤ r → drop r l ≡ restOf (drop i l)
+  pub rest-none : (r : ℕ) → r ≡ i + spaceIn (drop i l) → length l ≤ r → drop r l ≡ restOfLine (drop i l)
   rest-none r e h =
       let h′ : length l ≤ r + 1 = omega arith in
       drop-of-length-le l {i = r} h ∙ sym (drop-of-length-le l {i = r + 1} h′) ∙ rest-behind r e
 
 -- ---- a field less to pass
-pub from-turn : (k : ℕ) (l : List ℕ) → 0 < k → fieldsFrom k l ≡ fieldsFrom (k - 1) (restOf l)
+pub from-turn : (k : ℕ) (l : List ℕ) → 0 < k → fieldsFrom k l ≡ fieldsFrom (k - 1) (restOfLine l)
 unfolding fieldsFrom
 from-turn zero l h = absurd (omega arith)
 from-turn (suc k) l h = let e : suc k - 1 ≡ k = omega arith in rw e

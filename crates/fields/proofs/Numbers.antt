@@ -13,7 +13,7 @@ use lib.Seq.{drop-cons}
 use Rattle.wire.specs.Field.{signed}
 use Rattle.numeral.specs.Whole.{isDigit}
 use Rattle.fields.specs.Line.{fieldOf}
-use Rattle.fields.specs.Number.{grownBy, naturalOf, complementOf, integerOf, isAbsent, countOf}
+use Rattle.fields.specs.Number.{grownBy, naturalField, complementOf, integerOf, isAbsent, countField}
 
 -- ---- a digit more
 module _ (v b : ℕ) where
@@ -36,12 +36,12 @@ module _ (v b : ℕ) where
 
 -- ---- the loop over the bytes of a number
 module _ (p : List ℕ) (i v : ℕ) where
-  pub natural-turn : i < length p → naturalOf v (drop i p) ≡ naturalOf (grownBy v (getD p i 0)) (drop (i + 1) p)
-  unfolding naturalOf
+  pub natural-turn : i < length p → naturalField v (drop i p) ≡ naturalField (grownBy v (getD p i 0)) (drop (i + 1) p)
+  unfolding naturalField
   natural-turn h = rw (drop-cons p i 0 h, add-one i)
 
-  pub natural-end : length p ≤ i → naturalOf v (drop i p) ≡ v
-  unfolding naturalOf
+  pub natural-end : length p ≤ i → naturalField v (drop i p) ≡ v
+  unfolding naturalField
   natural-end h = rw (drop-of-length-le p {i = i} h)
 
 -- ---- the minus
@@ -55,18 +55,18 @@ complement-some v r n e = e ∙ rw (ne-eqb v 0 n)
 
 module _ (p : List ℕ) where
   pub integer-none : length p ≡ 0 → signed 0 ≡ integerOf p
-  unfolding integerOf naturalOf
+  unfolding integerOf naturalField
   integer-none h = go p h
     where
-      go : (q : List ℕ) → length q ≡ 0 → signed 0 ≡ cond (eqb (getD q 0 0) 45) (signed (complementOf (naturalOf 0 (drop 1 q)))) (signed (naturalOf 0 q))
+      go : (q : List ℕ) → length q ≡ 0 → signed 0 ≡ cond (eqb (getD q 0 0) 45) (signed (complementOf (naturalField 0 (drop 1 q)))) (signed (naturalField 0 q))
       go [] e = refl
       go (x ∷ q) e = absurd (omega arith)
 
-  pub integer-minus : getD p 0 0 ≡ 45 → signed (complementOf (naturalOf 0 (drop 1 p))) ≡ integerOf p
+  pub integer-minus : getD p 0 0 ≡ 45 → signed (complementOf (naturalField 0 (drop 1 p))) ≡ integerOf p
   unfolding integerOf
   integer-minus e = rw (eq-eqb (getD p 0 0) 45 e)
 
-  pub integer-plain : (getD p 0 0 ≡ 45 → ⊥) → signed (naturalOf 0 p) ≡ integerOf p
+  pub integer-plain : (getD p 0 0 ≡ 45 → ⊥) → signed (naturalField 0 p) ≡ integerOf p
   unfolding integerOf
   integer-plain e = rw (ne-eqb (getD p 0 0) 45 e)
 
@@ -80,6 +80,6 @@ module _ (p : List ℕ) where
   absent-x e = rw (ne-eqb (length p) 0 e)
 
 -- ---- the number in a field
-pub count-is : (l f : List ℕ) (k n : ℕ) → f ≡ fieldOf l k → n ≡ naturalOf 0 f → n ≡ countOf l k
-unfolding countOf
-count-is l f k n e h = h ∙ ap (naturalOf 0) e
+pub count-is : (l f : List ℕ) (k n : ℕ) → f ≡ fieldOf l k → n ≡ naturalField 0 f → n ≡ countField l k
+unfolding countField
+count-is l f k n e h = h ∙ ap (naturalField 0) e

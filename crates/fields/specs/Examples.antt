@@ -5,20 +5,20 @@ use mathlib.Core.List.{[], _∷_}
 use lib.IntN.{pos, negsuc}
 use Rattle.wire.specs.Field.{signed}
 use Rattle.numeral.specs.Whole.{isDigit}
-use Rattle.fields.specs.Line.{spaceIn, restOf, fieldsFrom, fieldOf}
-use Rattle.fields.specs.Number.{grownBy, naturalOf, complementOf, integerOf, isAbsent}
+use Rattle.fields.specs.Line.{spaceIn, restOfLine, fieldsFrom, fieldOf}
+use Rattle.fields.specs.Number.{grownBy, naturalField, complementOf, integerOf, isAbsent}
 
 -- "L 12  7": a letter, 12, an empty field, 7, and nothing past it
 fields : (fieldOf (76 ∷ 32 ∷ 49 ∷ 50 ∷ 32 ∷ 32 ∷ 55 ∷ []) 1 ≡ 49 ∷ 50 ∷ []) ×
     (fieldOf (76 ∷ 32 ∷ 49 ∷ 50 ∷ 32 ∷ 32 ∷ 55 ∷ []) 2 ≡ []) ×
     (fieldOf (76 ∷ 32 ∷ 49 ∷ 50 ∷ 32 ∷ 32 ∷ 55 ∷ []) 3 ≡ 55 ∷ []) ×
     (fieldOf (76 ∷ 32 ∷ 49 ∷ 50 ∷ 32 ∷ 32 ∷ 55 ∷ []) 4 ≡ [])
-unfolding fieldOf fieldsFrom restOf spaceIn
+unfolding fieldOf fieldsFrom restOfLine spaceIn
 fields = (refl, refl, refl, refl)
 
 -- -12, 2^64 - 1, and 2^64, whose last digit is one too many
 integers : (integerOf (45 ∷ 49 ∷ 50 ∷ []) ≡ negsuc 11) × (integerOf (49 ∷ 50 ∷ []) ≡ pos 12) × (integerOf [] ≡ pos 0)
-unfolding integerOf signed complementOf naturalOf grownBy isDigit
+unfolding integerOf signed complementOf naturalField grownBy isDigit
 integers = (refl, refl, refl)
 
 border : (grownBy 1844674407370955161 53 ≡ 18446744073709551615) × (grownBy 1844674407370955161 54 ≡ 0)

@@ -11,13 +11,13 @@ spaceIn [] = 0
 spaceIn (b ∷ l) = cond (eqb b 32) 0 (suc (spaceIn l))
 
 -- what stands behind the first space
-unfoldable pub restOf : List ℕ → List ℕ
-restOf l = drop (suc (spaceIn l)) l
+unfoldable pub restOfLine : List ℕ → List ℕ
+restOfLine l = drop (suc (spaceIn l)) l
 
 -- the line from field k on, counted from 0
 unfoldable pub fieldsFrom : ℕ → List ℕ → List ℕ
 fieldsFrom zero l = l
-fieldsFrom (suc k) l = fieldsFrom k (restOf l)
+fieldsFrom (suc k) l = fieldsFrom k (restOfLine l)
 
 -- field k: empty past the last
 unfoldable pub fieldOf : List ℕ → ℕ → List ℕ

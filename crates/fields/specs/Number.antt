@@ -15,21 +15,21 @@ unfoldable pub grownBy : ℕ → ℕ → ℕ
 grownBy v b = cond (isDigit b && ltb (v * 10 + (b - 48)) (2 ^ 64)) (v * 10 + (b - 48)) 0
 
 -- the number that bytes spell; v is what those before them spell
-unfoldable pub naturalOf : ℕ → List ℕ → ℕ
-naturalOf v [] = v
-naturalOf v (b ∷ l) = naturalOf (grownBy v b) l
+unfoldable pub naturalField : ℕ → List ℕ → ℕ
+naturalField v [] = v
+naturalField v (b ∷ l) = naturalField (grownBy v b) l
 
 -- minus v, at 64 bits
 unfoldable pub complementOf : ℕ → ℕ
 complementOf v = cond (eqb v 0) 0 (2 ^ 64 - v)
 
 unfoldable pub integerOf : List ℕ → ℤ
-integerOf p = cond (eqb (getD p 0 0) 45) (signed (complementOf (naturalOf 0 (drop 1 p)))) (signed (naturalOf 0 p))
+integerOf p = cond (eqb (getD p 0 0) 45) (signed (complementOf (naturalField 0 (drop 1 p)))) (signed (naturalField 0 p))
 
 -- a field that is empty or begins with x: what may be absent is
 unfoldable pub isAbsent : List ℕ → Bool
 isAbsent p = cond (eqb (length p) 0) true (eqb (getD p 0 0) 120)
 
 -- the number in field k
-unfoldable pub countOf : List ℕ → ℕ → ℕ
-countOf l k = naturalOf 0 (fieldOf l k)
+unfoldable pub countField : List ℕ → ℕ → ℕ
+countField l k = naturalField 0 (fieldOf l k)

@@ -11,34 +11,34 @@ use Rattle.message.specs.declared.Listed.{Listed}
 use Rattle.message.specs.declared.Listed.the-variants as listed
 use Rattle.message.specs.declared.FilterParts.{FilterParts}
 use Rattle.fields.specs.Line.{fieldsFrom, fieldOf}
-use Rattle.fields.specs.Number.{naturalOf, integerOf, isAbsent, countOf}
+use Rattle.fields.specs.Number.{naturalField, integerOf, isAbsent, countField}
 
-unfoldable pub spanOf : List ℕ → Span
-spanOf l = record { start = countOf l 0; len = countOf l 1 }
+unfoldable pub spanFields : List ℕ → Span
+spanFields l = record { start = countField l 0; len = countField l 1 }
 
 -- pubkey pubkey_len created_at kind tags content content_len
-unfoldable pub bodyOf : List ℕ → Body
-bodyOf l = record {
-  pubkey = spanOf l;
+unfoldable pub bodyFields : List ℕ → Body
+bodyFields l = record {
+  pubkey = spanFields l;
   «created_at» = integerOf (fieldOf l 2);
   kind = integerOf (fieldOf l 3);
-  tags = countOf l 4;
-  content = spanOf (fieldsFrom 5 l);
+  tags = countField l 4;
+  content = spanFields (fieldsFrom 5 l);
 }
 
 -- id id_len (the seven of a body) sig sig_len
-unfoldable pub eventOf : List ℕ → EventParts
-eventOf l = record { id = spanOf l; body = bodyOf (fieldsFrom 2 l); sig = spanOf (fieldsFrom 9 l) }
+unfoldable pub eventFields : List ℕ → EventParts
+eventFields l = record { id = spanFields l; body = bodyFields (fieldsFrom 2 l); sig = spanFields (fieldsFrom 9 l) }
 
 unfoldable pub listedOf : List ℕ → Listed
-listedOf p = cond (isAbsent p) listed.Absent (listed.At (naturalOf 0 p))
+listedOf p = cond (isAbsent p) listed.Absent (listed.At (naturalField 0 p))
 
 unfoldable pub boundOf : List ℕ → Bound
 boundOf p = cond (isAbsent p) bound.Absent (bound.Number (integerOf p))
 
 -- ids authors kinds since until limit conditions
-unfoldable pub filterOf : List ℕ → FilterParts
-filterOf l = record {
+unfoldable pub filterFields : List ℕ → FilterParts
+filterFields l = record {
   ids = listedOf (fieldOf l 0);
   authors = listedOf (fieldOf l 1);
   kinds = listedOf (fieldOf l 2);

@@ -7,11 +7,11 @@ use lib.Dec.{eqb}
 use lib.ListN.{length, getD, set, replicate}
 use Rattle.wire.specs.Bytes.{part}
 use Rattle.wire.specs.Put.{put}
-use Rattle.fields.specs.Number.{countOf}
+use Rattle.fields.specs.Number.{countField}
 
 -- the first byte, and 0 where there is none
-unfoldable pub letterOf : List ℕ → ℕ
-letterOf l = getD l 0 0
+unfoldable pub firstByte : List ℕ → ℕ
+firstByte l = getD l 0 0
 
 -- before the first line: zeros, as many as a table of 64 slots has bytes, and 256 more
 abbrev pub emptyRoom : List ℕ
@@ -19,15 +19,15 @@ emptyRoom = replicate 269584 0
 
 -- L len fill: the table has `len` bytes from here on
 unfoldable pub lengthAfter : List ℕ → ℕ → ℕ
-lengthAfter l n = cond (eqb (letterOf l) 76) (countOf l 1) n
+lengthAfter l n = cond (eqb (firstByte l) 76) (countField l 1) n
 
 -- B bytes: all that stands behind the letter and the space
 unfoldable pub lentAfter : List ℕ → List ℕ → List ℕ
-lentAfter l lent = cond (eqb (letterOf l) 66) (put lent 0 (part l 2 65536)) lent
+lentAfter l lent = cond (eqb (firstByte l) 66) (put lent 0 (part l 2 65536)) lent
 
 -- a byte with some of its bits turned over; past the end there is none
-unfoldable pub turned : List ℕ → ℕ → ℕ → List ℕ
-turned room at bits = set room at (bitXor (getD room at 0) bits)
+unfoldable pub turnedOver : List ℕ → ℕ → ℕ → List ℕ
+turnedOver room at bits = set room at (bitXor (getD room at 0) bits)
 
 -- every byte b
 abbrev pub filled : List ℕ → ℕ → List ℕ
@@ -36,5 +36,5 @@ filled room b = replicate (length room) b
 -- L len fill, and X at bits
 unfoldable pub roomAfter : List ℕ → List ℕ → List ℕ
 roomAfter l room =
-    cond (eqb (letterOf l) 76) (filled room (countOf l 2 % 256))
-    (cond (eqb (letterOf l) 88) (turned room (countOf l 1) (countOf l 2 % 256)) room)
+    cond (eqb (firstByte l) 76) (filled room (countField l 2 % 256))
+    (cond (eqb (firstByte l) 88) (turnedOver room (countField l 1) (countField l 2 % 256)) room)

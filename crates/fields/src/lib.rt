@@ -7,10 +7,10 @@ ghost use Prim.Native.Nat.{_+_, _%_, _≤_};
 ghost use lib.ListN.{length, drop, replicate};
 ghost use Rattle.wire.specs.Put.{Puts};
 ghost use Rattle.numeral.specs.Decimal.{digits, decimal};
-ghost use Rattle.fields.specs.Line.{spaceIn, restOf, fieldsFrom, fieldOf, gapOf};
-ghost use Rattle.fields.specs.Number.{grownBy, naturalOf, complementOf, integerOf, isAbsent, countOf};
-ghost use Rattle.fields.specs.Room.{filled, letterOf, emptyRoom, turned, lengthAfter, lentAfter, roomAfter};
-ghost use Rattle.fields.specs.Parts.{spanOf, bodyOf, eventOf, listedOf, boundOf, filterOf};
+ghost use Rattle.fields.specs.Line.{spaceIn, restOfLine, fieldsFrom, fieldOf, gapOf};
+ghost use Rattle.fields.specs.Number.{grownBy, naturalField, complementOf, integerOf, isAbsent, countField};
+ghost use Rattle.fields.specs.Room.{filled, firstByte, emptyRoom, turnedOver, lengthAfter, lentAfter, roomAfter};
+ghost use Rattle.fields.specs.Parts.{spanFields, bodyFields, eventFields, listedOf, boundOf, filterFields};
 use message::Body;
 use message::Bound;
 use message::EventParts;
@@ -37,7 +37,7 @@ fn space(line: &[u8], at: usize) -> usize
 // The index behind that space.
 fn after(line: &[u8], at: usize) -> usize
     requires { ⌜ at ≤ length (now line) ⌝ }
-    ensures { λ r. ⌜ (drop r (now (line .entry)) ≡ restOf (drop at (now (line .entry)))) ×
+    ensures { λ r. ⌜ (drop r (now (line .entry)) ≡ restOfLine (drop at (now (line .entry)))) ×
         (r ≤ length (now (line .entry))) ⌝ }
 {
     let e = space(line, at);
@@ -92,7 +92,7 @@ fn grown(v: u64, b: u8) -> u64
 
 // The number that digits spell.
 pub fn natural(p: &[u8]) -> u64
-    ensures { λ r. ⌜ r ≡ naturalOf 0 (now (p .entry)) ⌝ }
+    ensures { λ r. ⌜ r ≡ naturalField 0 (now (p .entry)) ⌝ }
 {
     let mut v: u64 = 0;
     let mut i = 0;
@@ -138,27 +138,27 @@ pub fn is_absent(p: &[u8]) -> bool
 
 // The number in field k.
 pub fn count(line: &[u8], k: usize) -> usize
-    ensures { λ r. ⌜ r ≡ countOf (now (line .entry)) k ⌝ }
+    ensures { λ r. ⌜ r ≡ countField (now (line .entry)) k ⌝ }
 {
     natural(field(line, k)) as usize
 }
 
 // Its lowest 8 bits, and its lowest 16.
 pub fn byte(line: &[u8], k: usize) -> u8
-    ensures { λ r. ⌜ r ≡ countOf (now (line .entry)) k % 256 ⌝ }
+    ensures { λ r. ⌜ r ≡ countField (now (line .entry)) k % 256 ⌝ }
 {
     (natural(field(line, k)) % 256) as u8
 }
 
 pub fn short(line: &[u8], k: usize) -> u16
-    ensures { λ r. ⌜ r ≡ countOf (now (line .entry)) k % 65536 ⌝ }
+    ensures { λ r. ⌜ r ≡ countField (now (line .entry)) k % 65536 ⌝ }
 {
     (natural(field(line, k)) % 65536) as u16
 }
 
 // ---- The parts of events and filters, from the first field on.
 pub fn span(line: &[u8]) -> Span
-    ensures { λ r. ⌜ r ≡ spanOf (now (line .entry)) ⌝ }
+    ensures { λ r. ⌜ r ≡ spanFields (now (line .entry)) ⌝ }
 {
     Span {
         start: count(line, 0),
@@ -168,7 +168,7 @@ pub fn span(line: &[u8]) -> Span
 
 // pubkey pubkey_len created_at kind tags content content_len
 pub fn body(line: &[u8]) -> Body
-    ensures { λ r. ⌜ r ≡ bodyOf (now (line .entry)) ⌝ }
+    ensures { λ r. ⌜ r ≡ bodyFields (now (line .entry)) ⌝ }
 {
     Body {
         pubkey: span(line),
@@ -181,7 +181,7 @@ pub fn body(line: &[u8]) -> Body
 
 // id id_len (the seven of a body) sig sig_len
 pub fn event(line: &[u8]) -> EventParts
-    ensures { λ r. ⌜ r ≡ eventOf (now (line .entry)) ⌝ }
+    ensures { λ r. ⌜ r ≡ eventFields (now (line .entry)) ⌝ }
 {
     EventParts {
         id: span(line),
@@ -210,7 +210,7 @@ fn bound(p: &[u8]) -> Bound
 
 // ids authors kinds since until limit conditions
 pub fn filter(line: &[u8]) -> FilterParts
-    ensures { λ r. ⌜ r ≡ filterOf (now (line .entry)) ⌝ }
+    ensures { λ r. ⌜ r ≡ filterFields (now (line .entry)) ⌝ }
 {
     FilterParts {
         ids: listed(field(line, 0)),
@@ -272,7 +272,7 @@ pub fn fill(room: &mut [u8], b: u8)
 //   X at bits       turns these bits of a byte of the room over
 // The first byte of a line, and 0 where it has none.
 pub fn letter(line: &[u8]) -> u8
-    ensures { λ r. ⌜ r ≡ letterOf (now (line .entry)) ⌝ }
+    ensures { λ r. ⌜ r ≡ firstByte (now (line .entry)) ⌝ }
 {
     if line.len() == 0 {
         return 0;
@@ -290,7 +290,7 @@ pub fn empty_room() -> [u8; 269584]
 
 // Bits of a byte turned over, where there is one.
 fn turn_over(room: &mut [u8], at: usize, bits: u8)
-    ensures { λ _. ⌜ now (room .exit) ≡ turned (now (room .entry)) at bits ⌝ }
+    ensures { λ _. ⌜ now (room .exit) ≡ turnedOver (now (room .entry)) at bits ⌝ }
 {
     if at < room.len() {
         room[at] = room[at] ^ bits;

@@ -8,7 +8,7 @@ use lib.Dec.{eqb, ltb}
 use lib.ListN.{length, getD, drop, List·getD-eq-default}
 use borrow.Author.Tests.{eqb-true, eq-eqb}
 use Rattle.wire.specs.Bytes.{sameBytes, part}
-use Rattle.wire.specs.Field.{fieldAt, signed}
+use Rattle.wire.specs.Field.{fieldAt}
 use Rattle.wire.proofs.Bytes.{same-equal, equal-same}
 use Rattle.text.specs.Event.{all}
 use Rattle.text.specs.Kinds.{classOf}
@@ -17,12 +17,11 @@ use Rattle.law.specs.Lists.{any, find}
 use Rattle.law.specs.Table.{hasId, hasKey, hasKeyNewer}
 use Rattle.table.proofs.Cells.{length-cells}
 use Rattle.event.specs.Order.{isNewer, newer-is}
-use Rattle.table.specs.Layout.{headerSize, slotSize, countOf, timeIn, kindIn, idIn, lengthIn, dIn, textIn, heldSlots}
+use Rattle.table.specs.Layout.{headerSize, slotSize, countOf, kindIn, idIn, lengthIn, dIn, textIn, heldSlots}
 use Rattle.table.specs.Events.{signedEvents, inSlot, timeOfText, view}
-use Rattle.table.specs.Events as events
 use Rattle.table.specs.Sound.{slotSound, slotsSound, noneTwice, noKeyTwice, sound}
 use Rattle.table.proofs.Bytes.{clauses}
-use Rattle.table.proofs.Slots.{sound-signed, sound-event}
+use Rattle.table.proofs.Shown.{time-of}
 use Rattle.table.proofs.Stored.{length-view}
 use Rattle.slots.specs.Slots.{hasKeyIn, pubkeyBytes, dBytesIn, sameIdIn, sameKeyIn, slotsFrom}
 use Rattle.slots.proofs.Pairs.{any-map, any-as, none-map, none-as}
@@ -72,10 +71,6 @@ module _ (s : List ℕ) {n at len : ℕ} {t d : List ℕ} (x : n ≡ fieldAt s 1
   no-last e = sym (List·getD-eq-default d 0 (omega arith)) ∙ last-is
 
 -- ---- times
-time-of : (s : List ℕ) → slotSound s ≡ true → timeOfText (textIn s) ≡ signed (timeIn s)
-unfolding timeOfText
-time-of s ok = let (e, r) = sound-event s ok in ap events.readTime r ∙ sym (sound-signed s ok e r)
-
 newer-same : (t s : List ℕ) → slotSound t ≡ true → slotSound s ≡ true → signedEvents .newer (inSlot t) (inSlot s) ≡ newerIn t s
 unfolding newerIn
 newer-same t s p q =

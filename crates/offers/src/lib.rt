@@ -63,7 +63,7 @@ fn id_held(table: &[u8], c: usize, new: &[u8]) -> bool
 fn is_full(table: &[u8], c: usize) -> bool
     ensures { λ r. ⌜ r ≡ leb (capacityOf (now (table .entry))) c ⌝ }
 {
-    wire::le_at(table, 0, 4) as usize <= c
+    wire::le_at(table, slots::CAPACITY_PLACE, 4) as usize <= c
 }
 
 // The last byte of a slot's d, and 0 where it has none: slots with one key have it alike.
@@ -131,7 +131,7 @@ fn verdict(table: &[u8], new: &[u8]) -> Decided
     if is_ephemeral(wire::le_at(new, slots::KIND_PLACE, 2)) {
         return Decided::Answered(table::Offered::Ephemeral);
     }
-    let c = wire::le_at(table, 4, 4) as usize;
+    let c = wire::le_at(table, slots::COUNT_PLACE, 4) as usize;
     let held = id_held(table, c, new);
     let full = is_full(table, c);
     if held {
@@ -190,11 +190,11 @@ fn store(table: &mut [u8], new: &[u8], k: usize)
     requires { ⌜ k ≡ slotOf (now table) (now new) ⌝ }
     ensures { λ _. ⌜ now (table .exit) ≡ storedFor (now (table .entry)) (now (new .entry)) ⌝ }
 {
-    let c = wire::le_at(table, 4, 4) as usize;
+    let c = wire::le_at(table, slots::COUNT_PLACE, 4) as usize;
     let a = slots::HEADER_SIZE + k * slots::SLOT_SIZE;
     let e = a + slots::SLOT_SIZE;
     write_slot(&mut table[a..e], new);
-    wire::put_le(table, 4, 4, count_after(c, k) as u64);
+    wire::put_le(table, slots::COUNT_PLACE, 4, count_after(c, k) as u64);
 }
 
 fn offer_slot(table: &mut [u8], new: &[u8]) -> table::Offered

@@ -5,7 +5,7 @@ use denote.Ref.{now}
 use mir.Syntax.{w64}
 use mir.ValLaws.{toZ-ofZ}
 use Rattle.wire.specs.Field.{signed}
-use Rattle.fields.specs.Number.{naturalOf, complementOf}
+use Rattle.fields.specs.Number.{naturalField, complementOf}
 use Rattle.fields.proofs.Fields.{to-end}
 use Rattle.fields.proofs.Numbers.{integer-none, integer-minus, integer-plain}
 use Rattle.fields.proofs.integer.Statement.{statement}
@@ -14,7 +14,7 @@ use Rattle.fields.proofs.integer.Tie as tie
 returns-2 : tie.Need-returns-2
 returns-2 c =
     let n = c .before .before in
-    let v = n .natural .ensures ∙ ap (naturalOf 0) (to-end (now (n .before .before .before .before .before .before .args .p)) 1) in
+    let v = n .natural .ensures ∙ ap (naturalField 0) (to-end (now (n .before .before .before .before .before .before .args .p)) 1) in
     toZ-ofZ w64 (c .to-signed2 .result) (record { sfits = c .to-signed2 .ok }) ∙ c .to-signed2 .ensures ∙ ap signed (c .before .complement .ensures ∙ ap complementOf v) ∙ integer-minus _ (n .before .before .if2 .taken)
 
 returns-3 : tie.Need-returns-3
