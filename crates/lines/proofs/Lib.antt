@@ -1,1 +1,2 @@
+-- Ends: a line without 0A, a byte more of it, and a line after another.
 pub mod Ends

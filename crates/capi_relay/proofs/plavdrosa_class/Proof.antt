@@ -1,3 +1,4 @@
+-- The number of the class that `class_of` promises.
 use mathlib.Core.Path.{ap, _∙_}
 use borrow.Author.Needs.{needs}
 use Rattle.capi_relay.specs.Counts.{classNumber}

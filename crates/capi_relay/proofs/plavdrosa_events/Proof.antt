@@ -1,3 +1,4 @@
+-- Both answers by one law, `said-sent`, for the row and the lent numbers; `out` is as `events` left it.
 use borrow.Author.Needs.{needs}
 use Rattle.capi_relay.proofs.Laws.{said-sent}
 use Rattle.capi_relay.proofs.plavdrosa_events.Statement.{statement}

@@ -1,3 +1,4 @@
+-- 0 and numbers over 5 are no form, and get 5; else `reply` got the parts that `reply_from` promises.
 use borrow.Author.Needs.{needs}
 use Rattle.capi_relay.proofs.Laws.{form-zero, form-over, form-in, no-form, said-form}
 use Rattle.capi_relay.proofs.plavdrosa_reply.Statement.{statement}

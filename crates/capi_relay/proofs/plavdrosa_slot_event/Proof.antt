@@ -1,3 +1,4 @@
+-- `slot_event` promises the answer and the output; `told` makes a row and a length of the answer.
 use mathlib.Core.Path.{_∙_}
 use borrow.Author.Needs.{needs}
 use Rattle.capi_relay.proofs.Laws.{length-as}

@@ -1,3 +1,4 @@
+-- Both answers by one law, `said-turn`, for the row and the lent numbers; the buffers are as `turn` left them.
 use borrow.Author.Needs.{needs}
 use Rattle.capi_relay.proofs.Laws.{said-turn}
 use Rattle.capi_relay.proofs.plavdrosa_turn.Statement.{statement}

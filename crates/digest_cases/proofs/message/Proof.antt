@@ -1,3 +1,4 @@
+-- `end` lies within the line, so the slice has `end` bytes; the count is bounded as `unhex` promises, or 0.
 use mathlib.Core.Path.{sym}
 use native.Mathlib.Omega.{arith}
 use lib.Seq.{length-take-le}

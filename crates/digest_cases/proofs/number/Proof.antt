@@ -1,3 +1,4 @@
+-- The invariant: v stays below 10,009, so that nothing overflows. The measure: the digits that are left.
 use Prim.Native.Nat.{_≤_, _<_, _-_}
 use borrow.Author.Needs.{needs}
 use native.Mathlib.Omega.{arith}

@@ -1,3 +1,4 @@
+-- The invariant: i lies within the line and `at` within the message. The measure: the turns that are left.
 use Prim.Native.Nat.{_≤_, _-_}
 use lib.ListN.{length}
 use borrow.Author.Needs.{needs}

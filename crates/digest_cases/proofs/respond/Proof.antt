@@ -1,3 +1,4 @@
+-- `message` promises an n within the buffer, so each slice of its first n bytes has n.
 use mathlib.Core.Path.{sym}
 use native.Mathlib.Omega.{arith}
 use lib.Seq.{length-take-le}

@@ -1,3 +1,4 @@
+-- The invariant: the output has 65 bytes, and i is at most 32. The measure: the digest's bytes that are left.
 use lib.ListN.{length}
 use mathlib.Core.Path.{_≡_}
 use Prim.Native.Nat.{_≤_, _-_}

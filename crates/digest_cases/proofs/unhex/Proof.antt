@@ -1,3 +1,4 @@
+-- The invariant: the output keeps its length, and i is at most n. The measure: the bytes that are left.
 use Prim.Native.Nat.{_≤_, _-_}
 use lib.ListN.{length}
 use mathlib.Core.Path.{_≡_}

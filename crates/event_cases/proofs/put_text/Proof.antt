@@ -1,3 +1,4 @@
+-- n was tested to be at most 4096, the buffer's length, so the slice of its first n bytes has n.
 use mathlib.Core.Path.{sym}
 use native.Mathlib.Omega.{arith}
 use lib.Seq.{length-take-le}

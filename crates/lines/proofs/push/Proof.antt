@@ -1,3 +1,4 @@
+-- The byte is not 0A, so the line has none with it either (`pushed`); past the end nothing is stored.
 use borrow.Author.Needs.{needs}
 use Rattle.lines.proofs.Ends.{pushed}
 use Rattle.lines.proofs.push.Statement.{statement}

@@ -1,3 +1,4 @@
+-- `body_rank` promises the lowest rank of the fields, and `told` gives its row, or 0 for no row.
 use borrow.Author.Needs.{needs}
 use mathlib.Core.Path.{_∙_}
 use Rattle.message.specs.Lent.{bodyRow}

@@ -1,3 +1,4 @@
+-- The least rank of id, body and sig is the lowest row that one of them breaks (`event-lowest`).
 use borrow.Author.Needs.{needs}
 use mathlib.Core.Path.{_∙_}
 use Rattle.message.proofs.Ranks.{event-lowest}

@@ -1,3 +1,4 @@
+-- The parts of the members that `find` found are those of the object in the text's tree (`filter-is`).
 use borrow.Author.Needs.{needs}
 use mathlib.Core.Path.{_∙_}
 use Rattle.message.proofs.Found.{filter-is}

@@ -1,3 +1,4 @@
+-- The least rank of the seven parts is the lowest row that one of them breaks (`filter-lowest`).
 use borrow.Author.Needs.{needs}
 use mathlib.Core.Path.{_∙_}
 use Rattle.message.proofs.Ranks.{filter-lowest}

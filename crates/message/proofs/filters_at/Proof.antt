@@ -1,3 +1,4 @@
+-- The count and the filters of the first four elements, as the calls promise them, are `filtersAt`'s (`filters-are`).
 use borrow.Author.Needs.{needs}
 use Rattle.message.proofs.Taken.{filters-are}
 use Rattle.message.proofs.filters_at.Statement.{statement}

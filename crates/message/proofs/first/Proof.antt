@@ -1,3 +1,4 @@
+-- Each way out is a clause of `startElement`, of what `begin` found.
 use borrow.Author.Needs.{needs}
 use Rattle.message.proofs.first.Statement.{statement}
 use Rattle.message.proofs.first.Tie as tie

@@ -1,3 +1,4 @@
+-- `hex_rank` promises the lowest rank of the part, and `told` gives its row, or 0 for no row.
 use borrow.Author.Needs.{needs}
 use mathlib.Core.Path.{_∙_}
 use Rattle.message.specs.Lent.{hexRow}

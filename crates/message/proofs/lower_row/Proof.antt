@@ -1,3 +1,4 @@
+-- The definition's tests for 0; where neither is 0, `least` promises the smaller.
 use borrow.Author.Needs.{needs}
 use borrow.Author.Tests.{eq-eqb, ne-eqb}
 use Rattle.message.proofs.lower_row.Statement.{statement}

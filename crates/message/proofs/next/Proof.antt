@@ -1,3 +1,4 @@
+-- Each way out is a clause of `nextOf`: no value stands there, or what `after` found behind it.
 use borrow.Author.Needs.{needs}
 use Rattle.message.specs.Lists.{nextOf}
 use Rattle.message.proofs.next.Statement.{statement}

@@ -1,3 +1,4 @@
+-- The invariant: k is at most the text's length. The measure: the turns that are left, one a byte.
 use Prim.Native.Nat.{_≤_, _-_}
 use lib.ListN.{length}
 use borrow.Author.Needs.{needs}

@@ -1,3 +1,4 @@
+-- The invariant: the output keeps its length, and the letter is at most z + 1. The measure: the letters that are left.
 use Prim.Native.Nat.{_≤_, _-_}
 use lib.ListN.{length}
 use mathlib.Core.Path.{_≡_}

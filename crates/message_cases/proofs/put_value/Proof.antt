@@ -1,3 +1,4 @@
+-- The invariant: the output keeps its length, and k is at most the text's. The measure: the turns that are left.
 use Prim.Native.Nat.{_≤_, _-_}
 use lib.ListN.{length}
 use mathlib.Core.Path.{_≡_}

@@ -1,3 +1,4 @@
+-- Past the end slice and list are empty (`none-behind`); else the slice is all that stands from k on.
 use borrow.Author.Needs.{needs}
 use Rattle.numbers.proofs.Laws.{all-behind, none-behind}
 use Rattle.numbers.proofs.behind.Statement.{statement}

@@ -1,3 +1,4 @@
+-- 0 for what is absent; a number fits in 64 bits, which are what `to_unsigned` promises (`bits-back`).
 use mathlib.Core.Path.{sym, ap, _∙_}
 use borrow.Author.Needs.{needs}
 use Rattle.numbers.specs.Numbers.{bitsOf}

@@ -1,3 +1,4 @@
+-- A flag of 0 is absent; else the number is what `to_signed` promises.
 use borrow.Author.Needs.{needs}
 use Rattle.numbers.proofs.Absent.{no-bound, some-bound}
 use Rattle.numbers.proofs.bound_from.Statement.{statement}

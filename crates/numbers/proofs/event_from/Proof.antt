@@ -1,3 +1,4 @@
+-- Each field is what `number_in` promises of its place; time and kind are what `to_signed` makes of it.
 use borrow.Author.Needs.{needs}
 use Rattle.numbers.specs.Parts.{eventFrom}
 use Rattle.numbers.proofs.Absent.{signed-back}

@@ -1,3 +1,4 @@
+-- Time and kind fit in 64 bits, which `to_unsigned` gives (`bits-back`); the others are the parts themselves.
 use borrow.Author.Needs.{needs}
 use Rattle.numbers.proofs.Laws.{bits-back}
 use Rattle.numbers.proofs.event_numbers.Statement.{statement}

@@ -1,3 +1,4 @@
+-- Each part is what `listed_from` or `bound_from` promises of the numbers that `number_in` gives.
 use borrow.Author.Needs.{needs}
 use Rattle.numbers.specs.Parts.{filterFrom}
 use Rattle.numbers.proofs.filter_from.Statement.{statement}

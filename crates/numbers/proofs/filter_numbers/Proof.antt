@@ -1,3 +1,4 @@
+-- Each number is what `place`, `flag` or `bits` promises of its part.
 use borrow.Author.Needs.{needs}
 use Rattle.numbers.proofs.filter_numbers.Statement.{statement}
 use Rattle.numbers.proofs.filter_numbers.Tie as tie

@@ -1,3 +1,4 @@
+-- Each of the four is what `filter_from` promises of its first number's place.
 use borrow.Author.Needs.{needs}
 use Rattle.numbers.specs.Parts.{filtersFrom}
 use Rattle.numbers.proofs.filters_from.Statement.{statement}

@@ -1,3 +1,4 @@
+-- 0 is absent, and any other number a place: a law for either.
 use borrow.Author.Needs.{needs}
 use Rattle.numbers.proofs.Absent.{no-list, some-list}
 use Rattle.numbers.proofs.listed_from.Statement.{statement}

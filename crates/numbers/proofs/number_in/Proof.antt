@@ -1,3 +1,4 @@
+-- Within the row the number is read; past the end the list's default, 0, stands.
 use mathlib.Core.Path.{sym}
 use lib.ListN.{List·getD-eq-default}
 use borrow.Author.Needs.{needs}

@@ -1,3 +1,4 @@
+-- Start and length are what `number_in` promises of places 0 and 1.
 use borrow.Author.Needs.{needs}
 use Rattle.numbers.proofs.span_from.Statement.{statement}
 use Rattle.numbers.proofs.span_from.Tie as tie

@@ -1,3 +1,4 @@
+-- The time fits in 64 bits, which `to_unsigned` gives (`bits-back`); the others are the fields themselves.
 use borrow.Author.Needs.{needs}
 use Rattle.numbers.proofs.Laws.{bits-back}
 use Rattle.numbers.proofs.text_numbers.Statement.{statement}

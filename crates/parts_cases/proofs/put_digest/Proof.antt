@@ -1,3 +1,4 @@
+-- The invariant: k is at most `times`. The measure: the updates that are left.
 use Prim.Native.Nat.{_≤_, _-_}
 use borrow.Author.Needs.{needs}
 use native.Mathlib.Omega.{arith}

@@ -1,3 +1,4 @@
+-- n was tested to be at most the length of b, so the slice of its first n bytes has n.
 use mathlib.Core.Path.{sym}
 use lib.Seq.{length-take-le}
 use native.Mathlib.Omega.{arith}

@@ -1,3 +1,4 @@
+-- The room was tested to be at most 4200, the buffer's length, so the slice has that many bytes.
 use mathlib.Core.Path.{sym}
 use lib.Seq.{length-take-le}
 use native.Mathlib.Omega.{arith}

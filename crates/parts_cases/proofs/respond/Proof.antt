@@ -1,3 +1,4 @@
+-- `put_unhex` promises an n within the buffer, so the slice of its first n bytes has n.
 use mathlib.Core.Path.{sym}
 use lib.Seq.{length-take-le}
 use borrow.Author.Needs.{needs}

@@ -1,3 +1,4 @@
+-- The invariant: n is at most the row's length. The measure: n.
 use Prim.Native.Nat.{_≤_}
 use lib.ListN.{length}
 use borrow.Author.Needs.{needs}

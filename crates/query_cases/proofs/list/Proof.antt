@@ -1,3 +1,4 @@
+-- The size was tested to be at most the row's length, so the slice has that many numbers.
 use mathlib.Core.Path.{sym}
 use lib.Seq.{length-take-le}
 use native.Mathlib.Omega.{arith}

@@ -1,3 +1,4 @@
+-- n was tested to be at most the room's length, so the slice that is the table has n bytes.
 use mathlib.Core.Path.{sym}
 use lib.Seq.{length-take-le}
 use native.Mathlib.Omega.{arith}

@@ -1,3 +1,4 @@
+-- The invariant: i is at most n, n at most the row's length, and the output keeps its own. The measure: n - i.
 use Prim.Native.Nat.{_≤_, _-_}
 use lib.ListN.{length}
 use mathlib.Core.Path.{_≡_}

@@ -1,3 +1,4 @@
+-- w is at most the output's length, so the slice of its first w bytes has w.
 use mathlib.Core.Path.{sym}
 use native.Mathlib.Omega.{arith}
 use borrow.Author.Needs.{needs}

@@ -1,3 +1,4 @@
+-- The invariant: `turns` is at most the length of p, and the buffers keep theirs. The measure: the turns that are left.
 use Prim.Native.Nat.{_≤_, _-_}
 use lib.ListN.{length}
 use mathlib.Core.Path.{_≡_}

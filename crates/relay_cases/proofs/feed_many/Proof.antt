@@ -1,3 +1,4 @@
+-- The invariant: the buffers keep their lengths. The measure: `rest`, which a turn lessens by a size that is not 0.
 use lib.ListN.{length}
 use lib.Seq.{length-take-le}
 use mathlib.Core.Path.{_≡_, sym}

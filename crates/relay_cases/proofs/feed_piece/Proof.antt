@@ -1,3 +1,4 @@
+-- The invariant: `at` and `turns` are at most the piece's length, and the buffers keep theirs. The measure: turns left.
 use Prim.Native.Nat.{_≤_, _-_}
 use lib.ListN.{length}
 use mathlib.Core.Path.{_≡_}

@@ -1,3 +1,4 @@
+-- The invariant: the buffers keep their lengths. The measure: the turns that are left of 2^48 - 1.
 use Prim.Native.Nat.{_≤_, _-_}
 use lib.ListN.{length}
 use mathlib.Core.Path.{_≡_}

@@ -1,3 +1,4 @@
+-- Up to row 5 nothing is named; above it, what `names` promises.
 use borrow.Author.Needs.{needs}
 use Rattle.responses.proofs.Lines.{named-early, named-late}
 use Rattle.responses.proofs.named_for.Statement.{statement}

@@ -1,3 +1,4 @@
+-- Each way out is a clause of `openingOf`, of what `begin` found; in an array with elements `word_form` is asked.
 use borrow.Author.Needs.{needs}
 use Rattle.shape.specs.Shape.{nameAt}
 use Rattle.shape.proofs.opening.Statement.{statement}

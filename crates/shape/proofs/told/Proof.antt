@@ -1,3 +1,4 @@
+-- The test for 9, the number of no row, as in `toldOf`.
 use Rattle.shape.proofs.Tests.{tests}
 use Rattle.shape.specs.Inner.{toldOf}
 use Rattle.shape.proofs.told.Statement.{statement}

@@ -1,3 +1,4 @@
+-- A law for each way out: the lowest row in the value, 2 where its bytes are no UTF-8, 5 where no value stands.
 use mathlib.Core.Path.{sym, _∙_}
 use borrow.Author.Needs.{needs}
 use Rattle.shape.proofs.Values.{value-told, value-bytes, value-wrong}

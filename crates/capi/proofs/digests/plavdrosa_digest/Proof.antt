@@ -1,3 +1,4 @@
+-- Too many bytes are row 8, and nothing is written; else `put_digest` takes the bytes that `digest_of` promises.
 use mathlib.Core.Path.{sym, ap, _∙_}
 use native.Mathlib.Omega.{arith}
 use borrow.Author.Needs.{needs}

@@ -1,3 +1,4 @@
+-- A law for each way out: too few bytes for a state, too many fed, or what `put_digest` answers and leaves.
 use borrow.Author.Needs.{needs}
 use Rattle.capi.proofs.Pieces.{end-short, end-refused, end-wrote}
 use Rattle.capi.proofs.digests.plavdrosa_digest_finish.Statement.{statement}

@@ -1,3 +1,4 @@
+-- Under 104 bytes 13 is answered; else what was put are the bytes (`to_bytes`) of the state that `new` promises.
 use mathlib.Core.Path.{refl, ap, _∙_}
 use borrow.Author.Needs.{needs}
 use Rattle.capi.proofs.Laws.{lent-short, lent-wrote}

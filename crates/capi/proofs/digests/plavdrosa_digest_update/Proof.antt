@@ -1,3 +1,4 @@
+-- A law for each way out: too few bytes for a state, too many fed, or the new state's bytes put over the old.
 use borrow.Author.Needs.{needs}
 use Rattle.capi.proofs.Pieces.{update-short, update-refused, update-wrote}
 use Rattle.capi.proofs.digests.plavdrosa_digest_update.Statement.{statement}

@@ -1,3 +1,4 @@
+-- Under 32 bytes 13 is answered and all stays; else `put` has written the digest from the start on.
 use mathlib.Core.Path.{refl}
 use borrow.Author.Needs.{needs}
 use Rattle.capi.proofs.Laws.{lent-short, lent-wrote}

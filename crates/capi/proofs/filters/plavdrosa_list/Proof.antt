@@ -1,3 +1,4 @@
+-- A count and a refusal by one law, `said-list`: `answer` got the filters that the numbers give.
 use borrow.Author.Needs.{needs}
 use Rattle.capi.proofs.Query.{said-list}
 use Rattle.capi.proofs.filters.plavdrosa_list.Statement.{statement}

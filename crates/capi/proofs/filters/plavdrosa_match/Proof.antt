@@ -1,3 +1,4 @@
+-- All three answers by one law, `said-match`: `matched` got the parts that the numbers give.
 use borrow.Author.Needs.{needs}
 use Rattle.capi.proofs.Query.{said-match}
 use Rattle.capi.proofs.filters.plavdrosa_match.Statement.{statement}

@@ -1,3 +1,4 @@
+-- Where the numbers do not fit, 13 is answered and all stays; else `put` has written them from the start on.
 use mathlib.Core.Path.{refl}
 use borrow.Author.Needs.{needs}
 use Rattle.capi.proofs.Laws.{lent-short, lent-wrote}

@@ -1,3 +1,4 @@
+-- The number of the answer that `judge_message` promises.
 use mathlib.Core.Path.{ap, _∙_}
 use borrow.Author.Needs.{needs}
 use Rattle.capi.specs.Table.{offeredNumber}

@@ -1,3 +1,4 @@
+-- What `offer_parts` promises holds of the parts that the numbers give, as `event_from` gave just these.
 use borrow.Author.Needs.{needs}
 use Rattle.capi.proofs.Table.{offered-as}
 use Rattle.capi.proofs.tables.plavdrosa_offer_parts.Statement.{statement}

@@ -1,3 +1,4 @@
+-- A place and a refusal by one law, `said-place`: what `shown_at` promises is told as a row and two lent numbers.
 use borrow.Author.Needs.{needs}
 use Rattle.capi.proofs.Table.{said-place}
 use Rattle.capi.proofs.tables.plavdrosa_show.Statement.{statement}

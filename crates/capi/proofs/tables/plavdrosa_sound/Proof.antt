@@ -1,3 +1,4 @@
+-- `sound` tells the branch: `soundRow` is 0 of a sound table and 11 of any other.
 use borrow.Author.Needs.{needs}
 use Rattle.capi.proofs.Table.{sound-0, unsound-11}
 use Rattle.capi.proofs.tables.plavdrosa_sound.Statement.{statement}

@@ -1,3 +1,4 @@
+-- `id_of` got the body that the numbers give: its row is answered, or else what `put_digest` says of its id.
 use mathlib.Core.Path.{sym, ap, _∙_}
 use borrow.Author.Needs.{needs}
 use Rattle.event.specs.Answer.{identified}

@@ -1,3 +1,4 @@
+-- 9 and 5 refuse and leave all; of a text that was read 13 is answered, or its seven numbers are put.
 use mathlib.Core.Path.{sym, ap, _∙_}
 use native.Mathlib.Omega.{arith}
 use borrow.Author.Needs.{needs}

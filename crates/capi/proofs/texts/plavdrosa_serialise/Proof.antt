@@ -1,3 +1,4 @@
+-- A length and a refusal by one law, `said-length`: `serialise` got the body that the numbers give.
 use borrow.Author.Needs.{needs}
 use Rattle.capi.proofs.Laws.{body-of, said-length}
 use Rattle.capi.proofs.texts.plavdrosa_serialise.Statement.{statement}

@@ -1,3 +1,4 @@
+-- The number is 0 or it is not: a law for either.
 use borrow.Author.Needs.{needs}
 use Rattle.capi_relay.proofs.given.Parts.{not-accepted, is-accepted}
 use Rattle.capi_relay.proofs.given.accepted_in.Statement.{statement}

@@ -1,3 +1,4 @@
+-- `behind` gives the numbers from 3 on, and `span_from` the span of the first two of them.
 use mathlib.Core.Path.{ap, _∙_}
 use mathlib.Core.List.{List}
 use Prim.Native.Nat.{ℕ}

@@ -1,3 +1,4 @@
+-- A law for each form: 1 to 4 by the test that held, and a NOTICE where none of the four held.
 use mathlib.Core.Path.{ap, _∙_}
 use borrow.Author.Needs.{needs}
 use Rattle.numbers.specs.Parts.{eventFrom}

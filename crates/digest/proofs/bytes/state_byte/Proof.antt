@@ -1,3 +1,4 @@
+-- A law for each part of a state: byte i is one of the hash value, of the block, or of the count.
 use native.Mathlib.Omega.{arith}
 use borrow.Author.Needs.{needs}
 use Rattle.digest.proofs.StateBytes.{byte-hash, byte-block, byte-count}

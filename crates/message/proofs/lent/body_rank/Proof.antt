@@ -1,3 +1,4 @@
+-- The least rank of five fields is the lowest row that one of them breaks; time and kind fit in 64 bits.
 use borrow.Author.Needs.{needs}
 use mir.Syntax.{w64}
 use mir.ValLaws.{toZ-ofZ}

@@ -1,3 +1,4 @@
+-- What is absent breaks no row; for a number it is what `number_rank` promises, as all three fit in 64 bits.
 use borrow.Author.Needs.{needs}
 use mir.Syntax.{w64}
 use mir.ValLaws.{toZ-ofZ}

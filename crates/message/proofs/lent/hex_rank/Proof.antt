@@ -1,3 +1,4 @@
+-- A row that the string breaks is below 7 (`string-early`); where it breaks none, `is_hex` decides (`hex-late`).
 use borrow.Author.Needs.{needs}
 use mathlib.Core.Path.{sym, _∙_}
 use mathlib.Core.Bool.{true, false}

@@ -1,3 +1,4 @@
+-- A start past the end is not inside; else the length is tested against what is left of the bytes.
 use Rattle.message.proofs.Ranks.{inside-not, inside-is}
 use Rattle.message.proofs.lent.inside.Statement.{statement}
 use Rattle.message.proofs.lent.inside.Tie as tie

@@ -1,3 +1,4 @@
+-- What is absent breaks no row; for a list at a place it is what `value_rank` promises.
 use borrow.Author.Needs.{needs}
 use Rattle.message.proofs.Ranks.{list-absent}
 use Rattle.message.proofs.lent.list_rank.Statement.{statement}

@@ -1,3 +1,4 @@
+-- The tests of `outside`, of the count that `characters` promises of the bytes that `piece` gives.
 use borrow.Author.Needs.{needs}
 use borrow.Author.Tests.{lt-ltb, le-ltb}
 use Rattle.message.proofs.lent.miscounted.Statement.{statement}

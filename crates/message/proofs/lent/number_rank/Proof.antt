@@ -1,3 +1,4 @@
+-- `within` decides between no row and row 6; the numbers fit in 64 bits, so it was asked of just these.
 use borrow.Author.Needs.{needs}
 use mathlib.Core.Path.{sym, _∙_}
 use mir.Syntax.{w64}

@@ -1,3 +1,4 @@
+-- The test for 0, as in `rankOf`.
 use borrow.Author.Tests.{eq-eqb, ne-eqb}
 use Rattle.message.proofs.lent.ranked.Statement.{statement}
 use Rattle.message.proofs.lent.ranked.Tie as tie

@@ -1,3 +1,4 @@
+-- A row that the string breaks is below 8 (`string-early`); where it breaks none, `miscounted` decides.
 use borrow.Author.Needs.{needs}
 use mathlib.Core.Path.{sym, _∙_}
 use mathlib.Core.Bool.{true, false}

@@ -1,3 +1,4 @@
+-- The test for 9, the number of no row, as in `rowTold`.
 use borrow.Author.Tests.{eq-eqb, ne-eqb}
 use Rattle.message.proofs.lent.told.Statement.{statement}
 use Rattle.message.proofs.lent.told.Tie as tie

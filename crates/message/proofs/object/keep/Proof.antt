@@ -1,3 +1,4 @@
+-- Each way out of the match is a clause of `keptPlace`; where nothing was found before, `spells` decides.
 use borrow.Author.Needs.{needs}
 use Rattle.message.specs.Inner.{keptPlace}
 use Rattle.message.proofs.object.keep.Statement.{statement}

@@ -1,3 +1,4 @@
+-- Of an event what `keep` promises of the name sig, of a filter what was found before.
 use borrow.Author.Needs.{needs}
 use Rattle.message.proofs.object.keep_last.Statement.{statement}
 use Rattle.message.proofs.object.keep_last.Tie as tie

@@ -1,3 +1,4 @@
+-- Each field is what its call promises; time and kind fit in 64 bits.
 use borrow.Author.Needs.{needs}
 use mir.Syntax.{w64}
 use mir.ValLaws.{toZ-ofZ}

@@ -1,3 +1,4 @@
+-- Absent, or the number that `number_at` promises, which fits in 64 bits.
 use borrow.Author.Needs.{needs}
 use mathlib.Core.Path.{ap, _∙_}
 use mir.Syntax.{w64}

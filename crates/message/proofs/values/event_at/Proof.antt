@@ -1,3 +1,4 @@
+-- The parts of the members that `find` found are those of the object in the text's tree (`event-is`).
 use borrow.Author.Needs.{needs}
 use Rattle.message.proofs.Found.{event-is}
 use Rattle.message.proofs.values.event_at.Statement.{statement}

@@ -1,3 +1,4 @@
+-- The bounds are what `bound_in` promises; the lists are the members themselves.
 use borrow.Author.Needs.{needs}
 use Rattle.message.proofs.values.filter_of.Statement.{statement}
 use Rattle.message.proofs.values.filter_of.Tie as tie

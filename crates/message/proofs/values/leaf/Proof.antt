@@ -1,3 +1,4 @@
+-- Each way out is a clause of `leafAt`: for a leaf what `scalar` promises, for an array or object None.
 use borrow.Author.Needs.{needs}
 use mathlib.Core.Path.{_∙_}
 use Rattle.message.specs.Inner.{leafAt}

@@ -1,3 +1,4 @@
+-- By the kind that `leaf` found: of a number the value of what `read_whole` read, of all else 0.
 use borrow.Author.Needs.{needs}
 use mathlib.Core.Path.{_∙_}
 use mir.Syntax.{w64}

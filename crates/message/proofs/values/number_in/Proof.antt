@@ -1,3 +1,4 @@
+-- 0 for what is absent, or the number that `number_at` promises, which fits in 64 bits.
 use borrow.Author.Needs.{needs}
 use mathlib.Core.Path.{_∙_}
 use mir.Syntax.{w64}

@@ -1,3 +1,4 @@
+-- The empty span for what is absent, or the one that `span_at` promises.
 use borrow.Author.Needs.{needs}
 use mathlib.Core.Path.{_∙_}
 use Rattle.message.proofs.values.span_in.Statement.{statement}

@@ -1,3 +1,4 @@
+-- Each arm is a clause of `wholeValue`; a value fits in 64 bits.
 use borrow.Author.Needs.{needs}
 use mathlib.Core.Path.{_∙_}
 use mir.Syntax.{w64}

@@ -1,3 +1,4 @@
+-- The two tests of `isEarly`.
 use borrow.Author.Tests.{le-leb, lt-leb}
 use Rattle.message.proofs.words.early.Statement.{statement}
 use Rattle.message.proofs.words.early.Tie as tie

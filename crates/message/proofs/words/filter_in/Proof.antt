@@ -1,3 +1,4 @@
+-- Element k is one of n or not, and stands at a place or not: `filter_at` or `no_filter` gives the filter.
 use borrow.Author.Needs.{needs}
 use borrow.Author.Tests.{lt-ltb, le-ltb}
 use Rattle.message.proofs.words.filter_in.Statement.{statement}

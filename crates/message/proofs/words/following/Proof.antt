@@ -1,3 +1,4 @@
+-- Each arm is a clause of `followingOf`; for a place it is what `next` promises.
 use borrow.Author.Needs.{needs}
 use Rattle.message.proofs.words.following.Statement.{statement}
 use Rattle.message.proofs.words.following.Tie as tie

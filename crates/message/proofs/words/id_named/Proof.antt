@@ -1,3 +1,4 @@
+-- The test of `idNamed` is what `is_hex` promises of the bytes that `piece` gives.
 use borrow.Author.Needs.{needs}
 use Rattle.message.proofs.words.id_named.Statement.{statement}
 use Rattle.message.proofs.words.id_named.Tie as tie

@@ -1,3 +1,4 @@
+-- Each arm is a clause of `isEventAt`; at a place `spells` tests the bytes of the string that `span_at` found.
 use Rattle.message.specs.Inner.{isEventAt}
 use borrow.Author.Needs.{needs}
 use Rattle.message.proofs.words.is_event_at.Statement.{statement}

@@ -1,3 +1,4 @@
+-- The test of `labelNamed` is what `miscounted` promises.
 use borrow.Author.Needs.{needs}
 use Rattle.message.specs.Inner.{labelNamed}
 use Rattle.message.proofs.words.label_named.Statement.{statement}

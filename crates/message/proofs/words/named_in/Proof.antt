@@ -1,3 +1,4 @@
+-- Each arm is a clause of `namedAt`, with what `id_named` promises for an EVENT and `label_named` for a REQ.
 use borrow.Author.Needs.{needs}
 use mathlib.Core.Path.{_∙_}
 use Rattle.message.specs.Inner.{namedAt}

@@ -1,3 +1,4 @@
+-- The filter that `filter_of` promises of no members is `noFilter`, by computation.
 use borrow.Author.Needs.{needs}
 use Rattle.message.proofs.words.no_filter.Statement.{statement}
 use Rattle.message.proofs.words.no_filter.Tie as tie

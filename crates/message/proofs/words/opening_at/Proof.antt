@@ -1,3 +1,4 @@
+-- The words in the order of `wordOf`; each test is what `spells` promises of the name that `spelled` gives.
 use borrow.Author.Needs.{needs}
 use Rattle.shape.specs.Shape.{nameAt, wordOf}
 use Rattle.message.specs.Inner.{openingAt}

@@ -1,3 +1,4 @@
+-- Each arm is a clause of `partsAt`, with what `event_at`, `span_at` and `second` promise.
 use borrow.Author.Needs.{needs}
 use Rattle.message.specs.Inner.{partsAt}
 use Rattle.message.proofs.words.parts.Statement.{statement}

@@ -1,3 +1,4 @@
+-- The place of the element that `next` promises.
 use borrow.Author.Needs.{needs}
 use mathlib.Core.Path.{_∙_}
 use Rattle.message.specs.Inner.{stringAfter}

@@ -1,3 +1,4 @@
+-- `least` promises the smaller of the row so far and the row that `end_row` promises.
 use Rattle.shape.specs.Inner.{closed}
 use borrow.Author.Needs.{needs}
 use Rattle.shape.proofs.counts.close.Statement.{statement}

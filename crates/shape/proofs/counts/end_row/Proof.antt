@@ -1,3 +1,4 @@
+-- The definition's tests in its order, with what `is_full` and `bounded` promise.
 use Rattle.shape.proofs.Tests.{tests}
 use Rattle.shape.specs.Inner.{endRow}
 use borrow.Author.Tests.{eq-eqb}

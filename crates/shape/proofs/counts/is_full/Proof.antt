@@ -1,3 +1,4 @@
+-- The code's test is the definition's, by computation.
 use mathlib.Core.Path.{refl}
 use Rattle.shape.specs.Inner.{isFull}
 use Rattle.shape.proofs.counts.is_full.Statement.{statement}

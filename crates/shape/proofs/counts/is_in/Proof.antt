@@ -1,3 +1,4 @@
+-- The slot is below 64, so the shift is defined, and it divides by the power of 2 that the definition has.
 use borrow.Author.Needs.{needs}
 use mathlib.Core.Path.{refl}
 use Rattle.shape.specs.Inner.{isIn}

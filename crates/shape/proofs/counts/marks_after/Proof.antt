@@ -1,3 +1,4 @@
+-- Below LOWER nothing is counted; else the test for 5 gives the smaller of marks + 1 and 5.
 use borrow.Author.Needs.{needs}
 use borrow.Author.Tests.{lt-ltb, le-ltb}
 use native.Mathlib.Omega.{arith}

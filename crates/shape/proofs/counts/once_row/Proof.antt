@@ -1,3 +1,4 @@
+-- The definition's tests: whether it is a member, and what `is_in` promises of its slot.
 use Rattle.shape.specs.Inner.{onceRow}
 use borrow.Author.Needs.{needs}
 use Rattle.shape.proofs.counts.once_row.Statement.{statement}

@@ -1,3 +1,4 @@
+-- The fields of `fresh`, by computation.
 use Rattle.shape.specs.Inner.{fresh}
 use mathlib.Core.Path.{refl}
 use Rattle.shape.proofs.counts.start.Statement.{statement}

@@ -1,3 +1,4 @@
+-- Each field is what `least`, `once_row`, `bit` and `marks_after` promise, as in `stepped`.
 use borrow.Author.Needs.{needs}
 use Rattle.shape.specs.Inner.{stepped}
 use Rattle.shape.proofs.counts.step.Statement.{statement}

@@ -1,3 +1,4 @@
+-- The definition's tests for the first and the second slot, in its order.
 use Rattle.shape.proofs.Tests.{tests}
 use Rattle.shape.specs.Inner.{elementForm}
 use Rattle.shape.proofs.forms.element_form.Statement.{statement}

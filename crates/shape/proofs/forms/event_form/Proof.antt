@@ -1,3 +1,4 @@
+-- The definition's tests for the seven slots, in its order.
 use Rattle.shape.proofs.Tests.{tests}
 use Rattle.shape.specs.Inner.{eventForm}
 use Rattle.shape.proofs.forms.event_form.Statement.{statement}

@@ -1,3 +1,4 @@
+-- The definition's tests, in its order: a condition's slots first, then six others.
 use Rattle.shape.proofs.Tests.{tests}
 use Rattle.shape.specs.Inner.{filterForm}
 use Rattle.shape.proofs.forms.filter_form.Statement.{statement}

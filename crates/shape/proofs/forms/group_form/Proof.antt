@@ -1,3 +1,4 @@
+-- The definition's tests, in its order: braces or brackets, then the form.
 use Rattle.shape.proofs.Tests.{tests}
 use Rattle.shape.specs.Inner.{groupForm}
 use Rattle.shape.proofs.forms.group_form.Statement.{statement}

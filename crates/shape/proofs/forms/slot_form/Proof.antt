@@ -1,3 +1,4 @@
+-- The definition's tests for the form, in its order, with what `event_form`, `filter_form`, `element_form` promise.
 use Rattle.shape.proofs.Tests.{tests}
 use Rattle.shape.specs.Inner.{slotForm}
 use borrow.Author.Needs.{needs}

@@ -1,3 +1,4 @@
+-- Each arm is a clause of `formOf`.
 use borrow.Author.Needs.{needs}
 use Rattle.shape.specs.Values.{formOf}
 use Rattle.shape.proofs.forms.sort_form.Statement.{statement}

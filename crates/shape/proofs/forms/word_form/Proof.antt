@@ -1,3 +1,4 @@
+-- The words in the order of `wordOf`; each test is what `spells` promises.
 use borrow.Author.Needs.{needs}
 use Rattle.shape.specs.Shape.{wordOf}
 use Rattle.shape.specs.Inner.{wordForm}

@@ -1,3 +1,4 @@
+-- # and a letter, spelled plainly, decode to themselves (`condition-plain`); else `escaped_condition` is asked.
 use borrow.Author.Needs.{needs}
 use mathlib.Core.Path.{refl, _∙_}
 use Rattle.shape.proofs.Names.{condition-plain}

@@ -1,3 +1,4 @@
+-- A member is what `member` promises of the name that `spelled` gives; an element has the slot of its place.
 use Rattle.shape.specs.Inner.{itemOf}
 use borrow.Author.Needs.{needs}
 use Rattle.shape.proofs.items.item_of.Statement.{statement}

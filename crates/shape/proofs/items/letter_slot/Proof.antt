@@ -1,3 +1,4 @@
+-- `between` promises the definition's tests for the two ranges, and within a range nothing overflows.
 use borrow.Author.Needs.{needs}
 use mathlib.Core.Path.{sym, _∙_}
 use native.Mathlib.Omega.{arith}

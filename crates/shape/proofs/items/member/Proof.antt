@@ -1,3 +1,4 @@
+-- Slot and row are what `name_slot` and `name_row` promise.
 use Rattle.shape.specs.Inner.{memberItem}
 use borrow.Author.Needs.{needs}
 use Rattle.shape.proofs.items.member.Statement.{statement}

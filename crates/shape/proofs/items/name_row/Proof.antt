@@ -1,3 +1,4 @@
+-- The test of `nameRow` is what `refused` promises.
 use Rattle.shape.specs.Inner.{nameRow}
 use borrow.Author.Needs.{needs}
 use Rattle.shape.proofs.items.name_row.Statement.{statement}

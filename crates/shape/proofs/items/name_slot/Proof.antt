@@ -1,3 +1,4 @@
+-- The definition's tests for the form, with what `event_slot` and `filter_slot` promise.
 use Rattle.shape.proofs.Tests.{tests}
 use Rattle.shape.specs.Inner.{nameSlot}
 use borrow.Author.Needs.{needs}

@@ -1,3 +1,4 @@
+-- The definition's tests for 0 and 1.
 use Rattle.shape.proofs.Tests.{tests}
 use Rattle.shape.specs.Inner.{placeSlot}
 use Rattle.shape.proofs.items.place_slot.Statement.{statement}

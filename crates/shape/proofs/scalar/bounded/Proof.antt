@@ -1,3 +1,4 @@
+-- The definition's tests for the two bounds, in its order.
 use Rattle.shape.proofs.Tests.{tests}
 use Rattle.shape.specs.Inner.{bounds}
 use Rattle.shape.proofs.scalar.bounded.Statement.{statement}

@@ -1,3 +1,4 @@
+-- Past the text, or before its own start, a part is empty; one that the text's end cuts off is the rest of the text.
 use borrow.Author.Needs.{needs}
 use Rattle.shape.proofs.Places.{cut-past, cut-rest, cut-none}
 use Rattle.shape.proofs.scalar.cut.Statement.{statement}

@@ -1,3 +1,4 @@
+-- The test of `hexFormRow` is what `is_hex` promises.
 use Rattle.shape.specs.Inner.{hexFormRow}
 use borrow.Author.Needs.{needs}
 use Rattle.shape.proofs.scalar.hex_row.Statement.{statement}

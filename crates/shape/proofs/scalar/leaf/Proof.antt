@@ -1,3 +1,4 @@
+-- By the kind that `scalar` found. A string begins within the text and ends after 0, so its quotes can be cut off.
 use borrow.Author.Needs.{needs}
 use mathlib.Core.Path.{sym, _∙_}
 use native.Mathlib.Omega.{arith}

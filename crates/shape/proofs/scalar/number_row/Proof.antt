@@ -1,3 +1,4 @@
+-- The definition's tests for the form, with what `time_row` and `small_row` promise.
 use borrow.Author.Needs.{needs}
 use Rattle.shape.specs.Inner.{numberRow}
 use Rattle.shape.proofs.Tests.{tests}

@@ -1,3 +1,4 @@
+-- The test of `rangeRow`, from 0 to 65,535, is what `within` promises of the number that `read_whole` read.
 use borrow.Author.Needs.{needs}
 use Rattle.shape.specs.Inner.{rangeRow}
 use Rattle.shape.proofs.scalar.small_row.Statement.{statement}

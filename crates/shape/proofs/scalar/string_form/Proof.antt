@@ -1,3 +1,4 @@
+-- The definition's tests for the form, in its order, with what `bounded` and `hex_row` promise.
 use Rattle.shape.proofs.Tests.{tests}
 use Rattle.shape.specs.Inner.{stringForm}
 use borrow.Author.Needs.{needs}

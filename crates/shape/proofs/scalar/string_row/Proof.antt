@@ -1,3 +1,4 @@
+-- What `refused` promises decides row 4; else the row is what `string_form` promises.
 use Rattle.shape.specs.Inner.{stringFormRow}
 use borrow.Author.Needs.{needs}
 use Rattle.shape.proofs.scalar.string_row.Statement.{statement}

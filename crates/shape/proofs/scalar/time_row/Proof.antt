@@ -1,3 +1,4 @@
+-- The test of `rangeRow`, within 2^53 - 1 of 0, is what `within` promises of the number that `read_whole` read.
 use borrow.Author.Needs.{needs}
 use Rattle.shape.specs.Inner.{rangeRow}
 use Rattle.shape.proofs.scalar.time_row.Statement.{statement}
