@@ -1,4 +1,4 @@
--- The row that `value_row` promises, with 9 for 0 as `ranked` does, is the lowest that holds (`value-rank`).
+-- The row that `value_row` promises, with 9 in place of 0, where no row holds (`value-rank`).
 use borrow.Author.Needs.{needs}
 use Rattle.message.proofs.Ranks.{value-rank}
 use Rattle.message.proofs.lent.value_rank.Statement.{statement}

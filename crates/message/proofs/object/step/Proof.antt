@@ -1,4 +1,4 @@
--- Each place is what `keep` promises (the last: `keep_last`), of the name from `spelled` and the word from `either`.
+-- Each place is what `keep` promises of the name from `spelled` and the word from `either`; the last: `keep_last`.
 use borrow.Author.Needs.{needs}
 use Rattle.message.specs.Inner.{stepOf}
 use Rattle.message.proofs.object.step.Statement.{statement}
