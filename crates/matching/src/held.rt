@@ -10,7 +10,7 @@ ghost use Rattle.numeral.specs.Decimal.{digits, decimal};
 ghost use Rattle.text.specs.Event.{all};
 ghost use Rattle.message.specs.Lent.{isTagsShape, value5};
 ghost use Rattle.event.specs.Lent.{lentTagsAt};
-ghost use Rattle.event.specs.Answer.{hexOf};
+ghost use Rattle.event.specs.Answer.{hexDigit, hexOf};
 ghost use Rattle.table.specs.Layout.{idSize, countOf, idIn};
 ghost use Rattle.table.specs.Sound.{sound};
 ghost use Rattle.query.specs.Match.{isListed, conditionHolds};
@@ -20,6 +20,28 @@ ghost use Rattle.matching.specs.Inner.Hits.{Filled};
 use crate::Known;
 use crate::Members;
 use crate::matcher;
+
+// The hex digit of a number, in lower case.
+fn hex_digit(d: u8) -> u8
+    requires { ⌜ d < 16 ⌝ }
+    ensures { λ r. ⌜ r ≡ hexDigit d ⌝ }
+{
+    if d < 10 { b'0' + d } else { b'a' - 10 + d }
+}
+
+// The hex of an id. Each digit has its place, and there is no way out of the loop, so that the compiler takes many
+// bytes at a time.
+fn put_hex(hex: &mut [u8], id: &[u8])
+    requires { ⌜ (length (now id) ≡ idSize) × (length (now hex) ≡ idSize * 2) ⌝ }
+    ensures { λ _. ⌜ now (hex .exit) ≡ hexOf (now (id .entry)) ⌝ }
+{
+    let mut i = 0;
+    while i < slots::ID_SIZE {
+        hex[i * 2] = hex_digit(id[i] / 16);
+        hex[i * 2 + 1] = hex_digit(id[i] % 16);
+        i += 1;
+    }
+}
 
 // Whether the id of the slot s, in hex, is in the list.
 fn id_listed(s: &[u8], ids: Members, m: &[u8], row: &[usize]) -> bool
@@ -31,7 +53,7 @@ fn id_listed(s: &[u8], ids: Members, m: &[u8], row: &[usize]) -> bool
         Members::Absent => true,
         Members::In(a, n) => {
             let mut hex = [0u8; wire::HEX_LENGTH];
-            event::put_hex(&mut hex, 0, wire::piece(s, slots::ID_PLACE, slots::ID_SIZE));
+            put_hex(&mut hex, wire::piece(s, slots::ID_PLACE, slots::ID_SIZE));
             matcher::listed(Members::In(a, n), &hex, m, row)
         }
     }

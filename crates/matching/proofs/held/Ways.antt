@@ -1,18 +1,19 @@
 -- What the fields and the text of a held slot say of its event, a law for each way out.
 use mathlib.Core.Path.{_≡_, refl, sym, ap, ap₂, _∙_}
 use mathlib.Core.Bool.{Bool, true, false, not}
-use mathlib.Core.List.{List, [], _∷_, map}
-use Prim.Native.Nat.{ℕ, zero, suc, _+_, _^_, _≤_, _<_}
+use mathlib.Core.List.{List, [], _∷_, _++_, append-assoc, map}
+use Prim.Native.Nat.{ℕ, zero, suc, _+_, _*_, _/_, _%_, _^_, _≤_, _<_}
+use native.Mathlib.Numerals.{add-one}
 use native.Mathlib.Omega.{arith}
 use borrow.Author.Tests.{lt-ltb}
 use lib.IntN.{ℤ}
-use lib.ListN.{length, getD, take, drop, length-take}
+use lib.ListN.{length, getD, set, take, drop, length-set, length-take}
+use lib.Seq.{take-suc, take-suc-set, take-all}
 use mir.Syntax.{w8, w64}
 use mir.Val.{toZ, ofZ, Fits, SFits}
 use mir.Facts.{toZ-ofZ}
 use Rattle.wire.specs.Bytes.{part}
 use Rattle.wire.specs.Field.{fieldAt, signed, Field}
-use Rattle.wire.specs.Put.{Puts}
 use Rattle.numeral.specs.Decimal.{digits, decimal}
 use Rattle.numeral.proofs.Digits.{digits-20}
 use Rattle.numeral.proofs.Wholes.{decimal-20}
@@ -25,8 +26,7 @@ use Rattle.text.proofs.Pieces.{and-true}
 use Rattle.text.proofs.RoundTrip.{read-same}
 use Rattle.message.specs.Lent.{isTagsShape, value5}
 use Rattle.event.specs.Lent.{lentTagsAt}
-use Rattle.event.specs.Answer.{hexOf}
-use Rattle.event.proofs.Answers.{hex-whole}
+use Rattle.event.specs.Answer.{hexDigit, hexOf}
 use Rattle.table.specs.Layout.{isByte, slotSize, countOf, slotAt, idIn, textIn, timeIn, kindIn, lengthIn}
 use Rattle.table.specs.Sound.{sound}
 use Rattle.table.specs.Demand3.{SpellsTags}
@@ -57,14 +57,40 @@ first-bytes (suc n) [] h i = omega arith
 first-bytes (suc n) (x ∷ l) h zero = h 0
 first-bytes (suc n) (x ∷ l) h (suc i) = first-bytes n l (λ j. h (suc j)) i
 
+hex-append : (a b : List ℕ) → hexOf (a ++ b) ≡ hexOf a ++ hexOf b
+unfolding hexOf
+hex-append [] b = refl
+hex-append (x ∷ a) b = ap (λ l. hexDigit (x / 16) ∷ hexDigit (x % 16) ∷ l) (hex-append a b)
+
+-- none are stored; two digits more; then all are there
+pub hex-start : [] ≡ hexOf []
+unfolding hexOf
+hex-start = refl
+
+module _ (l o : List ℕ) (i : ℕ) (w : take (i * 2) o ≡ hexOf (take i l)) where
+  pub hex-more : i < length l → i * 2 + 1 < length o → {x y : ℕ} → x ≡ hexDigit (getD l i 0 / 16) → y ≡ hexDigit (getD l i 0 % 16)
+      → take ((i + 1) * 2) (set (set o (i * 2) x) (i * 2 + 1) y) ≡ hexOf (take (i + 1) l)
+  unfolding hexOf
+  hex-more h k {x} {y} p q =
+      let e : (i + 1) * 2 ≡ suc (suc (i * 2)) = omega arith in
+      let f : i * 2 + 1 ≡ suc (i * 2) = omega arith in
+      let n : suc (i * 2) < length (set o (i * 2) x) = omega (arith, length-set o (i * 2) x) in
+      rw (e, f, add-one i, take-suc-set (set o (i * 2) x) (suc (i * 2)) y n, take-suc-set o (i * 2) x (omega arith), w, take-suc l i 0 h, hex-append (take i l) (getD l i 0 ∷ []), p, q)
+      (append-assoc (hexOf (take i l)) (hexDigit (getD l i 0 / 16) ∷ []) (hexDigit (getD l i 0 % 16) ∷ []))
+
+  pub hex-end : length l ≤ i → length o ≤ i * 2 → o ≡ hexOf l
+  hex-end h k = sym (take-all (i * 2) o k) ∙ w ∙ ap hexOf (take-all i l h)
+
+pub id-long : (s : List ℕ) {w : List ℕ} → w ≡ part s 0 32 → 32 ≤ length s → length w ≡ 32
+id-long s e h = ap length e ∙ length-take 32 s ∙ omega arith
+
 module _ (s m row : List ℕ) {l : Members} where
-  pub id-given : {a n : ℕ} → l ≡ In a n → ((i : ℕ) → Fits w8 (getD s i 0)) → 32 ≤ length s → {w o d : List ℕ} {z : ℕ} {r : Bool} → w ≡ part s 0 32 → length o ≡ 64
-      → Puts d 0 (hexOf w) z o → r ≡ isListed (given (spelledBy m) row (In a n)) (decode o) → r ≡ isListed (given (spelledBy m) row l) (hexOf (idIn s))
+  pub id-given : {a n : ℕ} → l ≡ In a n → ((i : ℕ) → Fits w8 (getD s i 0)) → {w o : List ℕ} {r : Bool} → w ≡ part s 0 32 → o ≡ hexOf w
+      → r ≡ isListed (given (spelledBy m) row (In a n)) (decode o) → r ≡ isListed (given (spelledBy m) row l) (hexOf (idIn s))
   unfolding idIn
-  id-given {a} {n} e small h {w} {o} p q put x =
-      let z : length w ≡ 32 = ap length p ∙ length-take 32 s ∙ omega arith in
+  id-given e small {w} {o} p q x =
       let y : decode o ≡ hexOf (part s 0 32) =
-      ap decode (hex-whole w q z put ∙ ap hexOf p)
+      ap decode (q ∙ ap hexOf p)
       ∙ hex-itself (hexOf (part s 0 32)) (hex-is (part s 0 32) (bytes-are (part s 0 32) (first-bytes 32 s (λ i. small i .fits)))) in
       x ∙ ap₂ (λ k v. isListed (given (spelledBy m) row k) v) (sym e) y
 
