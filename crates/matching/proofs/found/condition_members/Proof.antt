@@ -1,3 +1,4 @@
+-- Without an object there are no conditions; else those that `conditions_at` promises of the place in the enum.
 use borrow.Author.Needs.{needs}
 use mathlib.Core.Path.{sym, ap}
 use Rattle.message.specs.declared.Listed.{Listed}

@@ -1,3 +1,4 @@
+-- Each start that `begin` promises is a clause of `firstNamed`; of many, whether the first has a name decides.
 use borrow.Author.Needs.{needs}
 use Rattle.matching.proofs.found.Ways.{first-is, first-many}
 use Rattle.matching.proofs.found.first_named.Statement.{statement}

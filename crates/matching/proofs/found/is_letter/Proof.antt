@@ -1,3 +1,4 @@
+-- From 97 on a to z decide, from 65 on A to Z; below 65 there is no letter.
 use Rattle.matching.proofs.found.Ways.{letter-low, letter-high, letter-none}
 use Rattle.matching.proofs.found.is_letter.Statement.{statement}
 use Rattle.matching.proofs.found.is_letter.Tie as tie

@@ -1,3 +1,4 @@
+-- What `value` and then `after` promise, arm by arm, are the clauses of `nextNamed`.
 use borrow.Author.Needs.{needs}
 use mathlib.Core.Path.{_∙_}
 use Rattle.matching.proofs.found.Ways.{next-bad, more-is}

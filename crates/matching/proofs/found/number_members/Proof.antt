@@ -1,3 +1,4 @@
+-- Without a list nothing is found and the row stays; else what `numbers_at` promises of the place that the enum holds.
 use borrow.Author.Needs.{needs}
 use Rattle.matching.proofs.found.Ways.{of-list, members-none, members-in}
 use Rattle.matching.proofs.found.number_members.Statement.{statement}

@@ -1,3 +1,4 @@
+-- A number that was read is turned by `kind_of`, and fits in 64 bits; any other spelling is 0 by definition.
 use borrow.Author.Needs.{needs}
 use Rattle.matching.proofs.found.Members.{small-value}
 use Rattle.matching.proofs.found.small_from.Statement.{statement}

@@ -1,3 +1,4 @@
+-- The two answers of `head` are the two clauses of `valuePlace`.
 use borrow.Author.Needs.{needs}
 use Rattle.matching.proofs.found.Ways.{value-is}
 use Rattle.matching.proofs.found.value_place.Statement.{statement}

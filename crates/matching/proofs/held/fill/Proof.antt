@@ -1,3 +1,4 @@
+-- The invariant: the bytes of the first k slots are filled for this filter, all others as found. The measure: c - k.
 use mathlib.Core.Path.{_≡_, refl, sym, _∙_}
 use Prim.Native.Nat.{_-_, _≤_}
 use lib.ListN.{length, length-set}

@@ -1,3 +1,4 @@
+-- The invariant: all conditions hold exactly if those from i on do. The measure: 4 - i.
 use mathlib.Core.Path.{_≡_, refl, sym, _∙_}
 use mathlib.Core.List.{map}
 use Prim.Native.Nat.{_-_, _≤_}

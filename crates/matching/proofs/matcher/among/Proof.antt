@@ -1,3 +1,4 @@
+-- The invariant: a member is alike exactly if one of the spans from j - 1 on is. Equal bytes decode alike.
 use mathlib.Core.Path.{sym}
 use Prim.Native.Nat.{_-_}
 use lib.ListN.{length}

@@ -1,3 +1,4 @@
+-- What `first` of message promises, and its place.
 use borrow.Author.Needs.{needs}
 use mathlib.Core.Path.{ap, _∙_}
 use Rattle.matching.specs.Inner.Steps.{placed}

@@ -1,3 +1,4 @@
+-- The invariant: the kind is in the row exactly if it is among the numbers from j on. The measure: how many those are.
 use mathlib.Core.Path.{_≡_, refl, sym, _∙_}
 use Prim.Native.Nat.{_-_}
 use lib.IntN.{pos}

@@ -1,3 +1,4 @@
+-- Outer invariant: a tag fits exactly if one from x on does. Inner: a member fits exactly if one from j - 1 on does.
 use borrow.Author.Needs.{needs}
 use mathlib.Core.Path.{_∙_}
 use native.Mathlib.Omega.{arith}

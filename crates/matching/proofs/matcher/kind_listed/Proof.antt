@@ -1,3 +1,4 @@
+-- An absent list holds of every kind; else what `has` promises of the numbers that `cut` gives.
 use mathlib.Core.Path.{_∙_}
 use borrow.Author.Needs.{needs}
 use Rattle.matching.proofs.matcher.kind_listed.Statement.{statement}

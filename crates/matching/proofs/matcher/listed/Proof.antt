@@ -1,3 +1,4 @@
+-- An absent list holds of every string; else what `among` promises of the spans that `cut` gives.
 use mathlib.Core.Path.{_∙_}
 use borrow.Author.Needs.{needs}
 use Rattle.matching.proofs.matcher.listed.Statement.{statement}

@@ -1,3 +1,4 @@
+-- The three variants are the three clauses of `placed`.
 use borrow.Author.Needs.{needs}
 use Rattle.matching.proofs.matcher.place.Statement.{statement}
 use Rattle.matching.proofs.matcher.place.Tie as tie

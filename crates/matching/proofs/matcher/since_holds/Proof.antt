@@ -1,3 +1,4 @@
+-- A bound that is a number compares as the signed number it is (`since-is`), on both ways out.
 use Rattle.matching.proofs.matcher.Ways.{since-is}
 use borrow.Author.Needs.{needs}
 use Rattle.matching.proofs.matcher.since_holds.Statement.{statement}

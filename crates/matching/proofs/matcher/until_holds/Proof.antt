@@ -1,3 +1,4 @@
+-- A bound that is a number compares as the signed number it is (`until-is`), on both ways out.
 use Rattle.matching.proofs.matcher.Ways.{until-is}
 use borrow.Author.Needs.{needs}
 use Rattle.matching.proofs.matcher.until_holds.Statement.{statement}

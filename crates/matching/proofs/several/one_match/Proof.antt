@@ -1,3 +1,4 @@
+-- What `event_matched` promises of the filter that `find` promises.
 use borrow.Author.Needs.{needs}
 use Rattle.event.specs.Lent.{said, eventOf}
 use Rattle.matching.proofs.several.Ways.{filter-is}
