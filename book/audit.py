@@ -32,14 +32,10 @@ class Audit:
     def __init__(self, repo, names, linker):
         self.repo, self.names, self.linker = repo, names, linker
         self.cites = {}
-        self.calls = [i for i in repo.items("src") if i.kind == "fn" and i.public and repo.is_library(i.crate) and self.in_lib(i)]
+        self.calls = [i for i in repo.items("src") if i.kind == "fn" and i.public and repo.is_library(i.crate)]
         self.promises = {call.anchor: linker.promised(call) for call in self.calls}
         self.proofs = self.find_proofs()
         self.believed = self.closure([t for call in self.calls for t in self.promises[call.anchor]])
-
-    def in_lib(self, item):
-        """A public function of a file that lib.rt keeps to itself is not a public call."""
-        return item.module.name == "lib"
 
     def cited(self, item):
         if item.anchor not in self.cites:

@@ -2,6 +2,7 @@
 """Tests of the audit book: book/test.py"""
 import hashlib
 import os
+import re
 import subprocess
 import sys
 import tempfile
@@ -81,6 +82,11 @@ class Page(unittest.TestCase):
     def test_every_call_and_edit_is_there(self):
         wanted = [c.anchor for c in self.audit.calls] + [e.anchor for e in self.repo.edits]
         self.assertEqual([a for a in wanted if a not in self.links.anchors], [])
+
+    def test_every_call_of_the_header_is_a_public_call(self):
+        declared = set(re.findall(r"^uint8_t (plavdrosa_\w+)\(", (ROOT / "include" / "plavdrosa.h").read_text(encoding="utf-8"), re.M))
+        self.assertGreater(len(declared), 20)
+        self.assertEqual(declared - {c.name for c in self.audit.calls}, set())
 
     def test_no_path_of_a_machine(self):
         self.assertNotIn(str(ROOT), self.page)
