@@ -1,32 +1,55 @@
--- Laws of lists that a loop fills from the front, of a message that lies in two parts, and of the answers' numbers.
--- Assumes nothing.
+-- Laws of lists that a loop fills from the front, of the words of a block and of a hash value, and of the answers'
+-- numbers. Assumes nothing.
 use mathlib.Core.Path.{_≡_, refl, ap, _∙_}
-use mathlib.Core.List.{List, [], _∷_, _++_, append-nil}
-use Prim.Native.Nat.{ℕ, zero, suc, _+_, _-_, _*_, _≤_, _<_}
+use mathlib.Core.List.{List, [], _∷_, _++_}
+use Prim.Native.Nat.{ℕ, zero, suc, _+_, _*_, _<_}
 use native.Mathlib.Omega.{arith}
-use lib.ListN.{length, take, drop, set, replicate, length-append, List·getD-append}
-use lib.Seq.{take-suc-set, length-take-le, getD-take, getD-drop, getD-append-add, drop-append-add}
+use lib.ListN.{length, take, drop, set}
+use lib.Seq.{take-suc-set, take-all, getD-take, getD-drop}
 use Rattle.digest.specs.declared.Sha256.{Sha256}
 use Rattle.digest.specs.declared.Updated.{Updated}
 use Rattle.digest.specs.declared.Finished.{Finished}
 use Rattle.digest.specs.declared.Digest.{Digest}
-use Rattle.digest.specs.Block.{at, blockWord, nextWord}
-use Rattle.digest.specs.State.{answerNumber, countRow, updated, finished, digested}
+use Rattle.digest.specs.Words.{plus}
+use Rattle.digest.specs.Block.{at, blockWord, chained, compress}
+use Rattle.digest.specs.Digest.{hashAfter}
+use Rattle.digest.specs.State.{answerNumber, countRow, firstBytes, updated, finished, digested}
+use Rattle.digest.specs.Parts.{first-take}
 use Rattle.digest.specs.Claims.{update-number, finish-number, digest-number}
 
 -- the first n elements, one more of them
 pub filled : (w : List ℕ) (n m v : ℕ) {f : List ℕ} → take n w ≡ f → m ≡ suc n → n < length w → take m (set w n v) ≡ f ++ (v ∷ [])
 filled w n m v {f} e em h = rw (em, take-suc-set w n v, e)
 
--- the next word of the schedule reads only the first k + 16
-pub next-take : (w : List ℕ) (k : ℕ) → nextWord w k ≡ nextWord (take (k + 16) w) k
-next-take w k =
-    rw (
-      getD-take (k + 16) w (k + 14) 0 (omega arith),
-      getD-take (k + 16) w (k + 9) 0 (omega arith),
-      getD-take (k + 16) w (k + 1) 0 (omega arith),
-      getD-take (k + 16) w k 0 (omega arith),
-    )
+-- the first n bytes of the n that there are
+pub first-all : (l : List ℕ) (n : ℕ) → length l ≡ n → firstBytes l n ≡ l
+first-all l n e = first-take l n (omega arith) ∙ take-all n l (omega arith)
+
+-- a word of the next hash value
+pub length-chained : (h s : List ℕ) → length (chained h s) ≡ 8
+unfolding chained
+length-chained h s = refl
+
+pub length-compress : (h b : List ℕ) → length (compress h b) ≡ 8
+unfolding compress
+length-compress h b = length-chained h _
+
+pub length-hashed : (h l : List ℕ) (n : ℕ) → length h ≡ 8 → length (hashAfter h l n) ≡ 8
+unfolding hashAfter
+length-hashed h l zero e = e
+length-hashed h l (suc n) e = length-compress _ _
+
+pub at-chained : (h s : List ℕ) (i : ℕ) → i < 8 → at (chained h s) i ≡ plus (at s i) (at h i)
+unfolding chained
+at-chained h s zero k = refl
+at-chained h s (suc zero) k = refl
+at-chained h s (suc (suc zero)) k = refl
+at-chained h s (suc (suc (suc zero))) k = refl
+at-chained h s (suc (suc (suc (suc zero)))) k = refl
+at-chained h s (suc (suc (suc (suc (suc zero))))) k = refl
+at-chained h s (suc (suc (suc (suc (suc (suc zero)))))) k = refl
+at-chained h s (suc (suc (suc (suc (suc (suc (suc zero))))))) k = refl
+at-chained h s (suc (suc (suc (suc (suc (suc (suc (suc i)))))))) k = absurd (omega arith)
 
 -- a byte, and a word, of the block that begins at n
 at-part : (l : List ℕ) (n j k : ℕ) → j < 64 → k ≡ n + j → at (take 64 (drop n l)) j ≡ at l k
@@ -40,36 +63,6 @@ word-part l n i h =
       at-part l n (4 * i + 2) (n + 4 * i + 2) (omega arith) (omega arith),
       at-part l n (4 * i + 3) (n + 4 * i + 3) (omega arith) (omega arith),
     )
-
--- the message of the first n bytes of b and then d
-module _ (b d : List ℕ) (n : ℕ) (fits : n ≤ length b) where
-  front : length (take n b) ≡ n
-  front = length-take-le n b fits
-
-  pub length-message : length (take n b ++ d) ≡ n + length d
-  length-message = simp (length-append, front)
-
-  pub at-front : (j : ℕ) → j < n → at (take n b ++ d) j ≡ at b j
-  at-front j h = rw (List·getD-append (take n b) d 0 j (omega (arith, front)), getD-take n b j 0)
-
-  pub at-behind : (j : ℕ) → n ≤ j → at (take n b ++ d) j ≡ at d (j - n)
-  at-behind j h =
-      let e : j ≡ length (take n b) + (j - n) = omega (arith, front) in
-      ap (at (take n b ++ d)) e ∙ getD-append-add (take n b) d (j - n) 0
-
-  pub drop-behind : (j : ℕ) → n ≤ j → drop j (take n b ++ d) ≡ drop (j - n) d
-  drop-behind j h =
-      let e : j ≡ length (take n b) + (j - n) = omega (arith, front) in
-      ap (λ (k : ℕ). drop k (take n b ++ d)) e ∙ drop-append-add (take n b) d (j - n)
-
--- the byte 0x80 and z zeros, in an array of zeros behind it
-take-zeros : (z n : ℕ) → z ≤ n → take z (replicate {A = ℕ} n 0) ≡ replicate z 0
-take-zeros zero n h = refl
-take-zeros (suc z) zero h = absurd (omega arith)
-take-zeros (suc z) (suc n) h = ap {B = List ℕ} (λ r. 0 ∷ r) (take-zeros z n (omega arith))
-
-pub begun : (z m : ℕ) → m ≡ suc z → z ≤ 71 → take {A = ℕ} m (0x80 ∷ replicate 71 0) ≡ ((0x80 ∷ []) ++ replicate z 0) ++ []
-begun z m e h = rw (e, append-nil, take-zeros z 71)
 
 -- an answer that is the definition's has its number
 pub updates : {u : Updated} (s : Sha256) (d : List ℕ) → u ≡ updated s d → (u ≡ updated s d) × (answerNumber (u .answer) ≡ countRow (s .total + length d))

@@ -22,7 +22,7 @@ unfolding firstBytes
 length-first l zero = refl
 length-first l (suc n) = length-append (firstBytes l n) (getD l n 0 ∷ []) ∙ rw (length-first l n) (omega arith)
 
-take-first : (l : List ℕ) (k n : ℕ) → take k (firstBytes l (k + n)) ≡ firstBytes l k
+pub take-first : (l : List ℕ) (k n : ℕ) → take k (firstBytes l (k + n)) ≡ firstBytes l k
 unfolding firstBytes
 take-first l k zero = rw add-zero (take-all k (firstBytes l k) (omega (arith, length-first l k)))
 take-first l k (suc n) =
@@ -69,7 +69,7 @@ module _ (h l m : List ℕ) where
   pub hashed-more : hashed (hashed h l) (rest l ++ m) ≡ hashed h (l ++ m)
   hashed-more = sym (rw more-blocks (hash-more h l m (blocks l) (blocks (rest l ++ m)) (omega arith)))
 
-  rest-more : rest (rest l ++ m) ≡ rest (l ++ m)
+  pub rest-more : rest (rest l ++ m) ≡ rest (l ++ m)
   rest-more = sym (rw more-blocks (behind l m (blocks l) (blocks (rest l ++ m)) (omega arith)))
 
   -- so the state too

@@ -1,12 +1,12 @@
 // SHA-256 (FIPS 180-4), whole or fed piece by piece. Contracts cite specs/: Words, Block and Digest are the standard's
-// sections, State is what the calls answer for any state. Theorems over these: Pieces, that any pieces have the digest
-// of the whole, and Vectors, the standard's examples.
+// sections, State is what the calls answer for any state. Theorems over these: Claims, that any pieces have the digest
+// of the whole, and Examples, the standard's.
 ghost use mathlib.Core.Path.{_≡_};
-ghost use Prim.Native.Nat.{_+_, _<_, _≤_, _^_};
+ghost use Prim.Native.Nat.{_+_, _*_, _%_, _<_, _≤_};
 ghost use mathlib.Core.List.{[], _++_};
-ghost use lib.ListN.{length, take, drop, getD};
-ghost use Rattle.digest.specs.Block.{compress};
-ghost use Rattle.digest.specs.Digest.{zeros, padding, hashed, digestBytes};
+ghost use lib.ListN.{length, take};
+ghost use Rattle.digest.specs.Block.{H0};
+ghost use Rattle.digest.specs.Digest.{bigEndian, padding, hashed, rest, digestBytes};
 ghost use Rattle.digest.specs.State.{answerNumber, most, countRow, firstBytes, stateOf, updated, finished};
 ghost use Rattle.digest.specs.State.{digested};
 
@@ -14,64 +14,111 @@ mod block;
 mod bytes;
 
 // The most bytes that a digest takes: 2^61 - 1 (01, "The text that is hashed").
-const MOST: u64 = 0x1fff_ffff_ffff_ffff;
+pub(crate) const MOST: u64 = 0x1fff_ffff_ffff_ffff;
 
-// Byte j of the message that is the first `fill` bytes of `block` and then `bytes`; 0 past its end.
-fn byte_of(block: [u8; 64], fill: usize, bytes: &[u8], j: usize) -> u8
-    requires { ⌜ fill < 64 ⌝ }
-    ensures { λ r. ⌜ r ≡ getD (take fill block ++ now (bytes .entry)) j 0 ⌝ }
+// Zeros in the block from n on.
+fn blank(b: &mut [u8], n: usize)
+    requires { ⌜ (length (now b) ≡ 64) × (n ≤ 64) ⌝ }
+    ensures { λ _. ⌜ now (b .exit) ≡ firstBytes (take n (now (b .entry))) 64 ⌝ }
 {
-    if j < fill {
-        return block[j];
-    }
-    let k = j - fill;
-    if k < bytes.len() {
-        return bytes[k];
-    }
-    0
-}
-
-// 64 bytes of that message from `from` on, zeros past its end.
-pub(crate) fn window(block: [u8; 64], fill: usize, bytes: &[u8], from: usize) -> [u8; 64]
-    requires { ⌜ (fill < 64) × (from ≤ fill + length (now bytes)) × (fill + length (now bytes) ≤ 2 ^ 62) ⌝ }
-    ensures { λ r. ⌜ r ≡ firstBytes (drop from (take fill block ++ now (bytes .entry))) 64 ⌝ }
-{
-    let mut b = [0u8; 64];
-    let mut i: usize = 0;
+    let mut i = n;
     while i < 64 {
-        b[i] = byte_of(block, fill, bytes, from + i);
+        b[i] = 0;
         i += 1;
     }
-    b
 }
 
-// The hash value after the block of that message that begins at `from`, read from `bytes` itself where it lies in it
-// whole.
-fn next_block(h: [u32; 8], block: [u8; 64], fill: usize, bytes: &[u8], from: usize) -> [u32; 8]
-    requires { ⌜ (fill < 64) × (from + 64 ≤ fill + length (now bytes)) × (fill + length (now bytes) ≤ 2 ^ 62) ⌝ }
-    ensures { λ r. ⌜ r ≡ compress h (take 64 (drop from (take fill block ++ now (bytes .entry)))) ⌝ }
+// `bytes` in the block behind its first n, and zeros behind them.
+pub(crate) fn lay(b: &mut [u8], n: usize, bytes: &[u8])
+    requires { ⌜ (length (now b) ≡ 64) × (n + length (now bytes) ≤ 64) ⌝ }
+    ensures { λ _. ⌜ now (b .exit) ≡ firstBytes (take n (now (b .entry)) ++ now (bytes .entry)) 64 ⌝ }
 {
-    if fill <= from {
-        return block::block_at(h, bytes, from - fill);
+    let m = bytes.len();
+    let mut i: usize = 0;
+    while i < m {
+        b[n + i] = bytes[i];
+        i += 1;
     }
-    let b = window(block, fill, bytes, from);
-    block::block_at(h, &b, 0)
+    blank(b, n + m);
 }
 
-// The hash value after the whole blocks of that message.
-fn absorb(h: [u32; 8], block: [u8; 64], fill: usize, bytes: &[u8]) -> [u32; 8]
-    requires { ⌜ (fill < 64) × (fill + length (now bytes) ≤ 2 ^ 62) ⌝ }
-    ensures { λ r. ⌜ r ≡ hashed h (take fill block ++ now (bytes .entry)) ⌝ }
+// The hash value h after the whole blocks of `bytes`, in place. (How long an array behind a reference is, is known where
+// it is required.)
+fn absorb(h: &mut [u32; 8], bytes: &[u8])
+    requires { ⌜ length (now h) ≡ 8 ⌝ }
+    ensures { λ _. ⌜ now (h .exit) ≡ hashed (now (h .entry)) (now (bytes .entry)) ⌝ }
 {
-    let n = (fill + bytes.len()) / 64;
-    let mut w = h;
+    let n = bytes.len() / 64;
     let mut i: usize = 0;
     while i < n {
-        let r = next_block(w, block, fill, bytes, 64 * i);
-        w = r;
+        block::block_at(h, bytes, 64 * i);
         i += 1;
     }
-    w
+}
+
+// `bytes` behind the first `fill` bytes of the block, which wait: whole blocks are hashed into h, and the rest waits in
+// the block.
+pub(crate) fn take_in(h: &mut [u32; 8], b: &mut [u8; 64], fill: usize, bytes: &[u8])
+    requires { ⌜ (length (now h) ≡ 8) × (fill < 64) ⌝ }
+    ensures { λ _. ⌜ now (h .exit) ≡ hashed (now (h .entry)) (take fill (now (b .entry)) ++ now (bytes .entry)) ⌝ }
+    ensures { λ _. ⌜ now (b .exit) ≡ firstBytes (rest (take fill (now (b .entry)) ++ now (bytes .entry))) 64 ⌝ }
+{
+    let n = bytes.len();
+    let room = 64 - fill;
+    if n < room {
+        lay(b, fill, bytes);
+        return;
+    }
+    lay(b, fill, &bytes[..room]);
+    block::block_at(h, b, 0);
+    absorb(h, &bytes[room..]);
+    let end = n - (n - room) % 64;
+    lay(b, 0, &bytes[end..]);
+}
+
+// The length of a message of `total` bytes, in bits, into the last eight bytes of the block.
+fn write_length(b: &mut [u8], total: u64)
+    requires { ⌜ (length (now b) ≡ 64) × (total ≤ most) ⌝ }
+    ensures { λ _. ⌜ now (b .exit) ≡ take 56 (now (b .entry)) ++ bigEndian (total * 8) 8 ⌝ }
+{
+    let bits = total * 8;
+    let mut i: usize = 0;
+    while i < 8 {
+        b[56 + i] = ((bits >> (8 * (7 - i))) % 256) as u8;
+        i += 1;
+    }
+}
+
+// The hash value h after the end of a message of `total` bytes: those that wait in the block, and the padding, which is
+// laid behind them in the block itself.
+fn close(h: &mut [u32; 8], b: &mut [u8; 64], total: u64)
+    requires { ⌜ (length (now h) ≡ 8) × (total ≤ most) ⌝ }
+    ensures { λ _. ⌜ now (h .exit) ≡ hashed (now (h .entry)) (take (total % 64) (now (b .entry)) ++ padding total) ⌝ }
+{
+    let fill = (total % 64) as usize;
+    lay(b, fill, b"\x80");
+    if 56 <= fill {
+        block::block_at(h, b, 0);
+        blank(b, 0);
+    }
+    write_length(b, total);
+    block::block_at(h, b, 0);
+}
+
+// The initial hash value (FIPS 180-4, 5.3.3).
+fn initial() -> [u32; 8]
+    ensures { λ r. ⌜ r ≡ H0 ⌝ }
+{
+    [
+        0x6a09e667,
+        0xbb67ae85,
+        0x3c6ef372,
+        0xa54ff53a,
+        0x510e527f,
+        0x9b05688c,
+        0x1f83d9ab,
+        0x5be0cd19,
+    ]
 }
 
 // A hash under way: the hash value, the block that is being filled, and how many bytes were fed. The first `total` % 64
@@ -104,32 +151,8 @@ pub struct Digest {
     pub bytes: [u8; 32],
 }
 
-// How long the padding of a message of `total` bytes is.
-fn padding_len(total: u64) -> usize
-    ensures { λ r. ⌜ r ≡ 9 + zeros total ⌝ }
-{
-    9 + ((119 - total % 64) % 64) as usize
-}
-
-// The padding of a message of `total` bytes, and zeros.
-fn pad(total: u64) -> [u8; 72]
-    requires { ⌜ total ≤ most ⌝ }
-    ensures { λ r. ⌜ take (9 + zeros total) r ≡ padding total ⌝ }
-{
-    let bits = total * 8;
-    let z = ((119 - total % 64) % 64) as usize;
-    let mut p = [0u8; 72];
-    p[0] = 0x80;
-    let mut i: usize = 0;
-    while i < 8 {
-        p[z + 1 + i] = ((bits >> (8 * (7 - i))) % 256) as u8;
-        i += 1;
-    }
-    p
-}
-
 // The bytes of a hash value.
-pub(crate) fn split(h: [u32; 8]) -> [u8; 32]
+fn split(h: [u32; 8]) -> [u8; 32]
     ensures { λ r. ⌜ r ≡ digestBytes h 32 ⌝ }
 {
     let mut out = [0u8; 32];
@@ -145,17 +168,9 @@ impl Sha256 {
     pub fn new() -> Self
         ensures { λ r. ⌜ r ≡ stateOf [] ⌝ }
     {
+        let words = initial();
         Sha256 {
-            words: [
-                0x6a09e667,
-                0xbb67ae85,
-                0x3c6ef372,
-                0xa54ff53a,
-                0x510e527f,
-                0x9b05688c,
-                0x1f83d9ab,
-                0x5be0cd19,
-            ],
+            words,
             block: [0u8; 64],
             total: 0,
         }
@@ -179,14 +194,11 @@ impl Sha256 {
                 state: self,
             };
         }
-        let fill = (total % 64) as usize;
-        let w = self.words;
-        let b = self.block;
-        let h = absorb(w, b, fill, bytes);
-        let m = fill + bytes.len();
-        let left = window(b, fill, bytes, m - m % 64);
+        let mut h = self.words;
+        let mut b = self.block;
+        take_in(&mut h, &mut b, (total % 64) as usize, bytes);
         self.words = h;
-        self.block = left;
+        self.block = b;
         self.total = total + n;
         Updated {
             answer: Answer::Done,
@@ -206,11 +218,9 @@ impl Sha256 {
                 bytes: [0u8; 32],
             };
         }
-        let w = self.words;
-        let b = self.block;
-        let p = pad(total);
-        let n = padding_len(total);
-        let h = absorb(w, b, (total % 64) as usize, &p[..n]);
+        let mut h = self.words;
+        let mut b = self.block;
+        close(&mut h, &mut b, total);
         let bytes = split(h);
         Finished {
             answer: Answer::Done,
@@ -225,21 +235,22 @@ pub fn digest_of(bytes: &[u8]) -> Digest
     ensures { λ r. ⌜ r ≡ digested (now (bytes .entry)) ⌝ }
     ensures { λ r. ⌜ answerNumber (r .answer) ≡ countRow (length (now (bytes .entry))) ⌝ }
 {
-    let u = Sha256::new().update(bytes);
-    let a = u.answer;
-    match a {
-        Answer::TooLong => Digest {
+    let n = bytes.len();
+    if n as u64 > MOST {
+        return Digest {
             answer: Answer::TooLong,
             bytes: [0u8; 32],
-        },
-        Answer::Done => {
-            let s = u.state;
-            let f = s.finish();
-            let bytes = f.bytes;
-            Digest {
-                answer: Answer::Done,
-                bytes: bytes,
-            }
-        }
+        };
+    }
+    let mut h = initial();
+    absorb(&mut h, bytes);
+    let end = n - n % 64;
+    let mut b = [0u8; 64];
+    lay(&mut b, 0, &bytes[end..]);
+    close(&mut h, &mut b, n as u64);
+    let bytes = split(h);
+    Digest {
+        answer: Answer::Done,
+        bytes: bytes,
     }
 }

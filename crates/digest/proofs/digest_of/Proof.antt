@@ -1,48 +1,32 @@
--- What is refused is too long, and what is taken is finished as the whole. Assumes nothing.
+-- What is too long is refused, otherwise the whole blocks are hashed and then the end. Assumes nothing.
 use borrow.Author.Needs.{needs}
-use native.Mathlib.Decide.{decLe}
 use native.Mathlib.Omega.{arith}
-use mathlib.Core.Path.{_≡_, ap, sym, _∙_}
-use mathlib.Core.List.{List, []}
-use Prim.Native.Nat.{ℕ, _≤_}
-use lib.ListN.{length, replicate}
-use Rattle.digest.specs.declared.Answer.the-variants.{Done, TooLong}
-use Rattle.digest.specs.declared.Updated.{Updated}
-use Rattle.digest.specs.State.{most, stateAfter, stateOf, updated, finished, digested}
-use Rattle.digest.specs.Claims.{update-stands, update-refused, finish-stands, digest-done, digest-refused}
-use Rattle.digest.proofs.Laws.{digests}
+use mathlib.Core.Path.{sym}
+use Rattle.digest.specs.Claims.{digest-done, digest-refused}
+use Rattle.digest.proofs.Laws.{length-hashed, digests}
+use Rattle.digest.proofs.Ends.{ends}
 use Rattle.digest.proofs.digest_of.Statement.{statement}
 use Rattle.digest.proofs.digest_of.Tie as tie
 
-refused : (d : List ℕ) → Dec (length d ≤ most) → updated (stateOf []) d .answer ≡ TooLong
-    → digested d ≡ record { answer = TooLong; bytes = replicate 32 0 }
-refused d (yes h) e =
-    let z : _≡_ {A = ℕ} 0 1 = cc (ap (λ (u : Updated). u .answer) (update-stands [] d (omega arith))) in
-    absurd (omega arith)
-refused d (no h) e = digest-refused d (omega arith)
-
-taken : (d : List ℕ) → Dec (length d ≤ most) → updated (stateOf []) d .answer ≡ Done
-    → digested d ≡ record { answer = Done; bytes = finished (updated (stateOf []) d .state) .bytes }
-unfolding stateAfter
-taken d (yes h) e = digest-done d h ∙ rw (update-stands [] d (omega arith), finish-stands d h)
-taken d (no h) e =
-    let z : _≡_ {A = ℕ} 0 1 = cc (ap (λ (u : Updated). u .answer) (update-refused (stateOf []) d (omega arith))) in
-    absurd (omega arith)
-
 returns : tie.Need-returns
-returns c =
-    let u = c .before .before in
-    digests _ (sym (refused _ (decLe _ _) (rw (← u .before .new .ensures, ← u .update .ensures .0) (c .enum-told .given .1))))
+returns c = digests _ (sym (digest-refused _ (omega arith)))
+
+close-requires : tie.Need-close-requires
+close-requires c κs =
+    let a = c .before .before .before .before .before .before in
+    (rw (a .absorb .ensures) (length-hashed _ _ _ (a .before .before .initial .ok .1 .0 .1)), search needs)
 
 returns-2 : tie.Need-returns-2
 returns-2 c =
-    let u = c .before .before .before .before .before in
-    digests _
-    (rw (c .before .finish .ensures .0, u .update .ensures .0, u .before .new .ensures)
-    (sym (taken _ (decLe _ _) (rw (← u .before .new .ensures, ← u .update .ensures .0) (c .before .before .before .enum-told2 .given .1)))))
+    let c₁ = c .before .before .before .before .before in
+    let c₂ = c₁ .before .before .before in
+    let i = c₂ .before .before .initial .ensures in
+    let e = ends _ i (c₂ .absorb .ensures) (c₁ .lay .ensures) (c .before .close .ensures) in
+    digests _ (rw (c .split .ensures, e) (sym (digest-done _ (omega arith))))
 
 pub digest-of-spec : {M : Type 1} → statement M
 digest-of-spec =
     tie.close
-    (tie.spec (λ c κs. search needs) (λ c κs. search needs) (λ c. search needs) (λ c. search needs)
-    (λ c κs. search needs) returns returns-2)
+    (tie.spec returns (λ c κs. search needs) (λ c κs. search needs) (λ c. search needs) (λ c. search needs)
+    (λ c. search needs) (λ c. search needs) (λ c. search needs) (λ c κs. search needs) close-requires
+    (λ c κs. search needs) returns-2)

@@ -1,34 +1,31 @@
--- After t turns the working variables are those of t rounds. Assumes nothing.
+-- The four sets of sixteen rounds, and the law that the ring's rounds are the schedule's. Assumes nothing.
 use borrow.Author.Needs.{needs}
-use mathlib.Core.Path.{_≡_, refl, ap, _∙_}
-use Prim.Native.Nat.{_≤_, _-_}
-use native.Mathlib.Omega.{arith}
-use native.Mathlib.Numerals.{add-one}
-use Rattle.digest.specs.Block.{K, rounds}
+use mathlib.Core.List.{List}
+use Prim.Native.Nat.{ℕ}
+use Rattle.digest.proofs.Ring.{ring-rounds}
 use Rattle.digest.proofs.block.all_rounds.Statement.{statement}
 use Rattle.digest.proofs.block.all_rounds.Tie as tie
 
-abbrev Inv-loop : tie.InvT-loop
-Inv-loop w s₀ t₀ s t = (s ≡ rounds w s₀ t) × (t ≤ 64)
-
-abbrev μ-loop : tie.MeasureT-loop
-μ-loop w s₀ t₀ s t = 64 - t
-
-loop-holds : tie.Need-loop-holds Inv-loop μ-loop
-unfolding rounds
-loop-holds c = (refl, search needs)
-
-loop-again : tie.Need-loop-again Inv-loop μ-loop
-unfolding rounds K
-loop-again c = (rw (c .turn .ensures, add-one, c .before .before .loop .inv .0), omega arith)
-
-returns : tie.Need-returns Inv-loop μ-loop
+returns : tie.Need-returns
 returns c =
-    let e : c .before .loop .t ≡ 64 = omega arith in
-    c .before .loop .inv .0 ∙ ap (rounds _ _) e
+    let c3 = c .before .before in
+    let c2 = c3 .before .before in
+    let c1 = c2 .before .before in
+    let c0 = c1 .before .before in
+    let h : List ℕ = c0 .before .before .args .h in
+    rw (← c0 .first-words .ensures)
+    (rw (
+      c .rounds-48 .ensures .0,
+      c3 .rounds-32 .ensures .0,
+      c3 .rounds-32 .ensures .1,
+      c2 .rounds-16 .ensures .0,
+      c2 .rounds-16 .ensures .1,
+      c1 .rounds-0 .ensures,
+    )
+    (ring-rounds (c0 .first-words .result) (c0 .first-words .ok .1 .0 .1) h))
 
 pub all-rounds-spec : {M : Type 1} → statement M
 all-rounds-spec =
     tie.close
-    (tie.spec Inv-loop μ-loop loop-holds (λ c. search needs) (λ c. search needs) (λ c. search needs) (λ c. search needs)
-    (λ c κs. search needs) (λ c. search needs) (λ c. omega arith) loop-again returns)
+    (tie.spec (λ c κs. search needs) (λ c κs. search needs) (λ c κs. search needs) (λ c κs. search needs)
+    (λ c κs. search needs) returns)

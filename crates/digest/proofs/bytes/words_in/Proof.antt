@@ -1,7 +1,7 @@
 -- After i turns the first i words are those of the bytes.
 use borrow.Author.Needs.{needs}
 use mathlib.Core.Path.{_≡_, refl, sym, _∙_}
-use Prim.Native.Nat.{ℕ, _≤_, _+_, _-_}
+use Prim.Native.Nat.{_≤_, _+_, _-_}
 use native.Mathlib.Omega.{arith}
 use native.Mathlib.Numerals.{add-one}
 use lib.ListN.{length, take, length-set}
@@ -24,7 +24,7 @@ loop-holds c = (refl, refl, search needs)
 loop-again : tie.Need-loop-again Inv-loop μ-loop
 unfolding words
 loop-again c =
-    let l = c .before .before .before .loop in (
+    let l = c .before .before .loop in (
       filled (l .w) (l .i) (l .i + 1) (c .word-at .result) (l .inv .0) (add-one (l .i)) (omega arith) ∙ rw (add-one, c .word-at .ensures),
       simp length-set (l .inv .1),
       omega arith,
@@ -39,5 +39,5 @@ returns c =
 pub words-in-spec : {M : Type 1} → statement M
 words-in-spec =
     tie.close
-    (tie.spec Inv-loop μ-loop loop-holds (λ c. search needs) (λ c. search needs) (λ c κs. search needs)
-    (λ c. search needs) (λ c. search needs) (λ c. search needs) (λ c. omega arith) loop-again returns)
+    (tie.spec Inv-loop μ-loop loop-holds (λ c. search needs) (λ c κs. search needs) (λ c. search needs)
+    (λ c. search needs) (λ c. search needs) (λ c. omega arith) loop-again returns)
