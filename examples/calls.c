@@ -75,6 +75,9 @@ static void pieces(void) {
         EXPECT(out[0] == 0xaf && out[31] == 0x3a && state[PLAVDROSA_DIGEST_STATE_SIZE] == 7, 1);
     }
     EXPECT(plavdrosa_digest_finish(state, sizeof state, out, PLAVDROSA_ID_SIZE - 1), PLAVDROSA_SHORT_OUTPUT);
+    EXPECT(plavdrosa_digest_update(state, PLAVDROSA_DIGEST_STATE_SIZE - 1, BYTES("a")), PLAVDROSA_SHORT_OUTPUT);
+    EXPECT(plavdrosa_digest_finish(state, sizeof state, out, PLAVDROSA_ID_SIZE), PLAVDROSA_DONE);
+    EXPECT(out[0] == 0xaf && out[31] == 0x3a, 1);
     memset(state + 96, 0xff, 8);
     EXPECT(plavdrosa_digest_update(state, sizeof state, BYTES("")), PLAVDROSA_BAD_COUNT);
     EXPECT(plavdrosa_digest_finish(state, sizeof state, out, PLAVDROSA_ID_SIZE), PLAVDROSA_BAD_COUNT);

@@ -18,7 +18,7 @@ use Rattle.digest.specs.Digest.{rest, digest, digestBytes}
 use Rattle.digest.specs.State.{most, countRow, stateAfter, stateOf, updated, finished}
 use Rattle.digest.specs.Parts.{length-first}
 use Rattle.digest.specs.Claims.{joined, update-stands, finish-stands}
-use Rattle.digest.specs.Bytes.{stateBytes}
+use Rattle.digest.specs.Bytes.{stateBytes, stateLent, updateRow, updateOut}
 use Rattle.digest.specs.Back.{length-state, fed-back}
 use Rattle.message.specs.Read.{readOf, readNumber}
 use Rattle.message.specs.Parts.{filtersAt}
@@ -34,7 +34,7 @@ use Rattle.numbers.proofs.Rows.{event-back, filters-back}
 use Rattle.query.specs.Answer.{filterPartsAt}
 use Rattle.query.proofs.ReadFilters.{read-listing}
 use Rattle.capi.specs.Calls.{lentRow, lentOut, readRow, readOut}
-use Rattle.capi.specs.Digest.{stateLent, startOut, updateRow, updateOut, endRow, endOut}
+use Rattle.capi.specs.Digest.{startOut, endRow, endOut}
 use Rattle.capi.specs.Claims.{ReadOffered, Answered, ReadListed, fedAll, PiecesWhole}
 
 -- ---- what was written stands at the row's start
@@ -86,9 +86,6 @@ module _ (l x : List ℕ) (h : length l ≤ most) where
   total-is = ap (λ (s : Sha256). s .total) lent-is
 
 module _ (l d x : List ℕ) (h : length l + length d ≤ most) where
-  small : length (l ++ d) ≤ most
-  small = simp length-append h
-
   before : length l ≤ most
   before = omega arith
 
@@ -104,12 +101,9 @@ module _ (l d x : List ℕ) (h : length l + length d ≤ most) where
   fed-on : updateOut (stateBytes (stateOf l) ++ x) d ≡ stateBytes (stateOf (l ++ d)) ++ x
   unfolding updateOut
   fed-on =
-      let n = length-bytes (l ++ d) x small in
       let b : List ℕ = stateBytes (stateOf l) in
       let c : List ℕ = stateBytes (stateOf (l ++ d)) in
-      rw taken
-      (ap (λ (s : Sha256). put (b ++ x) 0 (stateBytes s)) state-is ∙ put-over (b ++ x) c (omega (arith, n, long l x before))
-      ∙ ap (λ (k : ℕ). c ++ drop k (b ++ x)) n ∙ ap (λ (y : List ℕ). c ++ y) (drop-at b x 104 (length-bytes l x before)))
+      rw (taken, state-is) (ap (λ (y : List ℕ). c ++ y) (drop-at b x 104 (length-bytes l x before)))
 
 all-fed : (l x : List ℕ) (ds : List (List ℕ)) → length l + length (joined ds) ≤ most → fedAll (stateBytes (stateOf l) ++ x) ds ≡ stateBytes (stateOf (l ++ joined ds)) ++ x
 unfolding fedAll joined

@@ -1,7 +1,7 @@
 -- Laws of the calls on a state that is lent as bytes, for each way out.
 use mathlib.Core.Path.{_≡_, refl, sym, ap, _∙_}
-use mathlib.Core.List.{List, [], append-nil}
-use Prim.Native.Nat.{ℕ, _+_, _≤_, _<_}
+use mathlib.Core.List.{List, append-nil}
+use Prim.Native.Nat.{ℕ, _≤_, _<_}
 use native.Mathlib.Omega.{arith}
 use borrow.Author.Tests.{le-leb, lt-leb}
 use lib.ListN.{length, take, replicate}
@@ -10,12 +10,11 @@ use Rattle.wire.specs.Put.{Puts}
 use Rattle.wire.proofs.Laws.{puts-whole}
 use Rattle.digest.specs.declared.Answer.the-variants.{Done, TooLong}
 use Rattle.digest.specs.declared.Sha256.{Sha256}
-use Rattle.digest.specs.declared.Updated.{Updated}
 use Rattle.digest.specs.declared.Finished.{Finished}
-use Rattle.digest.specs.State.{answerNumber, countRow, updated, finished}
-use Rattle.digest.specs.Bytes.{stateBytes, stateIn}
+use Rattle.digest.specs.State.{answerNumber, countRow, finished}
+use Rattle.digest.specs.Bytes.{stateIn, stateLent}
 use Rattle.capi.specs.Calls.{lentRow, lentOut}
-use Rattle.capi.specs.Digest.{stateLent, updateRow, updateOut, endRow, endOut}
+use Rattle.capi.specs.Digest.{endRow, endOut}
 use Rattle.capi.proofs.Laws.{lent-refused, lent-on}
 
 -- the first 104 bytes, copied
@@ -27,25 +26,6 @@ copied st h p =
 pub state-read : (st : List ℕ) {b : List ℕ} {s : Sha256} → b ≡ take 104 st → s ≡ stateIn b → s ≡ stateLent st
 unfolding stateLent
 state-read st e f = f ∙ ap stateIn e
-
-module _ (st d : List ℕ) where
-  pub update-short : length st < 104 → (13 ≡ updateRow st d) × (st ≡ updateOut st d)
-  unfolding updateRow updateOut
-  update-short h = rw (lt-leb 104 (length st) h) (refl, refl)
-
-  module _ (long : 104 ≤ length st) {s : Sha256} {u : Updated} (e : s ≡ stateLent st) (f : u ≡ updated s d) (n : answerNumber (u .answer) ≡ countRow (s .total + length d)) where
-    count : countRow (stateLent st .total + length d) ≡ answerNumber (u .answer)
-    count = sym (n ∙ ap (λ (x : Sha256). countRow (x .total + length d)) e)
-
-    pub update-refused : u .answer ≡ TooLong → (8 ≡ updateRow st d) × (st ≡ updateOut st d)
-    unfolding updateRow updateOut
-    update-refused a = rw (le-leb 104 (length st) long, count ∙ ap answerNumber a) (refl, refl)
-
-    pub update-wrote : {b o : List ℕ} {r : ℕ} → u .answer ≡ Done → b ≡ stateBytes (u .state) → Puts st 0 b r o → (0 ≡ updateRow st d) × (o ≡ updateOut st d)
-    unfolding updateRow updateOut
-    update-wrote a g p =
-        let k : u .state ≡ updated (stateLent st) d .state = ap (λ (x : Updated). x .state) (f ∙ ap (λ (x : Sha256). updated x d) e) in
-        rw (le-leb 104 (length st) long, count ∙ ap answerNumber a, sym k, sym g) (refl, p .bytes)
 
 module _ (st out : List ℕ) where
   pub end-short : length st < 104 → (13 ≡ endRow st out) × (out ≡ endOut st out)

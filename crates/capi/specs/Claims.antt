@@ -7,6 +7,7 @@ use lib.Dec.{ltb}
 use lib.ListN.{length, drop}
 use Rattle.digest.specs.Digest.{digest}
 use Rattle.digest.specs.State.{most}
+use Rattle.digest.specs.Bytes.{updateOut}
 use Rattle.digest.specs.Claims.{joined}
 use Rattle.message.specs.Read.{readOf}
 use Rattle.message.specs.declared.EventParts.{EventParts}
@@ -16,7 +17,7 @@ use Rattle.numbers.specs.Parts.{eventFrom, filtersFrom, filterCount}
 use Rattle.table.specs.Sound.{sound}
 use Rattle.query.specs.Answer.{filtersMeant, answerList, answerTo, listingRow}
 use Rattle.capi.specs.Calls.{readRow, readOut}
-use Rattle.capi.specs.Digest.{startOut, updateOut, endOut}
+use Rattle.capi.specs.Digest.{startOut, endOut}
 
 -- ---- a message is read into the row `out`, and the row handed on unchanged
 -- an EVENT: serialising, identifying, offering and matching take the parts that were read

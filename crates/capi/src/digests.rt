@@ -3,8 +3,8 @@ ghost use mathlib.Core.Path.{_≡_};
 ghost use Prim.Native.Nat.{_≤_};
 ghost use lib.ListN.{length};
 ghost use Rattle.capi.specs.Calls.{lentRow, lentOut};
-ghost use Rattle.capi.specs.Digest.{digestRow, digestOut, stateLent, startRow, startOut, updateRow, updateOut};
-ghost use Rattle.capi.specs.Digest.{endRow, endOut};
+ghost use Rattle.digest.specs.Bytes.{stateLent, updateRow, updateOut};
+ghost use Rattle.capi.specs.Digest.{digestRow, digestOut, startRow, startOut, endRow, endOut};
 use digest::Answer;
 use digest::Sha256;
 
@@ -70,20 +70,7 @@ pub extern "C" fn plavdrosa_digest_update(state: &mut [u8], bytes: &[u8]) -> u8
     ensures { λ r. ⌜ r ≡ updateRow (now (state .entry)) (now (bytes .entry)) ⌝ }
     ensures { λ _. ⌜ now (state .exit) ≡ updateOut (now (state .entry)) (now (bytes .entry)) ⌝ }
 {
-    if state.len() < STATE_SIZE {
-        return 13;
-    }
-    let u = state_in(state).update(bytes);
-    let a = u.answer;
-    match a {
-        Answer::TooLong => 8,
-        Answer::Done => {
-            let s = u.state;
-            let b = s.to_bytes();
-            wire::put(state, 0, &b);
-            0
-        }
-    }
+    Sha256::update_lent(state, bytes)
 }
 
 // The digest of all that was fed, into the first 32 bytes of `out`: 13, 8 or 0. The state is only read.
