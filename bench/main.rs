@@ -20,6 +20,9 @@ std::arch::global_asm!(".section .text.shift,\"axR\",@progbits", concat!(".skip 
 
 extern "C" {
     fn plavdrosa_digest(bytes: *const u8, len: usize, out: *mut u8, out_len: usize) -> u8;
+    fn plavdrosa_digest_start(state: *mut u8, state_len: usize) -> u8;
+    fn plavdrosa_digest_update(state: *mut u8, state_len: usize, bytes: *const u8, len: usize) -> u8;
+    fn plavdrosa_digest_finish(state: *const u8, state_len: usize, out: *mut u8, out_len: usize) -> u8;
     fn plavdrosa_text_row(bytes: *const u8, len: usize) -> u8;
     fn plavdrosa_message_row(bytes: *const u8, len: usize) -> u8;
     fn plavdrosa_read(bytes: *const u8, len: usize, out: *mut u64, out_len: usize) -> u8;
@@ -33,6 +36,40 @@ fn proved_digest(bytes: &[u8]) -> [u8; 32] {
     let row = unsafe { plavdrosa_digest(bytes.as_ptr(), bytes.len(), out.as_mut_ptr(), 32) };
     assert_eq!(row, 0);
     out
+}
+
+// A state that is lent as bytes.
+type Lent = [u8; 104];
+
+fn proved_start(state: &mut Lent) {
+    assert_eq!(unsafe { plavdrosa_digest_start(state.as_mut_ptr(), 104) }, 0);
+}
+
+fn proved_update(state: &mut Lent, bytes: &[u8]) {
+    assert_eq!(unsafe { plavdrosa_digest_update(state.as_mut_ptr(), 104, bytes.as_ptr(), bytes.len()) }, 0);
+}
+
+fn proved_finish(state: &Lent) -> [u8; 32] {
+    let mut out = [0u8; 32];
+    assert_eq!(unsafe { plavdrosa_digest_finish(state.as_ptr(), 104, out.as_mut_ptr(), 32) }, 0);
+    out
+}
+
+fn proved_pieces(bytes: &[u8], size: usize) -> [u8; 32] {
+    let mut state = [0u8; 104];
+    proved_start(&mut state);
+    for piece in bytes.chunks(size) {
+        proved_update(&mut state, piece);
+    }
+    proved_finish(&state)
+}
+
+fn plain_pieces(bytes: &[u8], size: usize) -> [u8; 32] {
+    let mut state = plain_sha256::State::new();
+    for piece in bytes.chunks(size) {
+        state.update(piece);
+    }
+    state.finish()
 }
 
 fn proved_text_row(bytes: &[u8]) -> u8 {
@@ -132,6 +169,10 @@ fn digest() {
     for n in 0..400 {
         let b = bytes_of(n, n as u64);
         assert_eq!(proved_digest(&b), plain_sha256::digest(&b), "length {n}");
+        for size in [1, 63, 64, 65, 200] {
+            assert_eq!(proved_pieces(&b, size), plain_sha256::digest(&b), "length {n} in pieces of {size}");
+            assert_eq!(plain_pieces(&b, size), plain_sha256::digest(&b), "length {n} in pieces of {size}");
+        }
     }
     for n in [0usize, 64, 200, 1000, 4096, 65536, 1 << 20] {
         let b = bytes_of(n, 7);
@@ -145,11 +186,32 @@ fn digest() {
         );
         row(&format!("digest of {n} bytes"), proved, plain);
     }
+    for size in [10usize, 64, 100, 1000, 4096] {
+        let b = bytes_of(65536, 9);
+        let (proved, plain) = race(
+            || {
+                black_box(proved_pieces(black_box(&b), size));
+            },
+            || {
+                black_box(plain_pieces(black_box(&b), size));
+            },
+        );
+        row(&format!("65536 bytes in pieces of {size}"), proved, plain);
+    }
     let b = bytes_of(1000, 3);
     let used = stack::used(|| {
         black_box(proved_digest(black_box(&b)));
     });
     println!("stack of a digest call: {used} bytes");
+    let mut state = [0u8; 104];
+    let used = stack::used(|| proved_start(black_box(&mut state)));
+    println!("stack of starting a digest: {used} bytes");
+    let used = stack::used(|| proved_update(black_box(&mut state), black_box(&b)));
+    println!("stack of a piece more: {used} bytes");
+    let used = stack::used(|| {
+        black_box(proved_finish(black_box(&state)));
+    });
+    println!("stack of finishing a digest: {used} bytes");
 }
 
 fn text_row() {
