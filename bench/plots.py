@@ -14,7 +14,8 @@ PLOTS = ROOT / "docs" / "plots"
 
 # the first column's title of a table, the drawing's name and title, and the ratio that is the goal
 TABLES = [
-    ("Digest of", "digest", "SHA-256", 1.25),
+    ("Digest of", "digest", "SHA-256", 1.0),
+    ("65,536 bytes in pieces of", "digest-pieces", "SHA-256 of 65,536 bytes in pieces", 1.0),
     ("Text", "rows-1-to-4", "Rows 1 to 4 of a text", 1.5),
     ("Message", "message-row", "Rows 1 to 8 of a message", 1.5),
     ("Message", "message-read", "A message read", 1.5),
