@@ -1,11 +1,11 @@
 // A state as 104 bytes, and back: for callers that can lend nothing else.
 ghost use mathlib.Core.Path.{_≡_};
-ghost use Prim.Native.Nat.{_<_, _≤_, _^_};
-ghost use lib.ListN.{length, drop, getD};
+ghost use Prim.Native.Nat.{_+_, _<_, _≤_, _^_};
+ghost use lib.ListN.{length, take, drop, getD};
 ghost use mathlib.Core.List.{_++_};
 ghost use Rattle.digest.specs.Block.{words};
 ghost use Rattle.digest.specs.Digest.{bigEndian, digestBytes};
-ghost use Rattle.digest.specs.State.{firstBytes};
+ghost use Rattle.digest.specs.State.{most, firstBytes};
 ghost use Rattle.digest.specs.Bytes.{stateBytes, stateIn, totalIn, updateRow, updateOut};
 use crate::Sha256;
 use crate::block;
@@ -77,6 +77,17 @@ fn total_in(bytes: &[u8]) -> u64
     wider(block::word_at(bytes, 96)) * 0x1_0000_0000 + wider(block::word_at(bytes, 100))
 }
 
+// `bytes` more to the state in the first 104 bytes, whose count is `total`, in place.
+fn take_in_state(state: &mut [u8], total: u64, bytes: &[u8])
+    requires { ⌜ (104 ≤ length (now state)) × (total ≡ totalIn (take 104 (now state))) × (total + length (now bytes) ≤ most) ⌝ }
+    ensures { λ _. ⌜ now (state .exit) ≡ updateOut (now (state .entry)) (now (bytes .entry)) ⌝ }
+{
+    let mut h = words_in(&state[..STATE_SIZE]);
+    let mut b = block_in(&state[..STATE_SIZE]);
+    crate::take_in(&mut h, &mut b, (total % 64) as usize, bytes);
+    write_state(state, &h, &b, total + bytes.len() as u64);
+}
+
 impl Sha256 {
     pub fn to_bytes(self) -> [u8; 104]
         ensures { λ r. ⌜ r ≡ stateBytes self ⌝ }
@@ -117,10 +128,7 @@ impl Sha256 {
         if n > crate::MOST - total {
             return 8;
         }
-        let mut h = words_in(&state[..STATE_SIZE]);
-        let mut b = block_in(&state[..STATE_SIZE]);
-        crate::take_in(&mut h, &mut b, (total % 64) as usize, bytes);
-        write_state(state, &h, &b, total + n);
+        take_in_state(state, total, bytes);
         0
     }
 }

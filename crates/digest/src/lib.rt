@@ -195,10 +195,8 @@ impl Sha256 {
             };
         }
         let mut h = self.words;
-        let mut b = self.block;
-        take_in(&mut h, &mut b, (total % 64) as usize, bytes);
+        take_in(&mut h, &mut self.block, (total % 64) as usize, bytes);
         self.words = h;
-        self.block = b;
         self.total = total + n;
         Updated {
             answer: Answer::Done,
