@@ -3,10 +3,12 @@
 
 Runs the machine code of digest's block function (target/staticlib/libcapi.a, made by `rt staticlib capi`) on a random block in a small simulator that notes
 every read and write of a register or of the stack. A place holds word t from the moment that its value is written there to the last read before the next
-write. Blocks are random, so two words or a word and another value agree by chance once in millions. Needs objdump and ar.
+write. Blocks are random, so two words or a word and another value agree by chance once in millions. Needs objdump and ar. Exits with 1 where more than
+sixteen are held (02, Wish 4): no contract can say it, so examples/check runs this in the gate. The library may stand in the folder PLAVDROSA_LIB.
 
     bench/words.py [BLOCKS]
 """
+import os
 import random
 import re
 import subprocess
@@ -15,7 +17,9 @@ import tempfile
 from pathlib import Path
 
 ROOT = Path(__file__).resolve().parent.parent
+LIBRARY = Path(os.environ.get("PLAVDROSA_LIB") or ROOT / "target/staticlib").resolve() / "libcapi.a"
 FUNCTION = "digest::block::block_at"
+MOST = 16
 MASK = 0xFFFFFFFF
 HASH, BLOCK, SLICE, STACK = 0x10000, 0x20000, 0x30000, 0x7FFF0000
 
@@ -57,7 +61,7 @@ def compress(h, w):
 
 def instructions():
     with tempfile.TemporaryDirectory() as folder:
-        subprocess.run(["ar", "x", ROOT / "target/staticlib/libcapi.a"], cwd=folder, check=True)
+        subprocess.run(["ar", "x", LIBRARY], cwd=folder, check=True)
         found = next(Path(folder).glob("*.o"))
         text = subprocess.run(
             ["objdump", "-d", "--no-show-raw-insn", f"--disassemble={FUNCTION}", found], capture_output=True, text=True, check=True
@@ -213,6 +217,8 @@ def main():
         most = max(len(words) for words in held(machine.trace, w).values())
         low = min(p for _, _, p, _ in machine.trace if isinstance(p, int) and STACK - 4096 < p < STACK)
         print(f"block {seed}: {machine.time} instructions, at most {most} words held, {STACK - low} bytes of stack below the return address")
+        if most > MOST:
+            sys.exit(f"more than {MOST} words of the schedule are held")
 
 
 main()

@@ -89,6 +89,7 @@ fn take_in_state(state: &mut [u8], total: u64, bytes: &[u8])
 }
 
 impl Sha256 {
+    // The state as bytes: hash value, block and count, the most significant byte first.
     pub fn to_bytes(self) -> [u8; 104]
         ensures { λ r. ⌜ r ≡ stateBytes self ⌝ }
     {
@@ -99,6 +100,7 @@ impl Sha256 {
         out
     }
 
+    // The state that the bytes are. Any are some state.
     pub fn from_bytes(bytes: [u8; 104]) -> Self
         ensures { λ r. ⌜ r ≡ stateIn bytes ⌝ }
     {

@@ -135,17 +135,20 @@ pub enum Answer {
     TooLong,
 }
 
+// What a piece more comes to.
 pub struct Updated {
     pub answer: Answer,
     pub state: Sha256,
 }
 
+// What finishing comes to.
 pub struct Finished {
     pub answer: Answer,
     pub state: Sha256,
     pub bytes: [u8; 32],
 }
 
+// What a digest of the whole comes to.
 pub struct Digest {
     pub answer: Answer,
     pub bytes: [u8; 32],
@@ -165,6 +168,7 @@ fn split(h: [u32; 8]) -> [u8; 32]
 }
 
 impl Sha256 {
+    // The state of nothing fed.
     pub fn new() -> Self
         ensures { λ r. ⌜ r ≡ stateOf [] ⌝ }
     {
@@ -176,6 +180,8 @@ impl Sha256 {
         }
     }
 
+    // A piece more: the state with `bytes` fed too; or 8 if more than 2^61 - 1 bytes would be fed in all, and the state as
+    // given.
     pub fn update(mut self, bytes: &[u8]) -> Updated
         ensures { λ r. ⌜ r ≡ updated self (now (bytes .entry)) ⌝ }
         ensures { λ r. ⌜ answerNumber (r .answer) ≡ countRow (self .total + length (now (bytes .entry))) ⌝ }
@@ -204,6 +210,7 @@ impl Sha256 {
         }
     }
 
+    // The digest of all that was fed, with the state as given; or 8 if it counts more than 2^61 - 1 bytes, and zeros.
     pub fn finish(self) -> Finished
         ensures { λ r. ⌜ r ≡ finished self ⌝ }
         ensures { λ r. ⌜ answerNumber (r .answer) ≡ countRow (self .total) ⌝ }
@@ -228,7 +235,7 @@ impl Sha256 {
     }
 }
 
-// The digest of a whole slice.
+// The digest of a whole slice; or 8 if it has more than 2^61 - 1 bytes, and zeros.
 pub fn digest_of(bytes: &[u8]) -> Digest
     ensures { λ r. ⌜ r ≡ digested (now (bytes .entry)) ⌝ }
     ensures { λ r. ⌜ answerNumber (r .answer) ≡ countRow (length (now (bytes .entry))) ⌝ }
