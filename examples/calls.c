@@ -45,6 +45,8 @@ static void texts(void) {
     uint64_t t[PLAVDROSA_TEXT_NUMBERS];
     EXPECT(plavdrosa_text_row(BYTES("[1")), PLAVDROSA_NOT_JSON);
     EXPECT(plavdrosa_message_row(BYTES("[1]")), PLAVDROSA_WRONG_SHAPE);
+    EXPECT(plavdrosa_message_row(BYTES("[\"REQ\",\"s\",{\"#e\":[\"5c83\"]}]")), PLAVDROSA_BAD_HEX);
+    EXPECT(plavdrosa_message_row(BYTES("[\"REQ\",\"s\",{\"#E\":[\"5c83\"]}]")), PLAVDROSA_DONE);
     EXPECT(plavdrosa_read(BYTES(event), e, PLAVDROSA_EVENT_NUMBERS), PLAVDROSA_DONE);
     EXPECT(e[0] == PLAVDROSA_EVENT && (int64_t)e[PLAVDROSA_EVENT_CREATED_AT] == -7200, 1);
     EXPECT(plavdrosa_read(BYTES(req), r, PLAVDROSA_MESSAGE_NUMBERS), PLAVDROSA_DONE);

@@ -63,7 +63,7 @@ enum plavdrosa_row {
     PLAVDROSA_BAD_STRING = 4,       /* an unpaired surrogate, or a control character without a short escape; "invalid: string not allowed" */
     PLAVDROSA_WRONG_SHAPE = 5,      /* also a part outside its buffer, or no spelling of a string; "invalid: wrong shape" */
     PLAVDROSA_BAD_NUMBER = 6,       /* "invalid: number" */
-    PLAVDROSA_BAD_HEX = 7,          /* "invalid: hex" */
+    PLAVDROSA_BAD_HEX = 7,          /* an id, pubkey, sig or member of ids, authors, #e or #p; "invalid: hex" */
     PLAVDROSA_BAD_COUNT = 8,        /* a count out of bounds; "invalid: count or length" */
     PLAVDROSA_EVENT_TOO_LARGE = 9,  /* serialised text over 4,096 bytes; "invalid: event too large" */
     PLAVDROSA_WRONG_ID = 10,        /* id is not the SHA-256 of the text; "invalid: id does not match" */
@@ -142,7 +142,7 @@ enum plavdrosa_filter_index {
     PLAVDROSA_FILTER_UNTIL = 6,     /* signed */
     PLAVDROSA_FILTER_HAS_LIMIT = 7,
     PLAVDROSA_FILTER_LIMIT = 8,     /* signed */
-    PLAVDROSA_FILTER_CONDITIONS = 9, /* the place of the object whose # members are the conditions, or 0 */
+    PLAVDROSA_FILTER_CONDITIONS = 9, /* the place of the object whose # members are the conditions, or 0; of #e and #p all hex */
     PLAVDROSA_FILTER_NUMBERS = 10
 };
 

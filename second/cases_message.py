@@ -1,7 +1,9 @@
 """Lines for message_cases. Those whose row is plain from how they are made stand with it: (row, text)."""
 
 import random
+from itertools import product
 
+from rows import LETTERS
 from spell import SAMPLE, damaged, escaped, hexes, joined, plain, raw, space, spell, words
 
 A = "a" * 64
@@ -14,7 +16,8 @@ GOOD = {  # an event's fields, as spelled
     "content": '""',
     "sig": plain("b" * 128),
 }
-LISTS = {"ids": plain(A), "authors": plain(A), "kinds": "1", "#e": '"x"'}  # a filter's lists, with a good member
+# A filter's lists, with a good member.
+LISTS = {"ids": plain(A), "authors": plain(A), "kinds": "1", "#e": plain(A), "#p": plain(A), "#E": '"x"', "#t": '"x"'}
 TYPES = {"string": '"x"', "number": "1", "array": "[]", "object": "{}", "true": "true", "false": "false"}
 TYPES["null"] = "null"
 EVENT_TYPES = {"created_at": "number", "kind": "number", "tags": "array"}
@@ -139,7 +142,7 @@ def event_fields():
 
 def filter_fields():
     names = {"ids": plain(A), "authors": plain(A), "kinds": "0", "since": "0", "until": "0", "limit": "0"}
-    names.update({"#" + letter: '"v"' for letter in "AZazeEpPd"})
+    names.update({"#" + letter: plain(A) if letter in "ep" else '"v"' for letter in "AZazeEpPd"})
     for name, member in names.items():
         is_list = name[0] == "#" or name in LISTS
         value = "[%s]" % member if is_list else member
@@ -164,8 +167,8 @@ def filter_fields():
         yield 5, req(filter_with(name, '["v"]'))
     for name in ["", "# ", "#e ", " #e", "\uff03e", "#\uff45", "#e\u0301"]:
         yield 5, req(filter_with(name, '["v"]'))
-    yield 0, req(filter_with("\\u0023\\u0065", '["v"]'))
-    yield 0, req('{"#e":["v"],"#E":["w"],"#d":[""],"#D":["",""]}')
+    yield 0, req(filter_with("\\u0023\\u0074", '["v"]'))
+    yield 0, req('{"#t":["v"],"#T":["w"],"#d":[""],"#D":["",""]}')
     conditions = '"#z":["1"],"#a":["2"],"#Z":["3"],"#A":["4"]'
     yield 0, req('{%s,"limit":1,"until":2,"since":3,"kinds":[4],"authors":["%s"],"ids":["%s"]}' % (conditions, A, A))
     yield 5, req('{"#e":["v"],"#\\u0065":["w"]}')
@@ -221,7 +224,7 @@ def hex_line(name, spelled):
 
 def hex_strings():
     rng = random.Random(2)
-    for name, length in {"id": 64, "pubkey": 64, "sig": 128, "ids": 64, "authors": 64}.items():
+    for name, length in {"id": 64, "pubkey": 64, "sig": 128, "ids": 64, "authors": 64, "#e": 64, "#p": 64}.items():
         good = hexes(rng, length - 2) + "af"
         yield 0, hex_line(name, plain(good))
         yield 0, hex_line(name, plain("0" * length))
@@ -248,7 +251,53 @@ def hex_strings():
         yield 2, hex_line(name, '"' + good[:-1] + '\udc80"')
     yield 7, req('{"ids":[%s,""]}' % plain(A))
     yield 7, req('{"authors":["",%s]}' % plain(A))
-    yield 0, req('{"#e":[""],"#p":["%s","x"]}' % A.upper())
+
+
+def hex_conditions():
+    """Members of #e and #p are hex, those of every other letter free strings; the name counts as decoded, and so do they."""
+    for letter in LETTERS:
+        for member in ("", "x", A[1:], A + "a", A.upper(), "g" * 64):
+            yield (7 if letter in "ep" else 0), req(filter_with("#" + letter, "[%s]" % plain(member)))
+        yield 0, req(filter_with("#" + letter, "[%s]" % plain(A)))
+    for letter, good in product("ep", (A, "0123456789abcdef" * 4)):
+        code = "\\u%04x" % ord(letter)
+        for name in ("#" + letter, "#" + code, "\\u0023" + letter, "\\u0023" + code):
+            yield 0, req(filter_with(name, "[%s]" % plain(good)))
+            yield 0, req(filter_with(name, "[%s]" % escaped(random.Random(3), good)))
+            yield 7, req(filter_with(name, '["x"]'))
+            yield 7, req(filter_with(name, "[%s]" % escaped(random.Random(3), good[1:])))
+            yield 8, req(filter_with(name, "[]"))
+            yield 8, req(filter_with(name, many(plain(good), 17)))
+            yield 5, req('{"%s":["x"],"#%s":["x"]}' % (name, letter))
+        capital = "#\\u%04x" % ord(letter.upper())
+        yield 0, req('{"%s":["x"],"#%s":[%s]}' % (capital, letter, plain(good)))
+        yield 7, req('{"%s":[%s],"#%s":["x"]}' % (capital, plain(good), letter))
+        # each place of a list, one behind the last that row 8 lets pass too
+        for count, at in ((2, 0), (2, 1), (3, 1), (16, 0), (16, 8), (16, 15), (17, 0), (17, 16), (40, 39)):
+            values = [plain(good)] * count
+            values[at] = plain(good[1:])
+            yield 7, req(filter_with("#" + letter, "[%s]" % ",".join(values)))
+        wrong, empty = '{"#%s":["x"]}' % letter, '{"#%s":[]}' % letter
+        # each filter, the fifth and the sixth too
+        for at in range(6):
+            filters = ["{}"] * 6
+            filters[at] = wrong
+            for count in range(at + 1, 7):
+                yield 7, req(*filters[:count])
+        # beside the rows below it and above it
+        yield 6, req('{"#%s":["x"],"limit":65536}' % letter)
+        yield 6, req(wrong, '{"since":-0}')
+        yield 5, req(wrong, '{"x":1}')
+        yield 5, req('{"#%s":["x",1]}' % letter)
+        yield 4, req('{"#%s":["x","\\ud800"]}' % letter)
+        yield 7, req(wrong, empty)
+        yield 7, req(empty, wrong)
+        yield 7, req(wrong, sub='""')
+        yield 7, req(wrong, sub=plain("s" * 65))
+        yield 7, req('{"#a":["v"],"#b":["v"],"#c":["v"],"#d":["v"],"#%s":["x"]}' % letter)
+    # the tags of an event stay free strings
+    for member in ("", "x", A[1:], A + "a", A.upper()):
+        yield 0, event_with(tags='[["e",%s],["p",%s,"x"],["e"]]' % (plain(member), plain(member)))
 
 
 # Counts.
@@ -283,7 +332,7 @@ def counts():
     yield 8, '["REQ","s"]'
     letters = "ZYXWzyxwabcdefghijklmnopqrstuv"
     for count in (0, 1, 2, 3, 4, 5, 6, 30):
-        conditions = members(("#" + letter, '["v"]') for letter in letters[:count])
+        conditions = members(("#" + letter, many(LISTS.get("#" + letter, '"v"'), 1)) for letter in letters[:count])
         yield (0 if count <= 4 else 8), req(conditions)
         yield (0 if count <= 4 else 8), req("{}", conditions, '{"limit":1}')
     for character in SUB_CHARACTERS:
@@ -316,7 +365,10 @@ def past_bounds():
         "ids": {4: '"\\ud800"', 5: "1", 7: '"x"', 8: plain(A)},
         "authors": {4: '"\\u0000"', 5: "null", 7: plain(A[1:]), 8: plain(A)},
         "kinds": {4: '"\\u0000"', 5: '"1"', 6: "-0", 8: "1"},
-        "#e": {4: '"\\udfff"', 5: "[]", 8: '""'},
+        "#e": {4: '"\\udfff"', 5: "[]", 7: '"x"', 8: plain(A)},
+        "#p": {4: '"\\udfff"', 5: "[]", 7: plain(A.upper()), 8: plain(A)},
+        "#E": {8: '""'},
+        "#t": {4: '"\\udfff"', 5: "[]", 8: '""'},
     }
     for name, choices in last.items():
         for row, member in choices.items():
@@ -380,9 +432,12 @@ FILTER_FAULTS = [
     (6, "kinds", "[1,-1]"),
     (7, "ids", '[""]'),
     (7, "authors", "[%s]" % plain(A.upper())),
+    (7, "#e", many('"v"', 17)),
+    (7, "#p", "[%s]" % plain(A[1:])),
     (8, "kinds", "[]"),
     (8, "#d", "[]"),
-    (8, "#e", many('"v"', 17)),
+    (8, "#f", many('"v"', 17)),
+    (8, "#e", many(plain(A), 17)),
 ]
 SUB_FAULTS = [(2, '"\udcff"'), (3, '"\\x"'), (4, '"\\udc00"'), (5, "1"), (8, '""'), (8, plain("s" * 65))]
 
@@ -475,9 +530,9 @@ def random_event(rng):
 
 def random_filter(rng):
     fields = []
-    for name in rng.sample("ids authors kinds since until limit #e #E #d #t".split(), rng.randrange(6)):
+    for name in rng.sample("ids authors kinds since until limit #e #p #E #d #t".split(), rng.randrange(6)):
         count = rng.choice([1, 1, 2, 3])
-        if name in ("ids", "authors"):
+        if name in ("ids", "authors") or name in ("#e", "#p") and rng.randrange(8):
             value = joined(rng, [rng.choice([plain(A), spell(rng, hexes(rng, 64))]) for _ in range(count)], "[]")
         elif name[0] == "#":
             value = joined(rng, [spell(rng, words(rng, 6)) for _ in range(count)], "[]")
@@ -553,7 +608,8 @@ def random_lines(rng):
 
 
 def labelled():
-    for part in (shapes, event_fields, filter_fields, numbers, hex_strings, counts, past_bounds, pairs, long_lines):
+    for part in (shapes, event_fields, filter_fields, numbers, hex_strings, hex_conditions, counts, past_bounds, pairs,
+                 long_lines):
         yield from part()
     for c in SAMPLE:
         yield 0, '["CLOSE",%s]' % escaped(random.Random(1), c)

@@ -100,14 +100,16 @@ def filled(capacity, events, extra=40):
 
 
 # The table of most cases. Slot 3 and slot 0 have equal times, as have 1, 2 and 7.
+# What a tag e or p says stays a free string; what is asked by #e or #p is hex.
+H = "0123456789abcdef" * 4
 EVENTS = [
-    made(A, 0, 1, [["e", "x"]]),
-    made(B, 5, 1, [["E", "x"], ["p", "y"]]),
-    made(A, 5, 2, [["e"], ["p", "x"]], "text"),
-    made(A, 0, 0, [["e", "xy"], ["t"], ["e", "z"], ["e", "x", "w"]]),
+    made(A, 0, 1, [["g", "x"], ["e", H]]),
+    made(B, 5, 1, [["G", "x"], ["q", "y"], ["E", H], ["p", H]]),
+    made(A, 5, 2, [["g"], ["q", "x"], ["e"], ["e", H[1:]]], "text"),
+    made(A, 0, 0, [["g", "xy"], ["t"], ["g", "z"], ["g", "x", "w"], ["e", "x"], ["e", H.upper()], ["e", B]]),
     made(A, -7200, 30000, [["d", "t\n1"], ["t", "\\"], ["t", "é\"/\U0001f600"]]),
-    made(B, MAX_TIME, 65535, [["p", "x", "z"], ["e", "y"], ["", "x"]]),
-    made(B, -MAX_TIME, 10000, [["ee", "x"], ["x", "e"], ["e", ""], ["#e", "x"]]),
+    made(B, MAX_TIME, 65535, [["q", "x", "z"], ["g", "y"], ["", "x"], ["p", H, A], ["e", "y", H]]),
+    made(B, -MAX_TIME, 10000, [["gg", "x"], ["x", "g"], ["g", ""], ["#g", "x"], ["ee", H], ["#e", H], ["", H]]),
     made(A, 5, 40000, []),
 ]
 IDS = [id_of(fields) for fields in EVENTS]
@@ -154,12 +156,15 @@ def single():
     for limit in (0, 1, 2, 3, 6, 7, 8, 9, 255, 256, 65535):
         yield "limit", "%d" % limit, NEWEST_FIRST[:limit]
     tags = [
-        ("e", ["x"], [0, 3]), ("E", ["x"], [1]), ("p", ["x"], [2, 5]), ("P", ["x"], []), ("e", ["xy"], [3]),
-        ("e", ["z"], [3]), ("e", ["w"], []), ("e", [""], [6]), ("e", ["e"], []), ("t", [""], []), ("x", ["e"], [6]),
-        ("e", ["y", "z", ""], [3, 5, 6]), ("e", ["xyz"], []), ("e", ["X"], []), ("e", ["x "], []), ("d", ["t\n1"], [4]),
+        ("g", ["x"], [0, 3]), ("G", ["x"], [1]), ("q", ["x"], [2, 5]), ("Q", ["x"], []), ("g", ["xy"], [3]),
+        ("g", ["z"], [3]), ("g", ["w"], []), ("g", [""], [6]), ("g", ["g"], []), ("t", [""], []), ("x", ["g"], [6]),
+        ("g", ["y", "z", ""], [3, 5, 6]), ("g", ["xyz"], []), ("g", ["X"], []), ("g", ["x "], []), ("d", ["t\n1"], [4]),
         ("d", ["t\\n1"], []), ("d", ["tn1"], []), ("d", ["t"], []), ("d", [""], []), ("t", ["\\"], [4]), ("t", ["\\\\"], []),
-        ("t", ["é\"/\U0001f600"], [4]), ("t", ["e\u0301\"/\U0001f600"], []), ("e", ["q"] * 15 + ["x"], [0, 3]),
-        ("p", ["y", "x"], [1, 2, 5]), ("p", ["z"], []),
+        ("t", ["é\"/\U0001f600"], [4]), ("t", ["e\u0301\"/\U0001f600"], []), ("g", ["k"] * 15 + ["x"], [0, 3]),
+        ("q", ["y", "x"], [1, 2, 5]), ("q", ["z"], []),
+        ("e", [H], [0]), ("E", [H], [1]), ("p", [H], [1, 5]), ("P", [H], []), ("e", [B], [3]), ("e", [A], []), ("p", [A], []),
+        ("e", [other(H, 63)], []), ("e", [other(H, 0)], []), ("e", [A] * 15 + [H], [0]), ("e", [B, H], [0, 3]),
+        ("E", [H[1:]], []), ("E", ["x"], []), ("P", [""], []),
     ]
     for letter, values, slots in tags:
         yield "#" + letter, strings(*values), slots
@@ -218,12 +223,14 @@ def pairs():
 
 def letters():
     """Each of the 52 letters: one event has all small ones, one all capitals, and each filter names one."""
-    small, capital = [[[c, "v" + c] for c in group] for group in (LETTERS[26:], LETTERS[:26])]
+    value = lambda c: "%064x" % ord(c) if c in "epEP" else "v" + c
+    small, capital = [[[c, value(c)] for c in group] for group in (LETTERS[26:], LETTERS[:26])]
     yield from filled(2, [made(A, 1, 1, small), made(A, 2, 1, capital)])
     asked = Asked()
     for c in LETTERS:
-        asked.both(listing([0 if c.islower() else 1]), filters_of({"#" + c: strings("v" + c)}))
-        asked.req(listing([]), filters_of({"#" + c.swapcase(): strings("v" + c)}))
+        asked.both(listing([0 if c.islower() else 1]), filters_of({"#" + c: strings(value(c))}))
+        asked.req(listing([]), filters_of({"#" + c.swapcase(): strings(value(c))}))
+        asked.both(b"7" if c in "ep" else listing([]), filters_of({"#" + c: strings("w" + c, "x")}))
     four = {"#a": strings("va"), "#z": strings("vz"), "#m": strings("vm")}
     asked.both(listing([0]), filters_of({**four, "#q": strings("vq")}))
     asked.both(listing([]), filters_of({**four, "#q": strings("va")}))
@@ -234,33 +241,35 @@ def letters():
 
 def fitting_tags():
     """A fitting tag at the beginning, in the middle, at the end, with others of its name; a member at each place."""
-    places = (0, 1, 2, 31, 62, 63)
-    events = []
-    for at in places:
-        tags = [["e", "no%d" % n] if n % 2 else ["e"] for n in range(64)]
-        tags[at] = ["e", "yes", "no"]
-        events.append(made(A, at, 1, tags))
-    events.append(made(A, 99, 1, [["e", "no"] * 8, ["e"] + ["no"] * 15, ["f", "yes"], ["E", "yes"]]))
-    yield from filled(8, events)
-    asked = Asked()
-    want = listing([5, 4, 3, 2, 1, 0])
-    asked.both(want, filters_of({"#e": strings("yes")}))
-    for at in range(16):
-        values = ["q%d" % n for n in range(16)]
-        values[at] = "yes"
-        asked.both(want, filters_of({"#e": strings(*values)}))
-    for at, value in ((6, "no"), (1, "no0"), (1, "no1"), (3, "no63")):
-        asked.both(None, filters_of({"#e": strings(value)}))
-        asked.both(None, filters_of({"#e": strings(value), "since": str(at)}))
-    # Names of tags, strings behind the second, one string.
-    tricky = [[["", "e"]], [["ee", "yes"]], [["#e", "yes"]], [["e", "x", "yes"]], [["x", "e", "yes"]], [["e"], ["yes"]],
-              [["yes", "e"]], [["e", "yes "]]]
-    yield from asked.flush()
-    yield from filled(8, [made(A, n, 1, tags) for n, tags in enumerate(tricky)])
-    asked.both(listing([]), filters_of({"#e": strings("yes")}))
-    asked.both(listing([7]), filters_of({"#e": strings("yes ")}))
-    asked.both(listing([4]), filters_of({"#x": strings("e")}))
-    yield from asked.flush()
+    for letter, yes, others in (("g", "yes", ["k%d" % n for n in range(16)]), ("e", H, [other(H, n) for n in range(16)])):
+        places = (0, 1, 2, 31, 62, 63)
+        events = []
+        for at in places:
+            tags = [[letter, "no%d" % n] if n % 2 else [letter] for n in range(64)]
+            tags[at] = [letter, yes, "no"]
+            events.append(made(A, at, 1, tags))
+        events.append(made(A, 99, 1, [[letter, "no"] * 8, [letter] + ["no"] * 15, ["f", yes], [letter.upper(), yes]]))
+        yield from filled(8, events)
+        asked = Asked()
+        want = listing([5, 4, 3, 2, 1, 0])
+        asked.both(want, filters_of({"#" + letter: strings(yes)}))
+        for at in range(16):
+            values = list(others)
+            values[at] = yes
+            asked.both(want, filters_of({"#" + letter: strings(*values)}))
+        for at, value in ((6, "no"), (1, "no0"), (1, "no1"), (3, "no63")):
+            want = b"7" if letter == "e" else None
+            asked.both(want, filters_of({"#" + letter: strings(value)}))
+            asked.both(want, filters_of({"#" + letter: strings(value), "since": str(at)}))
+        # Names of tags, strings behind the second, one string.
+        tricky = [[["", letter]], [[letter * 2, yes]], [["#" + letter, yes]], [[letter, "x", yes]], [["x", letter, yes]],
+                  [[letter], [yes]], [[yes, letter]], [[letter, yes + " "]]]
+        yield from asked.flush()
+        yield from filled(8, [made(A, n, 1, tags) for n, tags in enumerate(tricky)])
+        asked.both(listing([]), filters_of({"#" + letter: strings(yes)}))
+        asked.both(b"7" if letter == "e" else listing([7]), filters_of({"#" + letter: strings(yes + " ")}))
+        asked.both(listing([4]), filters_of({"#x": strings(letter)}))
+        yield from asked.flush()
 
 
 def spellings():
@@ -430,8 +439,11 @@ BAD_LISTS = [
     (6, "kinds", "[" + "1," * 16 + "-0]"), (6, "kinds", "[" + "9" * 400 + "]"), (5, "kinds", "[1"), (5, "kinds", "1"),
     (5, "conditions", "[]"), (5, "conditions", "{"), (5, "conditions", '{"a":1}'), (5, "conditions", '{"#ab":["x"]}'),
     (5, "conditions", '{"#":["x"]}'), (5, "conditions", '{"#1":["x"]}'), (5, "conditions", '{"#e":["x"],"#\\u0065":["y"]}'),
-    (5, "conditions", '{"#e":"x"}'), (8, "conditions", '{"#e":[]}'), (8, "conditions", '{"#e":%s}' % strings(*["x"] * 17)),
-    (8, "conditions", '{"#a":["x"],"#b":["x"],"#c":["x"],"#d":["x"],"#e":["x"]}'), (4, "conditions", '{"#e":["\\udc00"]}'),
+    (5, "conditions", '{"#e":"x"}'), (8, "conditions", '{"#e":[]}'), (8, "conditions", '{"#g":%s}' % strings(*["x"] * 17)),
+    (7, "conditions", '{"#e":%s}' % strings(*["x"] * 17)), (8, "conditions", '{"#e":%s}' % strings(*[A] * 17)),
+    (7, "conditions", '{"#e":%s}' % strings(*[A] * 16, "x")), (7, "conditions", '{"#\\u0070":%s}' % strings(A, A[1:])),
+    (7, "conditions", '{"#e":["x"]}'), (7, "conditions", '{"#p":[""],"#E":["x"]}'), (7, "conditions", '{"#p":%s}' % strings(A.upper())),
+    (8, "conditions", '{"#a":["x"],"#b":["x"],"#c":["x"],"#d":["x"],"#g":["x"]}'), (4, "conditions", '{"#e":["\\udc00"]}'),
     (2, "conditions", '{"#e":["\udc80"]}'), (6, "conditions", '{"limit":-0}'), (7, "conditions", '{"ids":["x"]}'),
     (8, "conditions", '{"kinds":[]}'), (5, "conditions", '{"since":1,"since":1}'), (4, "conditions", '{"\\u0000":1}'),
 ]
@@ -457,7 +469,7 @@ def hostile_filters():
     yield from filled(8, EVENTS)
     lent = Lent()
     event = lent.event(EVENTS[0])
-    good = Filter(authors=strings(A), kinds="[1,0]", since="0", until="5", limit="7", **{"#e": strings("x")}).lend(lent)
+    good = Filter(authors=strings(A), kinds="[1,0]", since="0", until="5", limit="7", **{"#g": strings("x")}).lend(lent)
     nothing = [None] * 7
     lines = [(listing(newest_first([0, 3])), line(b"Q", NONE, 8, 1, *good))]
     faults = list(part_faults(lent))
@@ -486,7 +498,7 @@ def hostile_filters():
         lines.append((listing(NEWEST_FIRST), line(b"Q", NONE, 8, n, *nothing)))
         lines.append((b"matches", line(b"E", *event.numbers, n, *nothing)))
     # Of the object that has the conditions only those count; lists and numbers are the lent ones.
-    at = lent.add(raw('{"#e":["x"],"limit":0,"since":5,"kinds":[7],"ids":%s}' % strings(A)))
+    at = lent.add(raw('{"#g":["x"],"limit":0,"since":5,"kinds":[7],"ids":%s}' % strings(A)))
     kinds = lent.add(b"[ 1 ,\t2]")
     lines.append((listing(newest_first([0, 3])), line(b"Q", NONE, 8, 1, *nothing[:6], at)))
     lines.append((listing([0]), line(b"Q", NONE, 8, 1, None, None, kinds, None, None, None, at)))
@@ -537,13 +549,14 @@ def hostile_events():
     lent = Lent()
     texts = [b"", b"{}", b'["CLOSE","s"]', b'["REQ","s"]', b'["REQ","s",{}]', b'["REQ","s",{"limit":-0}]', b'["EVENT",{}]',
              b"\xff", b'["REQ","",{}]', b'["REQ","s",{},{},{},{},{"since":1.0}]', b'["REQ","s",{"#e":["\\ud800"]}]',
-             b'["REQ","s",{"#e":[]}]']
+             b'["REQ","s",{"#e":[]}]', b'["REQ","s",{"#e":["x"]}]', b'["REQ","",{"#p":["x"]}]', b'["REQ","s",{},{},{},{},{"#e":["x"]}]']
     one = lent.event(EVENTS[3])
     large = lent.event(made(content="x" * 4017))
-    ephemeral = lent.event(made(A, 1, 20000, [["e", "x"]]))
+    ephemeral = lent.event(made(A, 1, 20000, [["g", "x"], ["e", H]]))
     spots = [(lent.add(text), len(text)) for text in texts]
     asked = [(want, req_of(filters_of(one))) for want, one in (
-        (b"matches", {"kinds": "[20000]"}), (b"differs", {"kinds": "[20001]"}), (b"matches", {"#e": strings("x"), "limit": "0"}))]
+        (b"matches", {"kinds": "[20000]"}), (b"differs", {"kinds": "[20001]"}), (b"matches", {"#g": strings("x"), "limit": "0"}),
+        (b"matches", {"#e": strings(H)}), (b"7", {"#e": strings("x")}))]
     asked = [(want, lent.add(raw(text)), len(raw(text))) for want, text in asked]
     yield lent.set()
     for want, *spot in asked:
@@ -559,12 +572,15 @@ def hostile_events():
 # Generated tables and filters: few values of everything, so that filters match.
 
 FEW_TAGS = ["x", "y", "", "xy", "é", "\n", '"']
+FEW_HEX = [A, B, H, H]
 
 
 def random_tags(rng):
     out = []
     for _ in range(rng.choice([0, 1, 1, 2, 3, 5])):
-        out.append([rng.choice("eeEptd")] + [rng.choice(FEW_TAGS) for _ in range(rng.choice([0, 1, 1, 1, 2]))])
+        name = rng.choice("ggGeptd")
+        values = FEW_HEX + ["x"] if name in "ep" else FEW_TAGS
+        out.append([name] + [rng.choice(values) for _ in range(rng.choice([0, 1, 1, 1, 2]))])
     return out
 
 
@@ -578,7 +594,7 @@ def random_list(rng, values, string):
 
 
 def random_filter(rng, events, string=plain):
-    names = rng.sample(LISTS + BOUNDS + ("#e", "#e", "#E", "#p", "#t", "#d"), rng.choice([0, 1, 1, 1, 2, 2, 3, 4]))
+    names = rng.sample(LISTS + BOUNDS + ("#g", "#g", "#G", "#e", "#p", "#t", "#d"), rng.choice([0, 1, 1, 1, 2, 2, 3, 4]))
     fields = {}
     for name in names:
         if name == "ids":
@@ -591,6 +607,8 @@ def random_filter(rng, events, string=plain):
             fields[name] = str(rng.choice([0, 1, 1, 2, 3, 8, 65535]))
         elif name in BOUNDS:
             fields[name] = str(rng.choice([0, 1, 2, 3, -1, -7200, MAX_TIME, -MAX_TIME]))
+        elif name in ("#e", "#p") and rng.randrange(10):
+            fields[name] = random_list(rng, FEW_HEX, string)
         else:
             fields[name] = random_list(rng, FEW_TAGS, string)
     return Filter(fields)

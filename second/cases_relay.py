@@ -133,6 +133,24 @@ def rows():
         yield run([(notice(row), req("{}", sub=sub)), (notice(row), '["CLOSE",%s]' % sub)])
     for count in (0, 5):
         yield run([(closed("s", 8), req(*["{}"] * count))])
+    # 02, Wish 1: hex in #e and #p, in the fifth filter too
+    for name in ("#e", "#p", "#\\u0065", "\\u0023\\u0070"):
+        for value in ("", "x", A[1:], A + "a", A.upper()):
+            wrong = '{"%s":[%s]}' % (name, plain(value))
+            yield run([(closed("s", 7), req(wrong)), (closed("s", 7), req("{}", "{}", "{}", "{}", wrong)), (notice(7), req(wrong, sub='""'))])
+        yield run([(eose(), req('{"%s":[%s]}' % (name, string))) for string in (plain(A), '"%s"' % ("\\u0061" * 64))])
+        yield run([(closed("s", 6), req('{"%s":["x"],"limit":65536}' % name)), (closed("s", 8), req('{"%s":[]}' % name))])
+    tagged = made(kind=1, tags=[["e", A], ["p", "x"], ["E", "x"]])
+    yield run(
+        [
+            (taken(id_in(tagged)), offer(tagged)),
+            (sent(tagged) + eose(), req('{"#e":[%s]}' % plain(A))),
+            (eose(), req('{"#e":[%s]}' % plain(B))),
+            (eose(), req('{"#p":[%s]}' % plain(A))),
+            (closed("s", 7), req('{"#p":["x"]}')),
+            (sent(tagged) + eose(), req('{"#E":["x"]}')),
+        ]
+    )
     for size in (4016, 4017):
         one = made(content="x" * size)
         yield run([(taken(id_in(one)) if size == 4016 else refused(id_in(one), 9), offer(one))])
@@ -198,7 +216,8 @@ def verdicts():
 
 def random_fields(rng):
     kind = rng.choice([0, 1, 1, 3, 44, 9999, 10000, 19999, 20000, 30000, 30000, 30000, 39999, 40000])
-    tags = rng.choice([[], [["d"]], [["d", ""]], [["d", "a"]], [["d", "a\n"]], [["e", "x"], ["e", "y", "z"]], [["E", "x"], ["t"]]])
+    tags = rng.choice([[], [["d"]], [["d", ""]], [["d", "a"]], [["d", "a\n"]], [["g", "x"], ["g", "y", "z"]], [["G", "x"], ["t"]],
+                       [["e", A], ["e", B], ["p", A, "x"]], [["p", B], ["e", "x"], ["E", "x"]]])
     time = rng.choice([0, 0, 1, 2, -1, -7200, 1700000000, MAX_TIME, -MAX_TIME])
     inner = rng.choice(["", "", words(rng, 6), "x" * rng.randrange(10, 60)])
     return made(rng.choice([A, A, B]), time, kind, tags, inner)
@@ -217,11 +236,13 @@ def random_condition(rng, name, events):
     if name in ("since", "until"):
         return str(max(-MAX_TIME, min(MAX_TIME, int(one["created_at"]) + rng.choice([-1, 0, 0, 1]))))
     values = [tag[1] for tag in one["tags"] if len(tag) > 1] or ["x"]
+    if name in ("#e", "#p") and rng.randrange(8):
+        values = [value for value in values if len(value) == 64] or [A]
     return "[%s]" % ",".join(spell(rng, value) for value in values)
 
 
 def random_filter(rng, events):
-    names = rng.sample("ids authors kinds since until limit limit #d #e #E".split(), rng.choice([0, 0, 1, 1, 1, 2, 3]))
+    names = rng.sample("ids authors kinds since until limit limit #d #g #G #e #p #E".split(), rng.choice([0, 0, 1, 1, 1, 2, 3]))
     return "{%s}" % ",".join('"%s":%s' % (name, random_condition(rng, name, events)) for name in dict.fromkeys(names))
 
 

@@ -39,8 +39,8 @@ TIME = (-9007199254740991, 9007199254740991)
 SMALL = (0, 65535)
 NUMBERS = {"created_at": TIME, "since": TIME, "until": TIME, "kind": SMALL, "kinds": SMALL, "limit": SMALL}
 
-# Hex: the number of characters.
-HEX = {"id": 64, "pubkey": 64, "ids": 64, "authors": 64, "sig": 128}
+# Hex: the number of characters. 02, Wish 1: members of #e and #p too, no other letter.
+HEX = {"id": 64, "pubkey": 64, "ids": 64, "authors": 64, "sig": 128, "#e": 64, "#p": 64}
 
 # Counts: the least and the greatest.
 TAGS, TAG_STRINGS, FILTERS, MEMBERS, CONDITIONS, SUB = (0, 64), (1, 16), (1, 4), (1, 16), (0, 4), (1, 64)

@@ -27,7 +27,7 @@ pub enum Refusal {
     WrongShape = 5,
     /// A number that is no whole number in its range.
     BadNumber = 6,
-    /// Not lower-case hex of the length wanted.
+    /// An id, pubkey or signature, or a member of `ids`, `authors`, `#e` or `#p`, that is not lower-case hex of the length wanted.
     BadHex = 7,
     /// A count or a length out of bounds.
     BadCount = 8,

@@ -86,7 +86,7 @@ pub struct FilterParts {
     pub until: Option<i64>,
     /// The most events that the filter adds to an answer.
     pub limit: Option<i64>,
-    /// The place of the object whose `#` members are the conditions.
+    /// The place of the object whose `#` members are the conditions. Members of `#e` and `#p` are 64 lower-case hex characters.
     pub conditions: Option<NonZeroUsize>,
 }
 

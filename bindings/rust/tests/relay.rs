@@ -122,6 +122,32 @@ fn full_tables_of_every_capacity_are_listed_whole() {
 }
 
 #[test]
+fn members_of_e_and_p_are_hex() {
+    let hex = "0123456789abcdef".repeat(4);
+    let ask = |name: &str, member: &str| format!("[\"REQ\",\"s\",{{\"{name}\":[\"{member}\"]}}]").into_bytes();
+    let mut buffer = vec![0; table_size(1)];
+    let table = Table::format(&mut buffer, 1).unwrap();
+    let mut row = [0; 1];
+    for name in ["#e", "#p", "#\\u0065", "\\u0023p"] {
+        for member in ["", "x", &hex[1..], &hex.to_uppercase()] {
+            assert_eq!(read(&ask(name, member)).err(), Some(Refusal::BadHex));
+        }
+        // the parts of a good message, lent over bytes that were changed since
+        let mut message = ask(name, &hex);
+        let Ok(Message::Req(request)) = read(&message) else {
+            panic!()
+        };
+        assert!(table.list(&message, &request, &mut row).unwrap().is_empty());
+        let last = message.len() - 5;
+        message[last] = b'F';
+        assert_eq!(table.list(&message, &request, &mut row), Err(Refusal::BadHex));
+    }
+    for name in ["#E", "#P", "#t"] {
+        assert!(read(&ask(name, "x")).is_ok());
+    }
+}
+
+#[test]
 fn a_table_moves_to_a_larger_one() {
     let mut small = vec![0; table_size(3)];
     let mut large = vec![0; table_size(4)];

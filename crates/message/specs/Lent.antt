@@ -9,7 +9,7 @@ use lib.IntN.{ℤ, pos, negℤ}
 use lib.ListN.{length}
 use Rattle.utf8.specs.Utf8.{isUtf8}
 use Rattle.json.specs.Grammar.{isSpelling}
-use Rattle.json.specs.Tree.{Json, Got, none, got, depth, treeAt, onArray, onObject}
+use Rattle.json.specs.Tree.{Json, Got, none, got, depth, treeAt, onObject}
 use Rattle.spell.specs.Spell.{characterCount, refuses, isHexOf}
 use Rattle.wire.specs.Limits.{widest, mostSmall, hexLength, sigLength, mostCharacters}
 use Rattle.numeral.specs.Whole.{isWithin}
@@ -17,7 +17,8 @@ use Rattle.numeral.specs.declared.Whole.the-variants.{Value}
 use Rattle.rows.specs.Strings.{part, refusedIn}
 use Rattle.shape.specs.Shape.{anyItem, isString, isNumber, isArrayOf, isFilter}
 pub use Rattle.shape.specs.Values.{ownText}
-use Rattle.shape.specs.Rows.{outside, wrongSmall, wrongHex, wrongTags, wrongList, filterNumber, filterHex, filterCounts}
+pub use Rattle.shape.specs.Rows.{someSmall, someHex}
+use Rattle.shape.specs.Rows.{outside, wrongTags, wrongList, filterNumber, filterHex, filterCounts}
 use Rattle.message.specs.declared.Span.{Span}
 use Rattle.message.specs.declared.Body.{Body}
 use Rattle.message.specs.declared.EventParts.{EventParts}
@@ -194,12 +195,6 @@ inList f (listed.At v) = f v
 abbrev pub inBound : (ℤ → Bool) → Bound → Bool
 inBound f bound.Absent = false
 inBound f (bound.Number z) = f z
-
-abbrev pub someHex : Bytes → Json → Bool
-someHex b t = onArray (anyItem (λ q u. wrongHex hexLength b u)) t
-
-abbrev pub someSmall : Bytes → Json → Bool
-someSmall b t = onArray (anyItem (λ q u. wrongSmall b u)) t
 
 unfoldable pub filter2 : Bytes → FilterParts → Bool
 filter2 b p =

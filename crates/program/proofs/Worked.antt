@@ -5,6 +5,7 @@ use mathlib.Core.List.{List, [], _∷_, _++_}
 use Prim.Native.Nat.{ℕ, _≤_}
 use native.Mathlib.Omega.{arith}
 use lib.IntN.{negsuc}
+use lib.Dec.{eqb}
 use lib.ListN.{replicate}
 use Rattle.wire.specs.Bytes.{sameBytes, isHex}
 use Rattle.wire.specs.Escape.{letterOf, escOne, escape}
@@ -32,6 +33,7 @@ use Rattle.message.specs.Read.{readOf, namedOf}
 use Rattle.event.specs.Lent.{said}
 use Rattle.wire.specs.Ascii.{ascii}
 use Rattle.reply.specs.Replies.{ok, event, eose, closed, notice, objectText, replyText, reasonOf}
+use Rattle.query.specs.Answer.{keep}
 use Rattle.program.specs.Program.{refusal, repliesTo, lines}
 use Rattle.program.specs.Claims.Program.{wordIn, idField}
 use Rattle.program.proofs.Which.{late-event}
@@ -59,6 +61,44 @@ pub more-refused :
     × ((b : List ℕ) → repliesTo b (ascii "\r") ≡ notice (reasonOf 3) ∷ [])
 unfolding inClass run past oneAt tokenAt wordAt literalAt digitsAt intAt fracAt expAt numberAt hexAt escapedAt charAt charsUpTo charsAt stringAt scalarAt itemsAt treeAt isUtf8 utf8From leadOf charOf charsFrom charBytes charsBytes decode isRefused spell.any refuses sameBytes points characterCount spelledAt refusedIn anyItem countItems nameAt noNameTwice isFilter wordOf allItems row6 row7 row8 filterCounts wrongSubscription treeRow messageRow readOf namedOf repliesTo refusal spell.shortOf spell.unicodeOf spell.isPair spell.fourAt spell.four spell.hexVal spell.utf8Of filterMember isCondition wrongFilter filterNumber filterHex wrongList wrongHex wrongTime wrongSmall wholeOf wholeAnswer isWithin isNatural allDigits isDigit valueFrom naturalOf negativeOf isHexOf isHex spell.all
 more-refused = ((λ b. refl), (λ b. refl), (λ b. refl), (λ b. refl), (λ b. refl), (λ b. refl), (λ b. refl), (λ b. refl), (λ b. refl), (λ b. refl))
+
+-- ---- 02, Wish 1: members of #e and #p are 64 characters of lower-case hex
+-- the row of a REQ that asks # and the letter b for one member, as spelled
+abbrev askedRow : ℕ → List ℕ → ℕ
+askedRow b member = messageRow (ascii "[\"REQ\",\"s\",{\"#" ++ (b ∷ ascii "\":[\"" ++ (member ++ ascii "\"]}]")))
+
+abbrev letters : List ℕ
+letters = ascii "abcdefghijklmnopqrstuvwxyzABCDEFGHIJKLMNOPQRSTUVWXYZ"
+
+-- the string x is refused with e and p, by row 7, and taken with every other letter
+pub hex-letters :
+    (keep (λ b. eqb (askedRow b (ascii "x")) 7) letters ≡ ascii "ep")
+    × (keep (λ b. eqb (askedRow b (ascii "x")) 0) letters ≡ ascii "abcdfghijklmnoqrstuvwxyzABCDEFGHIJKLMNOPQRSTUVWXYZ")
+unfolding inClass run past oneAt tokenAt wordAt literalAt digitsAt intAt fracAt expAt numberAt hexAt escapedAt charAt charsUpTo charsAt stringAt scalarAt itemsAt treeAt isUtf8 utf8From leadOf charOf charsFrom charBytes charsBytes decode isRefused spell.any refuses sameBytes points characterCount spelledAt refusedIn anyItem countItems nameAt noNameTwice isFilter wordOf allItems row6 row7 row8 filterCounts wrongSubscription treeRow messageRow spell.shortOf spell.unicodeOf spell.isPair spell.fourAt spell.four spell.hexVal spell.utf8Of filterMember isCondition wrongFilter filterNumber filterHex wrongList wrongHex wrongTime wrongSmall wholeOf wholeAnswer isWithin isNatural allDigits isDigit valueFrom naturalOf negativeOf isHexOf isHex spell.all keep
+hex-letters = (refl, refl)
+
+-- 63, 64 and 65 characters; upper case; hex spelled with an escape; none
+pub hex-members :
+    (askedRow 101 (replicate 63 97) ≡ 7)
+    × (askedRow 101 (replicate 64 97) ≡ 0)
+    × (askedRow 101 (replicate 65 97) ≡ 7)
+    × (askedRow 112 (replicate 64 65) ≡ 7)
+    × (askedRow 112 (ascii "\\u0061" ++ replicate 63 97) ≡ 0)
+    × (askedRow 112 [] ≡ 7)
+unfolding inClass run past oneAt tokenAt wordAt literalAt digitsAt intAt fracAt expAt numberAt hexAt escapedAt charAt charsUpTo charsAt stringAt scalarAt itemsAt treeAt isUtf8 utf8From leadOf charOf charsFrom charBytes charsBytes decode isRefused spell.any refuses sameBytes points characterCount spelledAt refusedIn anyItem countItems nameAt noNameTwice isFilter wordOf allItems row6 row7 row8 filterCounts wrongSubscription treeRow messageRow spell.shortOf spell.unicodeOf spell.isPair spell.fourAt spell.four spell.hexVal spell.utf8Of filterMember isCondition wrongFilter filterNumber filterHex wrongList wrongHex wrongTime wrongSmall wholeOf wholeAnswer isWithin isNatural allDigits isDigit valueFrom naturalOf negativeOf isHexOf isHex spell.all
+hex-members = (refl, refl, refl, refl, refl, refl)
+
+-- the letter spelled with an escape; a member after a good one; a fifth filter; beside rows 6 and 8; no subscription id
+pub hex-refused :
+    ((b : List ℕ) → repliesTo b (ascii "[\"REQ\",\"s\",{\"#\\u0065\":[\"x\"]}]") ≡ closed (ascii "s") (reasonOf 7) ∷ [])
+    × ((b : List ℕ) → repliesTo b (ascii "[\"REQ\",\"s\",{\"#e\":[\"" ++ (replicate 64 97 ++ ascii "\",\"x\"]}]")) ≡ closed (ascii "s") (reasonOf 7) ∷ [])
+    × ((b : List ℕ) → repliesTo b (ascii "[\"REQ\",\"s\",{},{},{},{},{\"#e\":[\"x\"]}]") ≡ closed (ascii "s") (reasonOf 7) ∷ [])
+    × ((b : List ℕ) → repliesTo b (ascii "[\"REQ\",\"s\",{\"#e\":[\"x\"],\"limit\":65536}]") ≡ closed (ascii "s") (reasonOf 6) ∷ [])
+    × ((b : List ℕ) → repliesTo b (ascii "[\"REQ\",\"s\",{\"#e\":[\"x\"]},{\"#p\":[]}]") ≡ closed (ascii "s") (reasonOf 7) ∷ [])
+    × ((b : List ℕ) → repliesTo b (ascii "[\"REQ\",\"s\",{\"#e\":[]}]") ≡ closed (ascii "s") (reasonOf 8) ∷ [])
+    × ((b : List ℕ) → repliesTo b (ascii "[\"REQ\",\"\",{\"#e\":[\"x\"]}]") ≡ notice (reasonOf 7) ∷ [])
+unfolding inClass run past oneAt tokenAt wordAt literalAt digitsAt intAt fracAt expAt numberAt hexAt escapedAt charAt charsUpTo charsAt stringAt scalarAt itemsAt treeAt isUtf8 utf8From leadOf charOf charsFrom charBytes charsBytes decode isRefused spell.any refuses sameBytes points characterCount spelledAt refusedIn anyItem countItems nameAt noNameTwice isFilter wordOf allItems row6 row7 row8 filterCounts wrongSubscription treeRow messageRow readOf namedOf repliesTo refusal spell.shortOf spell.unicodeOf spell.isPair spell.fourAt spell.four spell.hexVal spell.utf8Of filterMember isCondition wrongFilter filterNumber filterHex wrongList wrongHex wrongTime wrongSmall wholeOf wholeAnswer isWithin isNatural allDigits isDigit valueFrom naturalOf negativeOf isHexOf isHex spell.all
+hex-refused = ((λ b. refl), (λ b. refl), (λ b. refl), (λ b. refl), (λ b. refl), (λ b. refl), (λ b. refl))
 
 -- 0D stays in the line; empty lines are messages
 pub lines-cut : (lines (ascii "a\r\nb") ≡ ascii "a\r" ∷ ascii "b" ∷ []) × (lines (ascii "\n\n") ≡ [] ∷ [] ∷ [])

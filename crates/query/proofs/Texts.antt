@@ -6,7 +6,7 @@ use Prim.Native.Nat.{ℕ}
 use Prim.Native.Char.{code}
 use Prim.Native.String.{String, [] as []ˢ, _∷_ as _∷ˢ_}
 use lib.IntN.{pos, negsuc}
-use Rattle.wire.specs.Bytes.{sameBytes}
+use Rattle.wire.specs.Bytes.{sameBytes, isHex}
 use Rattle.utf8.specs.Utf8.{isUtf8, utf8From, leadOf}
 use Rattle.json.specs.Grammar.{inClass, run, past, oneAt, tokenAt, wordAt, literalAt, digitsAt, intAt, fracAt, expAt}
 use Rattle.json.specs.Grammar.{numberAt, hexAt, escapedAt, charAt, charsUpTo, charsAt, stringAt, scalarAt}
@@ -17,7 +17,7 @@ use Rattle.spell.specs.Spell as spell
 use Rattle.spell.specs.Spell.{charOf, charsFrom, charBytes, charsBytes, decode, isRefused, refuses}
 use Rattle.rows.specs.Strings.{spelledAt, refusedIn}
 use Rattle.shape.specs.Shape.{anyItem, allItems, countItems, nameAt, noNameTwice, filterMember, isFilter, isCondition}
-use Rattle.shape.specs.Rows.{wrongSmall, wrongTime, wrongList, filterNumber, filterHex, wrongFilter, filterCounts}
+use Rattle.shape.specs.Rows.{wrongSmall, wrongTime, wrongHex, wrongList, filterNumber, filterHex, wrongFilter, filterCounts}
 use Rattle.message.specs.declared.Bound.the-variants.{Absent, Number}
 use Rattle.message.specs.Lists.{nextOf, upTo, elementsFrom}
 use Rattle.message.specs.Parts as parts
@@ -35,7 +35,7 @@ text []ˢ = []
 text (c ∷ˢ s) = code c ∷ text s
 
 abbrev two : List ℕ
-two = text "{\"kinds\":[1,40],\"#e\":[\"x\"],\"since\":-5,\"limit\":0},{}]"
+two = text "{\"kinds\":[1,40],\"#t\":[\"x\"],\"since\":-5,\"limit\":0},{}]"
 
 pub two-filters : filtersMeant two 0 ≡ record {
   ids = none;
@@ -44,7 +44,7 @@ pub two-filters : filtersMeant two 0 ≡ record {
   since = Number (negsuc 4);
   until = Absent;
   limit = Number (pos 0);
-  conditions = record { letter = 101; members = (120 ∷ []) ∷ [] } ∷ [];
+  conditions = record { letter = 116; members = (120 ∷ []) ∷ [] } ∷ [];
 } ∷ everything ∷ []
 unfolding inClass run past oneAt tokenAt wordAt literalAt digitsAt intAt fracAt expAt numberAt hexAt escapedAt charAt charsUpTo charsAt stringAt scalarAt itemsAt treeAt isDigit allDigits valueFrom isNatural naturalOf negativeOf wholeOf wholeAnswer charOf charsFrom charBytes charsBytes decode spell.any sameBytes spelledAt nameAt nextOf upTo elementsFrom parts.filterPartsOf membersAt filterAt stringsOf filterOf filtersMeant parts.memberOf isWithin isCondition
 two-filters = refl
@@ -62,7 +62,8 @@ pub one-filter : filtersMeant (text "{\"until\":7,\"authors\":[\"b\"],\"ids\":[\
 unfolding inClass run past oneAt tokenAt wordAt literalAt digitsAt intAt fracAt expAt numberAt hexAt escapedAt charAt charsUpTo charsAt stringAt scalarAt itemsAt treeAt isDigit allDigits valueFrom isNatural naturalOf negativeOf wholeOf wholeAnswer charOf charsFrom charBytes charsBytes decode spell.any sameBytes spelledAt nameAt nextOf upTo elementsFrom parts.filterPartsOf membersAt filterAt stringsOf filterOf filtersMeant parts.memberOf isWithin isCondition spell.unicodeOf spell.isPair spell.fourAt spell.four spell.hexVal spell.utf8Of
 one-filter = refl
 
--- ---- lent as parts: 0 of these two; 8 of none and of {} five times, though six are lent; a number's row is lower
+-- ---- lent as parts: 0 of these two; 8 of none and of {} five times, though six are lent; a number's row is lower; hex in
+-- #e and #p (02, Wish 1), which an object lent for its conditions may spell in any way, and in no other letter
 abbrev lent : List ℕ → ℕ → ℕ
 lent m n = filtersRow m (filterPartsAt m 0) n
 
@@ -72,5 +73,8 @@ pub rows :
     × (lent (text "{},{},{},{},{},{}]") 5 ≡ 8)
     × (lent (text "{},{},{\"limit\":-0},{},{}]") 5 ≡ 6)
     × (lent (text "{},{},{\"limit\":-0},{},{}]") 2 ≡ 0)
-unfolding inClass run past oneAt tokenAt wordAt literalAt digitsAt intAt fracAt expAt numberAt hexAt escapedAt charAt charsUpTo charsAt stringAt scalarAt itemsAt treeAt isUtf8 utf8From leadOf isDigit allDigits valueFrom isNatural naturalOf negativeOf wholeOf wholeAnswer isWithin charOf charsFrom charBytes charsBytes decode spell.any isRefused refuses sameBytes spelledAt refusedIn anyItem allItems countItems nameAt noNameTwice isFilter isCondition filterCounts nextOf upTo elementsFrom parts.memberOf parts.filterPartsOf membersAt filterAt wrongNumber value2 value4 value5 filter2 filter4 filter5 filter6 filter7 filter8 filterRow lowestOf filtersRow filterMember wrongSmall filterNumber wrongTime filterHex wrongList wrongFilter
-rows = (refl, refl, refl, refl, refl)
+    × (lent (text "{\"#e\":[\"x\"]}]") 1 ≡ 7)
+    × (lent (text "{\"#\\u0070\":[\"x\"]}]") 1 ≡ 7)
+    × (lent (text "{\"#E\":[\"x\"]}]") 1 ≡ 0)
+unfolding inClass run past oneAt tokenAt wordAt literalAt digitsAt intAt fracAt expAt numberAt hexAt escapedAt charAt charsUpTo charsAt stringAt scalarAt itemsAt treeAt isUtf8 utf8From leadOf isDigit allDigits valueFrom isNatural naturalOf negativeOf wholeOf wholeAnswer isWithin charOf charsFrom charBytes charsBytes decode spell.any isRefused refuses spell.shortOf spell.unicodeOf spell.isPair spell.fourAt spell.four spell.hexVal spell.utf8Of spell.all spell.isHexOf isHex sameBytes spelledAt refusedIn anyItem allItems countItems nameAt noNameTwice isFilter isCondition filterCounts nextOf upTo elementsFrom parts.memberOf parts.filterPartsOf membersAt filterAt wrongNumber value2 value4 value5 filter2 filter4 filter5 filter6 filter7 filter8 filterRow lowestOf filtersRow filterMember wrongSmall filterNumber wrongTime wrongHex filterHex wrongList wrongFilter
+rows = (refl, refl, refl, refl, refl, refl, refl, refl)

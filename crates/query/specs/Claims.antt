@@ -1,5 +1,5 @@
--- What the definitions of this crate mean, as claims; proofs/Matching, Answers, Tables, Lent, ReadFilters, Listings and
--- Unread prove them.
+-- What the definitions of this crate mean, as claims; proofs/Matching, Answers, Tables, Lent, ReadFilters, Asked,
+-- Listings and Unread prove them.
 -- Quotes are from 01, "Filters and replies", where nothing else is said.
 use mathlib.Core.Path.{_≡_}
 use mathlib.Core.Bool.{Bool, true, false, cond}
@@ -39,7 +39,9 @@ use Rattle.query.specs.Answer.{keep, numbersFrom, picked, union, newerSl
 use Rattle.query.specs.Answer.{filterPartsAt, filtersMeant, meant, lowestOf, filtersRow, answerTo, matchedRow}
 use Rattle.query.specs.Answer.{matched, matchNumber, matchValue, listingRow, listed, listedRow, listingNumber}
 use Rattle.query.specs.Answer.{listedCount}
-use Rattle.wire.specs.Bytes.{Bytes}
+use Rattle.wire.specs.Bytes.{Bytes, isHex}
+use Rattle.wire.specs.Limits.{hexLength}
+use Rattle.spell.specs.Spell.{all}
 use Rattle.wire.specs.Lowest.{Lowest}
 
 -- ---- matching
@@ -298,6 +300,17 @@ LentPass = (m : List ℕ) (fs : List FilterParts) (n : ℕ) → (filtersRow m fs
 abbrev pub ReadPasses : Type 0
 ReadPasses = (m : List ℕ) (r : ReqParts) → readOf m ≡ Req r →
     (fs : List FilterParts) (n : ℕ) → n ≤ length fs → take n fs ≡ filterPartsAt m (r .filters) → filtersRow m fs n ≡ 0
+
+-- ---- what a filter may ask
+-- 01, "Hex", as 02, Wish 1, amends it: 64 characters of lower-case hex
+abbrev pub IsHex64 : List ℕ → Type 0
+IsHex64 v = (length v ≡ hexLength) × (all isHex v ≡ true)
+
+-- by #e (101) and #p (112) a filter that no row refuses asks for hex alone, as decoded; those of an accepted REQ are
+-- such (`ReadPasses`)
+abbrev pub HexAsked : Type 0
+HexAsked = (b : Bytes) (p : FilterParts) → filterRow b p ≡ 0 → (c : Condition) → c ∈ filterOf b p .conditions →
+    (c .letter ≡ 101) ⊎ (c .letter ≡ 112) → (v : List ℕ) → v ∈ c .members → IsHex64 v
 
 -- ---- what is answered
 -- "Parts of an event, filter .. are tested by rows 2 and 4 to 8 .., an event by 9 too"

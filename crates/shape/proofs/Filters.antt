@@ -5,20 +5,22 @@ use mathlib.Core.List.{List, [], _∷_}
 use mathlib.Core.Bool.{Bool, true, false, cond, not, _&&_, _||_, or-false}
 use Prim.Native.Nat.{ℕ, suc, _+_, _-_, _≤_, min}
 use native.Mathlib.Omega.{arith}
-use borrow.Author.Tests.{lt-ltb, le-ltb, ltb-true, ltb-false, le-leb}
-use lib.Dec.{ltb}
+use borrow.Author.Tests.{lt-ltb, le-ltb, ltb-true, ltb-false, le-leb, eqb-true, eqb-false, ne-eqb}
+use lib.Dec.{ltb, eqb}
 use Rattle.json.specs.Tree.{Json, word, num, str, arr, obj, Items, nil, item, onObject}
 use Rattle.json.specs.Grammar.{isBetween}
 use Rattle.wire.specs.Limits.{mostConditions}
 use Rattle.wire.specs.Bytes.{sameBytes}
+use Rattle.wire.proofs.Bytes.{same-equal}
 use Rattle.rows.specs.Strings.{refusedIn}
 use Rattle.shape.specs.Shape.{allItems, anyItem, countItems, nameAt, isLetter, isCondition, filterMember}
 use Rattle.shape.specs.Shape.{noNameTwice, isFilter}
 use Rattle.shape.specs.Rows.{outside, filterNumber, filterHex, wrongFilter, filterCounts}
-use Rattle.shape.specs.Inner.{UNKNOWN, LOWER, UPPER, FILTER, stringForm, stringFormRow, numberRow, groupForm}
+use Rattle.shape.specs.Inner.{UNKNOWN, LOWER, UPPER, LETTER_E, LETTER_P, FILTER, stringForm, stringFormRow}
+use Rattle.shape.specs.Inner.{numberRow, groupForm}
 use Rattle.shape.specs.Inner.{nameSlot, letterSlot, conditionSlot, filterSlot, filterForm, slotForm, marksAfter}
 use Rattle.shape.specs.Inner.{fresh, endRow, rowOf}
-use Rattle.shape.proofs.Names.{no, and-left, and-right}
+use Rattle.shape.proofs.Names.{no, and-left, and-right, within-ends}
 use Rattle.shape.proofs.Low.{low, Lowest, said, begins}
 use Rattle.shape.proofs.Never.{never, never-after}
 use Rattle.shape.proofs.Leaves.{bounds-is, time, small}
@@ -36,16 +38,42 @@ letter-high b e = go (isBetween 97 122 b) refl (isBetween 65 90 b) refl e
     go false p true q e = omega arith
     go false p false q e = no cc
 
-condition-form : (n : ℕ) → LOWER ≤ n → filterForm n ≡ 11
+-- a letter other than e and p
+letter-other : (b : ℕ) → isLetter b ≡ true → eqb b 101 ≡ false → eqb b 112 ≡ false → (letterSlot b ≡ LETTER_E → ⊥) × (letterSlot b ≡ LETTER_P → ⊥)
+unfolding letterSlot
+letter-other b l e p = let m = eqb-false b 101 e in let n = eqb-false b 112 p in go (isBetween 97 122 b) refl (isBetween 65 90 b) refl m n l
+  where
+    go : (x : Bool) → isBetween 97 122 b ≡ x → (y : Bool) → isBetween 65 90 b ≡ y → (b ≡ 101 → ⊥) → (b ≡ 112 → ⊥) → (x || y) ≡ true
+        → (cond x (b - 97 + LOWER) (cond y (b - 65 + UPPER) UNKNOWN) ≡ LETTER_E → ⊥) × (cond x (b - 97 + LOWER) (cond y (b - 65 + UPPER) UNKNOWN) ≡ LETTER_P → ⊥)
+    go true p y q m n e = let w = within-ends 97 122 b p in (λ z. omega arith, λ z. omega arith)
+    go false p true q m n e = (λ z. omega arith, λ z. omega arith)
+    go false p false q m n e = no cc
+
+-- a name that is no condition is neither #e nor #p
+other-name : (w : List ℕ) (b : ℕ) → isLetter b ≡ true → isCondition w ≡ false → sameBytes w (35 ∷ b ∷ []) ≡ false
+unfolding isCondition
+other-name w b l e = go (sameBytes w (35 ∷ b ∷ [])) refl
+  where
+    go : (x : Bool) → sameBytes w (35 ∷ b ∷ []) ≡ x → x ≡ false
+    go true q = no (let i : isCondition w ≡ true = rw (same-equal w _ q) l in cc)
+    go false q = refl
+
+condition-form : (n : ℕ) → LOWER ≤ n → (n ≡ LETTER_E → ⊥) × (n ≡ LETTER_P → ⊥) → filterForm n ≡ 11
 unfolding filterForm
-condition-form n h = rw (le-leb LOWER n h)
+condition-form n h (e, p) = rw (ne-eqb n LETTER_E e, ne-eqb n LETTER_P p, le-leb LOWER n h)
 
 module _ (s : List ℕ) where
   -- ---- one member
   condition : (p : ℕ) (t : Json) (b : ℕ) → nameAt s p ≡ 35 ∷ b ∷ [] → isLetter b ≡ true
       → Lowest (rowOf s (slotForm FILTER (slotAt s FILTER p)) t) (refusedIn s t) (not (filterMember s p t)) (filterNumber s p t) (filterHex s p t) (wrongFilter s p t)
-  unfolding slotForm nameSlot filterMember filterNumber filterHex wrongFilter sameBytes isCondition
-  condition p t b e l = rw (e, condition-slot b, condition-form (letterSlot b) (letter-high b l), l) (texts s t)
+  unfolding slotForm nameSlot filterForm filterSlot conditionSlot letterSlot filterMember filterNumber filterHex wrongFilter sameBytes isCondition
+  condition p t b e l = go (eqb b 101) refl (eqb b 112) refl
+    where
+      go : (x : Bool) → eqb b 101 ≡ x → (y : Bool) → eqb b 112 ≡ y
+          → Lowest (rowOf s (slotForm FILTER (slotAt s FILTER p)) t) (refusedIn s t) (not (filterMember s p t)) (filterNumber s p t) (filterHex s p t) (wrongFilter s p t)
+      go true x y q = rw (e, eqb-true b 101 x) (hexes s t)
+      go false x true q = rw (e, eqb-true b 112 q) (hexes s t)
+      go false x false q = rw (e, condition-slot b, condition-form (letterSlot b) (letter-high b l) (letter-other b l x q), l, x, q) (texts s t)
 
   member : (p : ℕ) (t : Json) → Lowest (rowOf s (slotForm FILTER (slotAt s FILTER p)) t) (refusedIn s t) (not (filterMember s p t)) (filterNumber s p t) (filterHex s p t) (wrongFilter s p t)
   unfolding slotForm nameSlot filterForm filterSlot conditionSlot filterMember filterNumber filterHex wrongFilter sameBytes isCondition
@@ -53,7 +81,7 @@ module _ (s : List ℕ) where
       filter-cases
       (λ w. nameAt s p ≡ w → Lowest (rowOf s (slotForm FILTER (slotAt s FILTER p)) t) (refusedIn s t) (not (filterMember s p t)) (filterNumber s p t) (filterHex s p t) (wrongFilter s p t))
       (λ e. rw e (hexes s t)) (λ e. rw e (hexes s t)) (λ e. rw e (smalls s t)) (λ e. rw e (time s t)) (λ e. rw e (time s t)) (λ e. rw e (small s t))
-      (λ b l e. condition p t b e l) (λ w a b c d f g h e. rw (e, a, b, c, d, f, g, h) (never s t)) (nameAt s p) refl
+      (λ b l e. condition p t b e l) (λ w a b c d f g h e. rw (e, a, b, c, d, f, g, h, other-name w 101 refl h, other-name w 112 refl h) (never s t)) (nameAt s p) refl
 
   known : (p : ℕ) (t : Json) → filterMember s p t ≡ true → slotAt s FILTER p ≡ UNKNOWN → ⊥
   unfolding nameSlot filterSlot conditionSlot filterMember sameBytes isCondition

@@ -158,6 +158,13 @@ LOWER = 12
 abbrev pub UPPER : ℕ
 UPPER = 38
 
+-- of these e, the fifth letter, and p, the sixteenth
+abbrev pub LETTER_E : ℕ
+LETTER_E = LOWER + 4
+
+abbrev pub LETTER_P : ℕ
+LETTER_P = LOWER + 15
+
 -- ---- values that hold no value
 unfoldable pub bounds : (low high n : ℕ) → ℕ
 bounds low high n = cond (ltb n low) COUNT (cond (ltb high n) COUNT noRow)
@@ -242,9 +249,9 @@ eventForm slot =
 
 unfoldable pub filterForm : ℕ → ℕ
 filterForm slot =
-    cond (leb LOWER slot) TEXTS
+    cond (eqb slot LETTER_E) HEXES (cond (eqb slot LETTER_P) HEXES (cond (leb LOWER slot) TEXTS
     (cond (eqb slot IDS) HEXES (cond (eqb slot AUTHORS) HEXES (cond (eqb slot KINDS) SMALLS
-    (cond (eqb slot SINCE) TIME (cond (eqb slot UNTIL) TIME (cond (eqb slot LIMIT) SMALL NEVER))))))
+    (cond (eqb slot SINCE) TIME (cond (eqb slot UNTIL) TIME (cond (eqb slot LIMIT) SMALL NEVER))))))))
 
 -- an element of a message, by the form after the first two
 unfoldable pub elementForm : (slot second later : ℕ) → ℕ

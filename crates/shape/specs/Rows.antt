@@ -14,8 +14,8 @@ use Rattle.wire.specs.Limits.{mostConditions, mostCharacters}
 use Rattle.numeral.specs.Whole.{wholeOf, wholeAnswer, isWithin}
 use Rattle.shape.specs.Shape.{anyItem, countItems, count, nameAt, named, idName, pubkeyName, createdAtName}
 use Rattle.shape.specs.Shape.{kindName, tagsName, contentName, sigName, idsName, authorsName, kindsName}
-use Rattle.shape.specs.Shape.{sinceName, untilName, limitName, isCondition, Word, event, req, close, other}
-use Rattle.shape.specs.Shape.{opened, hasShape}
+use Rattle.shape.specs.Shape.{sinceName, untilName, limitName, isCondition, eConditionName, pConditionName}
+use Rattle.shape.specs.Shape.{Word, event, req, close, other, opened, hasShape}
 use Rattle.wire.specs.Bytes.{Bytes, Row}
 
 -- ---- row 4: "some string, names included, decodes to .."
@@ -42,12 +42,16 @@ wrongTime s t = onNumber (λ a n. not (isWithin (wholeAnswer (wholeOf (part s a 
 unfoldable pub wrongSmall : Bytes → Json → Bool
 wrongSmall s t = onNumber (λ a n. not (isWithin (wholeAnswer (wholeOf (part s a n))) (pos 0) (pos mostSmall))) t
 
+-- some member of a list
+abbrev pub someSmall : Bytes → Json → Bool
+someSmall s t = onArray (anyItem (λ q u. wrongSmall s u)) t
+
 unfoldable pub eventNumber : (s : Bytes) (p : ℕ) (t : Json) → Bool
 eventNumber s p t = cond (named s createdAtName p) (wrongTime s t) (cond (named s kindName p) (wrongSmall s t) false)
 
 unfoldable pub filterNumber : (s : Bytes) (p : ℕ) (t : Json) → Bool
 filterNumber s p t =
-    cond (named s kindsName p) (onArray (anyItem (λ q u. wrongSmall s u)) t)
+    cond (named s kindsName p) (someSmall s t)
     (cond (named s sinceName p) (wrongTime s t)
     (cond (named s untilName p) (wrongTime s t)
     (cond (named s limitName p) (wrongSmall s t) false)))
@@ -57,9 +61,15 @@ row6 s t =
     inMessage (onObject (anyItem (eventNumber s))) (onObject (anyItem (filterNumber s))) (opened s t .first)
     (opened s t .rest)
 
--- ---- row 7: "Lower case: 64 characters for id, pubkey and members of ids and authors; 128 for sig"
+-- ---- row 7: "Lower case: 64 characters for id, pubkey and members of ids and authors; 128 for sig". To these 02, Wish 1,
+-- adds what NIP-01 says: "The ids, authors, #e and #p filter lists MUST contain exact 64-character lowercase hex
+-- values"; "#E, #P and other letters stay free strings"
 unfoldable pub wrongHex : (k : ℕ) (s : Bytes) (t : Json) → Bool
 wrongHex k s t = onString (λ a n. not (isHexOf k (part s a n))) t
+
+-- some member of a list
+abbrev pub someHex : Bytes → Json → Bool
+someHex s t = onArray (anyItem (λ q u. wrongHex hexLength s u)) t
 
 unfoldable pub eventHex : (s : Bytes) (p : ℕ) (t : Json) → Bool
 eventHex s p t =
@@ -68,8 +78,10 @@ eventHex s p t =
 
 unfoldable pub filterHex : (s : Bytes) (p : ℕ) (t : Json) → Bool
 filterHex s p t =
-    cond (named s idsName p) (onArray (anyItem (λ q u. wrongHex hexLength s u)) t)
-    (cond (named s authorsName p) (onArray (anyItem (λ q u. wrongHex hexLength s u)) t) false)
+    cond (named s idsName p) (someHex s t)
+    (cond (named s authorsName p) (someHex s t)
+    (cond (named s eConditionName p) (someHex s t)
+    (cond (named s pConditionName p) (someHex s t) false)))
 
 unfoldable pub row7 : Bytes → Json → Bool
 row7 s t =

@@ -103,6 +103,13 @@ isLetter b = (leb 97 b && leb b 122) || (leb 65 b && leb b 90)
 unfoldable pub isCondition : Bytes → Bool
 isCondition w = eqb (length w) 2 && (eqb (getD w 0 0) 35 && isLetter (getD w 1 0))
 
+-- the two whose members row 7 tests (02, Wish 1)
+abbrev pub eConditionName : Bytes
+eConditionName = ascii "#e"
+
+abbrev pub pConditionName : Bytes
+pConditionName = ascii "#p"
+
 -- numbers: since, until, limit
 abbrev pub sinceName : Bytes
 sinceName = ascii "since"

@@ -96,6 +96,11 @@ pub(crate) const LOWER: u8 = 12;
 
 pub(crate) const UPPER: u8 = 38;
 
+// Of these e, the fifth letter, and p, the sixteenth: #e and #p.
+pub(crate) const LETTER_E: u8 = LOWER + 4;
+
+pub(crate) const LETTER_P: u8 = LOWER + 15;
+
 // The form inside of brackets or braces.
 pub(crate) fn group_form(form: u8, named: bool) -> u8
     ensures { λ r. ⌜ r ≡ groupForm form named ⌝ }
@@ -140,7 +145,11 @@ pub(crate) fn event_form(slot: u8) -> u8
 pub(crate) fn filter_form(slot: u8) -> u8
     ensures { λ r. ⌜ r ≡ filterForm slot ⌝ }
 {
-    if LOWER <= slot {
+    if slot == LETTER_E {
+        HEXES
+    } else if slot == LETTER_P {
+        HEXES
+    } else if LOWER <= slot {
         TEXTS
     } else if slot == IDS {
         HEXES

@@ -1,4 +1,4 @@
--- The definition's tests, in its order: a condition's slots first, then six others.
+-- The definition's tests, in its order: a condition's slots first, of these #e and #p, then six others.
 use Rattle.shape.proofs.Tests.{tests}
 use Rattle.shape.specs.Inner.{filterForm}
 use Rattle.shape.proofs.forms.filter_form.Statement.{statement}
@@ -9,4 +9,4 @@ unfolding filterForm
 filter-form-spec =
     tie.close
     (tie.spec (λ c. search tests) (λ c. search tests) (λ c. search tests) (λ c. search tests) (λ c. search tests) (λ c. search tests)
-    (λ c. search tests) (λ c. search tests))
+    (λ c. search tests) (λ c. search tests) (λ c. search tests) (λ c. search tests))
