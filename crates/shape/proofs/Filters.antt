@@ -14,8 +14,8 @@ use Rattle.wire.specs.Bytes.{sameBytes}
 use Rattle.wire.proofs.Bytes.{same-equal}
 use Rattle.rows.specs.Strings.{refusedIn}
 use Rattle.shape.specs.Shape.{allItems, anyItem, countItems, nameAt, isLetter, isCondition, filterMember}
-use Rattle.shape.specs.Shape.{noNameTwice, isFilter}
-use Rattle.shape.specs.Rows.{outside, filterNumber, filterHex, wrongFilter, filterCounts}
+use Rattle.shape.specs.Shape.{noNameTwice, isFilter, eConditionName, pConditionName}
+use Rattle.shape.specs.Rows.{outside, filterNumber, someHex, filterHex, wrongFilter, filterCounts}
 use Rattle.shape.specs.Inner.{UNKNOWN, LOWER, UPPER, LETTER_E, LETTER_P, FILTER, stringForm, stringFormRow}
 use Rattle.shape.specs.Inner.{numberRow, groupForm}
 use Rattle.shape.specs.Inner.{nameSlot, letterSlot, conditionSlot, filterSlot, filterForm, slotForm, marksAfter}
@@ -64,6 +64,12 @@ condition-form n h (e, p) = rw (ne-eqb n LETTER_E e, ne-eqb n LETTER_P p, le-leb
 
 module _ (s : List ℕ) where
   -- ---- one member
+  -- row 7 does not look at the list of another letter
+  free-list : (b : ℕ) (t : Json) → eqb b 101 ≡ false → eqb b 112 ≡ false
+      → cond (sameBytes (35 ∷ b ∷ []) eConditionName) (someHex s t) (cond (sameBytes (35 ∷ b ∷ []) pConditionName) (someHex s t) false) ≡ false
+  unfolding sameBytes
+  free-list b t x y = rw (x, y)
+
   condition : (p : ℕ) (t : Json) (b : ℕ) → nameAt s p ≡ 35 ∷ b ∷ [] → isLetter b ≡ true
       → Lowest (rowOf s (slotForm FILTER (slotAt s FILTER p)) t) (refusedIn s t) (not (filterMember s p t)) (filterNumber s p t) (filterHex s p t) (wrongFilter s p t)
   unfolding slotForm nameSlot filterForm filterSlot conditionSlot letterSlot filterMember filterNumber filterHex wrongFilter sameBytes isCondition
@@ -73,7 +79,8 @@ module _ (s : List ℕ) where
           → Lowest (rowOf s (slotForm FILTER (slotAt s FILTER p)) t) (refusedIn s t) (not (filterMember s p t)) (filterNumber s p t) (filterHex s p t) (wrongFilter s p t)
       go true x y q = rw (e, eqb-true b 101 x) (hexes s t)
       go false x true q = rw (e, eqb-true b 112 q) (hexes s t)
-      go false x false q = rw (e, condition-slot b, condition-form (letterSlot b) (letter-high b l) (letter-other b l x q), l, x, q) (texts s t)
+      go false x false q =
+          rw (e, condition-slot b, condition-form (letterSlot b) (letter-high b l) (letter-other b l x q), l) (said refl refl refl (sym (free-list b t x q)) refl (texts s t))
 
   member : (p : ℕ) (t : Json) → Lowest (rowOf s (slotForm FILTER (slotAt s FILTER p)) t) (refusedIn s t) (not (filterMember s p t)) (filterNumber s p t) (filterHex s p t) (wrongFilter s p t)
   unfolding slotForm nameSlot filterForm filterSlot conditionSlot filterMember filterNumber filterHex wrongFilter sameBytes isCondition
