@@ -251,13 +251,14 @@ pub fn lines(cases: &[u8]) -> impl Iterator<Item = &[u8]> {
     cases.split(|&b| b == b'\n')
 }
 
-fn client_messages() -> [(&'static str, Vec<u8>); 6] {
+fn client_messages() -> [(&'static str, Vec<u8>); 7] {
     [
         ("an EVENT with tags", messages::event(1024)),
         ("an EVENT with tags", messages::event(5000)),
         ("an EVENT with long content", messages::content(8192)),
         ("a REQ of four filters", messages::req(8192)),
         ("a REQ of four filters", messages::req(2048)),
+        ("a REQ with #e and #p", messages::referring()),
         ("a CLOSE", b"[\"CLOSE\",\"tablet 4\"]".to_vec()),
     ]
 }

@@ -59,6 +59,13 @@ pub fn req(size: usize) -> Vec<u8> {
     format!("[\"REQ\",\"tablet 4\",{filter},{filter},{filter},{filter}]").into_bytes()
 }
 
+// A REQ that asks for what refers to sixteen events and sixteen pubkeys, in each of three filters.
+pub fn referring() -> Vec<u8> {
+    let list = vec![format!("\"{}\"", "0123456789abcdef".repeat(4)); 16].join(",");
+    let filter = format!("{{\"#e\":[{list}],\"#p\":[{list}]}}");
+    format!("[\"REQ\",\"tablet 4\",{filter},{filter},{filter}]").into_bytes()
+}
+
 // An EVENT that is mostly content.
 pub fn content(size: usize) -> Vec<u8> {
     let hex = "0123456789abcdef".repeat(4);

@@ -61,9 +61,9 @@ row6 s t =
     inMessage (onObject (anyItem (eventNumber s))) (onObject (anyItem (filterNumber s))) (opened s t .first)
     (opened s t .rest)
 
--- ---- row 7: "Lower case: 64 characters for id, pubkey and members of ids and authors; 128 for sig". To these 02, Wish 1,
--- adds what NIP-01 says: "The ids, authors, #e and #p filter lists MUST contain exact 64-character lowercase hex
--- values"; "#E, #P and other letters stay free strings"
+-- ---- row 7: "Lower case: 64 characters for id, pubkey and members of ids and authors; 128 for sig". 02, Wish 1, adds
+-- what NIP-01 says: "The ids, authors, #e and #p filter lists MUST contain exact 64-character lowercase hex values";
+-- "#E, #P and other letters stay free strings"
 unfoldable pub wrongHex : (k : ℕ) (s : Bytes) (t : Json) → Bool
 wrongHex k s t = onString (λ a n. not (isHexOf k (part s a n))) t
 
