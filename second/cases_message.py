@@ -272,7 +272,7 @@ def hex_conditions():
         capital = "#\\u%04x" % ord(letter.upper())
         yield 0, req('{"%s":["x"],"#%s":[%s]}' % (capital, letter, plain(good)))
         yield 7, req('{"%s":[%s],"#%s":["x"]}' % (capital, plain(good), letter))
-        # each place of a list, one behind the last that row 8 lets pass too
+        # the first member, one in the middle, the last, one behind the last that row 8 lets pass
         for count, at in ((2, 0), (2, 1), (3, 1), (16, 0), (16, 8), (16, 15), (17, 0), (17, 16), (40, 39)):
             values = [plain(good)] * count
             values[at] = plain(good[1:])
