@@ -11,7 +11,7 @@ ghost use Rattle.json.specs.Grammar.{startAt};
 ghost use Rattle.shape.specs.Shape.{isArrayOf, isString, isNumber, isLetter, isFilter};
 ghost use Rattle.shape.specs.Rows.{wrongList, filterCounts};
 ghost use Rattle.message.specs.declared.Listed.the-variants.{At};
-ghost use Rattle.message.specs.Lent.{value5, onValue, valueAt, someSmall, inList, filterRow};
+ghost use Rattle.message.specs.Lent.{value5, onValue, valueAt, wrongSmalls, inList, filterRow};
 ghost use Rattle.query.specs.Filter.{stringsIn, numbersIn, ifListed, filterOf};
 ghost use Rattle.matching.specs.Inner.Found.{spelledBy, numbersBy, filterBy};
 ghost use Rattle.matching.specs.Inner.Finds.{stringsRoom, kindsRoom, rowRoom, smallFrom, smallAt};
@@ -101,7 +101,7 @@ fn small_at(m: &[u8], at: usize) -> u64
 // The kinds of the array at v, from a place of the row on; how many.
 fn numbers_at(m: &[u8], v: usize, row: &mut [usize], at: usize) -> usize
     requires { ⌜ value5 (isArrayOf isNumber) (now m) v ≡ false ⌝ }
-    requires { ⌜ onValue (someSmall (now m)) (valueAt (now m) v) ≡ false ⌝ }
+    requires { ⌜ onValue (wrongSmalls (now m)) (valueAt (now m) v) ≡ false ⌝ }
     requires { ⌜ onValue wrongList (valueAt (now m) v) ≡ false ⌝ }
     requires { ⌜ at + kindsRoom ≤ length (now row) ⌝ }
     ensures { λ r. ⌜ Finds numbersBy (numbersIn (now (m .entry)) (treeAt (now (m .entry)) depth v)) kindsRoom
@@ -243,7 +243,7 @@ fn string_members(m: &[u8], l: Listed, row: &mut [usize], at: usize) -> Members
 // kinds, if they are given.
 fn number_members(m: &[u8], l: Listed, row: &mut [usize], at: usize) -> Members
     requires { ⌜ inList (value5 (isArrayOf isNumber) (now m)) l ≡ false ⌝ }
-    requires { ⌜ inList (λ v. onValue (someSmall (now m)) (valueAt (now m) v)) l ≡ false ⌝ }
+    requires { ⌜ inList (λ v. onValue (wrongSmalls (now m)) (valueAt (now m) v)) l ≡ false ⌝ }
     requires { ⌜ inList (λ v. onValue wrongList (valueAt (now m) v)) l ≡ false ⌝ }
     requires { ⌜ at + kindsRoom ≤ length (now row) ⌝ }
     ensures { λ r. ⌜ FindsMembers numbersBy

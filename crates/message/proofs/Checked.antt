@@ -18,7 +18,7 @@ use Rattle.message.specs.declared.FilterParts.{FilterParts}
 use Rattle.message.specs.declared.Listed.{Listed}
 use Rattle.message.specs.declared.Listed.the-variants.{At}
 use Rattle.message.specs.Lent.{onValue, valueAt, isTagsShape, string5, value2, value4, value5, time6, small6}
-use Rattle.message.specs.Lent.{someHex, someSmall, body5, body6, body8, event2, event4, event5, event7, eventRow}
+use Rattle.message.specs.Lent.{wrongHexes, wrongSmalls, body5, body6, body8, event2, event4, event5, event7, eventRow}
 use Rattle.message.specs.Lent.{inList, inBound, filter2, filter4, filter5, filter6, filter7, filter8, filterRow}
 use Rattle.message.specs.Inner.{lowestBy}
 use Rattle.message.proofs.Facts.{or-not, In, all-in, any-in}
@@ -109,22 +109,22 @@ module _ (b : List ℕ) (p : FilterParts) (e : filterRow b p ≡ 0) where
       (rows .5)
 
   -- rows 6 and 7
-  six : (inList (λ v. onValue (someSmall b) (valueAt b v)) (p .kinds) ≡ false) × (inBound time6 (p .since) ≡ false) × (inBound time6 (p .until) ≡ false) × (inBound small6 (p .limit) ≡ false)
+  six : (inList (λ v. onValue (wrongSmalls b) (valueAt b v)) (p .kinds) ≡ false) × (inBound time6 (p .since) ≡ false) × (inBound time6 (p .until) ≡ false) × (inBound small6 (p .limit) ≡ false)
       × (inList (λ v. onValue (onObject (anyItem (filterNumber b))) (valueAt b v)) (p .conditions) ≡ false)
   unfolding filter6
   six =
-      let (k, x) = or-not (inList (λ v. onValue (someSmall b) (valueAt b v)) (p .kinds)) _ (rows .3) in
+      let (k, x) = or-not (inList (λ v. onValue (wrongSmalls b) (valueAt b v)) (p .kinds)) _ (rows .3) in
       let (s, y) = or-not (inBound time6 (p .since)) _ x in
       let (u, z) = or-not (inBound time6 (p .until)) _ y in
       let (l, c) = or-not (inBound small6 (p .limit)) _ z in
       (k, s, u, l, c)
 
-  seven : (inList (λ v. onValue (someHex b) (valueAt b v)) (p .ids) ≡ false) × (inList (λ v. onValue (someHex b) (valueAt b v)) (p .authors) ≡ false)
+  seven : (inList (λ v. onValue (wrongHexes b) (valueAt b v)) (p .ids) ≡ false) × (inList (λ v. onValue (wrongHexes b) (valueAt b v)) (p .authors) ≡ false)
       × (inList (λ v. onValue (onObject (anyItem (filterHex b))) (valueAt b v)) (p .conditions) ≡ false)
   unfolding filter7
   seven =
-      let (i, x) = or-not (inList (λ v. onValue (someHex b) (valueAt b v)) (p .ids)) _ (rows .4) in
-      let (a, c) = or-not (inList (λ v. onValue (someHex b) (valueAt b v)) (p .authors)) _ x in
+      let (i, x) = or-not (inList (λ v. onValue (wrongHexes b) (valueAt b v)) (p .ids)) _ (rows .4) in
+      let (a, c) = or-not (inList (λ v. onValue (wrongHexes b) (valueAt b v)) (p .authors)) _ x in
       (i, a, c)
 
   pub ids-are : {v : ℕ} → p .ids ≡ At v → ListIs isString (wrongHex hexLength b) b v
@@ -132,7 +132,7 @@ module _ (b : List ℕ) (p : FilterParts) (e : filterRow b p ≡ 0) where
     l2 = at (value2 b) (p .ids) q (two .0);
     l4 = at (value4 b) (p .ids) q (row4 .0);
     l5 = at (value5 (isArrayOf isString) b) (p .ids) q (five .0);
-    members = at (λ w. onValue (someHex b) (valueAt b w)) (p .ids) q (seven .0);
+    members = at (λ w. onValue (wrongHexes b) (valueAt b w)) (p .ids) q (seven .0);
     l8 = at (λ w. onValue wrongList (valueAt b w)) (p .ids) q (eight .0);
   }
 
@@ -141,7 +141,7 @@ module _ (b : List ℕ) (p : FilterParts) (e : filterRow b p ≡ 0) where
     l2 = at (value2 b) (p .authors) q (two .1);
     l4 = at (value4 b) (p .authors) q (row4 .1);
     l5 = at (value5 (isArrayOf isString) b) (p .authors) q (five .1);
-    members = at (λ w. onValue (someHex b) (valueAt b w)) (p .authors) q (seven .1);
+    members = at (λ w. onValue (wrongHexes b) (valueAt b w)) (p .authors) q (seven .1);
     l8 = at (λ w. onValue wrongList (valueAt b w)) (p .authors) q (eight .1);
   }
 
@@ -150,7 +150,7 @@ module _ (b : List ℕ) (p : FilterParts) (e : filterRow b p ≡ 0) where
     l2 = at (value2 b) (p .kinds) q (two .2);
     l4 = at (value4 b) (p .kinds) q (row4 .2);
     l5 = at (value5 (isArrayOf isNumber) b) (p .kinds) q (five .2);
-    members = at (λ w. onValue (someSmall b) (valueAt b w)) (p .kinds) q (six .0);
+    members = at (λ w. onValue (wrongSmalls b) (valueAt b w)) (p .kinds) q (six .0);
     l8 = at (λ w. onValue wrongList (valueAt b w)) (p .kinds) q (eight .2);
   }
 

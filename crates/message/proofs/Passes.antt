@@ -33,7 +33,7 @@ use Rattle.message.specs.Lists.{openWithin, elementsFrom, placesOf}
 use Rattle.message.specs.Read.{messageParts, inRoot, readOf}
 use Rattle.message.specs.Lent.{string7, time6, small6, onValue, valueAt, value2, value4, value5, isTagsShape}
 use Rattle.message.specs.Lent.{body2, body4, body5, body6, body7, body8, event2, event4, event5, event7, eventRow}
-use Rattle.message.specs.Lent.{inList, inBound, someHex, someSmall, filter2, filter4, filter5, filter6, filter7}
+use Rattle.message.specs.Lent.{inList, inBound, wrongHexes, wrongSmalls, filter2, filter4, filter5, filter6, filter7}
 use Rattle.message.specs.Lent.{filter8, filterRow}
 use Rattle.message.specs.Claims.{EventPasses, requestFilters, FiltersPass, FiltersCounted}
 use Rattle.message.proofs.Walks.{Walk, more, deeper}
@@ -196,9 +196,9 @@ module _ (s : List ℕ) (u : isUtf8 s ≡ true) (ts : Items) (reads : Reads (tre
   filter-clean : (x n : ℕ) → treeAt s openWithin x ≡ got (obj ts) n → isFilter s (obj ts) ≡ true → filterCounts s ts ≡ false → filterRow s (filterPartsOf s x ts) ≡ 0
   unfolding filterMember filterNumber filterHex wrongFilter sameBytes filterRow filter2 filter4 filter5 filter6 filter7 filter8 filterPartsOf refusedIn
   filter-clean x n e h c =
-      let i = list-field isString (λ t. false) (someHex s) wrongList idsName (λ p t q e. rw q at e) (λ p t q e. refl) (λ p t q e. rw q at e) (λ p t q e. rw q at e) in
-      let a = list-field isString (λ t. false) (someHex s) wrongList authorsName (λ p t q e. rw q at e) (λ p t q e. refl) (λ p t q e. rw q at e) (λ p t q e. rw q at e) in
-      let k = list-field isNumber (someSmall s) (λ t. false) wrongList kindsName (λ p t q e. rw q at e) (λ p t q e. rw q at e) (λ p t q e. refl) (λ p t q e. rw q at e) in
+      let i = list-field isString (λ t. false) (wrongHexes s) wrongList idsName (λ p t q e. rw q at e) (λ p t q e. refl) (λ p t q e. rw q at e) (λ p t q e. rw q at e) in
+      let a = list-field isString (λ t. false) (wrongHexes s) wrongList authorsName (λ p t q e. rw q at e) (λ p t q e. refl) (λ p t q e. rw q at e) (λ p t q e. rw q at e) in
+      let k = list-field isNumber (wrongSmalls s) (λ t. false) wrongList kindsName (λ p t q e. rw q at e) (λ p t q e. rw q at e) (λ p t q e. refl) (λ p t q e. rw q at e) in
       let o = value-clean (isFilter s) s u x e object h a4 in
       let b₆ = value-false s x (onObject (anyItem (filterNumber s))) e a6 in
       let b₇ = value-false s x (onObject (anyItem (filterHex s))) e a7 in

@@ -17,7 +17,7 @@ use Rattle.numeral.specs.declared.Whole.the-variants.{Value}
 use Rattle.rows.specs.Strings.{part, refusedIn}
 use Rattle.shape.specs.Shape.{anyItem, isString, isNumber, isArrayOf, isFilter}
 pub use Rattle.shape.specs.Values.{ownText}
-pub use Rattle.shape.specs.Rows.{someSmall, someHex}
+pub use Rattle.shape.specs.Rows.{wrongSmalls, wrongHexes}
 use Rattle.shape.specs.Rows.{outside, wrongTags, wrongList, filterNumber, filterHex, filterCounts}
 use Rattle.message.specs.declared.Span.{Span}
 use Rattle.message.specs.declared.Body.{Body}
@@ -215,7 +215,7 @@ filter5 b p =
 
 unfoldable pub filter6 : Bytes → FilterParts → Bool
 filter6 b p =
-    inList (λ v. onValue (someSmall b) (valueAt b v)) (p .kinds)
+    inList (λ v. onValue (wrongSmalls b) (valueAt b v)) (p .kinds)
     || (inBound time6 (p .since)
     || (inBound time6 (p .until)
     || (inBound small6 (p .limit) || inList (λ v. onValue (onObject (anyItem (filterNumber b))) (valueAt b v))
@@ -223,8 +223,8 @@ filter6 b p =
 
 unfoldable pub filter7 : Bytes → FilterParts → Bool
 filter7 b p =
-    inList (λ v. onValue (someHex b) (valueAt b v)) (p .ids)
-    || (inList (λ v. onValue (someHex b) (valueAt b v)) (p .authors) || inList
+    inList (λ v. onValue (wrongHexes b) (valueAt b v)) (p .ids)
+    || (inList (λ v. onValue (wrongHexes b) (valueAt b v)) (p .authors) || inList
     (λ v. onValue (onObject (anyItem (filterHex b))) (valueAt b v)) (p .conditions))
 
 unfoldable pub filter8 : Bytes → FilterParts → Bool

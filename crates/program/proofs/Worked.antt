@@ -46,21 +46,23 @@ pub without-filter :
 unfolding inClass run past oneAt tokenAt wordAt literalAt digitsAt intAt fracAt expAt numberAt hexAt escapedAt charAt charsUpTo charsAt stringAt scalarAt itemsAt treeAt isUtf8 utf8From leadOf charOf charsFrom charBytes charsBytes decode isRefused spell.any refuses sameBytes points characterCount spelledAt refusedIn anyItem countItems nameAt noNameTwice isFilter wordOf allItems row6 row7 row8 filterCounts wrongSubscription treeRow messageRow readOf namedOf repliesTo refusal spell.shortOf spell.unicodeOf spell.isPair spell.fourAt spell.four spell.hexVal spell.utf8Of
 without-filter = ((λ b. refl), (λ b. refl), (λ b. refl))
 
--- the lowest row over the whole message, also past a bound; hex of the wrong length; names and shapes; what is no JSON
--- text
+-- the lowest row over the whole message, also past a bound; a second member; hex of the wrong length; names and shapes;
+-- what is no JSON text
 pub more-refused :
     ((b : List ℕ) → repliesTo b (ascii "[\"REQ\",\"s\",{\"limit\":-0}]") ≡ closed (ascii "s") (reasonOf 6) ∷ [])
     × ((b : List ℕ) → repliesTo b (ascii "[\"REQ\",\"\",{\"limit\":-0}]") ≡ notice (reasonOf 6) ∷ [])
     × ((b : List ℕ) → repliesTo b (ascii "[\"REQ\",\"s\",{},{},{},{},{\"limit\":-0}]") ≡ closed (ascii "s") (reasonOf 6) ∷ [])
     × ((b : List ℕ) → repliesTo b (ascii "[\"REQ\",\"s\",{\"kinds\":[]}]") ≡ closed (ascii "s") (reasonOf 8) ∷ [])
+    × ((b : List ℕ) → repliesTo b (ascii "[\"REQ\",\"s\",{\"kinds\":[1,65536]}]") ≡ closed (ascii "s") (reasonOf 6) ∷ [])
     × ((b : List ℕ) → repliesTo b (ascii "[\"REQ\",\"s\",{\"ids\":[\"\"]}]") ≡ closed (ascii "s") (reasonOf 7) ∷ [])
+    × ((b : List ℕ) → repliesTo b (ascii "[\"REQ\",\"s\",{\"authors\":[\"x\"]}]") ≡ closed (ascii "s") (reasonOf 7) ∷ [])
     × ((b : List ℕ) → repliesTo b (ascii "[\"REQ\",\"s\",{\"#ee\":[\"x\"]}]") ≡ notice (reasonOf 5) ∷ [])
     × ((b : List ℕ) → repliesTo b (ascii "[\"CLOSE\",\"s\",\"t\"]") ≡ notice (reasonOf 5) ∷ [])
     × ((b : List ℕ) → repliesTo b (ascii "[\"REQ\",{}]") ≡ notice (reasonOf 5) ∷ [])
     × ((b : List ℕ) → repliesTo b (0xef ∷ 0xbb ∷ 0xbf ∷ ascii "[]") ≡ notice (reasonOf 3) ∷ [])
     × ((b : List ℕ) → repliesTo b (ascii "\r") ≡ notice (reasonOf 3) ∷ [])
 unfolding inClass run past oneAt tokenAt wordAt literalAt digitsAt intAt fracAt expAt numberAt hexAt escapedAt charAt charsUpTo charsAt stringAt scalarAt itemsAt treeAt isUtf8 utf8From leadOf charOf charsFrom charBytes charsBytes decode isRefused spell.any refuses sameBytes points characterCount spelledAt refusedIn anyItem countItems nameAt noNameTwice isFilter wordOf allItems row6 row7 row8 filterCounts wrongSubscription treeRow messageRow readOf namedOf repliesTo refusal spell.shortOf spell.unicodeOf spell.isPair spell.fourAt spell.four spell.hexVal spell.utf8Of filterMember isCondition wrongFilter filterNumber filterHex wrongList wrongHex wrongTime wrongSmall wholeOf wholeAnswer isWithin isNatural allDigits isDigit valueFrom naturalOf negativeOf isHexOf isHex spell.all
-more-refused = ((λ b. refl), (λ b. refl), (λ b. refl), (λ b. refl), (λ b. refl), (λ b. refl), (λ b. refl), (λ b. refl), (λ b. refl), (λ b. refl))
+more-refused = ((λ b. refl), (λ b. refl), (λ b. refl), (λ b. refl), (λ b. refl), (λ b. refl), (λ b. refl), (λ b. refl), (λ b. refl), (λ b. refl), (λ b. refl), (λ b. refl))
 
 -- ---- 02, Wish 1: members of #e and #p are 64 characters of lower-case hex
 -- the row of a REQ that asks # and the letter b for one member, as spelled
@@ -88,9 +90,10 @@ pub hex-members :
 unfolding inClass run past oneAt tokenAt wordAt literalAt digitsAt intAt fracAt expAt numberAt hexAt escapedAt charAt charsUpTo charsAt stringAt scalarAt itemsAt treeAt isUtf8 utf8From leadOf charOf charsFrom charBytes charsBytes decode isRefused spell.any refuses sameBytes points characterCount spelledAt refusedIn anyItem countItems nameAt noNameTwice isFilter wordOf allItems row6 row7 row8 filterCounts wrongSubscription treeRow messageRow spell.shortOf spell.unicodeOf spell.isPair spell.fourAt spell.four spell.hexVal spell.utf8Of filterMember isCondition wrongFilter filterNumber filterHex wrongList wrongHex wrongTime wrongSmall wholeOf wholeAnswer isWithin isNatural allDigits isDigit valueFrom naturalOf negativeOf isHexOf isHex spell.all
 hex-members = (refl, refl, refl, refl, refl, refl)
 
--- the letter spelled with an escape; a member after a good one; a fifth filter; beside rows 6 and 8; no subscription id
+-- either letter spelled with an escape; a member after a good one; a fifth filter; beside rows 6 and 8; no subscription id
 pub hex-refused :
     ((b : List ℕ) → repliesTo b (ascii "[\"REQ\",\"s\",{\"#\\u0065\":[\"x\"]}]") ≡ closed (ascii "s") (reasonOf 7) ∷ [])
+    × ((b : List ℕ) → repliesTo b (ascii "[\"REQ\",\"s\",{\"#\\u0070\":[\"x\"]}]") ≡ closed (ascii "s") (reasonOf 7) ∷ [])
     × ((b : List ℕ) → repliesTo b (ascii "[\"REQ\",\"s\",{\"#e\":[\"" ++ (replicate 64 97 ++ ascii "\",\"x\"]}]")) ≡ closed (ascii "s") (reasonOf 7) ∷ [])
     × ((b : List ℕ) → repliesTo b (ascii "[\"REQ\",\"s\",{},{},{},{},{\"#e\":[\"x\"]}]") ≡ closed (ascii "s") (reasonOf 7) ∷ [])
     × ((b : List ℕ) → repliesTo b (ascii "[\"REQ\",\"s\",{\"#e\":[\"x\"],\"limit\":65536}]") ≡ closed (ascii "s") (reasonOf 6) ∷ [])
@@ -98,7 +101,7 @@ pub hex-refused :
     × ((b : List ℕ) → repliesTo b (ascii "[\"REQ\",\"s\",{\"#e\":[]}]") ≡ closed (ascii "s") (reasonOf 8) ∷ [])
     × ((b : List ℕ) → repliesTo b (ascii "[\"REQ\",\"\",{\"#e\":[\"x\"]}]") ≡ notice (reasonOf 7) ∷ [])
 unfolding inClass run past oneAt tokenAt wordAt literalAt digitsAt intAt fracAt expAt numberAt hexAt escapedAt charAt charsUpTo charsAt stringAt scalarAt itemsAt treeAt isUtf8 utf8From leadOf charOf charsFrom charBytes charsBytes decode isRefused spell.any refuses sameBytes points characterCount spelledAt refusedIn anyItem countItems nameAt noNameTwice isFilter wordOf allItems row6 row7 row8 filterCounts wrongSubscription treeRow messageRow readOf namedOf repliesTo refusal spell.shortOf spell.unicodeOf spell.isPair spell.fourAt spell.four spell.hexVal spell.utf8Of filterMember isCondition wrongFilter filterNumber filterHex wrongList wrongHex wrongTime wrongSmall wholeOf wholeAnswer isWithin isNatural allDigits isDigit valueFrom naturalOf negativeOf isHexOf isHex spell.all
-hex-refused = ((λ b. refl), (λ b. refl), (λ b. refl), (λ b. refl), (λ b. refl), (λ b. refl), (λ b. refl))
+hex-refused = ((λ b. refl), (λ b. refl), (λ b. refl), (λ b. refl), (λ b. refl), (λ b. refl), (λ b. refl), (λ b. refl))
 
 -- 0D stays in the line; empty lines are messages
 pub lines-cut : (lines (ascii "a\r\nb") ≡ ascii "a\r" ∷ ascii "b" ∷ []) × (lines (ascii "\n\n") ≡ [] ∷ [] ∷ [])

@@ -14,7 +14,7 @@ use Rattle.spell.specs.Spell.{decode, isHexOf}
 use Rattle.json.specs.Tree.{Json, word, num, str, arr, obj, Items, nil, item, Got, none, got, depth, treeAt, onObject}
 use Rattle.rows.specs.Strings.{part}
 use Rattle.shape.specs.Shape.{anyItem, allItems, nameAt, isString, isCondition, filterMember, isFilter}
-use Rattle.shape.specs.Rows.{wrongHex, someHex, filterHex, filterCounts}
+use Rattle.shape.specs.Rows.{wrongHex, wrongHexes, filterHex, filterCounts}
 use Rattle.shape.proofs.Names as names
 use Rattle.message.specs.declared.Listed.{Listed}
 use Rattle.message.specs.declared.Listed.the-variants.{Absent, At}
@@ -58,7 +58,7 @@ module _ (b : List ℕ) where
       let (x, h) = or-not (wrongHex hexLength b t) _ h in
       ⊎-elim (λ e. rw e (string-hex t s x)) (strings-hex ts a h v) (List·Memᴰ·cases-cons m)
 
-  list-hex : (t : Json) → ListOf isString (λ u. false) t → someHex b t ≡ false → (v : List ℕ) → v ∈ tagOf b t → IsHex64 v
+  list-hex : (t : Json) → ListOf isString (λ u. false) t → wrongHexes b t ≡ false → (v : List ℕ) → v ∈ tagOf b t → IsHex64 v
   list-hex t l h v m = strings-hex (l .items) (l .each) (rw (l .is) at h) v (rw (l .is) at m)
 
   -- ---- a condition's member, and its name
@@ -76,7 +76,7 @@ module _ (b : List ℕ) where
           (λ n. wider (rest n)) (List·Memᴰ·cases-cons m)
       go false e m rest = wider (rest m)
 
-  named-hex : (q x : ℕ) (t : Json) → nameAt b q ≡ 35 ∷ x ∷ [] → (x ≡ 101) ⊎ (x ≡ 112) → filterHex b q t ≡ false → someHex b t ≡ false
+  named-hex : (q x : ℕ) (t : Json) → nameAt b q ≡ 35 ∷ x ∷ [] → (x ≡ 101) ⊎ (x ≡ 112) → filterHex b q t ≡ false → wrongHexes b t ≡ false
   unfolding filterHex sameBytes
   named-hex q x t i (inl e) h = rw (i, e) at h
   named-hex q x t i (inr e) h = rw (i, e) at h

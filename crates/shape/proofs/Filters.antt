@@ -15,7 +15,7 @@ use Rattle.wire.proofs.Bytes.{same-equal}
 use Rattle.rows.specs.Strings.{refusedIn}
 use Rattle.shape.specs.Shape.{allItems, anyItem, countItems, nameAt, isLetter, isCondition, filterMember}
 use Rattle.shape.specs.Shape.{noNameTwice, isFilter, eConditionName, pConditionName}
-use Rattle.shape.specs.Rows.{outside, filterNumber, someHex, filterHex, wrongFilter, filterCounts}
+use Rattle.shape.specs.Rows.{outside, filterNumber, wrongHexes, filterHex, wrongFilter, filterCounts}
 use Rattle.shape.specs.Inner.{UNKNOWN, LOWER, UPPER, LETTER_E, LETTER_P, FILTER, stringForm, stringFormRow}
 use Rattle.shape.specs.Inner.{numberRow, groupForm}
 use Rattle.shape.specs.Inner.{nameSlot, letterSlot, conditionSlot, filterSlot, filterForm, slotForm, marksAfter}
@@ -66,7 +66,7 @@ module _ (s : List ℕ) where
   -- ---- one member
   -- row 7 does not look at the list of another letter
   free-list : (b : ℕ) (t : Json) → eqb b 101 ≡ false → eqb b 112 ≡ false
-      → cond (sameBytes (35 ∷ b ∷ []) eConditionName) (someHex s t) (cond (sameBytes (35 ∷ b ∷ []) pConditionName) (someHex s t) false) ≡ false
+      → cond (sameBytes (35 ∷ b ∷ []) eConditionName) (wrongHexes s t) (cond (sameBytes (35 ∷ b ∷ []) pConditionName) (wrongHexes s t) false) ≡ false
   unfolding sameBytes
   free-list b t x y = rw (x, y)
 

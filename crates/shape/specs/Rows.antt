@@ -42,16 +42,16 @@ wrongTime s t = onNumber (λ a n. not (isWithin (wholeAnswer (wholeOf (part s a 
 unfoldable pub wrongSmall : Bytes → Json → Bool
 wrongSmall s t = onNumber (λ a n. not (isWithin (wholeAnswer (wholeOf (part s a n))) (pos 0) (pos mostSmall))) t
 
--- some member of a list
-abbrev pub someSmall : Bytes → Json → Bool
-someSmall s t = onArray (anyItem (λ q u. wrongSmall s u)) t
+-- a list with a member that is wrong
+abbrev pub wrongSmalls : Bytes → Json → Bool
+wrongSmalls s t = onArray (anyItem (λ q u. wrongSmall s u)) t
 
 unfoldable pub eventNumber : (s : Bytes) (p : ℕ) (t : Json) → Bool
 eventNumber s p t = cond (named s createdAtName p) (wrongTime s t) (cond (named s kindName p) (wrongSmall s t) false)
 
 unfoldable pub filterNumber : (s : Bytes) (p : ℕ) (t : Json) → Bool
 filterNumber s p t =
-    cond (named s kindsName p) (someSmall s t)
+    cond (named s kindsName p) (wrongSmalls s t)
     (cond (named s sinceName p) (wrongTime s t)
     (cond (named s untilName p) (wrongTime s t)
     (cond (named s limitName p) (wrongSmall s t) false)))
@@ -67,9 +67,9 @@ row6 s t =
 unfoldable pub wrongHex : (k : ℕ) (s : Bytes) (t : Json) → Bool
 wrongHex k s t = onString (λ a n. not (isHexOf k (part s a n))) t
 
--- some member of a list
-abbrev pub someHex : Bytes → Json → Bool
-someHex s t = onArray (anyItem (λ q u. wrongHex hexLength s u)) t
+-- a list with a member that is wrong: ids, authors, #e, #p
+abbrev pub wrongHexes : Bytes → Json → Bool
+wrongHexes s t = onArray (anyItem (λ q u. wrongHex hexLength s u)) t
 
 unfoldable pub eventHex : (s : Bytes) (p : ℕ) (t : Json) → Bool
 eventHex s p t =
@@ -78,10 +78,10 @@ eventHex s p t =
 
 unfoldable pub filterHex : (s : Bytes) (p : ℕ) (t : Json) → Bool
 filterHex s p t =
-    cond (named s idsName p) (someHex s t)
-    (cond (named s authorsName p) (someHex s t)
-    (cond (named s eConditionName p) (someHex s t)
-    (cond (named s pConditionName p) (someHex s t) false)))
+    cond (named s idsName p) (wrongHexes s t)
+    (cond (named s authorsName p) (wrongHexes s t)
+    (cond (named s eConditionName p) (wrongHexes s t)
+    (cond (named s pConditionName p) (wrongHexes s t) false)))
 
 unfoldable pub row7 : Bytes → Json → Bool
 row7 s t =

@@ -8,7 +8,7 @@ use Rattle.utf8.specs.Utf8.{isUtf8}
 use Rattle.json.specs.Tree.{Json, Got, none, got, depth, treeAt, onObject}
 use Rattle.rows.specs.Strings.{part, refusedIn}
 use Rattle.shape.specs.Shape.{anyItem, isString, isNumber, isArrayOf, isFilter}
-use Rattle.shape.specs.Rows.{someSmall, someHex, wrongTags, wrongList, filterNumber, filterHex, filterCounts}
+use Rattle.shape.specs.Rows.{wrongSmalls, wrongHexes, wrongTags, wrongList, filterNumber, filterHex, filterCounts}
 use Rattle.shape.specs.Inner.{TAGLIST, HEXES, SMALLS, FILTER}
 use Rattle.shape.specs.declared.Sort.{Sort}
 use Rattle.shape.specs.declared.Sort.the-variants.{Tags, Hexes, Smalls, Filter}
@@ -23,12 +23,12 @@ fits s Filter t = isFilter s t
 abbrev pub sort6 : (s : Bytes) (x : Sort) (t : Json) → Bool
 sort6 s Tags t = false
 sort6 s Hexes t = false
-sort6 s Smalls t = someSmall s t
+sort6 s Smalls t = wrongSmalls s t
 sort6 s Filter t = onObject (anyItem (filterNumber s)) t
 
 abbrev pub sort7 : (s : Bytes) (x : Sort) (t : Json) → Bool
 sort7 s Tags t = false
-sort7 s Hexes t = someHex s t
+sort7 s Hexes t = wrongHexes s t
 sort7 s Smalls t = false
 sort7 s Filter t = onObject (anyItem (filterHex s)) t
 

@@ -31,7 +31,7 @@ use Rattle.message.specs.declared.Listed.{Listed}
 use Rattle.message.specs.declared.Listed.the-variants.{Absent, At}
 use Rattle.message.specs.Lists.{startElement, nextOf}
 use Rattle.message.specs.Parts.{wholeValue, numberSpelled}
-use Rattle.message.specs.Lent.{value5, onValue, valueAt, someSmall}
+use Rattle.message.specs.Lent.{value5, onValue, valueAt, wrongSmalls}
 use Rattle.message.proofs.Walks.{never, bind-got}
 use Rattle.event.specs.Lent.{natural, stringOf, stringsOf, tagOf}
 use Rattle.event.proofs.Strings.{spelled-says}
@@ -149,7 +149,7 @@ Numbers m v before at row x n =
     Going 1 isNumber (wrongSmall m) numbersBy (numberSpelled m) (numbersOf m) m (numbersIn m (treeAt m depth v)) before at row x n
 
 module _ (m : List ℕ) (v : ℕ) where
-  pub numbers-start : (row : List ℕ) (at : ℕ) {x : Listed} → value5 (isArrayOf isNumber) m v ≡ false → onValue (someSmall m) (valueAt m v) ≡ false → onValue wrongList (valueAt m v) ≡ false
+  pub numbers-start : (row : List ℕ) (at : ℕ) {x : Listed} → value5 (isArrayOf isNumber) m v ≡ false → onValue (wrongSmalls m) (valueAt m v) ≡ false → onValue wrongList (valueAt m v) ≡ false
       → x ≡ placed (startElement (startAt m v)) → Numbers m v row at row x 0
   unfolding numbersBy
   numbers-start row at e c d q =

@@ -24,7 +24,7 @@ use Rattle.message.specs.declared.Listed.{Listed}
 use Rattle.message.specs.declared.Listed.the-variants.{Absent, At}
 use Rattle.message.specs.declared.FilterParts.{FilterParts}
 use Rattle.message.specs.Lists.{openWithin}
-use Rattle.message.specs.Lent.{value5, onValue, valueAt, someSmall, inList, filterRow}
+use Rattle.message.specs.Lent.{value5, onValue, valueAt, wrongSmalls, inList, filterRow}
 use Rattle.message.proofs.Checked.{ids-are, authors-are, kinds-are, conditions-are}
 use Rattle.query.specs.Filter.{ifListed, stringsIn, numbersIn, conditionsIn, filterOf}
 use Rattle.matching.specs.declared.Members.{Members}
@@ -156,7 +156,7 @@ module _ (m : List ℕ) (p : FilterParts) (e : filterRow m p ≡ 0) where
   pub authors-clean : (inList (value5 (isArrayOf isString) m) (p .authors) ≡ false) × (inList (λ v. onValue wrongList (valueAt m v)) (p .authors) ≡ false)
   authors-clean = (in-list _ (p .authors) (λ v q. authors-are m p e q .l5), in-list _ (p .authors) (λ v q. authors-are m p e q .l8))
 
-  pub kinds-clean : (inList (value5 (isArrayOf isNumber) m) (p .kinds) ≡ false) × (inList (λ v. onValue (someSmall m) (valueAt m v)) (p .kinds) ≡ false) × (inList (λ v. onValue wrongList (valueAt m v)) (p .kinds) ≡ false)
+  pub kinds-clean : (inList (value5 (isArrayOf isNumber) m) (p .kinds) ≡ false) × (inList (λ v. onValue (wrongSmalls m) (valueAt m v)) (p .kinds) ≡ false) × (inList (λ v. onValue wrongList (valueAt m v)) (p .kinds) ≡ false)
   kinds-clean = (in-list _ (p .kinds) (λ v q. kinds-are m p e q .l5), in-list _ (p .kinds) (λ v q. kinds-are m p e q .members), in-list _ (p .kinds) (λ v q. kinds-are m p e q .l8))
 
   pub conditions-clean : (inList (value5 (isFilter m) m) (p .conditions) ≡ false) × (inList (λ v. onValue (onObject (filterCounts m)) (valueAt m v)) (p .conditions) ≡ false)
