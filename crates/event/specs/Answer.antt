@@ -6,7 +6,7 @@ use mathlib.Core.List.{List, [], _∷_}
 use lib.Dec.{eqb, ltb}
 use lib.ListN.{length, replicate}
 use Rattle.wire.specs.Limits.{mostText}
-use Rattle.wire.specs.Bytes.{Bytes, Row, sameBytes}
+use Rattle.wire.specs.Bytes.{Bytes, Row, sameBytes, hexDigit}
 pub use Rattle.wire.specs.Put.{shortRow, outputAfter}
 use Rattle.digest.specs.Digest.{digest}
 use Rattle.message.specs.declared.Body.{Body}
@@ -62,9 +62,6 @@ unfoldable pub identified : Bytes → Body → Identified
 identified b p = identifiedBy (bodyTextRow b p) (textOf b p)
 
 -- ---- offering: row 10, "id is not the SHA-256 of the text"; the id is its hex, in lower case
-abbrev pub hexDigit : ℕ → ℕ
-hexDigit d = cond (ltb d 10) (48 + d) (87 + d)
-
 unfoldable pub hexOf : Bytes → Bytes
 hexOf [] = []
 hexOf (x ∷ l) = hexDigit (x / 16) ∷ hexDigit (x % 16) ∷ hexOf l

@@ -1,16 +1,17 @@
 -- RFC 8259's ABNF, sections 2 to 7, rule by rule, with 01's limit of brackets and braces open at once. A rule holds of
 -- two places in a text: what stands from the first up to the second matches it. Which bytes a terminal takes is json's
--- classOf, a function, and so is the byte at a place; all else here is a rule, with no order of trial and no fuel.
+-- inClass, and isUnescaped for unescaped, functions both, and so is the byte at a place; all else here is a rule, with no
+-- order of trial and no fuel.
 use Prim.Native.Nat.{ℕ, suc, _+_, _<_}
 use mathlib.Core.Path.{_≡_}
 use mathlib.Core.Logic.{_⊎_}
 use mathlib.Core.List.{List, [], _∷_}
 use mathlib.Core.Bool.{Bool, true, false}
 use lib.ListN.{length, getD}
-use Rattle.json.specs.Grammar.{isBetween, inClass, falseName, nullName, trueName, closeOf}
+use Rattle.json.specs.Grammar.{isBetween, isUnescaped, inClass, falseName, nullName, trueName, closeOf}
 use Rattle.json.specs.Tree.{depth}
 use Rattle.json.specs.declared.Class.{Class}
-use Rattle.json.specs.declared.Class.the-variants.{Space, Digit, Plain, Hex, Short, Exponent, Sign, Byte}
+use Rattle.json.specs.declared.Class.the-variants.{Space, Digit, Hex, Short, Exponent, Sign, Byte}
 
 -- ---- ABNF (RFC 5234)
 abbrev pub Rule : Type 1
@@ -79,7 +80,7 @@ module _ (s : List ℕ) where
   -- ---- section 7: strings
   -- char = unescaped / escape ( one of eight / %x75 4HEXDIG )
   abbrev pub char : Rule
-  char = one Plain ∣ one (Byte 0x5C) ⨾ (one Short ∣ one (Byte 0x75) ⨾ one Hex ⨾ one Hex ⨾ one Hex ⨾ one Hex)
+  char = byte isUnescaped ∣ one (Byte 0x5C) ⨾ (one Short ∣ one (Byte 0x75) ⨾ one Hex ⨾ one Hex ⨾ one Hex ⨾ one Hex)
 
   -- string = quotation-mark *char quotation-mark
   abbrev pub string : Rule

@@ -6,7 +6,9 @@ use Prim.Native.Nat.{ℕ, zero, suc}
 use Prim.Native.Char.{code}
 use Prim.Native.String.{String, [] as none-left, _∷_ as _then_}
 use Rattle.json.specs.declared.Class.the-variants.{Space, Digit, Plain, Hex, Short, Exponent, Sign}
-use Rattle.json.specs.Grammar.{inClass, run, past, oneAt, tokenAt, wordAt, literalAt, digitsAt, intAt, fracAt}
+use Rattle.json.specs.declared.Out.the-variants.{End, Bad}
+use Rattle.json.specs.Grammar.{isUnescaped, inClass, run, past, oneAt, tokenAt, wordAt, literalAt, digitsAt}
+use Rattle.json.specs.Grammar.{intAt, fracAt}
 use Rattle.json.specs.Grammar.{expAt, numberAt, hexAt, escapedAt, charAt, charsUpTo, charsAt, stringAt}
 use Rattle.json.specs.Grammar.{isSpelling, scalarAt}
 use Rattle.json.specs.Tree.{word, num, str, arr, obj, nil, item, got, itemsAt, treeAt, root, isText}
@@ -71,7 +73,21 @@ spellings : (isSpelling (bytes "") ≡ true) × (isSpelling (bytes "a\\n\\\"") �
 unfolding inClass run past oneAt tokenAt wordAt hexAt escapedAt charAt charsUpTo charsAt
 spellings = (refl, refl, refl, refl)
 
--- the bytes of each terminal, of 256; of unescaped, those that it has not
+-- 02, Wish 3: 00, 01 and 1F may stand raw in what is lent, 09 and 0A may not, and none of them in a text
+raw-spellings : (isSpelling (0x00 ∷ 0x01 ∷ 0x1F ∷ []) ≡ true) × (isSpelling (0x09 ∷ []) ≡ false) ×
+    (isSpelling (0x0A ∷ []) ≡ false) × (isText (0x22 ∷ 0x01 ∷ 0x22 ∷ []) ≡ false) ×
+    (isText (0x22 ∷ 0x00 ∷ 0x22 ∷ []) ≡ false) × (isText (0x01 ∷ 0x31 ∷ []) ≡ false)
+unfolding inClass run past oneAt tokenAt wordAt literalAt digitsAt intAt fracAt expAt numberAt hexAt escapedAt charAt
+    charsUpTo charsAt stringAt scalarAt itemsAt treeAt
+raw-spellings = (refl, refl, refl, refl, refl, refl)
+
+-- and the end of a text is no U+0000: "ab without its second quotation mark, and with 00 in it
+text-ends : (stringAt (bytes "\"ab") 0 ≡ Bad) × (stringAt (0x22 ∷ 0x00 ∷ []) 0 ≡ Bad) ×
+    (stringAt (0x22 ∷ 0x00 ∷ 0x22 ∷ []) 0 ≡ End 3)
+unfolding inClass oneAt hexAt escapedAt charAt charsUpTo charsAt stringAt
+text-ends = (refl, refl, refl)
+
+-- the bytes of each terminal, of 256; of unescaped, those that it has not, and what a string that is lent has not
 abbrev thoseOf : (ℕ → Bool) → ℕ → List ℕ
 thoseOf f zero = []
 thoseOf f (suc n) = thoseOf f n ++ cond (f n) (n ∷ []) []
@@ -85,9 +101,10 @@ terminals :
     × (thoseOf (inClass Short) 256 ≡ 0x22 ∷ 0x2F ∷ 0x5C ∷ 0x62 ∷ 0x66 ∷ 0x6E ∷ 0x72 ∷ 0x74 ∷ [])
     × (thoseOf (inClass Exponent) 256 ≡ 0x45 ∷ 0x65 ∷ [])
     × (thoseOf (inClass Sign) 256 ≡ 0x2B ∷ 0x2D ∷ [])
-    × (thoseOf (λ b. not (inClass Plain b)) 256
+    × (thoseOf (λ b. not (isUnescaped b)) 256
     ≡ 0x00 ∷ 0x01 ∷ 0x02 ∷ 0x03 ∷ 0x04 ∷ 0x05 ∷ 0x06 ∷ 0x07 ∷ 0x08 ∷ 0x09 ∷ 0x0A ∷ 0x0B ∷ 0x0C ∷ 0x0D ∷ 0x0E ∷ 0x0F ∷
     0x10 ∷ 0x11 ∷ 0x12 ∷ 0x13 ∷ 0x14 ∷ 0x15 ∷ 0x16 ∷ 0x17 ∷ 0x18 ∷ 0x19 ∷ 0x1A ∷ 0x1B ∷ 0x1C ∷ 0x1D ∷ 0x1E ∷ 0x1F ∷
     0x22 ∷ 0x5C ∷ [])
+    × (thoseOf (λ b. not (inClass Plain b)) 256 ≡ 0x08 ∷ 0x09 ∷ 0x0A ∷ 0x0C ∷ 0x0D ∷ 0x22 ∷ 0x5C ∷ [])
 unfolding inClass
-terminals = (refl, refl, refl, refl, refl, refl, refl)
+terminals = (refl, refl, refl, refl, refl, refl, refl, refl)

@@ -1,5 +1,6 @@
 -- RFC 8259, sections 2 to 7, but for the values that hold values (Tree.antt): for each rule a function from a place in
--- the text to the place after what stands there. Past the end stands 0, which no rule takes.
+-- the text to the place after what stands there. Past the end stands 0, which no rule takes but *char, and that tests
+-- the end.
 use mathlib.Core.Path.{_≡_}
 use Prim.Native.Nat.{ℕ, zero, suc, _+_, _≤_}
 use mathlib.Core.List.{List, [], _∷_}
@@ -16,7 +17,7 @@ use Rattle.json.specs.declared.Start.{Start}
 use Rattle.json.specs.declared.Start.the-variants.{Leaf, Empty, Many}
 use Rattle.json.specs.declared.Next.{Next}
 use Rattle.json.specs.declared.Next.the-variants.{More, Done, Wrong}
-use Rattle.wire.specs.Bytes.{Bytes, Place}
+use Rattle.wire.specs.Bytes.{Bytes, Place, isControl}
 
 -- f of the end, or z where there is none
 abbrev pub case : {A : Type 0} (x : Out) (f : ℕ → A) (z : A) → A
@@ -28,13 +29,18 @@ case Bad f z = z
 abbrev pub isBetween : (low high b : ℕ) → Bool
 isBetween low high b = leb low b && leb b high
 
+-- unescaped = %x20-21 / %x23-5B / %x5D-10FFFF, of which from %x80 on each byte of the UTF-8 is taken
+abbrev pub isUnescaped : ℕ → Bool
+isUnescaped b = isBetween 0x20 0x21 b || (isBetween 0x23 0x5B b || leb 0x5D b)
+
 unfoldable pub inClass : Class → ℕ → Bool
 -- ws: %x20 / %x09 / %x0A / %x0D
 inClass Space b = eqb b 0x20 || (eqb b 0x09 || (eqb b 0x0A || eqb b 0x0D))
 -- DIGIT = %x30-39
 inClass Digit b = isBetween 0x30 0x39 b
--- unescaped = %x20-21 / %x23-5B / %x5D-10FFFF, of which from %x80 on each byte of the UTF-8 is taken
-inClass Plain b = isBetween 0x20 0x21 b || (isBetween 0x23 0x5B b || leb 0x5D b)
+-- unescaped, or a control character that may stand raw in a string which is held or lent (02, Wish 3). A JSON text has
+-- none of these: `isText` of specs/Tree
+inClass Plain b = isUnescaped b || isControl b
 -- HEXDIG = DIGIT / "A" / "B" / "C" / "D" / "E" / "F", in either case
 inClass Hex b = isBetween 0x30 0x39 b || (isBetween 0x41 0x46 b || isBetween 0x61 0x66 b)
 -- after escape: %x22 / %x5C / %x2F / %x62 / %x66 / %x6E / %x72 / %x74
@@ -124,9 +130,10 @@ hexAt s at = case (oneAt s Hex at) (λ a. case (oneAt s Hex a) (λ b. case (oneA
 unfoldable pub escapedAt : Bytes → Place → Out
 escapedAt s at = case (oneAt s (Byte 0x5C) at) (λ n. case (oneAt s (Byte 0x75) n) (hexAt s) (oneAt s Short n)) Bad
 
--- char = unescaped / escape ( .. )
+-- char = unescaped / escape ( .. ), and unescaped as `Plain` has it. The end of a text is no character: the 0 past it
+-- would be U+0000
 unfoldable pub charAt : Bytes → Place → Out
-charAt s at = case (oneAt s Plain at) End (escapedAt s at)
+charAt s at = cond (ltb at (length s)) (case (oneAt s Plain at) End (escapedAt s at)) Bad
 
 -- *char, of at most f characters
 unfoldable pub charsUpTo : (f : ℕ) (s : Bytes) (at : Place) → ℕ

@@ -2,7 +2,7 @@
 -- Every later rule is defined on the tree.
 use Prim.Native.Nat.{ℕ, zero, suc, _+_, _-_}
 use mathlib.Core.List.{List}
-use mathlib.Core.Bool.{Bool, true, false}
+use mathlib.Core.Bool.{Bool, true, false, not, _&&_}
 use lib.ListN.{length}
 use lib.Dec.{eqb}
 use Rattle.json.specs.declared.Out.{Out}
@@ -14,7 +14,7 @@ use Rattle.json.specs.declared.Start.the-variants.{Leaf, Empty, Many}
 use Rattle.json.specs.declared.Next.{Next}
 use Rattle.json.specs.declared.Next.the-variants.{More, Done, Wrong}
 use Rattle.json.specs.Grammar.{case, wsAt, scalarAt, startAt, headAt, nextAt}
-use Rattle.wire.specs.Bytes.{Bytes, Place}
+use Rattle.wire.specs.Bytes.{Bytes, Place, hasControl}
 
 -- 01, row 3: the most brackets and braces that may be open at once
 abbrev pub depth : ℕ
@@ -91,9 +91,10 @@ endsAt k Bad = false
 abbrev pub root : Bytes → Got Json
 root s = treeAt s depth (wsAt s 0)
 
--- JSON-text = ws value ws
+-- JSON-text = ws value ws. In a text of the RFC no control character stands raw: crate grammar proves that this is just
+-- the RFC's text
 abbrev pub isText : Bytes → Bool
-isText s = endsAt (length s) (endOf (root s))
+isText s = not (hasControl s) && endsAt (length s) (endOf (root s))
 
 -- f over the items, from the first on
 abbrev pub foldItems : {A : Type 0} (f : A → ℕ → ℕ → Json → A) (a : A) (ts : Items) → A

@@ -4,7 +4,8 @@ use mathlib.Core.Bool.{Bool, true, false}
 use mathlib.Core.List.{List, _++_}
 use Prim.Native.Nat.{ℕ, _≤_, _<_}
 use Rattle.numeral.specs.Decimal.{digits, decimal}
-use Rattle.text.specs.Event.{Event, quoted, tagsText}
+use Rattle.text.specs.Event.{Event}
+use Rattle.reply.specs.Replies.{stringJson, tagsJson}
 use Rattle.message.specs.declared.Span.{Span}
 use Rattle.message.specs.declared.EventParts.{EventParts}
 use Rattle.wire.specs.Ascii.{ascii}
@@ -15,16 +16,16 @@ use Rattle.wire.specs.Bytes.{Bytes}
 -- ---- the EVENT of the event e, for the subscription id sub, with the id i and the signature s, in pieces
 unfoldable pub frontText : (sub i : Bytes) (e : Event) → Bytes
 frontText sub i e =
-    ascii "[\"EVENT\"," ++ (quoted sub ++
-    (ascii ",{\"id\":" ++ (quoted i ++ (ascii ",\"pubkey\":" ++ quoted (e .pubkey)))))
+    ascii "[\"EVENT\"," ++ (stringJson sub ++
+    (ascii ",{\"id\":" ++ (stringJson i ++ (ascii ",\"pubkey\":" ++ stringJson (e .pubkey)))))
 
 unfoldable pub middleText : Event → Bytes
 middleText e =
     ascii ",\"created_at\":" ++ (decimal (e .time) ++
-    (ascii ",\"kind\":" ++ (digits (e .kind) ++ (ascii ",\"tags\":" ++ tagsText (e .tags)))))
+    (ascii ",\"kind\":" ++ (digits (e .kind) ++ (ascii ",\"tags\":" ++ tagsJson (e .tags)))))
 
 unfoldable pub backText : Event → (s : Bytes) → Bytes
-backText e s = ascii ",\"content\":" ++ (quoted (e .content) ++ (ascii ",\"sig\":" ++ (quoted s ++ ascii "}]")))
+backText e s = ascii ",\"content\":" ++ (stringJson (e .content) ++ (ascii ",\"sig\":" ++ (stringJson s ++ ascii "}]")))
 
 -- ---- the parts by what they are of
 abbrev pub okParts : (i : Span) (accepted : Bool) (r : Span) → ReplyParts

@@ -5,7 +5,7 @@ use mathlib.Core.Bool.{Bool, true, false}
 use mathlib.Core.Logic.{_↔_, _≢_}
 use mathlib.Core.List.{List}
 use Prim.Native.Nat.{ℕ, _≤_, _<_}
-use lib.Dec.{eqb}
+use lib.Dec.{eqb, ltb}
 use lib.ListN.{length, take, drop}
 use Rattle.wire.specs.Limits.{hexLength}
 use Rattle.message.specs.Lent.{string2, string4, string5, string7, event2, event4, event5, event7, body6, body8}
@@ -35,6 +35,13 @@ Plain l = any isNewline l ≡ false
 -- no reply has a line's end in it: "strings escaped as above"
 abbrev pub ReplyPlain : Type 0
 ReplyPlain = (r : Reply) → Plain (replyText r)
+
+-- nor any other byte below 20: "replies, to stay JSON" (02, Wish 3)
+abbrev pub isLow : ℕ → Bool
+isLow x = ltb x 0x20
+
+abbrev pub ReplyRaw : Type 0
+ReplyRaw = (r : Reply) → any isLow (replyText r) ≡ false
 
 -- ---- a reply given as lent parts (specs/Lent): proved in proofs/Lent
 abbrev pub lentText : Bytes → ReplyParts → Bytes

@@ -1,13 +1,14 @@
 -- Worked replies, by computation: the bytes of each kind of reply, and of every reason.
 use mathlib.Core.Path.{_≡_, refl}
 use mathlib.Core.Bool.{true, false}
-use mathlib.Core.List.{[], _∷_, map}
+use mathlib.Core.List.{[], _∷_, _++_, map}
 use lib.IntN.{negsuc}
 use Rattle.wire.specs.Ascii.{ascii}
-use Rattle.wire.specs.Escape.{letterOf, escOne, escape}
+use Rattle.wire.specs.Escape.{letterOf, escOne, escape, jsonOne, jsonOf}
 use Rattle.numeral.specs.Decimal.{digitsIn, digits, decimal}
 use Rattle.text.specs.Event.{Event, quoted, membersText, tagText, tagsText}
-use Rattle.reply.specs.Replies.{ok, event, eose, closed, notice, objectText, replyText, reasonOf}
+use Rattle.reply.specs.Replies.{ok, event, eose, closed, notice, stringJson, tagsJson, objectText}
+use Rattle.reply.specs.Replies.{replyText, reasonOf}
 
 -- ids, keys and signatures are shortened here
 abbrev small : Event
@@ -32,9 +33,19 @@ pub texts :
     -- "0A, 22, 5C, 0D, 09, 08, 0C become .."
     × (replyText (notice (0x0a ∷ 0x22 ∷ 0x5c ∷ 0x0d ∷ 0x09 ∷ 0x08 ∷ 0x0c ∷ [])) ≡ ascii
     "[\"NOTICE\",\"\\n\\\"\\\\\\r\\t\\b\\f\"]")
-unfolding replyText objectText reasonOf quoted membersText tagText tagsText letterOf escOne escape digitsIn digits
+    -- 02, Wish 3: all 32 characters below U+0020, and 7F, which stays
+    × (replyText (notice (0x00 ∷ 0x01 ∷ 0x02 ∷ 0x03 ∷ 0x04 ∷ 0x05 ∷ 0x06 ∷ 0x07 ∷ 0x08 ∷ 0x09 ∷ 0x0a ∷ 0x0b ∷ 0x0c ∷ 0x0d ∷
+    0x0e ∷ 0x0f ∷ []))
+    ≡ ascii
+    "[\"NOTICE\",\"\\u0000\\u0001\\u0002\\u0003\\u0004\\u0005\\u0006\\u0007\\b\\t\\n\\u000b\\f\\r\\u000e\\u000f\"]")
+    × (replyText (notice (0x10 ∷ 0x11 ∷ 0x12 ∷ 0x13 ∷ 0x14 ∷ 0x15 ∷ 0x16 ∷ 0x17 ∷ 0x18 ∷ 0x19 ∷ 0x1a ∷ 0x1b ∷ 0x1c ∷ 0x1d ∷
+    0x1e ∷ 0x1f ∷ []))
+    ≡ ascii
+    "[\"NOTICE\",\"\\u0010\\u0011\\u0012\\u0013\\u0014\\u0015\\u0016\\u0017\\u0018\\u0019\\u001a\\u001b\\u001c\\u001d\\u001e\\u001f\"]")
+    × (replyText (eose (0x7f ∷ [])) ≡ ascii "[\"EOSE\",\"" ++ (0x7f ∷ ascii "\"]"))
+unfolding replyText objectText stringJson tagsJson jsonOf jsonOne reasonOf quoted membersText tagText tagsText letterOf escOne escape digitsIn digits
     decimal
-texts = (refl, refl, refl, refl, refl, refl, refl)
+texts = (refl, refl, refl, refl, refl, refl, refl, refl, refl, refl)
 
 -- 01, "Numbers the relay answers with", the column "Reply text": rows 1 to 12, and none past them
 pub reason-texts :
@@ -53,5 +64,5 @@ pub reason-texts :
     ∷ ascii "[\"NOTICE\",\"error: no room\"]"
     ∷ ascii "[\"NOTICE\",\"\"]"
     ∷ []
-unfolding replyText reasonOf quoted letterOf escOne escape
+unfolding replyText stringJson jsonOf jsonOne reasonOf quoted letterOf escOne escape
 reason-texts = refl

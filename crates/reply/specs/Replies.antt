@@ -6,9 +6,10 @@ use mathlib.Core.List.{List, [], _∷_, _++_}
 use Prim.Native.Nat.{ℕ}
 use lib.ListN.{getD}
 use Rattle.numeral.specs.Decimal.{digits, decimal}
-use Rattle.text.specs.Event.{Event, quoted, tagsText}
+use Rattle.text.specs.Event.{Tag, Event, quoted, tagsText}
 use Rattle.wire.specs.Ascii.{ascii}
 use Rattle.wire.specs.Bytes.{Bytes}
+use Rattle.wire.specs.Escape.{jsonOf}
 
 -- strings are decoded; ids and signatures are in hex
 pub data Reply : Type 0 where
@@ -22,28 +23,36 @@ abbrev pub truth : Bool → Bytes
 truth true = ascii "true"
 truth false = ascii "false"
 
+-- "strings escaped as above", and the control characters that stand raw there spelled out (02, Wish 3): a string, and
+-- the tags of an event
+unfoldable pub stringJson : Bytes → Bytes
+stringJson v = jsonOf (quoted v)
+
+unfoldable pub tagsJson : List Tag → Bytes
+tagsJson ts = jsonOf (tagsText ts)
+
 -- "id, pubkey, created_at, kind, tags, content, sig"
 unfoldable pub objectText : (id : Bytes) (e : Event) (sig : Bytes) → Bytes
 objectText i e s =
     ascii "{\"id\":"
-    ++ (quoted i
+    ++ (stringJson i
     ++ (ascii ",\"pubkey\":"
-    ++ (quoted (e .pubkey)
+    ++ (stringJson (e .pubkey)
     ++ (ascii ",\"created_at\":"
     ++ (decimal (e .time)
     ++ (ascii ",\"kind\":"
     ++ (digits (e .kind)
     ++ (ascii ",\"tags\":"
-    ++ (tagsText (e .tags)
-    ++ (ascii ",\"content\":" ++ (quoted (e .content) ++ (ascii ",\"sig\":" ++ (quoted s ++ ascii "}")))))))))))))
+    ++ (tagsJson (e .tags)
+    ++ (ascii ",\"content\":" ++ (stringJson (e .content) ++ (ascii ",\"sig\":" ++ (stringJson s ++ ascii "}")))))))))))))
 
 unfoldable pub replyText : Reply → Bytes
 replyText (ok i accepted reason) =
-    ascii "[\"OK\"," ++ (quoted i ++ (ascii "," ++ (truth accepted ++ (ascii "," ++ (quoted reason ++ ascii "]")))))
-replyText (event s i e sig) = ascii "[\"EVENT\"," ++ (quoted s ++ (ascii "," ++ (objectText i e sig ++ ascii "]")))
-replyText (eose s) = ascii "[\"EOSE\"," ++ (quoted s ++ ascii "]")
-replyText (closed s reason) = ascii "[\"CLOSED\"," ++ (quoted s ++ (ascii "," ++ (quoted reason ++ ascii "]")))
-replyText (notice reason) = ascii "[\"NOTICE\"," ++ (quoted reason ++ ascii "]")
+    ascii "[\"OK\"," ++ (stringJson i ++ (ascii "," ++ (truth accepted ++ (ascii "," ++ (stringJson reason ++ ascii "]")))))
+replyText (event s i e sig) = ascii "[\"EVENT\"," ++ (stringJson s ++ (ascii "," ++ (objectText i e sig ++ ascii "]")))
+replyText (eose s) = ascii "[\"EOSE\"," ++ (stringJson s ++ ascii "]")
+replyText (closed s reason) = ascii "[\"CLOSED\"," ++ (stringJson s ++ (ascii "," ++ (stringJson reason ++ ascii "]")))
+replyText (notice reason) = ascii "[\"NOTICE\"," ++ (stringJson reason ++ ascii "]")
 
 -- ---- "Reply text", from row 0 on; rows 13 and 14 have none
 abbrev pub reasons : List (List ℕ)

@@ -6,7 +6,6 @@ use mathlib.Core.List.{List, [], _∷_, _++_}
 use Prim.Native.Nat.{ℕ, _<_}
 use lib.Dec.{leb}
 use lib.ListN.{length}
-use Rattle.text.specs.Event.{quoted}
 use Rattle.message.specs.Read.{namedOf}
 use Rattle.message.specs.declared.Named.{Named}
 use Rattle.message.specs.declared.Named.the-variants.{Nothing}
@@ -17,7 +16,7 @@ use Rattle.table.specs.Layout.{countOf}
 use Rattle.table.specs.Sound.{sound}
 use Rattle.table.specs.declared.Offered.{Offered}
 use Rattle.wire.specs.Ascii.{ascii}
-use Rattle.reply.specs.Replies.{ok, eose, closed, notice, replyText, truth, reasonOf}
+use Rattle.reply.specs.Replies.{ok, eose, closed, notice, stringJson, replyText, truth, reasonOf}
 use Rattle.program.specs.Program.{isAccepted, verdictReason}
 use Rattle.reply.specs.Lent.{shortRow, outputAfter}
 use Rattle.program.specs.Program.{refusalNaming, eventsOf, written}
@@ -26,7 +25,7 @@ use Rattle.wire.specs.Bytes.{Bytes, Row}
 -- ---- the replies
 -- ACCEPTED,REASON of an offer that was answered a
 unfoldable pub verdictText : Offered → Bytes
-verdictText a = truth (isAccepted a) ++ (ascii "," ++ quoted (verdictReason a))
+verdictText a = truth (isAccepted a) ++ (ascii "," ++ stringJson (verdictReason a))
 
 unfoldable pub okText : (id : Bytes) (a : Offered) → Bytes
 okText i a = replyText (ok i (isAccepted a) (verdictReason a))

@@ -1,5 +1,4 @@
--- 01, row 4: "some string, names included, decodes to an unpaired surrogate, or to a character below U+0020 other than
--- 08, 09, 0A, 0C, 0D".
+-- 01, row 4, as 02, Wish 3, amends it: some string, names included, decodes to an unpaired surrogate.
 use Prim.Native.Nat.{ℕ, _+_, _-_}
 use mathlib.Core.List.{List, []}
 use mathlib.Core.Bool.{Bool, true, false, _&&_, _||_}

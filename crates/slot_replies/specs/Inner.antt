@@ -1,19 +1,20 @@
 -- What private functions hand on: the EVENT of a slot's bytes in pieces. Id and signature in hex, the rest as the
--- slot's text spells it.
+-- slot's text spells it, but for the control characters that stand raw there.
 use mathlib.Core.Path.{_≡_}
 use mathlib.Core.Bool.{cond, _&&_}
 use mathlib.Core.List.{List, [], _∷_, _++_, map}
-use Prim.Native.Nat.{ℕ, suc, _+_, _-_}
+use Prim.Native.Nat.{ℕ, suc, _+_, _-_, _*_}
 use lib.Dec.{eqb, ltb}
 use lib.ListN.{length}
-use Rattle.wire.specs.Escape.{escape}
+use Rattle.wire.specs.Escape.{jsonOf}
 use Rattle.numeral.specs.Decimal.{digits, decimal}
-use Rattle.text.specs.Event.{Event, quoted, tagsText}
+use Rattle.text.specs.Event.{Event}
+use Rattle.reply.specs.Replies.{stringJson, tagsJson}
 use Rattle.text.specs.Read.{Read, tooLarge, wrongShape, read, readText}
 use Rattle.text.specs.Answer.{textAnswerOf}
 use Rattle.text.specs.declared.Text.{Text}
 use Rattle.text.specs.declared.TextAnswer.the-variants as answer
-use Rattle.table.specs.Layout.{countOf, slotAt, lengthIn, textIn}
+use Rattle.table.specs.Layout.{countOf, slotAt, textIn}
 use Rattle.wire.specs.Ascii.{ascii}
 use Rattle.program.specs.Program.{eventReplies, written}
 use Rattle.reply.specs.Lent.{outputAfter}
@@ -26,18 +27,18 @@ use Rattle.slot_replies.specs.declared.Fitted.{Fitted}
 use Rattle.wire.specs.Bytes.{Bytes, Row}
 
 unfoldable pub frontText : (sub i : Bytes) → Bytes
-frontText sub i = ascii "[\"EVENT\"," ++ (quoted sub ++ (ascii ",{\"id\":" ++ quoted i))
+frontText sub i = ascii "[\"EVENT\"," ++ (stringJson sub ++ (ascii ",{\"id\":" ++ stringJson i))
 
 abbrev pub numbersText : Event → Bytes
 numbersText e =
-    ascii ",\"pubkey\":" ++ (quoted (e .pubkey) ++
+    ascii ",\"pubkey\":" ++ (stringJson (e .pubkey) ++
     (ascii ",\"created_at\":" ++ (decimal (e .time) ++ (ascii ",\"kind\":" ++ digits (e .kind)))))
 
 abbrev pub heldStrings : Event → Bytes
-heldStrings e = ascii ",\"tags\":" ++ (tagsText (e .tags) ++ (ascii ",\"content\":" ++ quoted (e .content)))
+heldStrings e = ascii ",\"tags\":" ++ (tagsJson (e .tags) ++ (ascii ",\"content\":" ++ stringJson (e .content)))
 
 unfoldable pub backText : (s : Bytes) → Bytes
-backText s = ascii ",\"sig\":" ++ (quoted s ++ ascii "}]")
+backText s = ascii ",\"sig\":" ++ (stringJson s ++ ascii "}]")
 
 -- of a text that reads
 abbrev pub ofRead : (Event → List ℕ) → Read → Bytes
@@ -63,12 +64,12 @@ heldText sub s = firstText (eventReplies sub s (readText (textIn s)))
 unfoldable pub heldLine : (sub s : Bytes) → Bytes
 heldLine sub s = written (eventReplies sub s (readText (textIn s)))
 
--- how long each of these lines is, for a subscription id that has n bytes when escaped
-abbrev pub lineSize : (b : Bytes) (n k : ℕ) → ℕ
-lineSize b n k = lengthIn (slotAt b k) + n + 267
+-- how long each of these lines is, for a subscription id that has n bytes when escaped, c of them control characters
+abbrev pub lineSize : (b : Bytes) (n c k : ℕ) → ℕ
+lineSize b n c k = length (jsonOf (textIn (slotAt b k))) + (n + 5 * c) + 267
 
-abbrev pub sizes : (b : Bytes) (n : ℕ) (ks : List ℕ) → List ℕ
-sizes b n ks = map (lineSize b n) ks
+abbrev pub sizes : (b : Bytes) (n c : ℕ) (ks : List ℕ) → List ℕ
+sizes b n c ks = map (lineSize b n c) ks
 
 -- how many of these sizes a room has, from the first on, with the i before them, and what they leave of it
 abbrev pub stopped : (i room : ℕ) → Fitted

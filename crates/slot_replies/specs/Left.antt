@@ -6,16 +6,16 @@ use Prim.Native.Nat.{ℕ, _+_, _-_}
 use lib.Dec.{ltb}
 use lib.ListN.{length}
 use Rattle.wire.specs.Bytes.{Bytes}
-use Rattle.wire.specs.Escape.{escape}
-use Rattle.table.specs.Layout.{slotAt, lengthIn}
+use Rattle.wire.specs.Escape.{escape, jsonOf}
+use Rattle.table.specs.Layout.{slotAt, textIn}
 use Rattle.slot_replies.specs.declared.Left.{Left}
 use Rattle.slot_replies.specs.declared.Left.the-variants.{Room, Short}
 
 -- if the table is sound and holds the slots: each line is 267 bytes longer than the slot's text and the subscription id
--- escaped
+-- escaped, both as they stand in a reply
 unfoldable pub linesSize : (b sub : Bytes) (ks : List ℕ) → ℕ
 linesSize b sub [] = 0
-linesSize b sub (k ∷ ks) = lengthIn (slotAt b k) + length (escape sub) + 267 + linesSize b sub ks
+linesSize b sub (k ∷ ks) = length (jsonOf (textIn (slotAt b k))) + length (jsonOf (escape sub)) + 267 + linesSize b sub ks
 
 -- what n bytes leave of a room
 unfoldable pub leftIn : (room n : ℕ) → Left

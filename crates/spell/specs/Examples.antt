@@ -34,11 +34,11 @@ long :
 unfolding decode charsBytes charsFrom charOf unicodeOf isPair pairOf fourAt four hexVal shortOf charBytes utf8Of
 long = (refl, refl, refl, refl, refl)
 
--- \u0000, \u001f, \u0008, \n\u000d; unpaired surrogates: high, low, high and a letter, high and \u0061, low and high;
+-- \u0000, \u001f, \u0008, \n\u000d, which 02, Wish 3, lets pass; unpaired surrogates: high, low, high and a letter, high and \u0061, low and high;
 -- the pair; ab
 row4 :
-    (refuses (ascii "\\u0000") ≡ true)
-    × (refuses (ascii "\\u001f") ≡ true)
+    (refuses (ascii "\\u0000") ≡ false)
+    × (refuses (ascii "\\u001f") ≡ false)
     × (refuses (ascii "\\u0008") ≡ false)
     × (refuses (ascii "\\n\\u000d") ≡ false)
     × (refuses (ascii "\\uD834") ≡ true)

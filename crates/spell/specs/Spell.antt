@@ -5,7 +5,7 @@ use mathlib.Core.List.{List, [], _∷_, _++_}
 use Prim.Native.Nat.{ℕ, zero, suc, pred, _+_, _-_, _*_, _/_, _%_}
 use lib.Dec.{ltb, leb, eqb}
 use lib.ListN.{getD, length}
-use Rattle.wire.specs.Bytes.{Bytes, isHex, isControl}
+use Rattle.wire.specs.Bytes.{Bytes, isHex}
 use Rattle.spell.specs.declared.Char.{Char}
 
 -- the number of a hex digit: 0-9, A-F, a-f; 0 of any other byte
@@ -88,12 +88,12 @@ charsBytes (c ∷ cs) = charBytes c ++ charsBytes cs
 unfoldable pub decode : Bytes → Bytes
 decode l = charsBytes (chars l)
 
--- row 4 of 01: an unpaired surrogate, or a character below U+0020 other than 08, 09, 0A, 0C, 0D
+-- row 4 of 01, as 02, Wish 3, amends it: an unpaired surrogate
 abbrev pub isSurrogate : ℕ → Bool
 isSurrogate n = leb 0xd800 n && leb n 0xdfff
 
 unfoldable pub isRefused : Char → Bool
-isRefused c = isSurrogate (c .code) || isControl (c .code)
+isRefused c = isSurrogate (c .code)
 
 unfoldable pub any : (Char → Bool) → List Char → Bool
 any f [] = false

@@ -14,7 +14,6 @@ use Rattle.numeral.specs.Whole.{isDigit, allDigits, valueFrom, isNatural, natur
 use Rattle.numeral.specs.Whole.{wholeAnswer}
 use Rattle.utf8.specs.Utf8.{leadOf, utf8From, isUtf8}
 use Rattle.text.specs.Event.{Event, quoted, membersText, tagText, tagsText, serialise, all, isPubkey, isTime}
-use Rattle.text.specs.Event.{isPlainByte}
 use Rattle.text.specs.Read.{standsAt, closedAt, pairAt, escapedByte, isRaw, bodyFrom, stringAt, textMembersAt, tagAt}
 use Rattle.text.specs.Read.{tagsAt, runOf, timeAt, kindAt, pubkeyAt, fieldsAt, openedText, readText}
 use Rattle.text.specs.Kinds.{classOf, dOf, keyOf}
@@ -67,7 +66,7 @@ verdicts :
     × (verdict signedEvents 2 held (some (entry 8 1 (made 30000 (pos 9) 67))) ≡ noRoom)
     × (verdict signedEvents 2 held (some (entry 8 1 (made 20000 (pos 9) 66))) ≡ wasEphemeral)
 unfolding verdict sameBytes letterOf escOne escape digitsIn digits decimal quoted membersText tagText tagsText serialise
-    all isPubkey isTime isPlainByte classOfEvent classOfText timeOfText standsAt closedAt pairAt escapedByte isRaw
+    all isPubkey isTime classOfEvent classOfText timeOfText standsAt closedAt pairAt escapedByte isRaw
     bodyFrom stringAt textMembersAt tagAt tagsAt runOf timeAt kindAt pubkeyAt fieldsAt openedText readText classOf dOf
     keyOf isDigit allDigits valueFrom isNatural naturalOf negativeOf wholeOf isWithin wholeAnswer leadOf utf8From isUtf8
     isHex
@@ -78,7 +77,7 @@ replaced :
     after signedEvents 2 held (some (entry 8 1 (made 30000 (negsuc 0) 66)))
     ≡ entry 5 1 (made 1 (pos 9) 65) ∷ entry 8 1 (made 30000 (negsuc 0) 66) ∷ []
 unfolding after verdict sameBytes letterOf escOne escape digitsIn digits decimal quoted membersText tagText tagsText
-    serialise all isPubkey isTime isPlainByte classOfEvent classOfText timeOfText standsAt closedAt pairAt escapedByte
+    serialise all isPubkey isTime classOfEvent classOfText timeOfText standsAt closedAt pairAt escapedByte
     isRaw bodyFrom stringAt textMembersAt tagAt tagsAt runOf timeAt kindAt pubkeyAt fieldsAt openedText readText classOf
     dOf keyOf isDigit allDigits valueFrom isNatural naturalOf negativeOf wholeOf isWithin wholeAnswer leadOf utf8From
     isUtf8 isHex
@@ -90,7 +89,7 @@ ties :
     × (verdict signedEvents 3 held (some (entry 8 1 (made 30000 (negsuc 7199) 66))) ≡ older)
     × (verdict signedEvents 3 held (some (entry 8 1 (made 1 (pos 9) 66))) ≡ stored)
 unfolding verdict sameBytes letterOf escOne escape digitsIn digits decimal quoted membersText tagText tagsText serialise
-    all isPubkey isTime isPlainByte classOfEvent classOfText timeOfText standsAt closedAt pairAt escapedByte isRaw
+    all isPubkey isTime classOfEvent classOfText timeOfText standsAt closedAt pairAt escapedByte isRaw
     bodyFrom stringAt textMembersAt tagAt tagsAt runOf timeAt kindAt pubkeyAt fieldsAt openedText readText classOf dOf
     keyOf isDigit allDigits valueFrom isNatural naturalOf negativeOf wholeOf isWithin wholeAnswer leadOf utf8From isUtf8
     isHex

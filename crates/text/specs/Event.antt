@@ -1,5 +1,5 @@
 -- 01, "The text that is hashed", and the limits of "Numbers", "Hex", "Counts" and of rows 2, 4 and 9.
-use mathlib.Core.Bool.{Bool, true, not, _&&_}
+use mathlib.Core.Bool.{Bool, true, _&&_}
 use mathlib.Core.List.{List, [], _∷_, _++_}
 use Prim.Native.Nat.{ℕ}
 use lib.Dec.{eqb, leb}
@@ -9,7 +9,7 @@ use Rattle.wire.specs.Ascii.{ascii}
 use Rattle.wire.specs.Escape.{escape}
 use Rattle.numeral.specs.Decimal.{digits, decimal}
 use Rattle.wire.specs.Limits.{widest, mostSmall, hexLength, mostTags, mostStrings}
-use Rattle.wire.specs.Bytes.{Bytes, isHex, isControl}
+use Rattle.wire.specs.Bytes.{Bytes, isHex}
 use Rattle.numeral.specs.Whole.{isWithin}
 use Rattle.numeral.specs.declared.Whole.the-variants.{Value}
 use Rattle.utf8.specs.Utf8.{isUtf8}
@@ -77,12 +77,9 @@ isTime z = isWithin (Value z) (negℤ (pos widest)) (pos widest)
 abbrev pub isKind : ℕ → Bool
 isKind k = leb k mostSmall
 
--- row 4
-unfoldable pub isPlainByte : ℕ → Bool
-isPlainByte b = not (isControl b)
-
+-- any characters; row 4's surrogates have no UTF-8 (RFC 3629, section 3)
 unfoldable pub isStringBytes : Bytes → Bool
-isStringBytes v = all isPlainByte v && isUtf8 v
+isStringBytes v = isUtf8 v
 
 unfoldable pub isTag : Tag → Bool
 isTag t = leb 1 (length t) && (leb (length t) mostStrings && all isStringBytes t)

@@ -8,16 +8,14 @@ use Rattle.wire.specs.Ascii.{ascii}
 use Rattle.wire.specs.Bytes.{those}
 use Rattle.wire.specs.Escape.{letterOf}
 use Rattle.utf8.specs.Utf8.{isUtf8, utf8From, leadOf}
-use Rattle.text.specs.Event.{isPlainByte}
 use Rattle.text.specs.Read.{none, got, escapedByte, isRaw, bodyFrom, stringAt}
 use Rattle.text.specs.Kinds.{classOf, dOf}
 use Rattle.text.specs.declared.Class.the-variants.{Regular, Replaceable, Ephemeral, Addressable}
 
 -- ---- of 256 bytes: those that never stand as they are
 never-raw : those (λ b. not (isRaw b)) 256
-    ≡ 0 ∷ 1 ∷ 2 ∷ 3 ∷ 4 ∷ 5 ∷ 6 ∷ 7 ∷ 8 ∷ 9 ∷ 10 ∷ 11 ∷ 12 ∷ 13 ∷ 14 ∷ 15 ∷ 16 ∷ 17 ∷ 18 ∷ 19
-    ∷ 20 ∷ 21 ∷ 22 ∷ 23 ∷ 24 ∷ 25 ∷ 26 ∷ 27 ∷ 28 ∷ 29 ∷ 30 ∷ 31 ∷ 34 ∷ 92 ∷ []
-unfolding isRaw isPlainByte letterOf
+    ≡ 0x08 ∷ 0x09 ∷ 0x0a ∷ 0x0c ∷ 0x0d ∷ 0x22 ∷ 0x5c ∷ []
+unfolding isRaw letterOf
 never-raw = refl
 
 -- ---- after a backslash: " \ b f n r t, and what they stand for
@@ -30,16 +28,19 @@ stand-for : map escapedByte (34 ∷ 92 ∷ 98 ∷ 102 ∷ 110 ∷ 114 ∷ 116 �
 unfolding escapedByte
 stand-for = refl
 
--- the string of ,"\\\"n"] at 1 is \"n and ends before the bracket; "\/", "\u0041" and a raw 09 are no spellings of the
--- text; / and 7F stand as they are
+-- the string of ,"\\\"n"] at 1 is \"n and ends before the bracket; "\/", "\u0041", "\u0001" and a raw 09 are no spellings
+-- of the text; / and 7F stand as they are, and so do 00 and 1F; an end is no 00
 strings :
     (stringAt (ascii ",\"\\\\\\\"n\"]") 1 ≡ got (ascii "\\\"n") 8)
     × (stringAt (ascii "\"\\/\"") 0 ≡ none)
     × (stringAt (ascii "\"\\u0041\"") 0 ≡ none)
     × (stringAt (34 ∷ 9 ∷ 34 ∷ []) 0 ≡ none)
+    × (stringAt (ascii "\"\\u0001\"") 0 ≡ none)
     × (stringAt (34 ∷ 47 ∷ 127 ∷ 34 ∷ []) 0 ≡ got (47 ∷ 127 ∷ []) 4)
-unfolding stringAt bodyFrom escapedByte isRaw isPlainByte letterOf isUtf8 utf8From leadOf
-strings = (refl, refl, refl, refl, refl)
+    × (stringAt (34 ∷ 0x00 ∷ 0x1f ∷ 34 ∷ []) 0 ≡ got (0x00 ∷ 0x1f ∷ []) 4)
+    × (stringAt (34 ∷ 0x00 ∷ []) 0 ≡ none)
+unfolding stringAt bodyFrom escapedByte isRaw letterOf isUtf8 utf8From leadOf
+strings = (refl, refl, refl, refl, refl, refl, refl, refl)
 
 -- ---- both sides of each border of the kinds
 kinds : map classOf (0 ∷ 1 ∷ 2 ∷ 3 ∷ 4 ∷ 999 ∷ 1000 ∷ 9999 ∷ [])

@@ -1,5 +1,6 @@
 -- 01, "A text read back alone". A reader `xAt` of the text s at a place: `got x n` if x stands there and the text goes
--- on at n. Past the end of a text stands 0, which is no byte of a serialisation. That these readers do what 01's
+-- on at n. Past the end of a text stands 0, which is none of the fixed bytes that are looked for at a place; a string is
+-- read from the bytes that there are. That these readers do what 01's
 -- sentence says is proved: proofs/RoundTrip, `accepted`, `too-large`, `wrong-shape`.
 use mathlib.Core.Bool.{Bool, true, false, cond, _&&_}
 use mathlib.Core.List.{List, [], _∷_, _++_}
@@ -14,7 +15,7 @@ use Rattle.numeral.specs.Whole as numeral
 use Rattle.utf8.specs.Utf8.{isUtf8}
 use Rattle.wire.specs.Limits.{mostText, hexLength, mostTags, mostStrings}
 use Rattle.text.specs.Event.{Tag, Event, opening, closing, comma, bracket, serialise, isFit, isPubkey, isTime}
-use Rattle.text.specs.Event.{isKind, isPlainByte}
+use Rattle.text.specs.Event.{isKind}
 use Rattle.text.specs.declared.Move.{Move}
 use Rattle.text.specs.declared.Move.the-variants.{Go, Stop, Refuse}
 use Rattle.wire.specs.Bytes.{Bytes, Place}
@@ -48,9 +49,9 @@ escapedByte c =
     (cond (eqb c 34) 0x22 (cond (eqb c 92) 0x5c
     (cond (eqb c 114) 0x0d (cond (eqb c 116) 0x09 (cond (eqb c 98) 0x08 (cond (eqb c 102) 0x0c 0))))))
 
--- a byte that stands as it is
+-- a byte that stands as it is: none of the seven escapes is for it
 unfoldable pub isRaw : ℕ → Bool
-isRaw x = isPlainByte x && eqb (letterOf x) 0
+isRaw x = eqb (letterOf x) 0
 
 -- what the byte x does, after a backslash or not
 abbrev pub moveOf : Bool → ℕ → Move

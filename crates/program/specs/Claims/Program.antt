@@ -167,11 +167,13 @@ abbrev pub eventMessage : (id : Bytes) (e : Event) (sig : Bytes) → Bytes
 eventMessage i e s = ascii "[\"EVENT\"," ++ (objectText i e s ++ ascii "]")
 
 -- "A valid event is one offered, as a message or as parts, that none of rows 1 to 10 refuses." Each event within the
--- limits has such a message, with its text's hash as id and any 64 bytes as signature: no relay may refuse everything
+-- limits has such a message, with its text's hash as id and any 64 bytes as signature: no relay may refuse everything.
+-- The message has to be short enough for row 1: a control character takes six bytes there, and one in the text
 abbrev pub Sendable : Type 0
 Sendable =
     (e : Event) (sig : List ℕ) → isFit e ≡ true → length (serialise e) ≤ mostText → length sig ≡ 64 →
     all isByte sig ≡ true →
+    length (eventMessage (hexOf (digest (serialise e))) e (hexOf sig)) ≤ mostMessage →
     offers.judge (asMessage (eventMessage (hexOf (digest (serialise e))) e (hexOf sig))) ≡ some
     (ofHeld (record { id = digest (serialise e); sig = sig; event = e }))
 

@@ -44,10 +44,10 @@ RespondedMeans = (b m out : List ℕ) →
     × (respondRow b m out ≡ 0 → respondedTable b m out ≡ tableAfter b m)
     × (respondRow b m out ≢ 0 → respondedTable b m out ≡ b)
 
--- an output of so many bytes is never too short, over a table of N slots: an EVENT's line has at most 4,619 bytes,
--- every other at most 300
+-- an output of so many bytes is never too short, over a table of N slots: an EVENT's line has at most 24,827 bytes,
+-- every other at most 428
 abbrev pub enoughFor : ℕ → ℕ
-enoughFor N = N * 4619 + 300
+enoughFor N = N * 24827 + 428
 
 abbrev pub Enough : Type 0
 Enough = (b m out : List ℕ) → enoughFor (capacityOf b) ≤ length out → respondRow b m out ≡ 0
