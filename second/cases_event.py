@@ -6,7 +6,7 @@ from functools import cache
 from cases_message import A, EVENT_FAULTS, GOOD, event, event_with, many, req
 from rows import text_of
 from sha256 import sha256
-from spell import SAMPLE, damaged, escaped, hexes, joined, plain, raw, space, spell, words
+from spell import BELOW, CONTROLS, SAMPLE, WIDE, damaged, escaped, hexes, joined, plain, raw, space, spell, u_escapes, words
 
 MAX_TIME = 9007199254740991
 KINDS = [0, 1, 2, 3, 4, 44, 45, 999, 1000, 9999, 10000, 19999, 20000, 29999, 30000, 39999, 40000, 65535]
@@ -71,6 +71,12 @@ def good_events():
     for strings in (1, 15, 16):
         yield made(tags=[["s"] * strings] * 3)
     yield made(tags=[[""] * 16] * 64)
+    for c in CONTROLS:
+        yield made(kind=30000, tags=[["d", c], [c], ["t", c + c]], content="x" + c + c + "y")
+    yield made(content=BELOW + "\x7f", tags=[[BELOW, BELOW], ["\x7f"]])
+    yield made(kind=30000, tags=[["d", BELOW]], content="\x00")
+    yield made(content="\x00" * 40 + "\x1f" * 40, tags=[["\x00" * 33, "\x0b" * 31]])
+    yield made(content="\\u0001\x01\\", tags=[["\x01\\u0001", "\\\x00"]])
 
 
 def text_borders():
@@ -110,6 +116,17 @@ def text_borders():
     for size in (65535, 65536, 65537):
         yield 9, "T " + "x" * (size - 2)
     yield 1, offer(made()) + " " * 65536
+    # Control characters that stand raw have one byte each.
+    for extra in (0, 1):
+        for c in "\x00\x01\x1f":
+            yield 9 * extra, text(made(content=c * (room + extra)))
+            yield 9 * extra, offer(made(content=c * 600 + "x" * (room - 600 + extra)))
+        yield 9 * extra, text(made(tags=[["\x0b" * (room - 4 + extra)]]))
+        yield 9 * extra, offer(made(tags=[["\x0b" * 600 + "\n" * 1000 + "x" * (room - 2604 + extra)]]))
+    most = (8192 - len(offer(made()))) // 6
+    for c in "\x00\x1f":
+        yield 0, offer(made(content=c * most))
+        yield 1, offer(made(content=c * (most + 1)))
 
 
 def wrong_ids():
@@ -128,6 +145,7 @@ def wrong_ids():
     yield 10, offer(minus, id=id_of({**minus, "created_at": str(2**64 - 7200)}))
     yield 10, offer(minus, id=id_of({**minus, "created_at": "7200"}))
     clients = {"A": "\\u0041", "/": "\\/", "\n": "\\u000a", "é": "\\u00e9", "\x7f": "\\u007f", "😀": "\\ud83d\\ude00"}
+    clients.update({"\x00": "\\u0000", "\x01": "\\u0001", "\x0b": "\\u000B", "\x1f": "\\u001F"})
     for decoded, client in clients.items():
         spellings = {**spelled_fields(made(content=decoded), plain), "content": '"%s"' % client}
         hashed_as_spelled = sha256(('[0,"%s",0,0,[],"%s"]' % (A, client)).encode())
@@ -160,7 +178,8 @@ def other_messages():
     yield 5, req(*["{}"] * 5)
     yield 5, req("{}", sub='""')
     yield 4, req('{"#a":["\\ud800"]}')
-    yield 4, '["CLOSE","\\u0000"]'
+    yield 5, '["CLOSE","\\u0000"]'
+    yield 4, '["CLOSE","\\u0000\\udc00"]'
     yield 4, req('{"limit":-0,"\\udc00":1}')
     for line in ('["REQ","s",{}', "", "T", "t [0]", " T [0]", "T\t[0]", "Tx", "TT ", "true", "[9]]"):
         yield (5 if line == "true" else 3), line
@@ -208,7 +227,7 @@ def near_texts():
     for inner in (
         r"\/ \u0041 \u000a \u000A \u0022 \u005c \u00e9 \u007f \u2028 \ud83d\ude00 \ud800 \u0000 \u001f \v \a \0 "
         r'\x41 \ \\\ \N \U0041 \u " a"b "",""'.split(" ")
-        + [chr(code) for code in range(0x20) if code != 0x0A]
+        + ["\x08", "\x09", "\x0c", "\x0d"]
         + ["\udc80", "\udcff", "\udcc3", "\udcc0\udc80", "\udce2\udc82", "\udced\udca0\udc80"]
     ):
         yield start + ',0,1,[],"%s"]' % inner
@@ -224,6 +243,44 @@ def near_texts():
     yield from ["[%s]" % whole, "{" + whole[1:-1] + "}", whole[1:], whole + whole, whole + "\\n", "T " + whole]
 
 
+def one_spelling():
+    """02, Wish 3: whatever the spelling of a control character is in the message, the text and the id are the same."""
+    for c in BELOW:
+        fields = made(kind=1, tags=[["t", c]], content=c + "A")
+        for s in u_escapes(c):
+            spellings = spelled_fields(fields, plain)
+            yield event({**spellings, "tags": '[["t","%s"]]' % s, "content": '"%sA"' % s}.items())
+            yield event({**spellings, "tags": '[["\\u0074","%s"]]' % s, "content": '"%s\\u0041"' % s}.items())
+
+
+def control_texts():
+    """(row, text): control characters raw in the strings of a text, spelled, outside its strings, and at a text's end."""
+    forms = ['[0,"%s",0,1,[],"_"]', '[0,"%s",0,1,[],"x_"]', '[0,"%s",0,1,[["_"]],""]', '[0,"%s",0,1,[["d","_x","_"]],""]']
+    forms = [form % A for form in forms]
+    outside = ['_[0,"%s",0,1,[],""]', '[0,_"%s",0,1,[],""]', '[0,"%s",0,1_,[],""]', '[0,"%s",0,1,[["a"_]],""]', '[0,"%s",0,1,[],""_]']
+    outside = [form % A for form in outside] + [forms[0].replace("_", "") + "_", forms[0].replace(A, A[1:] + "_").replace(',"_"', ',""')]
+    for c in BELOW:
+        if c != "\n":
+            yield from ((0 if c in CONTROLS else 5, form.replace("_", c)) for form in forms)
+            yield from ((5, form.replace("_", c)) for form in outside)
+        for s in u_escapes(c):
+            yield from ((5, form.replace("_", s)) for form in forms[::2])
+            if c in CONTROLS:
+                yield 5, forms[0].replace("_", c + s)
+    for c in "\x00\x01\x1f\x7f":
+        # Raw beside what is refused, then cut off in a string, then with a string that goes on past the text's end.
+        for near in ("\\ud800", "\\udc00", '"', "\\", "\\u0041", "\\/", "\udcff", "\udced\udca0\udc80", "\r"):
+            yield 5, forms[0].replace("_", c + near)
+            yield 5, forms[2].replace("_", near + c)
+        for size in (0, 1, 31, 32, 33, 64):
+            whole = forms[0].replace("_", "x" * size + c)
+            yield 0, whole
+            for cut in (1, 2):
+                yield 5, whole[:-cut]
+                yield 5, whole[:-cut] + c + c
+            yield 5, forms[2].replace("_", "x" * size + c)[: -len('"]],""]')]
+
+
 def one_byte_off(rng):
     """Each byte of 01's 100-byte text deleted, doubled, replaced, swapped with the next."""
     whole = text_of(STARRED)
@@ -236,10 +293,10 @@ def one_byte_off(rng):
             yield head + bytes([byte]) + tail
 
 
-def random_fields(rng):
-    tags = [[words(rng, 5) for _ in range(rng.choice([1, 2, 2, 3, 16]))] for _ in range(rng.choice([0, 1, 2, 5]))]
+def random_fields(rng, sample):
+    tags = [[words(rng, 5, sample) for _ in range(rng.choice([1, 2, 2, 3, 16]))] for _ in range(rng.choice([0, 1, 2, 5]))]
     time = rng.choice([0, -7200, 1700000000, rng.randrange(-MAX_TIME, MAX_TIME + 1)])
-    return made(hexes(rng, 64), time, rng.choice(KINDS + [rng.randrange(65536)]), tags, words(rng, 30))
+    return made(hexes(rng, 64), time, rng.choice(KINDS + [rng.randrange(65536)]), tags, words(rng, 30, sample))
 
 
 def respelled(rng, fields):
@@ -262,11 +319,15 @@ def labelled():
         yield from part()
     for near in near_texts():
         yield 5, "T " + near
+    for line in one_spelling():
+        yield 0, line
+    for row, one in control_texts():
+        yield row, "T " + one
 
 
-def random_lines(rng):
-    for _ in range(250):
-        fields = random_fields(rng)
+def random_lines(rng, count, sample):
+    for _ in range(count):
+        fields = random_fields(rng, sample)
         line = respelled(rng, fields)
         own = text_of(fields)
         yield raw(line)
@@ -281,4 +342,4 @@ def lines():
     rng = random.Random(1)
     out = [raw(line) for _, line in labelled()]
     out += [b"T " + near for near in one_byte_off(rng)]
-    return out + list(random_lines(rng))
+    return out + list(random_lines(rng, 250, SAMPLE)) + list(random_lines(random.Random(2), 50, WIDE))

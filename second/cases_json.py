@@ -3,7 +3,7 @@
 import itertools
 import random
 
-from spell import damaged, joined, raw, space, spell, u_escape, words
+from spell import BELOW, SAMPLE, WIDE, damaged, joined, raw, space, spell, u_escape, u_escapes, words
 
 BYTES = [bytes([b]) for b in range(256) if b != 10]
 
@@ -46,7 +46,7 @@ STRINGS = [
     )
 ] + ['"', '"\\"', '"\\u004', '"\\u0041', '"\\ud800', '"\x00', '"a\\', '\\"a"', '\\u0022a"', "\\", '"\\u0022a']
 
-# Row 4 in names, in nested values, beside other faults.
+# Row 4, and control characters that are no fault, in names, in nested values, beside other faults.
 ROW_4 = [
     text.replace("BAD", bad)
     for bad in ["\\ud800", "\\udc00", "\\u0000", "\\u001f", "\\u000b", "\\n"]
@@ -127,25 +127,62 @@ def long_lines():
         yield b"[]" + b" " * (size - 2)
 
 
-def random_value(rng, depth):
+# Where a control character may stand in a text and in a message.
+CONTROL_FORMS = (
+    '"%s" "a%s" "%sa" ["%s"] {"%s":1} {"a":"%s"} {"a":1,"%s":2} [[[[[[[["%s"]]]]]]]] ["CLOSE","%s"] ["CLOSE%s","s"] '
+    '["REQ","s%s",{}] ["REQ","s",{"#t":["%s"]}] ["REQ","s",{"#t%s":["s"]}] ["REQ","s",{"ids":["%s"]}] '
+    '"\\ud800%s" "%s\\udc00" {"%s\\ud800":1} ["CLOSE","%s\\udfff"] "\\ud83d%s\\ude00"'
+).split(" ")
+RAW_FORMS = (
+    '"a%s" "%sa" {"%s":1} {"a":"%s"} ["CLOSE","%s"] ["REQ","s",{"#t":["%s"]}] "\\ud800%s" "%s\\udc00" "%s "a%s "%s\\" ["%s "\\u%s001"'
+).split(" ")
+
+
+def controls():
+    """Every character below U+0020, spelled with digits in either case, and raw: row 3 wherever it stands in a string."""
+    for c in BELOW:
+        for spelled in u_escapes(c):
+            yield from (raw(form.replace("%s", spelled)) for form in CONTROL_FORMS)
+            yield raw('"%s"' % (spelled * 40))
+        if c != "\n":
+            yield from (raw(form.replace("%s", c)) for form in RAW_FORMS)
+    yield raw('"%s"' % "".join("\\u%04x" % ord(c) for c in BELOW))
+    # At each place of a long string, which may be read in blocks.
+    for c in "\x00\x08\x0b\x1f\x7f":
+        for at in (0, 1, 7, 8, 15, 16, 30, 31, 32, 33, 62, 63, 64, 65, 95, 96, 97, 98, 99):
+            yield raw('"%s%s%s"' % ("x" * at, c, "x" * (99 - at)))
+        for size in (30, 31, 32, 33, 64):
+            for end in ("", '"]', '\\"'):
+                yield raw('["' + "x" * size + c + end)
+                yield raw('["' + "x" * size + end + c)
+        yield raw('["CLOSE","s"]' + c)
+        yield raw('["CLOSE","s' + c)
+    # A message of nothing else, on both sides of 8,192 bytes.
+    for extra in (0, 1):
+        yield raw('"%s%s"' % ("\\u0001" * 1365, "x" * extra))
+        yield b'"' + bytes(8190 + extra) + b'"'
+
+
+def random_value(rng, depth, sample):
     way = rng.randrange(10 if depth < 7 + rng.randrange(3) else 5)
     if way < 2:
-        return spell(rng, words(rng, 6))
+        return spell(rng, words(rng, 6, sample))
     if way == 2:
         return rng.choice(["0", "-0", "1", "-12", "3.25", "1e5", "2E-7", "-0.0e+0", str(rng.randrange(10**9))])
     if way == 3:
         return rng.choice(["true", "false", "null"])
     if way == 4:
         return rng.choice(['"s"'] * 9 + ['"%s"' % u_escape(rng, rng.choice("\x00\x0b\x1f\x7f\ud800\udc00"))])
-    values = [random_value(rng, depth + 1) for _ in range(rng.choice([0, 1, 1, 1, 2, 3]))]
+    values = [random_value(rng, depth + 1, sample) for _ in range(rng.choice([0, 1, 1, 1, 2, 3]))]
     if way % 2:
         return joined(rng, values, "[]")
-    return joined(rng, [spell(rng, words(rng, 3)) + space(rng) + ":" + space(rng) + value for value in values], "{}")
+    name = lambda: spell(rng, words(rng, 3, sample))
+    return joined(rng, [name() + space(rng) + ":" + space(rng) + value for value in values], "{}")
 
 
-def random_lines(rng):
-    for _ in range(1600):
-        value = random_value(rng, rng.randrange(3))
+def random_lines(rng, count, sample):
+    for _ in range(count):
+        value = random_value(rng, rng.randrange(3), sample)
         for _ in range(rng.choice([0, 0, 1, 4, 7, 8])):
             value = rng.choice([joined(rng, [value], "[]"), joined(rng, ['"n":' + value], "{}")])
         line = raw(space(rng) + value + space(rng))
@@ -174,5 +211,6 @@ def lines():
         out += [form % run for run in utf8_runs()]
     out += [raw(text) for text in depths()]
     out += list(long_lines())
-    out += list(random_lines(rng))
+    out += list(random_lines(rng, 1600, SAMPLE))
+    out += list(controls()) + list(random_lines(random.Random(2), 120, WIDE))
     return out + [b'"the last line has no 0A"']

@@ -4,7 +4,7 @@ import random
 from itertools import product
 
 from rows import LETTERS
-from spell import SAMPLE, damaged, escaped, hexes, joined, plain, raw, space, spell, words
+from spell import BELOW, SAMPLE, WIDE, damaged, escaped, hexes, joined, plain, raw, space, spell, u_escapes, words
 
 A = "a" * 64
 GOOD = {  # an event's fields, as spelled
@@ -92,7 +92,8 @@ def shapes():
     yield 0, '["R\\u0045Q","s",{}]'
     yield 0, '["\\u0043\\u004c\\u004f\\u0053\\u0045","s"]'
     yield 5, '["R\\u0065Q","s",{}]'
-    yield 4, '["CLOSE\\u0000","s"]'
+    yield 5, '["CLOSE\\u0000","s"]'
+    yield 4, '["CLOSE\\u0000\\ud800","s"]'
     yield 3, '["CLOSE","s"'
     yield 3, '["CLOSE","s",]'
     yield 3, '["CLOSE" "s"]'
@@ -127,7 +128,8 @@ def event_fields():
         yield 5, event(others + [others[0]])
         for wrong in (name.upper(), name[:-1], name + "s", name + " ", " " + name, "#" + name[0], name + "\\n", ""):
             yield 5, event(pairs[:at] + [(wrong, value)] + pairs[at + 1 :])
-        yield 4, event(others + [(name + "\\u0000", value)])
+        yield 5, event(others + [(name + "\\u0000", value)])
+        yield 4, event(others + [(name + "\\ud800", value)])
         for kind, other in TYPES.items():
             if kind != EVENT_TYPES.get(name, "string"):
                 yield 5, event(pairs[:at] + [(name, other)] + pairs[at + 1 :])
@@ -152,7 +154,8 @@ def filter_fields():
         yield 5, req('{"%s":%s,"%s":%s}' % (name, value, name, value))
         yield 5, req('{"%s":%s,"%s":%s}' % (name, value, u_first(name), value))
         yield 5, req('{"%s":%s,"x":0,"%s":%s}' % (u_first(name), value, name, value))
-        yield 4, req(filter_with(name + "\\u0000", value))
+        yield 5, req(filter_with(name + "\\u0000", value))
+        yield 4, req(filter_with(name + "\\ud800", value))
         for wrong in (name + "s", " " + name, name + " ", name[1:]):
             yield 5, req(filter_with(wrong, value))
         for kind, other in TYPES.items():
@@ -245,7 +248,7 @@ def hex_strings():
         yield 7, hex_line(name, plain("0x" + good[2:]))
         yield 7, hex_line(name, plain(" " + good))
         yield 7, hex_line(name, plain(good + " "))
-        yield 4, hex_line(name, '"' + good[:-1] + '\\u0000"')
+        yield 7, hex_line(name, '"' + good[:-1] + '\\u0000"')
         yield 4, hex_line(name, '"' + good + '\\ud800"')
         yield 3, hex_line(name, '"' + good[:-1] + '\x1f"')
         yield 2, hex_line(name, '"' + good[:-1] + '\udc80"')
@@ -303,6 +306,7 @@ def hex_conditions():
 # Counts.
 
 SUB_CHARACTERS = r'a é € 😀 \u0061 \u00e9 \uD83D\uDE00 \n \" \\ \/'.split() + ["e\u0301", "\u200d"]
+SUB_CHARACTERS += r"\u0000 \u0001 \u000B \u001f".split()
 SUB_CHARACTERS += ["\x7f", "\x80", "\xbf", "\xc0", "\xff", "\u07ff", "\u0800", "\uffff", "\U00010000", "\U0010ffff"]
 
 
@@ -345,7 +349,7 @@ def counts():
     for sub in ["", "a" * 256, "a" * 257, "a" * 65 + "é", "é" * 63 + "ab"]:
         yield 8, '["CLOSE","%s"]' % sub
         yield 8, req("{}", sub='"%s"' % sub)
-    yield 4, '["CLOSE","\\u0000"]'
+    yield 0, '["CLOSE","\\u0000"]'
     yield 4, '["CLOSE","\\ud83d"]'
 
 
@@ -358,17 +362,17 @@ def past_bounds():
         yield row, event_with(tags="[[]," + tag + "]")
     yield 5, event_with(tags="[" + '["t"],' * 64 + '"t"]')
     yield 5, event_with(tags="[" + '["t"],' * 64 + "null]")
-    for row, string in {4: '"\\u000b"', 5: "{}", 8: '"x"'}.items():
+    for row, string in ((8, '"\\u000b"'), (4, '"\\u000b\\ud800"'), (5, "{}"), (8, '"x"')):
         yield row, event_with(tags="[[" + '"t",' * 16 + string + "]]")
         yield row, event_with(tags="[[" + '"t",' * 40 + string + ',"t"]]')
     last = {
         "ids": {4: '"\\ud800"', 5: "1", 7: '"x"', 8: plain(A)},
-        "authors": {4: '"\\u0000"', 5: "null", 7: plain(A[1:]), 8: plain(A)},
-        "kinds": {4: '"\\u0000"', 5: '"1"', 6: "-0", 8: "1"},
+        "authors": {4: '"\\u0000\\ud800"', 5: "null", 7: '"\\u0000"', 8: plain(A)},
+        "kinds": {4: '"\\ud800"', 5: '"\\u0000"', 6: "-0", 8: "1"},
         "#e": {4: '"\\udfff"', 5: "[]", 7: '"x"', 8: plain(A)},
         "#p": {4: '"\\udfff"', 5: "[]", 7: plain(A.upper()), 8: plain(A)},
         "#E": {8: '""'},
-        "#t": {4: '"\\udfff"', 5: "[]", 8: '""'},
+        "#t": {4: '"\\udfff"', 5: "[]", 8: '"\\u0000"'},
     }
     for name, choices in last.items():
         for row, member in choices.items():
@@ -398,9 +402,10 @@ EVENT_FAULTS = [
     (3, "content", '"\x01"'),
     (3, "kind", "01"),
     (4, "content", '"\\ud800"'),
-    (4, "tags", '[["\\u0001"]]'),
+    (4, "tags", '[["\\u0001\\udc00"]]'),
     (4, "pubkey", '"\\udc00"'),
-    (4, "\\u0000", "1"),
+    (4, "\\u0000\\ud800", "1"),
+    (5, "\\u0000", "1"),
     (5, "created_at", '"0"'),
     (5, "content", "null"),
     (5, "tags", '[["a",1]]'),
@@ -421,7 +426,8 @@ FILTER_FAULTS = [
     (2, "#a", '["\udc80"]'),
     (3, "#b", "[1,]"),
     (4, "#c", '["\\ud800"]'),
-    (4, "\\u0000", "1"),
+    (4, "\\u0000\\ud800", "1"),
+    (5, "\\u0000", "1"),
     (5, "ids", '"x"'),
     (5, "kinds", '["1"]'),
     (5, "search", '""'),
@@ -480,12 +486,59 @@ def pairs():
         yield row, '["CLOSE","' + "s" * 64 + sub + '"]'
         yield row, '["CLOSE","' + sub + "s" * 64 + '"]'
     yield 4, event_with(id='"' + A + '\\ud800"')
-    yield 4, event_with(id='"\\u0001"')
+    yield 7, event_with(id='"\\u0001"')
     # No EVENT, REQ or CLOSE: row 5 whatever stands inside.
     yield 5, '["AUTH",%s]' % members({**GOOD, "kind": "65536"}.items())
     yield 5, '["EVENT","s",%s]' % members({**GOOD, "id": '""'}.items())
     yield 5, '["CLOSE","s",{"limit":-0}]'
     yield 4, '["AUTH","\\ud800"]'
+
+
+# 02, Wish 3: control characters.
+
+
+def controls():
+    """Spelled, with digits in either case, in every string of a message; as a name or in hex the rows are those of other characters."""
+    for c in BELOW:
+        for s in u_escapes(c):
+            yield 0, event_with(content='"x%sy"' % s, tags='[["%s"],["t","%s%s"]]' % (s, s, s))
+            yield 0, '["CLOSE","%s"]' % s
+            yield 0, req("{}", sub='"%s"' % s)
+            yield 0, req('{"#t":["%s","x%s"],"#E":["%s"]}' % (s, s, s))
+            yield 7, req('{"ids":["%s"]}' % s)
+            yield 7, req('{"#e":["%s%s"]}' % (A[1:], s))
+            yield 7, event_with(id='"%s%s"' % (s, A[1:]))
+            yield 5, req('{"%s":["x"]}' % s)
+            yield 5, req('{"#%s":["x"]}' % s)
+            yield 5, req('{"kinds":["%s"]}' % s)
+            yield 5, event([*GOOD.items(), (s, "1")])
+            yield 5, '["%s","s"]' % s
+            yield 4, event_with(content='"%s\\ud800"' % s)
+            yield 4, req('{"#t":["\\udc00%s"]}' % s)
+        # Raw it is no JSON.
+        if c != "\n":
+            yield 3, event_with(content='"%s"' % c)
+            yield 3, event_with(tags='[["t","%sx"]]' % c)
+            yield 3, event_with(content='"%s%s%s"' % ("x" * 40, c, "x" * 40))
+            yield 3, '["CLOSE","x%s"]' % c
+            yield 3, req("{}", sub='"%s"' % c)
+            yield 3, req('{"#t":["%s"]}' % c)
+            yield 3, req('{"%s":["x"]}' % c)
+            yield 3, '["CLOSE","%s\\ud800"]' % c
+            yield 3, '["CLOSE","s%s' % c
+    all_of_them = "".join("\\u%04x" % ord(c) for c in BELOW)
+    yield 0, event_with(content='"%s"' % all_of_them, tags='[["%s"]]' % all_of_them)
+    yield 0, req('{"#t":["%s"]}' % all_of_them, sub='"%s\x7f"' % all_of_them)
+    for count in (32, 33):
+        yield (0 if count == 32 else 8), req("{}", sub='"%s%s"' % (all_of_them, "\\u0000" * count))
+    for s in ("\\u0000", "\\u001F", "\\u0000x"):
+        yield 0, event_with(content='"%s"' % (s * 1000))
+    # The same characters, spelled with digits of both cases and with the short escapes.
+    for s in ("\\u000a\\u000A\\n", "\\u001f\\u001F", "\\u0008\\b\\u0009\\t\\u000c\\u000C\\f\\u000d\\u000D\\r"):
+        yield 0, event_with(content='"%s"' % s, tags='[["%s"]]' % s)
+    for s in ("\\u001", "\\u00 1", "\\u001g", "\\U0001", "\\x01", "\\1", "\\u-001", "\\v", "\\e"):
+        yield 3, event_with(content='"%s"' % s)
+        yield 3, '["CLOSE","%s' % s
 
 
 # Row 1.
@@ -511,31 +564,31 @@ def long_lines():
 # Random messages: good ones, then with a fault in their structure, then with damaged bytes.
 
 
-def random_tag(rng):
-    return joined(rng, [spell(rng, words(rng, 4)) for _ in range(rng.randrange(1, 4))], "[]")
+def random_tag(rng, sample):
+    return joined(rng, [spell(rng, words(rng, 4, sample)) for _ in range(rng.randrange(1, 4))], "[]")
 
 
-def random_event(rng):
+def random_event(rng, sample):
     fields = {
         "id": plain(hexes(rng, 64)),
         "pubkey": rng.choice([plain(A), plain(hexes(rng, 64)), spell(rng, hexes(rng, 64))]),
         "created_at": str(rng.choice([0, -7200, 1700000000, rng.randrange(1 - 2**53, 2**53)])),
         "kind": str(rng.choice([0, 1, 3, 30000, rng.randrange(65536)])),
-        "tags": joined(rng, [random_tag(rng) for _ in range(rng.randrange(3))], "[]"),
-        "content": spell(rng, words(rng, 12)),
+        "tags": joined(rng, [random_tag(rng, sample) for _ in range(rng.randrange(3))], "[]"),
+        "content": spell(rng, words(rng, 12, sample)),
         "sig": plain(hexes(rng, 128)),
     }
     return ['"EVENT"'], [list(fields.items())]
 
 
-def random_filter(rng):
+def random_filter(rng, sample):
     fields = []
     for name in rng.sample("ids authors kinds since until limit #e #p #E #d #t".split(), rng.randrange(6)):
         count = rng.choice([1, 1, 2, 3])
         if name in ("ids", "authors") or name in ("#e", "#p") and rng.randrange(8):
             value = joined(rng, [rng.choice([plain(A), spell(rng, hexes(rng, 64))]) for _ in range(count)], "[]")
         elif name[0] == "#":
-            value = joined(rng, [spell(rng, words(rng, 6)) for _ in range(count)], "[]")
+            value = joined(rng, [spell(rng, words(rng, 6, sample)) for _ in range(count)], "[]")
         elif name == "kinds":
             value = joined(rng, [str(rng.choice([0, 1, 65535, rng.randrange(65536)])) for _ in range(count)], "[]")
         else:
@@ -544,15 +597,15 @@ def random_filter(rng):
     return fields
 
 
-def random_message(rng):
+def random_message(rng, sample=SAMPLE):
     """The leading elements, and the objects after them as lists of fields."""
     way = rng.randrange(10)
     if way < 3:
-        return random_event(rng)
-    sub = spell(rng, "s" + words(rng, 10))
+        return random_event(rng, sample)
+    sub = spell(rng, "s" + words(rng, 10, sample))
     if way == 3:
         return ['"CLOSE"', sub], []
-    return ['"REQ"', sub], [random_filter(rng) for _ in range(rng.choice([1, 1, 2, 3]))]
+    return ['"REQ"', sub], [random_filter(rng, sample) for _ in range(rng.choice([1, 1, 2, 3]))]
 
 
 OTHERS = ['""', "0", "-1", "[]", "[[]]", "{}", "null", "true", '["x"]', "[1]", plain(A)]
@@ -596,9 +649,9 @@ def written(rng, head, objects):
     return raw(joined(rng, elements, "[]"))
 
 
-def random_lines(rng):
-    for _ in range(460):
-        head, objects = random_message(rng)
+def random_lines(rng, count=460, sample=SAMPLE):
+    for _ in range(count):
+        head, objects = random_message(rng, sample)
         line = written(rng, head, objects)
         yield line
         yield damaged(rng, line)
@@ -609,7 +662,7 @@ def random_lines(rng):
 
 def labelled():
     for part in (shapes, event_fields, filter_fields, numbers, hex_strings, hex_conditions, counts, past_bounds, pairs,
-                 long_lines):
+                 long_lines, controls):
         yield from part()
     for c in SAMPLE:
         yield 0, '["CLOSE",%s]' % escaped(random.Random(1), c)
@@ -618,4 +671,5 @@ def labelled():
 
 def lines():
     out = [b""] + [raw(text) for _, text in labelled()]
-    return out + list(random_lines(random.Random(1))) + [b'["CLOSE","the last line has no 0A"]']
+    out += list(random_lines(random.Random(1))) + list(random_lines(random.Random(2), 80, WIDE))
+    return out + [b'["CLOSE","the last line has no 0A"]']

@@ -10,6 +10,11 @@ A value is a pair:
 
 import re
 
+# RFC 8259, section 7: what stands unescaped in a string; and what does in one that is held or lent (02, Wish 3), where of the
+# characters below U+0020 only those are escaped that have a short escape: 08, 09, 0A, 0C, 0D.
+UNESCAPED = re.compile(r'[^"\\\x00-\x1f]+')
+HELD = re.compile(r'[^"\\\x08\x09\x0a\x0c\x0d]+')
+
 DEPTH = 8  # 01, row 3: brackets and braces open at once
 
 # RFC 3629, section 4: a character is one of these runs of byte ranges.
@@ -66,9 +71,9 @@ def characters(data):
     return "".join(out)
 
 
-def parse(text):
-    """RFC 8259, section 2: JSON-text = ws value ws."""
-    value, i = read_value(text, skip(text, 0), 0)
+def parse(text, plain=UNESCAPED):
+    """RFC 8259, section 2: JSON-text = ws value ws. `plain` is what stands unescaped in its strings."""
+    value, i = read_value(text, skip(text, 0), 0, plain)
     if skip(text, i) != len(text):
         raise NotJson
     return value
@@ -82,23 +87,23 @@ def skip(text, i):
     return SPACE.match(text, i).end()
 
 
-def read_value(text, i, depth):
+def read_value(text, i, depth, plain=UNESCAPED):
     """Section 3: a value that begins at i, with depth brackets and braces open, and the place after it."""
     first = text[i : i + 1]
     if first == '"':
-        s, i = read_string(text, i)
+        s, i = read_string(text, i, plain)
         return ("string", s), i
     if first == "[":
-        return read_items(text, i + 1, depth + 1, "array", "]", read_value)
+        return read_items(text, i + 1, depth + 1, "array", "]", read_value, plain)
     if first == "{":
-        return read_items(text, i + 1, depth + 1, "object", "}", read_member)
+        return read_items(text, i + 1, depth + 1, "object", "}", read_member, plain)
     for word in ("true", "false", "null"):
         if text.startswith(word, i):
             return ("literal", word), i + len(word)
     return read_number(text, i)
 
 
-def read_items(text, i, depth, kind, end, read_item):
+def read_items(text, i, depth, kind, end, read_item, plain):
     """Sections 4 and 5: what stands between two brackets or braces, with commas between."""
     if depth > DEPTH:
         raise NotJson
@@ -107,7 +112,7 @@ def read_items(text, i, depth, kind, end, read_item):
     if text[i : i + 1] == end:
         return (kind, items), i + 1
     while True:
-        item, i = read_item(text, i, depth)
+        item, i = read_item(text, i, depth, plain)
         items.append(item)
         i = skip(text, i)
         if text[i : i + 1] == end:
@@ -117,13 +122,13 @@ def read_items(text, i, depth, kind, end, read_item):
         i = skip(text, i + 1)
 
 
-def read_member(text, i, depth):
+def read_member(text, i, depth, plain=UNESCAPED):
     """Section 4: member = string name-separator value."""
-    name, i = read_string(text, i)
+    name, i = read_string(text, i, plain)
     i = skip(text, i)
     if text[i : i + 1] != ":":
         raise NotJson
-    value, i = read_value(text, skip(text, i + 1), depth)
+    value, i = read_value(text, skip(text, i + 1), depth, plain)
     return (name, value), i
 
 
@@ -138,12 +143,11 @@ def read_number(text, i):
     return ("number", found.group()), found.end()
 
 
-UNESCAPED = re.compile(r'[^"\\\x00-\x1f]+')
 ESCAPED = {'"': '"', "\\": "\\", "/": "/", "b": "\b", "f": "\f", "n": "\n", "r": "\r", "t": "\t"}
 FOUR_HEX = re.compile(r"[0-9A-Fa-f]{4}")
 
 
-def read_string(text, i):
+def read_string(text, i, plain=UNESCAPED):
     """Section 7: a string decoded, and the place after it."""
     if text[i : i + 1] != '"':
         raise NotJson
@@ -151,13 +155,13 @@ def read_string(text, i):
     out = []
     high = ""  # a high surrogate that was the last thing read, escaped
     while text[i : i + 1] != '"':
-        plain = UNESCAPED.match(text, i)
+        run = plain.match(text, i)
         c = ""
-        if plain:
-            out.append(plain.group())
-            i = plain.end()
+        if run:
+            out.append(run.group())
+            i = run.end()
         elif text[i : i + 1] != "\\":
-            raise NotJson  # the text's end, or a control character
+            raise NotJson  # the text's end, or a character that must be escaped
         elif text[i + 1 : i + 2] in ESCAPED:
             out.append(ESCAPED[text[i + 1]])
             i += 2
@@ -196,9 +200,9 @@ def strings(value):
             yield from strings(item)
 
 
-FORBIDDEN = re.compile("[\x00-\x07\x0b\x0e-\x1f\ud800-\udfff]")
+UNPAIRED = re.compile("[\ud800-\udfff]")
 
 
 def allowed(s):
-    """01, row 4: no unpaired surrogate, none below U+0020 other than 08, 09, 0A, 0C, 0D."""
-    return not FORBIDDEN.search(s)
+    """01, row 4, as 02, Wish 3, amends it: no unpaired surrogate."""
+    return not UNPAIRED.search(s)

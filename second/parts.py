@@ -1,10 +1,23 @@
 """What parts_cases answers: parts lent by anybody (01, rows 2 and 4 to 10), calls on numbers, texts and messages.
 
 A string part is a pair (start, length); the tags and a filter's lists and conditions are places where a JSON value
-begins. A part's faults are a set of rows; the lowest of all parts is the answer.
+begins. In the strings of both a control character that has no short escape may stand raw (02, Wish 3). A part's faults are a
+set of rows; the lowest of all parts is the answer.
 """
 
-from json_text import NotJson, NotUtf8, allowed, characters, parse, read_member, read_string, read_value, skip, strings
+from json_text import (
+    HELD,
+    NotJson,
+    NotUtf8,
+    allowed,
+    characters,
+    parse,
+    read_member,
+    read_string,
+    read_value,
+    skip,
+    strings,
+)
 from rows import (
     EVENT,
     FILTER,
@@ -42,11 +55,11 @@ def string_part(buffer, span):
         return {5}, None  # "5 also if a part lies outside its buffer"
     try:
         text = '"' + characters(buffer[start : start + length]) + '"'
-        decoded, end = read_string(text, 0)
+        decoded, end = read_string(text, 0, HELD)
     except NotUtf8:
         return {2}, None
     except NotJson:
-        return {5}, None  # "or is no RFC 8259 spelling"
+        return {5}, None  # "or is no RFC 8259 spelling", but for what may stand raw
     if end != len(text):
         return {5}, None  # a raw quote
     return (set() if allowed(decoded) else {4}), decoded
@@ -66,13 +79,13 @@ def value_part(buffer, place, form, rows_6_to_8):
     """
     try:
         bytewise = buffer[place:].decode("latin-1")
-        _, end = read_value(bytewise, 0, 0)
+        _, end = read_value(bytewise, 0, 0, HELD)
         text = characters(buffer[place : place + end])
     except NotJson:
         return {5}, None
     except NotUtf8:
         return {2}, None
-    value = parse(text)
+    value = parse(text, HELD)
     faults = set() if all(allowed(s) for s in strings(value)) else {4}
     try:
         inner = record(value, form) if isinstance(form, dict) else content(value, form)

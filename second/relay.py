@@ -10,6 +10,7 @@ import sys
 from query import answer
 from rows import (
     EVENT,
+    IN_REPLIES,
     MESSAGE_BYTES,
     STRING,
     SUB,
@@ -56,7 +57,7 @@ def reply(word, *parts):
 
 
 def string(s):
-    return spelled(s, STRING)
+    return spelled(s, STRING, IN_REPLIES)
 
 
 def notice(row):
@@ -92,7 +93,7 @@ class Relay:
         refuse_if(words == "12 refused", 12)
         if slot is not None:
             self.events[slot : slot + 1] = [event]
-            self.spelled[slot : slot + 1] = [spelled_record(event.fields, EVENT)]
+            self.spelled[slot : slot + 1] = [spelled_record(event.fields, EVENT, IN_REPLIES)]
         return words
 
     def accepted(self, message):

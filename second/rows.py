@@ -6,7 +6,7 @@ filter are dicts from field name to content: strings decoded, numbers as spelled
 
 import re
 
-from json_text import NotJson, NotUtf8, allowed, characters, parse, strings
+from json_text import HELD, UNESCAPED, NotJson, NotUtf8, allowed, characters, parse, strings
 from sha256 import sha256
 
 MESSAGE_BYTES = 8192  # row 1
@@ -64,11 +64,11 @@ def row_of(given, test):
     return 0
 
 
-def read_json(line):
-    """Rows 1 to 4: the value of a line of bytes."""
+def read_json(line, plain=UNESCAPED):
+    """Rows 1 to 4: the value of a line of bytes. `plain` is what stands unescaped in its strings."""
     refuse_if(len(line) > MESSAGE_BYTES, 1)
     try:
-        value = parse(characters(line))
+        value = parse(characters(line), plain)
     except NotUtf8:
         raise Refused(2)
     except NotJson:
@@ -197,24 +197,26 @@ def read_message(line):
 ESCAPES = str.maketrans(
     {"\n": "\\n", '"': '\\"', "\\": "\\\\", "\r": "\\r", "\t": "\\t", "\b": "\\b", "\f": "\\f"}
 )
+# 02, Wish 3: replies, to stay JSON, spell out the control characters that none of the seven is for.
+IN_REPLIES = {**{code: "\\u%04x" % code for code in range(0x20)}, **ESCAPES}
 
 
-def spelled(inner, form):
+def spelled(inner, form, escapes=ESCAPES):
     if isinstance(form, list):
-        return "[" + ",".join(spelled(one, form[0]) for one in inner) + "]"
+        return "[" + ",".join(spelled(one, form[0], escapes) for one in inner) + "]"
     if form == NUMBER:
         return str(int(inner))
-    return '"' + inner.translate(ESCAPES) + '"'
+    return '"' + inner.translate(escapes) + '"'
 
 
-def spelled_record(fields, forms):
+def spelled_record(fields, forms, escapes=ESCAPES):
     """The fields that are present, in the order of forms."""
     present = (name for name in forms if name in fields)
-    return "{" + ",".join('"%s":%s' % (name, spelled(fields[name], forms[name])) for name in present) + "}"
+    return "{" + ",".join('"%s":%s' % (name, spelled(fields[name], forms[name], escapes)) for name in present) + "}"
 
 
 def canonical(message):
-    """An accepted message in bytes."""
+    """An accepted message in bytes. Its strings stand as in the text that is hashed, so it need not be JSON."""
     parts = ['"' + message[0] + '"']
     if message[0] == "EVENT":
         parts.append(spelled_record(message[1], EVENT))
@@ -254,7 +256,7 @@ def read_text(text):
     if len(text) > TEXT_BYTES:
         return 9, None
     try:
-        items = content(read_json(text), "array")
+        items = content(read_json(text, HELD), "array")
         refuse_if(len(items) != 1 + len(IN_TEXT), 5)
         event = {name: content(item, EVENT[name]) for name, item in zip(IN_TEXT, items[1:])}
         test_parts([event], counts_of_event(event))

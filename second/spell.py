@@ -2,8 +2,13 @@
 
 HEXDIGITS = "0123456789abcdef"
 SHORT = {'"': '\\"', "\\": "\\\\", "/": "\\/", "\b": "\\b", "\f": "\\f", "\n": "\\n", "\r": "\\r", "\t": "\\t"}
+# The characters below U+0020: those with a short escape, and the 27 that stand raw in the text that is hashed (02, Wish 3).
+FIVE = "\b\t\n\f\r"
+BELOW = "".join(map(chr, range(0x20)))
+CONTROLS = "".join(c for c in BELOW if c not in FIVE)
 # One character of each kind: plain, each escape, each UTF-8 length at both ends.
 SAMPLE = 'aZ0 ~#"\\/\b\f\n\r\t\x7f\x80é\u07ff\u0800€\u2028\ud7ff\ue000\ufeff\ufffe\uffff\U00010000😀\U0010ffff'
+WIDE = SAMPLE + CONTROLS
 
 
 def raw(text):
@@ -22,9 +27,19 @@ def u_escape(rng, c):
     return "".join("\\u" + rng.choice(["%04x", "%04X"]) % unit for unit in units)
 
 
-def plain(s):
-    """A string spelled with as few escapes as RFC 8259 allows."""
+def u_escapes(c):
+    """A character below U+10000 as one \\u escape, with digits in either case."""
+    return list(dict.fromkeys(["\\u%04x" % ord(c), "\\u%04X" % ord(c)]))
+
+
+def verbatim(s):
+    """A string spelled as in the text that is hashed: seven escapes, all else raw."""
     return '"' + "".join(SHORT[c] if c in SHORT and c != "/" else c for c in s) + '"'
+
+
+def plain(s):
+    """A string spelled with as few escapes as RFC 8259 allows, and as a reply spells it."""
+    return "".join("\\u%04x" % ord(c) if c < " " else c for c in verbatim(s))
 
 
 def escaped(rng, s):
@@ -32,22 +47,22 @@ def escaped(rng, s):
     return '"' + "".join(u_escape(rng, c) for c in s) + '"'
 
 
-def spell(rng, s):
-    """A string spelled at random."""
+def spell(rng, s, lent=False):
+    """A string spelled at random; one that is lent may have control characters raw."""
     out = []
     for c in s:
         way = rng.randrange(8)
         if c in SHORT and (way < 6 or way == 6 and c != "/"):
             out.append(SHORT[c])
-        elif c < " " or way == 7:
+        elif way == 7 or c < " " and not (lent and way < 4):
             out.append(u_escape(rng, c))
         else:
             out.append(SHORT.get(c, c) if c != "/" else c)
     return '"' + "".join(out) + '"'
 
 
-def words(rng, most):
-    return "".join(rng.choice(SAMPLE) for _ in range(rng.randrange(most + 1)))
+def words(rng, most, sample=SAMPLE):
+    return "".join(rng.choice(sample) for _ in range(rng.randrange(most + 1)))
 
 
 def space(rng):
