@@ -7,7 +7,7 @@ from cases_event import KINDS, MAX_TIME, TIMES, good_events, id_of, made, text_b
 from cases_message import A, GOOD, SUB_FAULTS, event_with, many, req
 from rows import text_of
 from sha256 import sha256
-from spell import SAMPLE, damaged, escaped, hexes, plain, raw, spell
+from spell import BELOW, CONTROLS, SAMPLE, damaged, escaped, hexes, plain, raw, spell, u_escapes, verbatim
 
 TWO_64 = 2**64
 LAST = TWO_64 - 1
@@ -184,16 +184,16 @@ STRINGS = {
     2: [b"\xff", b"\x80", b"\xc0\x80", b"\xc3", b"a\xe2\x82", b"\xed\xa0\x80", b"\xf4\x90\x80\x80", b"\xf0\x9f\x98"]
     + [b'"\xff', b"\\\xff", b"\x00\xff", b"\\ud800\xff", b"\xe9"],
     4: [b"\\ud800", b"\\udc00", b"\\ud83d\\u0041", b"\\ude00\\ud83d", b"a\\uDBFF", b"\\ud83dx\\ude00", b"\\ud83d\\n"]
-    + [b"\\u%04x" % c for c in range(32) if c not in (8, 9, 10, 12, 13)]
-    + [b"\\u001F", b"\\u000B"],
-    5: [bytes([c]) for c in range(32)]
+    + [b"\\ud800\x01", b"\x1f\\udc00", b"\\ud83d\x00\\ude00", b"\\u0000\\ud800"],
+    5: [b"\x08", b"\x09", b"\x0a", b"\x0c", b"\x0d"]
     + [b'"', b'a"', b'"a', b'""', b"\\", b"a\\", b"\\\\\\", b"\\u", b"\\u1", b"\\u12", b"\\u123", b"\\U0041", b"\\x41"]
     + [b"\\u004g", b"\\u004G", b"\\u004/", b"\\u004:", b"\\u004@", b"\\u004`", b"\\u 041", b"\\\xc3\xa9", b"\\'",
         b"\\0"]
-    + [b"\\ud800\x01", b"\\u0000\x00", b'\\ud800"', b"\x1f\\udc00", b"\\ud800\\"],
+    + [b"\\ud800\x08", b"\\u0000\x0d", b'\\ud800"', b"\x0a\\udc00", b"\\ud800\\", b'\x01"', b"\x00\x0a", b"\x1f\\"],
 }
 FINE = [b"", b"\\u0008\\t\\n\\u000c\\r", b"\\/", b"\x7f", b"[", b"]", b",", b"\\uD83D\\uDE00"]
 FINE += [raw(c) for c in SAMPLE if c >= " " and c not in '"\\']
+FINE += [b"\\u0000\x00", b"\\u001F\\u000B", raw(CONTROLS), raw(CONTROLS + "\x7f") * 3]
 
 
 def string_parts():
@@ -241,20 +241,20 @@ def number_parts():
 
 TAGS = {
     2: ['[["\udcff"]]', '[["a","\udcc0\udc80"]]', '["\udcff"]', '{"\udcff":1}', '"\udcff"', '[["\udced\udca0\udc80"]]'],
-    4: ['[["\\ud800"]]', '[["a","\\u0000"]]', '["\\udc00"]', '{"\\ud800":1}', '"\\u001f"', '[[],["\\u000b"]]',
-        '[[["\\ud800"]]]'],
+    4: ['[["\\ud800"]]', '[["a","\\u0000\\udc00"]]', '["\\udc00"]', '{"\\ud800":1}', '"\x1f\\ud800"', '[[],["\\u000b\\udfff"]]',
+        '[[["\\ud800"]]]', '[["\x01","\\ud800"]]', '[["\\ud83d\x00\\ude00"]]', '{"\x00":"\\ud800"}'],
     5: [" []", "\n[]", "{}", '{"a":[]}', '"x"', "1", "-", "true", "null", "nul", "]", "[", "[[]", "[[],", "[[],]",
         "[,]"]
     + ["[1]", '["a"]', "[[1]]", '[["a",null]]', '[["a"],{}]', '[["a"],"b"]', "[[[]]]", '[["a" "b"]]', '[["a"];["b"]]']
-    + ['[["\x01"]]', '[["\n"]]', '[["a]]', '[["\\x"]]', '[["\\u12"]]', '[["\\u004g"]]', "[" * 9 + "]" * 9,
+    + ['[["\x08"]]', '[["\n"]]', '"\\u001f"', '"\x1f"', '{"\x01":"\x02"}', '[["a]]', '[["\\x"]]', '[["\\u12"]]', '[["\\u004g"]]', "[" * 9 + "]" * 9,
         "[" * 8 + "]" * 8]
     + ["[01]", "[\x0c]", "[\x00]", "[\xa0]", "\ufeff[]", '[["a"]\x0b]', "[ [ ] , 1 ]"],
-    8: ["[[]]", '[["a"],[]]', "[[] ]", "[ [ ] ]", many("[]", 65), many('["t"]', 65), many('["t"]', 300)]
+    8: ["[[]]", '[[],["\\u000b"]]', '[[],["\x0b"]]', '[["a"],[]]', "[[] ]", "[ [ ] ]", many("[]", 65), many('["t"]', 65), many('["t"]', 300)]
     + ["[%s]" % many('"s"', 17), "[%s]" % many('"s"', 100), '[["a"],%s]' % many('""', 17)],
     0: ["[]", "[ ]", "[\n]", '[["a"]]', '[\n[\t"a"\r,\n"b" ]\n,["c"]\n]\n', many('["t"]', 64), "[]]]]", "[] x",
         "[]\udcff"]
     + ["[%s]" % many('"s"', 16), many(many('""', 16), 64), '[["\\u0064","\\/"]]',
-        '[["\\u0008\\u0009\\u000a\\u000c\\u000d\x7f"]]'],
+        '[["\\u0008\\u0009\\u000a\\u000c\\u000d\x7f"]]', '[["a","\\u0000"]]', '[["\x01"]]', '[["%s","\\u001F"]]' % CONTROLS],
 }
 
 
@@ -272,7 +272,7 @@ def tag_parts():
 
 PAIR_FAULTS = [(name, row, fault) for name in STRING_PARTS for row, fault in ((2, b"\xff"), (4, b"\\ud800"), (5, b'"'))]
 PAIR_FAULTS += [(name, 7, b"A" * length) for name, length in (("id", 64), ("pubkey", 64), ("sig", 128))]
-PAIR_FAULTS += [("tags", 2, b'[["\xff"]]'), ("tags", 4, b'[["\\u0000"]]'), ("tags", 5, b'["a"]'), ("tags", 8, b"[[]]")]
+PAIR_FAULTS += [("tags", 2, b'[["\xff"]]'), ("tags", 4, b'[["\\u0000\x00\\ud800"]]'), ("tags", 5, b'["a"]'), ("tags", 8, b"[[]]")]
 PAIR_FAULTS += [("created_at", 6, MAX_TIME + 1), ("created_at", 6, -(2**63)), ("kind", 6, -1), ("kind", 6, 65536)]
 PAIR_OUTSIDE = [(name, (LAST, LAST)) for name in STRING_PARTS] + [("tags", LAST)]
 
@@ -299,20 +299,20 @@ HEXES = {
     0: [many(plain(A), 1), '[\n"%s" , "%s"\t]' % (A, "0" * 64), '["%s"]' % ("\\u0061" * 64), "[%s]]" % plain(A),
         many(plain(A), 16)],
     2: ['["\udcff"]', '"\udcff"', '["%s","\udcc3"]' % A],
-    4: ['["\\ud800"]', '["%s\\u0000"]' % A, '{"\\ud800":1}', '"\\udc00"'],
+    4: ['["\\ud800"]', '["%s\x00\\ud800"]' % A, '{"\\ud800":1}', '"\\udc00"'],
     5: ["", "{}", '"x"', "1", "null", "[1]", "[[]]", "[null]", "[%s,1]" % plain(A), "[%s" % plain(A),
         "[%s,]" % plain(A), ' ["x"]']
-    + ['["x\x01"]', '["\\x"]', "[" * 9 + "]" * 9],
-    7: ['[""]', '["%s"]' % A[1:], '["%sa"]' % A, '["%s"]' % A.upper(), '["%s",""]' % A, '["%s"]' % SIG]
+    + ['["x\x09"]', '["\\x"]', "[" * 9 + "]" * 9],
+    7: ['[""]', '["x\x01"]', '["%s\\u0000"]' % A, '["%s\x00"]' % A[1:], '["%s"]' % A[1:], '["%sa"]' % A, '["%s"]' % A.upper(), '["%s",""]' % A, '["%s"]' % SIG]
     + ['["%s"]' % (A[:-1] + c) for c in "gG/:@`"],
     8: ["[]", "[ ]", "[\n]", many(plain(A), 17)],
 }
-SEVENTEEN = {row: "[" + (plain(A) + ",") * 16 + last + "]" for row, last in {4: '"\\u0001"', 5: "{}", 7: '"g"'}.items()}
+SEVENTEEN = {row: "[" + (plain(A) + ",") * 16 + last + "]" for row, last in {4: '"\x01\\ud800"', 5: "{}", 7: '"\x01"'}.items()}
 SMALLS = {
     0: ["[0]", "[65535]", "[ 1\n,2]", many("1", 16), "[1]1"],
     2: ['["\udcff"]', '"\udcff"'],
-    4: ['["\\ud800"]', '{"\\u0000":[]}', '[1,"\\ud800"]'],
-    5: ["", "{}", '["1"]', "[null]", "1", "[1", "[01]", "[+1]", "[1.]", "[.5]", "[1,]", "[-]", "[1,[]]",
+    4: ['["\\ud800"]', '{"\\u0000\\ud800":[]}', '[1,"\x00\\ud800"]'],
+    5: ["", "{}", '{"\\u0000":[]}', '["\x01"]', '["1"]', "[null]", "1", "[1", "[01]", "[+1]", "[1.]", "[.5]", "[1,]", "[-]", "[1,[]]",
         many("1", 16)[:-1] + ",true]", " [1]"],
     6: ["[-1]", "[-0]", "[65536]", "[1.0]", "[1e3]", "[0e0]", "[1,65536]", "[99999999999999999999]",
         many("1", 16)[:-1] + ",-0]"]
@@ -326,9 +326,10 @@ CONDITIONS = {
         many('""', 16))]
     + ['{"#a":["v"],"#b":["v"],"#c":["v"],"#d":["v"]}']
     + ['{"%s":["%s"],"#E":["v"],"#P":[""]}' % (name, A) for name in ("#e", "#p", "#\\u0065", "\\u0023\\u0070")]
-    + ['{"#e":["%s"]}' % ("\\u0061" * 64), '{"#p":%s}' % many(plain(A), 16)],
+    + ['{"#e":["%s"]}' % ("\\u0061" * 64), '{"#p":%s}' % many(plain(A), 16)]
+    + ['{"#a":["\x02"]}', '{"#a":["%s","\\u0002"]}' % CONTROLS],
     2: ['{"#a":["\udcff"]}', '{"\udcff":1}', '"\udcff"', '["\udcff"]'],
-    4: ['{"#a":["\\ud800"]}', '{"\\ud800":1}', '{"x":"\\u0000"}', '["\\u0001"]', '{"#a":["v"],"#\\u0000":["v"]}'],
+    4: ['{"#a":["\\ud800"]}', '{"\\ud800":1}', '{"x":"\x00\\ud800"}', '["\x01\\udc00"]', '{"#a":["\x02"],"#\\u0000\\ud800":["v"]}'],
     5: ["", "[]", '"x"', "1", "null", "{", "}", '{"#a"}', '{"#a":}', '{"#a":[]', '{"#a":"v"}', '{"#a":[1]}',
         '{"#ab":["v"]}', '{"#":["v"]}']
     + ['{"#1":["v"]}', '{"a":["v"]}', '{"x":1}', '{"":1}', '{"#a":["v"],"#a":["v"]}', '{"#a":["v"],"#\\u0061":["w"]}',
@@ -337,7 +338,8 @@ CONDITIONS = {
         '{"limit":1,"limit":1}']
     + ['{"limit":1,"\\u006cimit":1}', '{"since":"1"}', '{"kinds":["1"]}', '{"id":["%s"]}' % A,
         '{"\\u0069d":["%s"]}' % A, '{"#a":["v"],}']
-    + ['{"#a":["v"] "#b":["v"]}', '{"#a":["\x02"]}', '{"#a":[[]]}', '{"#é":["v"]}', '{"#[":["v"]}', '{"#@":["v"]}',
+    + ['{"x":"\\u0000"}', '["\\u0001"]', '{"#a":["v"],"#\\u0000":["v"]}', '{"\x00":["v"]}', '{"#\x01":["v"]}', '{"#a\x01":["v"]}']
+    + ['{"#a":["v"] "#b":["v"]}', '{"#a":["\x0a"]}', '{"#a":[[]]}', '{"#é":["v"]}', '{"#[":["v"]}', '{"#@":["v"]}',
         '{"#`":["v"]}', '{"#{":["v"]}'],
     6: ['{"limit":-1}', '{"limit":65536}', '{"since":-0}', '{"until":1e3}', '{"kinds":[65536]}',
         '{"since":9007199254740992}', '{"#a":[],"limit":1.0}'],
@@ -395,11 +397,103 @@ def filter_parts():
                         yield (low,), filter_of(**{name: texts[1], other: other_texts[0]}).filter()
 
 
+# 02, Wish 3: control characters in lent strings, raw and spelled.
+
+
+def control_parts():
+    """Each of the 32, raw: those with a short escape are 5, the others stand for themselves; spelled, all of them do."""
+    for c in BELOW:
+        byte, bad, space = raw(c), c not in CONTROLS, c in "\t\n\r"
+        no, in_hex, beside = (5, 5, 5) if bad else (0, 7, 4)
+        yield from both(no, content=byte)
+        yield from both(no, content=b"x" + byte * 2 + b"y", tags=b'[["' + byte + b'"]]')
+        yield from both(no, tags=b'[["d","x' + byte + b'y","' + byte + b'"],["' + byte + b'"]]', kind=30000)
+        yield from both(beside, content=byte + b"\\ud800")
+        yield from both(beside, tags=b'[["\\udc00' + byte + b'"]]')
+        yield from both(5, content=byte + b'"')
+        yield from both(5, tags=b'[["' + byte + b'""]]')
+        yield from both(2, content=byte + b"\xff")
+        yield from both(in_hex, pubkey=byte + A.encode()[1:])
+        yield from both(in_hex, **{("id", "sig")[ord(c) % 2]: A.encode()[1:] + byte})
+        yield (in_hex,), filter_of(ids='["%s%s"]' % (A[1:], c)).filter()
+        yield (beside,), filter_of(authors='["%s","%s\\ud800"]' % (A, c)).filter()
+        yield (5,), filter_of(kinds='["%s"]' % c).filter()
+        yield (no,), filter_of(conditions='{"#t":["x","%sx"],"#E":["x%s"]}' % (c, c)).filter()
+        yield (in_hex,), filter_of(conditions='{"#e":["%s%s"]}' % (A[1:], c)).filter()
+        yield (beside,), filter_of(conditions='{"#t":["\\ud800","%s"]}' % c).filter()
+        for name in (c, "#" + c, "#t" + c):
+            yield (5,), filter_of(conditions='{"%s":["x"]}' % name).filter()
+        # Outside a string it is white space or nothing, and no value begins with it.
+        outside = 0 if space else 5
+        for text in ('[_["a"]]', '[["a"_]]', '[["a"],_["b"]]', "[_]"):
+            yield from both(outside, tags=raw(text.replace("_", c)))
+        for text in ('{_"#t":["a"]}', '{"#t"_:["a"]}', '{"#t":["a"_]}'):
+            yield (outside,), filter_of(conditions=text.replace("_", c)).filter()
+        yield (outside,), filter_of(kinds="[1%s]" % c).filter()
+        yield from both(5, tags=byte + b"[]")
+        yield from both(0, tags=b"[]" + byte)
+        yield (5,), filter_of(conditions=c + "{}").filter()
+        for s in map(raw, u_escapes(c)):
+            yield from both(0, content=s, tags=b'[["' + s + b'","x' + s + b'"]]')
+            yield from both(4, content=s + b"\\udfff")
+            yield (0,), spelled(b"F", b'{"#t":["' + s + b'"]}', [None] * 6 + [0])
+            if not bad:
+                yield from both(4, content=byte + s + byte, tags=b'[["' + byte + s + b'\\ud800"]]')
+
+
+def control_texts():
+    """A text that has them raw, lent again: its pubkey, tags and content as they stand there; into rooms of just its length and one less."""
+    for fields in good_events():
+        if not any(c in CONTROLS for s in [fields["content"], *sum(fields["tags"], [])] for c in s):
+            continue
+        text, end = text_of(fields), len(text_of({**fields, "content": ""})) - 2
+        tags, size = text.index(b",[") + 1, len(text) - 2 - end
+        numbers = [4, 64, int(fields["created_at"]), int(fields["kind"]), tags, end, size]
+        for room in (len(text), len(text) - 1, len(text) + 1):
+            yield (0, 0, None, 13 if room < len(text) else 0), spelled(b"B", text, numbers + [room])
+        ends = id_of(fields).encode() + SIG.encode()
+        yield (0, 0), spelled(b"E", text + ends, [len(text), 64] + numbers + [len(text) + 64, 128])
+        yield (0, 0), event_of(values_of(fields, verbatim))
+    # One byte each: 4,016 of them fill a text, raw and spelled.
+    for extra in (0, 1):
+        for c in "\x00\x01":
+            large = made(content=c * (4016 + extra))
+            for string in (plain, verbatim):
+                yield (0, 9 * extra), event_of(values_of(large, string))
+            yield (0, 9 * extra), body_of(values_of(large, verbatim), 4096 - extra)
+        large = made(tags=[["t", "\x1f" * (4016 - 8 + extra)]])
+        yield (0, 9 * extra, None, 9 if extra else 13), body_of(values_of(large, verbatim), 4095)
+        yield (0, 9 * extra), body_of(values_of(large, plain), 4096)
+
+
+def buffer_ends():
+    """A string, a list or an object that the buffer's end cuts off is none; nothing stands behind the end."""
+    for c in ("", "\x00", "\x01", "\x1f", "\x7f", "\x00\x00\x00", "x\x00", "\x00x" * 20, "x" * 31 + "\x00", "x" * 32 + "\x00"):
+        whole = A + '[["t","%s"]]' % c
+        for cut in range(7):
+            buffer = raw(whole[: len(whole) - cut])
+            yield (5, 5) if cut else (0, 0), spelled(b"B", buffer, [0, 64, 0, 1, 64, 0, 0, 200])
+        for at, whole in ((0, '["%s","%s"]' % (A, c)), (6, '{"#t":["%s"]}' % c), (6, '{"%s":1}' % c)):
+            for cut in range(6):
+                buffer = raw(whole[: len(whole) - cut])
+                places = [None] * 7
+                places[at] = 0
+                yield (5 if cut or whole[-2] == "1" else 0 if at else 7,), spelled(b"F", buffer, places)
+        # A string part may reach the end, and has no quote behind it.
+        buffer = raw(A + "[]" + c)
+        for size in range(max(len(c) - 1, 0), len(c) + 2):
+            yield (5, 5) if size > len(c) else (0, 0), spelled(b"B", buffer, [0, 64, 0, 1, 64, 66, size, 200])
+    for text in ('"', '["', '[["', '["a', '[["a"', '[["\x00', '[["a","\x00', "\x00", "[\x00", "[[\x00", '{"\x00', '{"#t":"\x00', "{\x00"):
+        yield (5, 5), spelled(b"B", raw(A + text), [0, 64, 0, 1, 64, 0, 0, 200])
+        yield (5,), spelled(b"F", raw(text), [0] + [None] * 6)
+        yield (5,), spelled(b"F", raw(text), [None] * 6 + [0])
+
+
 def random_parts(rng):
     """Good parts with a number changed by little, or a byte of the buffer damaged."""
     events = [f for f in good_events() if len(text_of(f)) < 400]
-    for _ in range(200):
-        parts = Lent(values_of(rng.choice(events), rng.choice([plain, lambda s: spell(rng, s)])))
+    for _ in range(260):
+        parts = Lent(values_of(rng.choice(events), rng.choice([plain, verbatim, lambda s: spell(rng, s, True)])))
         name = rng.choice(["id", "pubkey", "tags", "content", "sig"])
         part = parts.parts[name]
         by = rng.choice([-2, -1, 1, 2])
@@ -413,7 +507,7 @@ def random_parts(rng):
         parts.buffer = damaged(rng, parts.buffer)
         yield rng.choice([parts.event(), parts.body()])
     texts = {name: [t for row in choices.values() for t in row] for name, choices in VALUES.items()}
-    for _ in range(200):
+    for _ in range(240):
         chosen = {name: rng.choice(texts[name]) for name in rng.sample(list(texts), rng.randrange(1, 4))}
         parts = filter_of(**{name: text for name, text in chosen.items() if len(text) < 300})
         parts.buffer = damaged(rng, parts.buffer)
@@ -456,7 +550,7 @@ def messages():
             yield None, message(form % bytes([byte]))
     # Bounds of a subscription id, in characters; what a REQ and an EVENT of any row name.
     for c in ("\xff", "\u07ff", "\u0800", "\uffff", "\U00010000", "\U0010ffff", "\x7f", "\x80", "\\u00ff",
-            "\\ud83d\\ude00", "\\n"):
+            "\\ud83d\\ude00", "\\n", "\\u0000", "\\u001F"):
         for count in (1, 64, 65):
             sub = '"%s"' % (c * count)
             for row, filters in ((0, ["{}"]), (6, ['{"limit":-0}']), (7, ['{"ids":[""]}']), (8, [])):
@@ -529,6 +623,9 @@ D_TAGS = [
     [["t", "u"]] * 63 + [["d", "end"]],
     [["é", "\n"], ["d", "after"]],
     [["d", "/"]],
+    [["d", BELOW + "\x7f"]],
+    [["\x00", "x"], ["d\x00", "x"], ["d", "\x00"]],
+    [["d", "\x1f\x01"], ["d", "a"]],
 ]
 
 
@@ -542,8 +639,15 @@ def texts():
         yield (row,), spelled(b"T", raw(line[2:]), [])
     base = text_of(made(kind=30000, tags=[["d", "a\n"]], content="x"))
     for at in range(len(base)):
-        for byte in (b"\n", b"", b"\xff"):
+        for byte in (b"\n", b"", b"\xff") + (b"\x00",) * (at % 2):
             yield None, spelled(b"T", base[:at] + byte + base[at + 1 :], [])
+    for c in BELOW:
+        yield (0 if c in CONTROLS else 5,), spelled(b"T", base.replace(b'"x"', raw('"%s"' % c)), [])
+        yield (0 if c in CONTROLS else 5,), spelled(b"T", base.replace(b'"a\\', raw('"%sa\\' % c)), [])
+        yield (5,), spelled(b"T", base.replace(b'",', raw('"%s,' % c)), [])
+        for s in map(raw, u_escapes(c)):
+            yield (5,), spelled(b"T", base.replace(b'"x"', b'"' + s + b'"'), [])
+            yield (5,), spelled(b"T", base.replace(b'"a\\', b'"' + s + b"\\"), [])
     yield (5,), spelled(b"T", b"", [])
     yield (5,), spelled(b"T", base + b"\n", [])
     yield (5,), spelled(b"T", b"\n" + base, [])
@@ -585,6 +689,8 @@ def digests():
 
 def labelled():
     for part in (good_parts, outside_parts, string_parts, hex_parts, number_parts, tag_parts, pair_parts, filter_parts):
+        yield from part()
+    for part in (control_parts, control_texts, buffer_ends):
         yield from part()
     for part in (messages, orders, kinds, texts, fields, digests):
         yield from part()

@@ -5,9 +5,9 @@ from itertools import combinations, permutations, product
 
 from cases_event import MAX_TIME, id_of, made
 from cases_message import A, members, req
-from cases_table import B, FIRST, Lent, fresh, size_of, turned
+from cases_table import B, FIRST, Lent, fresh, in_capitals, size_of, turned
 from rows import LETTERS
-from spell import escaped, hexes, plain, raw, spell, words
+from spell import BELOW, CONTROLS, escaped, hexes, plain, raw, spell, u_escapes, verbatim, words
 from table import HEADER, SLOT
 
 NONE = 65535  # no slot has this number
@@ -303,6 +303,56 @@ def spellings():
     yield from asked.flush()
 
 
+def control_conditions():
+    """02, Wish 3: each control character asked for, spelled with digits in either case, and raw where the filter is lent."""
+    events = [made(A, k, 1, [tag for c in BELOW[4 * k : 4 * k + 4] for tag in (["t", c], ["t", c + "x"])], BELOW) for k in range(7)]
+    events.append(made(A, 7, 30000, [["t", c] for c in BELOW[28:]] + [["x", BELOW], ["d", "\x00\x01"]]))
+    yield from filled(8, events)
+    asked = Asked()
+    for at, c in enumerate(BELOW):
+        want = listing([at // 4])
+        for s in u_escapes(c):
+            asked.both(want, filters_of({"#t": '["no","%s"]' % s}))
+            asked.both(b"5", filters_of({"#" + s: '["x"]'}))
+            asked.req(b"7", filters_of({"#e": '["%s%s"]' % (A[1:], s)}))
+            asked.parts(b"4", filters_of({"#t": '["%s\\ud800"]' % s}))
+        asked.both(listing([]), filters_of({"#t": strings(c * 2, "\\u%04x" % at, "u%04x" % at)}))
+        if c != "\n":
+            asked.req(b"3", filters_of({"#t": '["%s"]' % c}))
+            asked.parts(want if c in CONTROLS else b"5", filters_of({"#t": '["%s"]' % c}))
+            asked.parts(b"7" if c in CONTROLS else b"5", filters_of({"ids": '["%s%s"]' % (A[1:], c)}))
+            asked.parts(b"4" if c in CONTROLS else b"5", filters_of({"#t": '["%s","\\udc00"]' % c}))
+            asked.parts(b"5", filters_of({"#t": '["x"]', "#" + c: '["x"]'}))
+        if asked.full():
+            yield from asked.flush()
+    for string in (plain, in_capitals, verbatim):
+        for value, slots in ((BELOW, [7]), (BELOW[:-1], []), (BELOW[1:], []), (BELOW + "\x00", []), (BELOW.replace("\x00", ""), [])):
+            asked.parts(listing(slots), filters_of({"#x": strings("\x01", value, string=string)}))
+            if string != verbatim:
+                asked.req(listing(slots), filters_of({"#x": strings(value, "\x00", string=string)}))
+        asked.parts(listing([7]), filters_of({"#d": strings("\x00\x01", string=string)}))
+        asked.parts(listing([]), filters_of({"#d": strings("", "\x00", "\x01", "\x00\x01\x00", string=string)}))
+        asked.parts(listing([7, 6, 5, 4]), filters_of({"#t": strings(*BELOW[16:], string=string)}))
+    yield from asked.flush()
+    # An event that is lent, and filters, each spelled in several ways.
+    rng = random.Random(9)
+    value = "\x00a" + CONTROLS + "\n\x7f"
+    near = [value[:-1], value + "\x00", value.replace("\x00", ""), value.replace("\x1f", "\\u001f"), value[::-1]]
+    ways = [plain, in_capitals, verbatim, lambda s: spell(rng, s, True)]
+    lent, lines = Lent(), []
+    for string in ways:
+        one = lent.event(made(A, 3, 1, [["t", "\x00"], ["t", value]], value), string=string)
+        for asked_string in ways:
+            for text, want in [(value, b"matches")] + [(s, b"differs") for s in near]:
+                filters = filters_of({"#t": strings("q", text, string=asked_string)})
+                lines.append((want, line(b"E", *one.numbers, 1, *filters[0].lend(lent))))
+            at = lent.add(raw(req_of(filters_of({"#t": strings(value, string=asked_string)}))))
+            want = b"matches" if {string, asked_string} <= {plain, in_capitals} else None
+            lines.append((want, line(b"W", *one.place, at, len(lent.bytes) - at - 1)))
+    yield lent.set()
+    yield from lines
+
+
 def unions():
     """Filters that overlap, each cut to its own limit first; the order is over the whole union."""
     rng = random.Random(4)
@@ -429,7 +479,8 @@ BAD_LISTS = [
     (5, "ids", "x"), (5, "ids", ""), (5, "ids", "{}"), (5, "ids", '"%s"' % A), (5, "ids", "[1]"), (5, "ids", "["),
     (7, "ids", '["a"]'), (7, "ids", '[""]'), (7, "ids", strings(A.upper())), (7, "ids", strings(A[1:])),
     (7, "ids", strings(A + "a")), (8, "ids", "[]"), (8, "ids", strings(*[A] * 17)), (7, "ids", strings(*[A] * 16, "x")),
-    (4, "ids", '["\\ud800"]'), (4, "ids", '["\\u0001"]'), (5, "ids", '["\x01"]'), (2, "ids", '["\udcff"]'),
+    (4, "ids", '["\\ud800"]'), (7, "ids", '["\\u0001"]'), (7, "ids", '["\x01"]'), (2, "ids", '["\udcff"]'),
+    (5, "ids", '["\x0d"]'), (4, "ids", '["\x01\\ud800"]'), (5, "ids", "[\x01]"), (5, "conditions", '{"#g":["\x08"]}'),
     (2, "ids", '["\udced\udca0\udc80"]'), (5, "ids", '["%s' % A), (5, "ids", '["\\x"]'), (5, "ids", '["%s",]' % A),
     (5, "ids", '[["%s"]]' % A), (5, "ids", "null"),
     (7, "authors", '["a"]'), (8, "authors", "[]"), (8, "authors", strings(*[A] * 17)), (5, "authors", "[true]"),
@@ -445,7 +496,8 @@ BAD_LISTS = [
     (7, "conditions", '{"#e":["x"]}'), (7, "conditions", '{"#p":[""],"#E":["x"]}'), (7, "conditions", '{"#p":%s}' % strings(A.upper())),
     (8, "conditions", '{"#a":["x"],"#b":["x"],"#c":["x"],"#d":["x"],"#g":["x"]}'), (4, "conditions", '{"#e":["\\udc00"]}'),
     (2, "conditions", '{"#e":["\udc80"]}'), (6, "conditions", '{"limit":-0}'), (7, "conditions", '{"ids":["x"]}'),
-    (8, "conditions", '{"kinds":[]}'), (5, "conditions", '{"since":1,"since":1}'), (4, "conditions", '{"\\u0000":1}'),
+    (8, "conditions", '{"kinds":[]}'), (5, "conditions", '{"since":1,"since":1}'), (5, "conditions", '{"\\u0000":1}'),
+    (5, "conditions", '{"\x00":1}'), (4, "conditions", '{"\x00\\ud800":1}'), (4, "conditions", '{"#g":["\x1f\\udc00"]}'),
 ]
 BAD_BOUNDS = [(6, name, value) for name in ("since", "until") for value in (MAX_TIME + 1, -MAX_TIME - 1, 2**63 - 1, -(2**63))]
 BAD_BOUNDS += [(6, "limit", value) for value in (-1, 65536, 2**32, 2**63 - 1, -(2**63))]
@@ -534,7 +586,7 @@ def hostile_events():
         yield b"%d" % row, line(b"E", *numbers, 1, *everything)
         yield b"%d" % min(row, 6), line(b"E", *numbers, 1, *wrong)
         yield b"%d" % min(row, 8), line(b"E", *numbers, 0)
-    for row, place in zip((4, 2, 8, 5, 4, 4, 2, 8, 8, 5, 5, 5, 0), places):
+    for row, place in zip((4, 2, 8, 5, 0, 4, 2, 8, 8, 5, 5, 5, 0), places):
         numbers = list(one.numbers)
         numbers[6] = place
         yield (b"%d" % row if row else b"matches"), line(b"E", *numbers, 1, *everything)
@@ -572,28 +624,29 @@ def hostile_events():
 # Generated tables and filters: few values of everything, so that filters match.
 
 FEW_TAGS = ["x", "y", "", "xy", "é", "\n", '"']
+CONTROL_TAGS = ["\x00", "\x01", "", "\x00\x00", "\x1f", "\x0b\x7f", "\\u0001", "x"]
 FEW_HEX = [A, B, H, H]
 
 
-def random_tags(rng):
+def random_tags(rng, few):
     out = []
     for _ in range(rng.choice([0, 1, 1, 2, 3, 5])):
         name = rng.choice("ggGeptd")
-        values = FEW_HEX + ["x"] if name in "ep" else FEW_TAGS
+        values = FEW_HEX + ["x"] if name in "ep" else few
         out.append([name] + [rng.choice(values) for _ in range(rng.choice([0, 1, 1, 1, 2]))])
     return out
 
 
-def random_event(rng):
+def random_event(rng, few):
     kind = rng.choice([0, 1, 1, 1, 2, 10000, 30000, 40000, 65535])
-    return made(rng.choice([A, A, B]), rng.choice([0, 1, 2, 2, -1, -7200, MAX_TIME]), kind, random_tags(rng), words(rng, 3))
+    return made(rng.choice([A, A, B]), rng.choice([0, 1, 2, 2, -1, -7200, MAX_TIME]), kind, random_tags(rng, few), words(rng, 3))
 
 
 def random_list(rng, values, string):
     return "[" + ",".join(string(rng.choice(values)) for _ in range(rng.choice([1, 1, 1, 2, 3]))) + "]"
 
 
-def random_filter(rng, events, string=plain):
+def random_filter(rng, events, string=plain, few=FEW_TAGS):
     names = rng.sample(LISTS + BOUNDS + ("#g", "#g", "#G", "#e", "#p", "#t", "#d"), rng.choice([0, 1, 1, 1, 2, 2, 3, 4]))
     fields = {}
     for name in names:
@@ -610,22 +663,29 @@ def random_filter(rng, events, string=plain):
         elif name in ("#e", "#p") and rng.randrange(10):
             fields[name] = random_list(rng, FEW_HEX, string)
         else:
-            fields[name] = random_list(rng, FEW_TAGS, string)
+            fields[name] = random_list(rng, few, string)
     return Filter(fields)
 
 
 def generated():
     rng = random.Random(8)
-    for _ in range(90):
-        events = [random_event(rng) for _ in range(rng.choice([2, 5, 8, 8, 10]))]
+    yield from tables(rng, 90, FEW_TAGS, [plain, plain, lambda s: spell(rng, s)])
+    rng = random.Random(10)
+    yield from tables(rng, 8, CONTROL_TAGS, [plain, verbatim, lambda s: spell(rng, s, True)])
+
+
+def tables(rng, count, few, ways):
+    """Of the ways to spell a string, events have the first and the last."""
+    for _ in range(count):
+        events = [random_event(rng, few) for _ in range(rng.choice([2, 5, 8, 8, 10]))]
         capacity = rng.choice([1, 3, 8, 8])
         yield from fresh(capacity, rng.choice([0, 40]))
         asked = Asked()
-        offers = [asked.lent.event(fields, string=rng.choice([plain, lambda s: spell(rng, s)])) for fields in events]
+        offers = [asked.lent.event(fields, string=rng.choice(ways[::2])) for fields in events]
         asked.lines += [(None, one.message()) for one in offers]
         for _ in range(45):
-            string = rng.choice([plain, plain, lambda s: spell(rng, s)])
-            filters = [random_filter(rng, events, string) for _ in range(rng.choice([1, 1, 1, 2, 3, 4]))]
+            string = rng.choice(ways)
+            filters = [random_filter(rng, events, string, few) for _ in range(rng.choice([1, 1, 1, 2, 3, 4]))]
             size, fill = rng.choice([8, 8, 8, 64, 2, 1]), rng.choice([NONE, NONE, 0, 1])
             way = rng.randrange(5)
             if way < 2:
@@ -644,7 +704,7 @@ def generated():
 
 def labelled():
     parts = (conditions, pairs, letters, fitting_tags, spellings, unions, equal_times, rows_of_numbers, large_table)
-    for part in parts + (unsound_tables, hostile_filters, hostile_events, generated):
+    for part in parts + (unsound_tables, hostile_filters, hostile_events, control_conditions, generated):
         yield from part()
 
 

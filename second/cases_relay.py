@@ -6,8 +6,10 @@ and how often.
 import random
 
 from cases_event import MAX_TIME, made, offer, spelled_fields
+from cases_table import in_capitals
 from cases_message import A, EVENT_FAULTS, FILTER_FAULTS, SUB_FAULTS, broken, event, random_lines, random_message, req, written
-from spell import damaged, hexes, plain, raw, spell, words
+from sha256 import sha256
+from spell import BELOW, CONTROLS, SAMPLE, WIDE, damaged, hexes, plain, raw, spell, u_escapes, words
 
 B = "b" * 64
 REASONS = {
@@ -57,9 +59,9 @@ def run(pairs, cut=0):
     return "".join(want for want, _ in pairs), cut, [fed(text) for _, text in pairs]
 
 
-def sent(fields):
+def sent(fields, sub="s"):
     """What a REQ sends of an event."""
-    return '["EVENT","s",{%s}]\n' % ",".join('"%s":%s' % pair for pair in spelled_fields(fields, plain).items())
+    return '["EVENT","%s",{%s}]\n' % (sub, ",".join('"%s":%s' % pair for pair in spelled_fields(fields, plain).items()))
 
 
 def id_in(fields):
@@ -211,15 +213,92 @@ def verdicts():
     yield run([(taken(id_in(before)), offer(before)), (eose(), req('{"since":0}')), (sent(before) + eose(), req('{"since":-1,"until":-1}'))])
 
 
+# 02, Wish 3: control characters.
+
+LONGEST = (8192 - len(offer(made()))) // 6  # so many of them, spelled, a content has in a message
+
+
+def controls():
+    """Spelled in a message in either case, they are spelled anew in each reply, with short escapes or lower-case digits."""
+    for c in BELOW + "\x7f":
+        one, said = made(kind=1, tags=[["t", c]], content="x" + c), plain(c)[1:-1]
+        for s in u_escapes(c):
+            sub = '"%s"' % s
+            asked = [
+                (taken(id_in(one)), offer(one, lambda value: '"%s"' % value.replace(c, s))),
+                (taken(id_in(one), DUPLICATE), offer(one)),
+                (sent(one, said) + eose(said), req('{"#t":["no","%s"]}' % s, sub=sub)),
+                (eose(said), req('{"#t":["%s%s","\\%s"]}' % (s, s, s), sub=sub)),
+                (closed(said, 6), req('{"limit":-1}', sub=sub)),
+                (closed(said + said, 8), req(sub='"%s%s"' % (s, s))),
+                (closed(said, 7), req('{"#e":["%s"]}' % s, sub=sub)),
+                ("", '["CLOSE",%s]' % sub),
+                (notice(5), req('{"%s":["x"]}' % s)),
+                (notice(5), '{"%s":1}' % s),
+                (notice(4), '["CLOSE","%s\\ud800"]' % s),
+            ]
+            yield run(asked, (0, 1, 7)[ord(c) % 3])
+        if c != "\n":
+            row = 3 if c < " " else 0
+            texts = [(eose(c), req("{}", sub='"%s"' % c)), ("", '["CLOSE","%s"]' % c), (taken(id_in(one)), offer(one).replace(said, c))]
+            yield run([(notice(row) if row else want, text) for want, text in texts])
+
+
+def control_replies():
+    """All of them at once; subscription ids of 64 and 65; the longest events, whose answer is longer than 65,536 bytes."""
+    said = plain(BELOW + "\x7f")[1:-1]
+    first, second = [made(created_at=time, kind=30000, tags=[["d", BELOW], ["t", BELOW + "\x7f"]], content=BELOW + "\x7f") for time in (0, 1)]
+    other = made(created_at=2, kind=30000, tags=[["d", BELOW[:-1]]])
+    yield run(
+        [
+            (taken(id_in(first)), offer(first)),
+            (sent(first, said) + eose(said), req('{"#d":[%s]}' % in_capitals(BELOW), sub='"%s"' % said)),
+            (taken(id_in(second)), offer(second, in_capitals)),
+            (taken(id_in(first), OLDER), offer(first, in_capitals)),
+            (taken(id_in(other)), offer(other)),
+            (sent(other, said) + sent(second, said) + eose(said), req("{}", sub=in_capitals(BELOW + "\x7f"))),
+            (sent(second) + eose(), req('{"#t":[%s]}' % plain(BELOW + "\x7f"))),
+            (closed(said, 6), req('{"limit":65536}', sub='"%s"' % said)),
+            (closed(said, 8), req('{"#d":[]}', sub=in_capitals(BELOW + "\x7f"))),
+        ]
+    )
+    for c in "\x00\x01\x1f\n":
+        for count in (1, 63, 64, 65):
+            sub, said = plain(c * count), plain(c * count)[1:-1]
+            asked = [(eose(said), req("{}", sub=sub)), (closed(said, 6), req('{"limit":-1}', sub=sub)), ("", '["CLOSE",%s]' % sub)]
+            over = [(notice(row), text) for row, (_, text) in zip((8, 6, 8), asked)]
+            yield run(over if count > 64 else asked)
+    # What is hashed is the text with these raw, which has a byte for each.
+    for c in "\x00\x1f":
+        for size in (4016, 4017):
+            one = made(content=c * 600 + "x" * (size - 600))
+            yield run([(taken(id_in(one)) if size == 4016 else refused(id_in(one), 9), offer(one))])
+        one = made(content=c)
+        spelled_id = sha256(('[0,"%s",0,0,[],%s]' % (A, plain(c))).encode())
+        yield run([(refused(spelled_id, 10), offer(one, id=spelled_id)), (taken(id_in(one)), offer(one))])
+    sub = plain("\x1f" * 64)
+    full = [tile(n, n, CONTROLS[n] * (LONGEST - 20)) for n in range(8)]
+    answers = [sent(fields, sub[1:-1]) for fields in reversed(full)]
+    for cut in (0, 100, 8193):
+        yield run(
+            [(taken(id_in(fields)), offer(fields)) for fields in full]
+            + [("".join(answers[:limit]) + eose(sub[1:-1]), req('{"limit":%d}' % limit, sub=sub)) for limit in (8, 1, 7)],
+            cut,
+        )
+
+
 # Random runs: events of few keys, what is asked of them, and lines that are broken in many ways.
 
+FEW_TAGS = [[], [["d"]], [["d", ""]], [["d", "a"]], [["d", "a\n"]], [["g", "x"], ["g", "y", "z"]], [["G", "x"], ["t"]],
+            [["e", A], ["e", B], ["p", A, "x"]], [["p", B], ["e", "x"], ["E", "x"]]]
+CONTROL_TAGS = [[["d", "\x00"]], [["d", "\x00\x01"]], [["g", "\x1f"], ["g", "\x0b\x7f"]], [["G", CONTROLS], ["g", "\x01"]]]
 
-def random_fields(rng):
+
+def random_fields(rng, few=FEW_TAGS, sample=SAMPLE):
     kind = rng.choice([0, 1, 1, 3, 44, 9999, 10000, 19999, 20000, 30000, 30000, 30000, 39999, 40000])
-    tags = rng.choice([[], [["d"]], [["d", ""]], [["d", "a"]], [["d", "a\n"]], [["g", "x"], ["g", "y", "z"]], [["G", "x"], ["t"]],
-                       [["e", A], ["e", B], ["p", A, "x"]], [["p", B], ["e", "x"], ["E", "x"]]])
+    tags = rng.choice(few)
     time = rng.choice([0, 0, 1, 2, -1, -7200, 1700000000, MAX_TIME, -MAX_TIME])
-    inner = rng.choice(["", "", words(rng, 6), "x" * rng.randrange(10, 60)])
+    inner = rng.choice(["", "", words(rng, 6, sample), "x" * rng.randrange(10, 60)])
     return made(rng.choice([A, A, B]), time, kind, tags, inner)
 
 
@@ -246,36 +325,37 @@ def random_filter(rng, events):
     return "{%s}" % ",".join('"%s":%s' % (name, random_condition(rng, name, events)) for name in dict.fromkeys(names))
 
 
-def random_text(rng, events, strays):
+def random_text(rng, events, strays, sample=SAMPLE):
     way = rng.randrange(20)
     if way < 9:
         string = plain if rng.randrange(4) else lambda s: spell(rng, s)
         wrong = {"id": hexes(rng, 64)} if rng.randrange(15) == 0 else {}
         return raw(offer(rng.choice(events), string, **wrong))
     if way < 16:
-        sub = rng.choice(['"s"', '"s"', spell(rng, "s" + words(rng, 3))])
+        sub = rng.choice(['"s"', '"s"', spell(rng, "s" + words(rng, 3, sample))])
         return raw(req(*[random_filter(rng, events) for _ in range(rng.choice([1, 1, 1, 2, 4]))], sub=sub))
     if way == 16:
         return damaged(rng, raw(offer(rng.choice(events))))
     if way == 17:
-        head, objects = random_message(rng)
+        head, objects = random_message(rng, sample)
         return written(rng, head, broken(rng, objects) if objects else objects)
     return rng.choice(strays)
 
 
-def random_runs(rng, count):
-    strays = [line for line in random_lines(rng) if len(line) < 400 and b"\n" not in line]
+def random_runs(rng, count, few=FEW_TAGS, sample=SAMPLE):
+    strays = [line for line in random_lines(rng, 460, sample) if len(line) < 400 and b"\n" not in line]
     for _ in range(count):
-        events = [random_fields(rng) for _ in range(rng.choice([3, 6, 12, 20]))]
-        texts = [random_text(rng, events, strays).replace(b"\n", b" ") for _ in range(rng.choice([5, 12, 25, 40]))]
+        events = [random_fields(rng, few, sample) for _ in range(rng.choice([3, 6, 12, 20]))]
+        texts = [random_text(rng, events, strays, sample).replace(b"\n", b" ") for _ in range(rng.choice([5, 12, 25, 40]))]
         last = b"LP"[rng.randrange(2) :][:1]
         yield None, rng.choice(CUTS), [b"L" + text for text in texts[:-1]] + [last + texts[-1]]
 
 
 def runs():
-    for part in (ends, long_lines, rows, verdicts):
+    for part in (ends, long_lines, rows, verdicts, controls, control_replies):
         yield from part()
     yield from random_runs(random.Random(21), 500)
+    yield from random_runs(random.Random(23), 40, FEW_TAGS + CONTROL_TAGS, WIDE)
 
 
 def lines():

@@ -1,12 +1,12 @@
 """Lines for table_cases: (answer, line), where the answer's first words are plain from how the line is made, else None."""
 
 import random
-from itertools import permutations
+from itertools import combinations, permutations
 
 from cases_event import KINDS, MAX_TIME, STARRED, id_of, made, offer, spelled_fields
 from cases_message import A, EVENT_FAULTS, event, event_with, req
 from rows import EVENT, read_text, spelled, text_of
-from spell import hexes, plain, raw, spell, words
+from spell import BELOW, CONTROLS, SAMPLE, WIDE, hexes, plain, raw, spell, verbatim, words
 from table import HEADER, SLOT, Program, event_of, held
 
 FIRST, SECOND, B = "b" * 128, "c" * 128, "b" * 64
@@ -313,7 +313,7 @@ def refusals():
     no_events = ['["CLOSE","s"]', '["CLOSE",""]', "{}", "[]", '["EVENT"]', '["EVENT",{}]', req("{}"), req('{"limit":-0}'),
         req('{"ids":[""]}'), req('{"kinds":[]}'), req(), req(*["{}"] * 5), req("{}", sub='""')]
     messages = [(5, text) for text in no_events]
-    messages += [(4, '["CLOSE","\\u0000"]'), (4, req('{"limit":-0,"#a":["\\ud800"]}')), (3, ""), (3, "[")]
+    messages += [(5, '["CLOSE","\\u0000"]'), (4, req('{"limit":-0,"#a":["\\ud800"]}')), (3, ""), (3, "[")]
     messages += [(2, '["CLOSE","\udcff"]'), (6, event_with(kind="65536")), (6, event_with(created_at="1e3"))]
     messages += [(10, event_with()), (10, offer(made(kind=20000), id=A))]
     messages += [(9, offer(made(content="x" * 4017))), (9, offer(made(content="x" * 4017), id=A))]
@@ -501,6 +501,107 @@ def slot_changes():
         yield None, line(b"H", 1)
 
 
+# 02, Wish 3: control characters.
+
+
+def in_capitals(s):
+    """A string whose escapes are all \\u, the digits in capitals."""
+    return '"' + "".join("\\u%04X" % ord(c) if c < " " or c in '"\\' else c for c in s) + '"'
+
+
+def control_events():
+    for time in (0, 1):
+        for tags in ([["d", "\x00"]], [["d", "\x01\x1f"], ["t", CONTROLS]], [["d", BELOW]]):
+            yield from (made(A, time, kind, tags, BELOW) for kind in (1, 10000, 30000))
+
+
+def one_event():
+    """One event however it is spelled; its text, raw, lent again is the event too. A message that has one raw is no JSON."""
+    rng = random.Random(12)
+    lent = Lent()
+    ways = (plain, in_capitals, lambda s: spell(rng, s), verbatim)
+    events = [made(kind=kind, tags=[["d", BELOW + "\x7f"], ["t", BELOW]], content=BELOW + "\x7f") for kind in (1, 10000, 30000)]
+    sets = [[lent.event(fields, string=string) for string in ways] for fields in events]
+    again = [lent.held(event_of(bytes.fromhex(id_of(fields)), bytes.fromhex(FIRST), fields)) for fields in events]
+    yield lent.set()
+    for (*spelled_out, verbatim_one), held_one in zip(sets, again):
+        every = spelled_out + [verbatim_one, held_one]
+        for first in [one.message() for one in spelled_out] + [one.parts() for one in every]:
+            yield from fresh(2)
+            yield STORED, first
+            yield from ((DUPLICATE, one.parts()) for one in every)
+            yield from ((DUPLICATE, one.message()) for one in spelled_out)
+            yield b"0 ", line(b"H", 0)
+            yield b"14 ", line(b"H", 1)
+        yield b"3 refused", verbatim_one.message()
+        yield b"3 refused", verbatim_one.judged()
+        yield b"sound", line(b"S")
+
+
+def control_keys():
+    """d as decoded: spelled in either case or raw it is one key; other characters make other keys."""
+    lent = Lent()
+    ways = (plain, in_capitals, verbatim)
+    sets = [[lent.event(made(kind=30000, created_at=time, tags=[["d", c]]), string=string) for time, string in enumerate(ways)]
+            for c in BELOW]
+    yield lent.set()
+    for k, (first, second, third) in enumerate(sets):
+        yield from fresh(2)
+        yield STORED, first.message()
+        yield STORED, second.message()
+        yield STORED, third.parts()
+        yield OLDER, first.parts()
+        yield b"14 ", line(b"H", 1)
+        yield STORED, sets[k ^ 1][0].message()
+        yield b"0 ", line(b"H", 0)
+        yield b"0 ", line(b"H", 1)
+    lent = Lent()
+    values = ["", "\x00", "\x01", "\x00\x01", "\x01\x00", "\\u0001", "u0001", "\x7f", "\x00" * 32, "\x00" * 33]
+    ones = [(lent.event(made(kind=30000, tags=[["d", d]])), lent.event(made(kind=30000, tags=[["d", d]]), string=verbatim)) for d in values]
+    yield lent.set()
+    for (first, _), (_, second) in combinations(ones, 2):
+        yield from fresh(2)
+        yield STORED, first.message()
+        yield STORED, second.parts()
+
+
+def control_slots():
+    """A byte of a held text made a control character: it may stand in a string, unless it has a short escape; nowhere else."""
+    lent = Lent()
+    one = lent.event(made(kind=30000, tags=[["d", "xx"], ["t", "yy"]], content="zz"))
+    zeros = lent.event(made(kind=1, content="\x00" * 40, tags=[["\x00"]]))
+    longest, again, large = [lent.event(made(content="\x01" * size), string=string)
+                             for size, string in ((4016, verbatim), (4016, plain), (4017, verbatim))]
+    yield lent.set()
+    yield from fresh(2)
+    yield STORED, one.message()
+    text = text_of(one.fields)
+    inside = [text.index(b"xx"), text.index(b"xx") + 1, text.index(b"yy"), text.index(b"zz"), text.index(b"zz") + 1]
+    outside = [0, 1, 2, 4, 67, 68, 69, 71, text.index(b"[["), text.index(b'"d"'), text.index(b'"xx"'), text.index(b'],"zz') + 1, len(text) - 1]
+    for c in BELOW:
+        for at in inside:
+            yield from turned(b"sound" if c in CONTROLS else b"unsound", HEADER + 112 + at, text[at] ^ ord(c))
+        at = outside[ord(c) % len(outside)]
+        yield from turned(b"unsound", HEADER + 112 + at, text[at] ^ ord(c))
+    for at in outside:
+        yield from turned(b"unsound", HEADER + 112 + at, text[at])
+    # Zeros in a text, and behind it; the text's length is told by its field only.
+    yield STORED, zeros.parts()
+    second, size = HEADER + SLOT, len(text_of(zeros.fields))
+    for by in (1, 2, 3, 4, 32, 64):
+        yield from turned(b"unsound", second + 106, size ^ (size - by))
+        yield from turned(b"unsound", second + 106, size ^ (size + by))
+    for at in range(size - 5, size + 2):
+        yield from turned(b"sound" if at < size - 2 else b"unsound", second + 112 + at, 1)
+    # 4,016 of them fill a text.
+    yield from fresh(1)
+    yield b"9 refused", large.parts()
+    yield b"1 refused", again.message()
+    yield STORED, longest.parts()
+    yield DUPLICATE, again.parts()
+    yield b"0 ", line(b"H", 0)
+
+
 # Lists of offers.
 
 
@@ -550,7 +651,9 @@ def exchanges():
     """Two relays: each offers, as parts, what the other holds. (lines of one relay, lines of the other.)"""
     rng = random.Random(9)
     pool = list(small_events())
-    for turn in range(24):
+    for turn in range(26):
+        if turn == 24:
+            pool = list(control_events())
         lent = Lent()
         offers = [lent.event(f, rng.choice([FIRST, SECOND])) for f in rng.sample(pool, 4)]
         offers += [lent.event(offers[0].fields, SECOND)]
@@ -582,13 +685,14 @@ def taken_over(rng, events):
 
 
 FEW_TAGS = [[], [["d"]], [["d", ""]], [["d", "a"]], [["d", "a\n"]], [["e", "x"], ["d", "a"]], [["d", "b"], ["d", "a"]]]
+CONTROL_TAGS = [[["d", "\x00"]], [["d", "\x00\x00"]], [["d", "\x1f"]], [["e", "\x0b"], ["d", "\x01"]], [["d\x00", "a"], ["d", "a\x00"]]]
 
 
-def random_event(rng, long):
+def random_event(rng, long, few=FEW_TAGS, sample=SAMPLE):
     kind = rng.choice([0, 1, 1, 3, 44, 10000, 19999, 20000, 30000, 30000, 30000, 39999, 40000])
-    tags = rng.choice(FEW_TAGS + [[["t", words(rng, 4)]]])
+    tags = rng.choice(few + [[["t", words(rng, 4, sample)]]])
     time = rng.choice([0, 1, 2, -1, -7200, MAX_TIME, -MAX_TIME])
-    inner = words(rng, 8) if not long else "x" * rng.randrange(1000, 3900)
+    inner = words(rng, 8, sample) if not long else "x" * rng.randrange(1000, 3900)
     return made(rng.choice([A, A, A, B]), time, kind, tags, rng.choice(["", "", inner]))
 
 
@@ -624,6 +728,16 @@ def random_list(rng, offers):
         yield b"sound", line(b"S")
 
 
+def control_lists(rng):
+    lent = Lent()
+    ways = (plain, in_capitals, verbatim, lambda s: spell(rng, s), lambda s: spell(rng, s, True))
+    events = [random_event(rng, False, FEW_TAGS + 2 * CONTROL_TAGS, WIDE) for _ in range(24)]
+    offers = [lent.event(fields, rng.choice([FIRST, SECOND]), rng.choice(ways)) for fields in events + events]
+    yield lent.set()
+    for _ in range(50):
+        yield from random_list(rng, offers)
+
+
 def large_lists(rng):
     """64 slots."""
     for turn in range(3):
@@ -641,13 +755,14 @@ def large_lists(rng):
 def labelled():
     for part in (formats, classes, keys, ties, signatures, full_tables, refusals):
         yield from part()
-    for part in (each_byte, header_numbers, slot_changes, orders):
+    for part in (each_byte, header_numbers, slot_changes, orders, one_event, control_keys, control_slots):
         yield from part()
     for first, second in exchanges():
         yield from first
         yield from second
     yield from random_lists(random.Random(10))
     yield from large_lists(random.Random(11))
+    yield from control_lists(random.Random(13))
 
 
 def lines():

@@ -11,7 +11,6 @@ use lib.Dec.{ltb, leb, eqb}
 use lib.ListN.{length, getD, drop, length-drop, length-append, drop-of-length-le, List·getD-eq-default}
 use lib.Seq.{drop-cons, drop-drop, drop-nil, drop-append-le, getD-drop}
 use Rattle.wire.proofs.Laws.{tests}
-use Rattle.wire.specs.Bytes.{isControl}
 use Rattle.spell.specs.declared.Char.{Char}
 use Rattle.spell.specs.Spell.{hexVal, four, isPair, unicodeOf, pairOf, fourAt, shortOf, charOf, charsFrom, chars}
 use Rattle.spell.specs.Spell.{utf8Of, charBytes, charsBytes, decode, isRefused, any}
@@ -238,8 +237,8 @@ module _ {c : Char} (s : Sized c) where
   pub code-small : c .raw ≡ false → c .code ≤ 0x10ffff
   code-small e = rw e at (s .small)
 
--- row 4, a character a turn
-pub raw-refused : (b : ℕ) → b < 0x100 → isRefused (record { code = b; raw = true; width = 1 }) ≡ isControl b
+-- row 4, a character a turn: a byte is no surrogate
+pub raw-refused : (b : ℕ) → b < 0x100 → isRefused (record { code = b; raw = true; width = 1 }) ≡ false
 unfolding isRefused
 raw-refused b h = rw (lt-leb 0xd800 b (omega arith))
 
@@ -263,19 +262,19 @@ pub choose : {A : Type 0} (P : A → Type 0) (b : Bool) {x y : A} → (b ≡ tru
 choose P true p q = p refl
 choose P false p q = q refl
 
--- a short escape is refused where its letter is a character that no string may have
+-- a short escape is never refused
 pub short-is : (p : List ℕ) (i : ℕ) → getD p i 0 ≡ 0x5c → {y : ℕ} → y ≡ getD p (i + 1) 0 → (y ≡ 0x75 → ⊥) → record { code = shortOf y; raw = true; width = 2 } ≡ charOf (drop i p)
 short-is p i s e n = char-short (drop i p) (sym (here p i) ∙ s) (there p i 1 e) _ n refl
 
-pub short-refused : (y : ℕ) → y < 0x100 → isRefused (record { code = shortOf y; raw = true; width = 2 }) ≡ isControl y
+pub short-refused : (y : ℕ) → y < 0x100 → isRefused (record { code = shortOf y; raw = true; width = 2 }) ≡ false
 unfolding isRefused shortOf
 short-refused y h =
-    let P : ℕ → Type 0 = λ n. isRefused (record { code = n; raw = true; width = 2 }) ≡ isControl y in
-    choose P (eqb y 0x62) (λ e. rw (eqb-true y 0x62 e)) (λ _.
-    choose P (eqb y 0x66) (λ e. rw (eqb-true y 0x66 e)) (λ _.
-    choose P (eqb y 0x6e) (λ e. rw (eqb-true y 0x6e e)) (λ _.
-    choose P (eqb y 0x72) (λ e. rw (eqb-true y 0x72 e)) (λ _.
-    choose P (eqb y 0x74) (λ e. rw (eqb-true y 0x74 e)) (λ _.
+    let P : ℕ → Type 0 = λ n. isRefused (record { code = n; raw = true; width = 2 }) ≡ false in
+    either P (eqb y 0x62) refl (
+    either P (eqb y 0x66) refl (
+    either P (eqb y 0x6e) refl (
+    either P (eqb y 0x72) refl (
+    either P (eqb y 0x74) refl (
     rw (lt-leb 0xd800 y (omega arith)))))))
 
 digit-few : (x : ℕ) → hexVal x ≤ 15

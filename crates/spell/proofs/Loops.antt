@@ -10,8 +10,9 @@ use borrow.Author.Tests.{eq-eqb, ne-eqb}
 use lib.Dec.{eqb, eqb·suc-suc, eqb·suc-zero}
 use lib.ListN.{length, getD, drop, length-append, length-drop}
 use lib.Seq.{drop-cons}
-use Rattle.wire.specs.Escape.{escOne, escape}
+use Rattle.wire.specs.Escape.{escOne, escape, jsonOf, controlCount}
 use Rattle.wire.proofs.Escapes.{esc-two}
+use Rattle.wire.proofs.Json.{count-cons, count-escape, none-has, json-append, json-same}
 use Rattle.wire.specs.Bytes.{sameBytes, isHex}
 use Rattle.spell.specs.Spell.{hexVal, unhex, isTail, points, all}
 
@@ -101,6 +102,26 @@ pub escape-few : (s : List ℕ) → length (escape s) ≤ 2 * length s
 unfolding escape
 escape-few [] = omega arith
 escape-few (b ∷ s) = rw (length-append (escOne b) (escape s)) (omega (arith, esc-two b, escape-few s))
+
+-- one turn of the count of control characters
+pub control-turn : {k l : List ℕ} {x : ℕ} → k ≡ x ∷ l → controlCount k ≡ controlCount (x ∷ []) + controlCount l
+control-turn {l = l} {x = x} e = rw e (count-cons x l)
+
+pub control-end : {k : List ℕ} → k ≡ [] → controlCount k ≡ 0
+unfolding controlCount
+control-end e = rw e
+
+-- one turn over what is to be escaped as in a reply
+pub json-turn : {k l : List ℕ} {x : ℕ} → k ≡ x ∷ l → jsonOf (escape k) ≡ jsonOf (escOne x) ++ jsonOf (escape l)
+json-turn {l = l} {x = x} e = ap jsonOf (escape-turn e) ∙ json-append (escOne x) (escape l)
+
+pub json-end : {k : List ℕ} → k ≡ [] → jsonOf (escape k) ≡ []
+unfolding jsonOf escape
+json-end e = rw e
+
+-- no control character: as in the text
+pub json-plain : (l : List ℕ) → controlCount l ≡ 0 → jsonOf (escape l) ≡ escape l
+json-plain l e = json-same (escape l) (none-has (escape l) (count-escape l ∙ e))
 
 -- one turn over pairs of hex digits
 module _ (s : List ℕ) (i : ℕ) where

@@ -5,7 +5,7 @@ ghost use Rattle.wire.specs.Put.{Puts};
 ghost use Rattle.wire.specs.Bytes.{sameBytes};
 ghost use Rattle.spell.specs.Spell.{unhex, isSurrogate, isRefused, refuses, decode, isTail, characterCount};
 ghost use Rattle.spell.specs.Spell.{isHexOf};
-ghost use Rattle.wire.specs.Escape.{escape};
+ghost use Rattle.wire.specs.Escape.{escape, jsonOf, controlCount};
 
 mod escapes;
 mod steps;
@@ -35,14 +35,10 @@ struct Step {
 fn is_refused(c: Char) -> bool
     ensures { λ r. ⌜ r ≡ isRefused c ⌝ }
 {
-    let code = c.code;
-    if is_surrogate(code) {
-        return true;
-    }
-    wire::is_control(code)
+    is_surrogate(c.code)
 }
 
-// Row 4: whether a spelling has a character that no string may have.
+// Row 4: whether a spelling has a character that no string may have, which only an escape with u can spell.
 pub fn refused(p: &[u8]) -> bool
     ensures { λ r. ⌜ r ≡ refuses (now (p .entry)) ⌝ }
 {
@@ -50,17 +46,11 @@ pub fn refused(p: &[u8]) -> bool
     while i < p.len() {
         let b = p[i];
         if b != b'\\' {
-            if wire::is_control(b as u32) {
-                return true;
-            }
             i += 1;
             continue;
         }
         let y = wire::byte(p, i + 1);
         if y != b'u' {
-            if wire::is_control(y as u32) {
-                return true;
-            }
             i += 2;
             continue;
         }
@@ -294,6 +284,58 @@ pub fn put_escaped(out: &mut [u8], at: usize, p: &[u8]) -> usize
         k = x.taken;
     }
     o
+}
+
+// How many control characters a spelling decodes to that none of the seven escapes is for.
+pub fn control_count(p: &[u8]) -> usize
+    ensures { λ r. ⌜ r ≡ controlCount (decode (now (p .entry))) ⌝ }
+{
+    let mut i = 0;
+    let mut k = 0;
+    let mut n: usize = 0;
+    while i < p.len() {
+        let b = p[i];
+        if b != b'\\' {
+            i += 1;
+            n += wire::one_if_control(b);
+            continue;
+        }
+        let x = steps::advance(p, i, k);
+        i = x.at;
+        k = x.taken;
+        n += wire::one_if_control(x.byte);
+    }
+    n
+}
+
+// What a spelling decodes to, escaped as in a reply, byte by byte.
+fn put_spelled(out: &mut [u8], at: usize, p: &[u8]) -> usize
+    ensures { λ r. ⌜ Puts (now (out .entry)) at (jsonOf (escape (decode (now (p .entry))))) r (now (out .exit)) ⌝ }
+{
+    if out.len() < at {
+        return out.len();
+    }
+    let mut o = at;
+    let mut i = 0;
+    let mut k = 0;
+    while i < p.len() {
+        let x = steps::advance(p, i, k);
+        o = wire::put_json_escaped_byte(out, o, x.byte);
+        i = x.at;
+        k = x.taken;
+    }
+    o
+}
+
+// What a spelling decodes to, escaped as in a reply, into `out` from `at` on; the index after it. Most strings stand
+// there as in the text that is hashed.
+pub fn put_json(out: &mut [u8], at: usize, p: &[u8]) -> usize
+    ensures { λ r. ⌜ Puts (now (out .entry)) at (jsonOf (escape (decode (now (p .entry))))) r (now (out .exit)) ⌝ }
+{
+    if control_count(p) == 0 {
+        return put_escaped(out, at, p);
+    }
+    put_spelled(out, at, p)
 }
 
 // The bytes that pairs of hex digits stand for, into `out` from `at` on; the index after them. Any other byte counts as

@@ -3,57 +3,38 @@ use mathlib.Core.Path.{_≡_, refl, sym, ap, _∙_}
 use mathlib.Core.Bool.{Bool, true, false, cond, not, _&&_, _||_, false≢true}
 use mathlib.Core.List.{List}
 use Prim.Native.Nat.{ℕ, zero, suc, _+_, _<_, _≤_}
-use native.Mathlib.Decide.{decLe, decLt}
+use native.Mathlib.Decide.{decLt}
 use native.Mathlib.Omega.{arith}
-use lib.Dec.{eqb, ltb, leb}
+use lib.Dec.{eqb, ltb}
 use lib.ListN.{length, getD, drop}
-use borrow.Author.Tests.{le-leb, lt-leb, le-ltb, ne-eqb, eqb-true, eqb-false, ltb-false}
+use borrow.Author.Tests.{ne-eqb, ltb-false}
 use Rattle.utf8.specs.Utf8.{utf8From}
 use Rattle.utf8.specs.declared.Want.the-variants.{Lead}
 use Rattle.utf8.proofs.Laws.{ascii}
-use Rattle.wire.specs.Bytes.{isControl}
 use Rattle.wire.specs.Escape.{letterOf}
-use Rattle.wire.proofs.Escapes.{allowed-escaped}
-use Rattle.text.specs.Event.{isPlainByte}
 use Rattle.text.specs.Read.{isRaw, bodyFrom}
 use Rattle.text.specs.Inner.Parts.{gotEnd, Passes, Raws}
 use Rattle.text.proofs.Ways.{body-go}
 
 -- ---- a byte that stands as it is: what the code tests, and that the string goes on after it
-raw-low : (x : ℕ) → x < 0x20 → isRaw x ≡ false
-unfolding isRaw isPlainByte
-raw-low x h = go (isControl x) refl
+pub raw-is : (x : ℕ)
+    → ((((((not (eqb x 10) && not (eqb x 34)) && not (eqb x 92)) && not (eqb x 13)) && not (eqb x 9)) && not (eqb x 8)) && not (eqb x 12)) ≡ isRaw x
+unfolding isRaw letterOf
+raw-is x = go (eqb x 10) (eqb x 34) (eqb x 92) (eqb x 13) (eqb x 9) (eqb x 8) (eqb x 12)
   where
-    go : (t : Bool) → isControl x ≡ t → (not t && eqb (letterOf x) 0) ≡ false
-    go true e = refl
-    go false e = allowed-escaped x h e
-
-raw-high : (x : ℕ) → 0x20 ≤ x → (x ≡ 34 → ⊥) → (x ≡ 92 → ⊥) → isRaw x ≡ true
-unfolding isRaw isPlainByte letterOf
-raw-high x h p q =
-    rw (
-      le-ltb x 0x20 h,
-      ne-eqb x 10 (λ e. omega arith),
-      ne-eqb x 34 p,
-      ne-eqb x 92 q,
-      ne-eqb x 13 (λ e. omega arith),
-      ne-eqb x 9 (λ e. omega arith),
-      ne-eqb x 8 (λ e. omega arith),
-      ne-eqb x 12 (λ e. omega arith),
-    )
-
-pub raw-is : (x : ℕ) → ((leb 0x20 x && not (eqb x 34)) && not (eqb x 92)) ≡ isRaw x
-unfolding isRaw isPlainByte letterOf
-raw-is x = go (decLe 0x20 x) (eqb x 34) (eqb x 92) refl refl
-  where
-    go : Dec (0x20 ≤ x) → (a b : Bool) → eqb x 34 ≡ a → eqb x 92 ≡ b → ((leb 0x20 x && not a) && not b) ≡ isRaw x
-    go (no l) a b p q = let z : ((leb 0x20 x && not a) && not b) ≡ false = rw (lt-leb 0x20 x (omega arith)) in z ∙ sym (raw-low x (omega arith))
-    go (yes l) true b p q = rw (le-leb 0x20 x l, eqb-true x 34 p)
-    go (yes l) false true p q = rw (le-leb 0x20 x l, eqb-true x 92 q)
-    go (yes l) false false p q = let z : ((leb 0x20 x && not false) && not false) ≡ true = rw (le-leb 0x20 x l) in z ∙ sym (raw-high x l (eqb-false x 34 p) (eqb-false x 92 q))
+    go : (n q s r t b f : Bool) → ((((((not n && not q) && not s) && not r) && not t) && not b) && not f)
+        ≡ eqb (cond n 110 (cond q 34 (cond s 92 (cond r 114 (cond t 116 (cond b 98 (cond f 102 0))))))) 0
+    go true q s r t b f = refl
+    go false true s r t b f = refl
+    go false false true r t b f = refl
+    go false false false true t b f = refl
+    go false false false false true b f = refl
+    go false false false false false true f = refl
+    go false false false false false false true = refl
+    go false false false false false false false = refl
 
 plain : (x : ℕ) → isRaw x ≡ true → (x ≡ 34 → ⊥) × (x ≡ 92 → ⊥)
-unfolding isRaw isPlainByte letterOf
+unfolding isRaw letterOf
 plain x e = (λ q. false≢true (rw q at e), λ q. false≢true (rw q at e))
 
 pass : (s : List ℕ) (i n : ℕ) → i + n ≤ length s → ((j : ℕ) → j < n → isRaw (getD s (i + j) 0) ≡ true)

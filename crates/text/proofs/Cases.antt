@@ -13,11 +13,10 @@ use Rattle.numeral.specs.Decimal.{digitsIn, digits, decimal}
 use Rattle.numeral.specs.Whole.{isWithin}
 use Rattle.utf8.specs.Utf8.{isUtf8, utf8From, leadOf}
 use Rattle.text.specs.Event.{Tag, Event, quoted, membersText, tagText, tagsText, serialise, all, isPubkey, isTime}
-use Rattle.text.specs.Event.{isPlainByte, isStringBytes, isTag, isTags, isFit}
+use Rattle.text.specs.Event.{isStringBytes, isTag, isTags, isFit}
 use Rattle.text.specs.Read.{tooLarge, read, readText}
 use Rattle.text.specs.Kinds.{classOf, dOf, addressable, keyOf}
 use Rattle.text.specs.declared.Class.the-variants.{Regular, Replaceable, Ephemeral, Addressable}
-use Rattle.text.proofs.Pieces.{and-true}
 use Rattle.text.proofs.RoundTrip.{read-back, too-large, fit-length}
 
 -- 64 times a
@@ -39,7 +38,7 @@ abbrev pub xs : ℕ → Event
 xs n = record { pubkey = A; time = pos 0; kind = 0; tags = []; content = replicate n 120 }
 
 pub one-text : (serialise one ≡ oneText) × (length oneText ≡ 100) × (isFit one ≡ true)
-unfolding letterOf escOne escape digitsIn digits decimal quoted membersText tagText tagsText serialise all isHex isPubkey isTime isPlainByte isStringBytes isTag isTags isFit isWithin isUtf8 utf8From leadOf
+unfolding letterOf escOne escape digitsIn digits decimal quoted membersText tagText tagsText serialise all isHex isPubkey isTime isStringBytes isTag isTags isFit isWithin isUtf8 utf8From leadOf
 one-text = (refl, refl, refl)
 
 pub one-read : readText oneText ≡ read one
@@ -51,11 +50,6 @@ unfolding escape escOne letterOf
 escape-xs zero = refl
 escape-xs (suc n) = ap (_∷_ 120) (escape-xs n)
 
-plain-xs : (n : ℕ) → all isPlainByte (replicate n 120) ≡ true
-unfolding all isPlainByte
-plain-xs zero = refl
-plain-xs (suc n) = plain-xs n
-
 utf8-xs : (n : ℕ) → isUtf8 (replicate n 120) ≡ true
 unfolding isUtf8 utf8From leadOf
 utf8-xs zero = refl
@@ -63,7 +57,7 @@ utf8-xs (suc n) = utf8-xs n
 
 fit-xs : (n : ℕ) → isFit (xs n) ≡ true
 unfolding isFit isHex isPubkey isTime isWithin isTags isStringBytes all
-fit-xs n = and-true (all isPlainByte (replicate n 120)) (isUtf8 (replicate n 120)) (plain-xs n) (utf8-xs n)
+fit-xs n = utf8-xs n
 
 pub xs-length : (n : ℕ) → length (serialise (xs n)) ≡ 80 + n
 unfolding digitsIn digits decimal tagsText membersText

@@ -5,13 +5,13 @@ use mathlib.Core.Bool.{Bool, true, false, cond, _&&_, and-true, and-false, false
 use mathlib.Core.List.{List, [], _∷_, _++_, append-assoc}
 use Prim.Native.Nat.{ℕ, _+_, _-_, _<_, _≤_}
 use native.Mathlib.Omega.{arith}
-use lib.Dec.{eqb, leb}
+use lib.Dec.{eqb}
 use lib.ListN.{length, getD, drop}
 use lib.Seq.{drop-drop}
 use borrow.Author.Tests.{ne-eqb, eqb-true}
 use Rattle.wire.specs.Escape.{letterOf, escOne, escape}
-use Rattle.wire.specs.Limits.{mostTags, mostStrings}
-use Rattle.text.specs.Event.{Tag, quoted, membersText, tagText, isPlainByte, all, isStringBytes, isTag}
+use Rattle.wire.specs.Limits.{mostTags}
+use Rattle.text.specs.Event.{Tag, quoted, membersText, tagText, isTag}
 use Rattle.text.specs.Read.{Got, none, got, standsAt, bodyFrom, cons, textMembersAt, tagAt, tagsAt}
 use Rattle.text.specs.Kinds.{isNamedD, second}
 use Rattle.text.specs.Answer.{spanBehind, dSpan}
@@ -20,7 +20,7 @@ use Rattle.text.specs.declared.Out.the-variants.{End, Bad}
 use Rattle.text.specs.declared.Found.{Found}
 use Rattle.text.specs.declared.Found.the-variants as found
 use Rattle.text.specs.declared.Tagged.the-variants as tagged
-use Rattle.text.proofs.Pieces.{both, first-of}
+use Rattle.text.proofs.Pieces.{first-of}
 use Rattle.text.proofs.Strings.{Seven, bs, tab, lf, ff, cr, quote, slash, other, seven, body-back}
 use Rattle.text.proofs.Lists.{tag-exact}
 use Rattle.text.proofs.Ways.{members-out, members-bad, members-more, members-done, members-wrong, end-bad}
@@ -107,32 +107,23 @@ data Second (s : List ℕ) (b : ℕ) (t : Tag) : Bool → Type 0 where
   present : (w : List ℕ) → second t ≡ w → bodyFrom false (b + 2) (drop (b + 2) s) ≡ got w (b + 2 + length (escape w) + 1) → Second s b t true
 
 module _ (s : List ℕ) (i n : ℕ) where
-  after-name : (t : Tag) → drop i s ≡ tagText ((100 ∷ []) ∷ t) ++ drop n s → all isStringBytes t ≡ true → Second s (i + 4) ((100 ∷ []) ∷ t) (standsAt s (44 ∷ 34 ∷ []) (i + 4))
-  unfolding tagText escape escOne letterOf all isStringBytes
-  after-name t e f = go t f (sym (drop-drop 4 i s) ∙ ap (drop 4) (e ∙ ap (_∷_ 91) (members-begin (100 ∷ []) t (drop n s))))
+  after-name : (t : Tag) → drop i s ≡ tagText ((100 ∷ []) ∷ t) ++ drop n s → Second s (i + 4) ((100 ∷ []) ∷ t) (standsAt s (44 ∷ 34 ∷ []) (i + 4))
+  unfolding tagText escape escOne letterOf
+  after-name t e = go t (sym (drop-drop 4 i s) ∙ ap (drop 4) (e ∙ ap (_∷_ 91) (members-begin (100 ∷ []) t (drop n s))))
     where
-      go : (t : Tag) → all isStringBytes t ≡ true → drop (i + 4) s ≡ after t ++ drop n s → Second s (i + 4) ((100 ∷ []) ∷ t) (standsAt s (44 ∷ 34 ∷ []) (i + 4))
-      go [] f h = rw (stands-begins s (44 ∷ 34 ∷ []) (i + 4) (93 ∷ drop n s) h) (absent refl)
-      go (w ∷ t) f h =
+      go : (t : Tag) → drop (i + 4) s ≡ after t ++ drop n s → Second s (i + 4) ((100 ∷ []) ∷ t) (standsAt s (44 ∷ 34 ∷ []) (i + 4))
+      go [] h = rw (stands-begins s (44 ∷ 34 ∷ []) (i + 4) (93 ∷ drop n s) h) (absent refl)
+      go (w ∷ t) h =
           let r : List ℕ = after t ++ drop n s in
           let l : drop (i + 4) s ≡ 44 ∷ 34 ∷ (escape w ++ (34 ∷ r)) = h ∙ ap (_∷_ 44) (members-begin w t (drop n s)) in
           let b : drop (i + 4 + 2) s ≡ escape w ++ (34 ∷ r) = sym (drop-drop 2 (i + 4) s) ∙ ap (drop 2) l in
-          let g = both (isStringBytes w) (all isStringBytes t) f in
-          rw (stands-begins s (44 ∷ 34 ∷ []) (i + 4) (44 ∷ 34 ∷ (escape w ++ (34 ∷ r))) l)
-          (present w refl (rw b (body-back w r (i + 4 + 2) (both (all isPlainByte w) _ (g .0) .0))))
+          rw (stands-begins s (44 ∷ 34 ∷ []) (i + 4) (44 ∷ 34 ∷ (escape w ++ (34 ∷ r))) l) (present w refl (rw b (body-back w r (i + 4 + 2))))
 
   second-told : (t : Tag) → tagAt s i ≡ got t n → isNamedD t ≡ true → Second s (i + 4) t (standsAt s (44 ∷ 34 ∷ []) (i + 4))
-  unfolding isTag all
   second-told [] e d = absurd (false≢true d)
   second-told ([] ∷ t) e d = absurd (false≢true d)
   second-told ((x ∷ y ∷ l) ∷ t) e d = absurd (false≢true d)
-  second-told ((x ∷ []) ∷ t) e d =
-      let z = eqb-true x 100 d in
-      let a = tag-exact s .same i ((100 ∷ []) ∷ t) n (rw z at e) in
-      let l = length ((100 ∷ []) ∷ t) in
-      let g = both (leb 1 l) (leb l mostStrings && (isStringBytes (100 ∷ []) && all isStringBytes t)) (a .fine) in
-      let f = both (leb l mostStrings) (isStringBytes (100 ∷ []) && all isStringBytes t) (g .1) in
-      rw z (after-name t (a .is .is) (both (isStringBytes (100 ∷ [])) (all isStringBytes t) (f .1) .1))
+  second-told ((x ∷ []) ∷ t) e d = let z = eqb-true x 100 d in rw z (after-name t (tag-exact s .same i ((100 ∷ []) ∷ t) n (rw z at e) .is .is))
 
 -- ---- the ways out of `second_at`
 span-none : (j : ℕ) (l : List ℕ) → length l ≡ 0 → found.At 0 0 ≡ foundOf (spanBehind j l)

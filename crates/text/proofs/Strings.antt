@@ -1,7 +1,7 @@
 -- A string: what is read is what was written, and the other way round. The seven escapes by a view, an eighth case for
 -- all other bytes.
 use mathlib.Core.Path.{_≡_, refl, sym, ap, _∙_}
-use mathlib.Core.Bool.{Bool, true, false, cond, _&&_}
+use mathlib.Core.Bool.{Bool, true, false, cond}
 use mathlib.Core.List.{List, [], _∷_, _++_, append-assoc}
 use Prim.Native.Nat.{ℕ, suc, _+_, _<_}
 use native.Mathlib.Omega.{arith}
@@ -12,10 +12,10 @@ use Rattle.utf8.specs.Utf8.{isUtf8, utf8From, nextWant}
 use Rattle.utf8.specs.declared.Want.{Want}
 use Rattle.utf8.proofs.States.{Reached, lead-reached, next-reached, low-next, low-stuck, utf8-cut}
 use Rattle.wire.specs.Escape.{letterOf, escOne, escape}
-use Rattle.text.specs.Event.{quoted, isPlainByte, all, isStringBytes}
+use Rattle.text.specs.Event.{quoted, isStringBytes}
 use Rattle.text.specs.declared.Move.the-variants.{Go, Stop, Refuse}
 use Rattle.text.specs.Read.{Got, none, got, escapedByte, isRaw, pushBytes, bodyFrom, checked, stringAt}
-use Rattle.text.proofs.Pieces.{Spelt, Piece, Exact, both, and-true, spelt, join, byte-is, byte-at, tail}
+use Rattle.text.proofs.Pieces.{Spelt, Piece, Exact, spelt, join, byte-is, byte-at, tail}
 
 -- the seven bytes that have an escape, each with its letter, and the others
 pub data Seven : ℕ → ℕ → Type 0 where
@@ -60,15 +60,15 @@ lettered c =
     (pick-letter cr (λ e. omega arith)
     (pick-letter tab (λ e. omega arith) (pick-letter bs (λ e. omega arith) (pick-letter ff (λ e. omega arith) no-letter))))))
 
-known : {b c : ℕ} → Seven b c → (c ≡ 0 → ⊥) → (c ≡ letterOf b) × (eqb b 0 ≡ false) × (isPlainByte b ≡ true)
-unfolding letterOf isPlainByte
-known bs ne = (refl, refl, refl)
-known tab ne = (refl, refl, refl)
-known lf ne = (refl, refl, refl)
-known ff ne = (refl, refl, refl)
-known cr ne = (refl, refl, refl)
-known quote ne = (refl, refl, refl)
-known slash ne = (refl, refl, refl)
+known : {b c : ℕ} → Seven b c → (c ≡ 0 → ⊥) → (c ≡ letterOf b) × (eqb b 0 ≡ false)
+unfolding letterOf
+known bs ne = (refl, refl)
+known tab ne = (refl, refl)
+known lf ne = (refl, refl)
+known ff ne = (refl, refl)
+known cr ne = (refl, refl)
+known quote ne = (refl, refl)
+known slash ne = (refl, refl)
 known (other p q) ne = absurd (ne refl)
 
 -- ---- written, then read
@@ -80,32 +80,30 @@ module _ (i : ℕ) (l : List ℕ) where
   two : (b : ℕ) → pushBytes [] (pushBytes (b ∷ []) (bodyFrom false (i + 1 + 1) l)) ≡ pushBytes (b ∷ []) (bodyFrom false (i + 2) l)
   two b = let e : i + 1 + 1 ≡ i + 2 = omega arith in push-nil (pushBytes (b ∷ []) (bodyFrom false (i + 1 + 1) l)) ∙ rw e
 
-  one-back : (b k : ℕ) → Seven b k → k ≡ letterOf b → isPlainByte b ≡ true
+  one-back : (b k : ℕ) → Seven b k → k ≡ letterOf b
       → bodyFrom false i (cond (eqb k 0) (b ∷ []) (92 ∷ k ∷ []) ++ l) ≡ pushBytes (b ∷ []) (bodyFrom false (i + length (cond (eqb k 0) (b ∷ []) (92 ∷ k ∷ []))) l)
   unfolding bodyFrom escapedByte isRaw
-  one-back b k bs z h = two 8
-  one-back b k tab z h = two 9
-  one-back b k lf z h = two 10
-  one-back b k ff z h = two 12
-  one-back b k cr z h = two 13
-  one-back b k quote z h = two 34
-  one-back b k slash z h = two 92
-  one-back b k (other p q) z h = rw (bodyFrom, ne-eqb b 34 p, ne-eqb b 92 q, h, ← z, ne-eqb b 92 q)
+  one-back b k bs z = two 8
+  one-back b k tab z = two 9
+  one-back b k lf z = two 10
+  one-back b k ff z = two 12
+  one-back b k cr z = two 13
+  one-back b k quote z = two 34
+  one-back b k slash z = two 92
+  one-back b k (other p q) z = rw (bodyFrom, ne-eqb b 34 p, ne-eqb b 92 q, ← z, ne-eqb b 92 q)
 
-pub body-back : (v r : List ℕ) (i : ℕ) → all isPlainByte v ≡ true → bodyFrom false i (escape v ++ (34 ∷ r)) ≡ got v (i + length (escape v) + 1)
-unfolding bodyFrom escape escOne all
-body-back [] r i h = ap (got []) (let e : i + 1 ≡ i + 0 + 1 = omega arith in e)
-body-back (b ∷ v) r i h =
-    let hh = both (isPlainByte b) (all isPlainByte v) h in
+pub body-back : (v r : List ℕ) (i : ℕ) → bodyFrom false i (escape v ++ (34 ∷ r)) ≡ got v (i + length (escape v) + 1)
+unfolding bodyFrom escape escOne
+body-back [] r i = ap (got []) (let e : i + 1 ≡ i + 0 + 1 = omega arith in e)
+body-back (b ∷ v) r i =
     let z : i + length (escOne b) + length (escape v) + 1 ≡ i + length (escOne b ++ escape v) + 1 = rw length-append (omega arith) in
     rw append-assoc
-    (one-back i (escape v ++ (34 ∷ r)) b (letterOf b) (seven b) refl (hh .0)
-    ∙ ap (pushBytes (b ∷ [])) (body-back v r (i + length (escOne b)) (hh .1)) ∙ ap (got (b ∷ v)) z)
+    (one-back i (escape v ++ (34 ∷ r)) b (letterOf b) (seven b) refl ∙ ap (pushBytes (b ∷ [])) (body-back v r (i + length (escOne b))) ∙ ap (got (b ∷ v)) z)
 
-pub escape-once : (u v : List ℕ) → all isPlainByte u ≡ true → all isPlainByte v ≡ true → escape u ≡ escape v → u ≡ v
-escape-once u v f g e =
+pub escape-once : (u v : List ℕ) → escape u ≡ escape v → u ≡ v
+escape-once u v e =
     let z : got u (0 + length (escape u) + 1) ≡ got v (0 + length (escape v) + 1) =
-    sym (body-back u [] 0 f) ∙ ap (λ (l : List ℕ). bodyFrom false 0 (l ++ (34 ∷ []))) e ∙ body-back v [] 0 g in
+    sym (body-back u [] 0) ∙ ap (λ (l : List ℕ). bodyFrom false 0 (l ++ (34 ∷ []))) e ∙ body-back v [] 0 in
     cc
 
 -- ---- read, then written
@@ -126,17 +124,15 @@ record Body (e : Bool) (i : ℕ) (l v : List ℕ) (n : ℕ) : Type 0 where
   rest : List ℕ
   is : lead e ++ l ≡ escape v ++ (34 ∷ rest)
   end : n + length rest ≡ i + length l
-  fine : all isPlainByte v ≡ true
 
 -- one byte more: k is its letter, and how it is spelt ends with x
 more : {e : Bool} {i : ℕ} {x : ℕ} {l w : List ℕ} {n : ℕ} (b k : ℕ) → k ≡ letterOf b → lead e ++ (x ∷ []) ≡ cond (eqb k 0) (b ∷ []) (92 ∷ k ∷ [])
-    → isPlainByte b ≡ true → Body false (i + 1) l w n → Body e i (x ∷ l) (b ∷ w) n
-unfolding escape escOne all
-more {e} {i} {x} {l} {w} {n} b k ke p f a = record {
+    → Body false (i + 1) l w n → Body e i (x ∷ l) (b ∷ w) n
+unfolding escape escOne
+more {e} {i} {x} {l} {w} {n} b k ke p a = record {
   rest = a .rest;
   is = sym (append-assoc (lead e) (x ∷ []) l) ∙ rw (p, ke, a .is) (sym (append-assoc (escOne b) (escape w) (34 ∷ a .rest)));
   end = omega (arith, a .end);
-  fine = and-true (isPlainByte b) (all isPlainByte w) f (a .fine);
 }
 
 module _ (x i : ℕ) (l v : List ℕ) (n : ℕ) (ih : (f : Bool) (w : List ℕ) (m : ℕ) → bodyFrom f (i + 1) l ≡ got w m → Body f (i + 1) l w m) where
@@ -147,29 +143,28 @@ module _ (x i : ℕ) (l v : List ℕ) (n : ℕ) (ih : (f : Bool) (w : List ℕ) 
   after b (letter s ne) q =
       let k = known s ne in
       let u = unpush (b ∷ []) (bodyFrom false (i + 1) l) v n (rw (k .1) at q) in
-      rw (u .is) (more b x (k .0) (rw (ne-eqb x 0 ne)) (k .2) (ih false (u .rest) n (u .was)))
+      rw (u .is) (more b x (k .0) (rw (ne-eqb x 0 ne)) (ih false (u .rest) n (u .was)))
 
-  raw : (a b : Bool) → isPlainByte x ≡ a → eqb (letterOf x) 0 ≡ b
-      → (elim (cond (a && b) (Go false) Refuse) as (λ _. Got (List ℕ)) [ Go f ↦ pushBytes (x ∷ []) (bodyFrom f (i + 1) l) | Stop ↦ got [] (i + 1) | Refuse ↦ none ]) ≡ got v n
+  raw : (b : Bool) → eqb (letterOf x) 0 ≡ b
+      → (elim (cond b (Go false) Refuse) as (λ _. Got (List ℕ)) [ Go f ↦ pushBytes (x ∷ []) (bodyFrom f (i + 1) l) | Stop ↦ got [] (i + 1) | Refuse ↦ none ]) ≡ got v n
       → Body false i (x ∷ l) v n
-  raw false b ea eb q = absurd (let z : _≡_ {A = ℕ} 0 1 = cc in omega arith)
-  raw true false ea eb q = absurd (let z : _≡_ {A = ℕ} 0 1 = cc in omega arith)
-  raw true true ea eb q =
+  raw false e q = absurd (let z : _≡_ {A = ℕ} 0 1 = cc in omega arith)
+  raw true e q =
       let u = unpush (x ∷ []) (bodyFrom false (i + 1) l) v n q in
-      rw (u .is) (more x 0 (sym (eqb-true (letterOf x) 0 eb)) refl ea (ih false (u .rest) n (u .was)))
+      rw (u .is) (more x 0 (sym (eqb-true (letterOf x) 0 e)) refl (ih false (u .rest) n (u .was)))
 
   plain : (a c : Bool) → eqb x 34 ≡ a → eqb x 92 ≡ c
       → (elim (cond a Stop (cond c (Go true) (cond (isRaw x) (Go false) Refuse))) as (λ _. Got (List ℕ)) [ Go f ↦ pushBytes (cond c [] (x ∷ [])) (bodyFrom f (i + 1) l) | Stop ↦ got [] (i + 1) | Refuse ↦ none ]) ≡ got v n
       → Body false i (x ∷ l) v n
-  unfolding escape all isRaw
+  unfolding escape isRaw
   plain true c ea ec q =
       let zv : v ≡ [] = cc in
       let zn : n ≡ i + 1 = cc in
-      rw zv (record { rest = l; is = rw (eqb-true x 34 ea); end = omega arith; fine = refl })
+      rw zv (record { rest = l; is = rw (eqb-true x 34 ea); end = omega arith })
   plain false true ea ec q =
       let a = ih true v n (sym (push-nil (bodyFrom true (i + 1) l)) ∙ q) in
-      record { rest = a .rest; is = rw (eqb-true x 92 ec) (a .is); end = omega (arith, a .end); fine = a .fine }
-  plain false false ea ec q = raw (isPlainByte x) (eqb (letterOf x) 0) refl refl q
+      record { rest = a .rest; is = rw (eqb-true x 92 ec) (a .is); end = omega (arith, a .end) }
+  plain false false ea ec q = raw (eqb (letterOf x) 0) refl q
 
 body-same : (l : List ℕ) (e : Bool) (i : ℕ) (v : List ℕ) (n : ℕ) → bodyFrom e i l ≡ got v n → Body e i l v n
 unfolding bodyFrom
@@ -240,18 +235,17 @@ string-same s at v n q = go (eqb (getD s at 0) 34) refl q
         let u = unchecked (bodyFrom false (at + 1) (drop (at + 1) s)) v n q in
         record {
           is = join {p = 34 ∷ []} (byte-at s at 34 (omega arith) (eqb-true (getD s at 0) 34 e)) (body-spelt s (at + 1) v n (u .0));
-          fine = and-true (all isPlainByte v) (isUtf8 v) (body-same (drop (at + 1) s) false (at + 1) v n (u .0) .fine) (u .1);
+          fine = u .1;
         }
     go false e q = absurd (let z : _≡_ {A = ℕ} 0 1 = cc in omega arith)
 
 string-back : (s : List ℕ) (at : ℕ) (v : List ℕ) (n : ℕ) → String s at v n → stringAt s at ≡ got v n
 unfolding stringAt quoted isStringBytes
 string-back s at v n a =
-    let h = both (all isPlainByte v) (isUtf8 v) (a .fine) in
     let b = tail (a .is) in
     let e : drop (at + 1) s ≡ escape v ++ (34 ∷ drop n s) = b .is ∙ append-assoc (escape v) (34 ∷ []) (drop n s) in
     let z : at + 1 + length (escape v) + 1 ≡ n = omega (arith, b .end, length-append (escape v) (34 ∷ [])) in
-    rw (eq-eqb (getD s at 0) 34 (byte-is (a .is)), e, body-back v (drop n s) (at + 1) (h .0), h .1, z)
+    rw (eq-eqb (getD s at 0) 34 (byte-is (a .is)), e, body-back v (drop n s) (at + 1), a .fine, z)
 
 pub string-exact : (s : List ℕ) → Exact quoted isStringBytes s (stringAt s)
 string-exact s = record { same = string-same s; back = string-back s }

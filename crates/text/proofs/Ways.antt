@@ -106,7 +106,8 @@ module _ (e : Bool) (s : List ℕ) (i : ℕ) where
     unfolding bodyFrom
     body-refuse q = rw (drop-cons s i 0, bodyFrom, q)
 
--- by the bytes themselves: a backslash and its letter, the closing quote, a control, and a byte that stands as it is
+-- by the bytes themselves: a backslash and its letter, the closing quote, a byte that stands only escaped, and one that
+-- stands as it is
 module _ (s : List ℕ) (i : ℕ) (h : i < length s) where
   module _ (e : getD s i 0 ≡ 92) {c : ℕ} {t : Bool} (l : c ≡ getD s (i + 1) 0) (k : t ≡ isLetter c) where
     slashed : gotEnd (bodyFrom false i (drop i s)) ≡ gotEnd (bodyFrom true (i + 1) (drop (i + 1) s))

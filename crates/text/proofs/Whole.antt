@@ -18,7 +18,7 @@ use Rattle.wire.specs.Limits.{mostText, hexLength, mostTags, mostStrings}
 use Rattle.numeral.specs.Decimal.{digits, decimal}
 use Rattle.numeral.proofs.Digits.{digits-one, digits-split, by-digits}
 use Rattle.text.specs.Event.{Tag, Event, quoted, membersText, tagText, tagsText, opening, closing, comma, bracket}
-use Rattle.text.specs.Event.{serialise, all, isPlainByte, isPubkey, isStringBytes, isTag, isTags, isFit}
+use Rattle.text.specs.Event.{serialise, all, isPubkey, isStringBytes, isTag, isTags, isFit}
 use Rattle.text.specs.Read.{wrongShape, readText}
 use Rattle.text.specs.Answer.{textAnswerOf, textNumber, textReadRow}
 use Rattle.text.specs.declared.TextAnswer.the-variants as answer
@@ -55,7 +55,7 @@ string : (v : List ℕ) → isStringBytes v ≡ true → Whole (quoted v)
 unfolding quoted isStringBytes isUtf8
 string v h =
     low 34 (escape v ++ (34 ∷ [])) (omega arith)
-    (two (escape v) (34 ∷ []) (record { on = λ r. from (escape v) Lead r (utf8-escape v ∙ both (all isPlainByte v) (isUtf8 v) h .1) }) (one 34 (omega arith)))
+    (two (escape v) (34 ∷ []) (record { on = λ r. from (escape v) Lead r (utf8-escape v ∙ h) }) (one 34 (omega arith)))
 
 members : {A : Type 0} (print : A → List ℕ) (ok : A → Bool) → ((x : A) → ok x ≡ true → Whole (print x)) → (xs : List A) → all ok xs ≡ true → Whole (membersText print xs)
 unfolding membersText all

@@ -34,11 +34,18 @@ pub(crate) fn is_letter(c: u8) -> bool
             | ((c == b'\\') | ((c == b'r') | ((c == b't') | ((c == b'b') | (c == b'f'))))))
 }
 
-// Whether a byte of a string stands as it is.
+// Whether a byte of a string stands as it is: it is none of the seven that have an escape. All seven are tested, with
+// no branch.
 pub(crate) fn is_raw(x: u8) -> bool
     ensures { λ r. ⌜ r ≡ isRaw x ⌝ }
 {
-    (0x20 <= x) & (x != b'"') & (x != b'\\')
+    (x != b'\n')
+        & (x != b'"')
+        & (x != b'\\')
+        & (x != b'\r')
+        & (x != b'\t')
+        & (x != 0x08)
+        & (x != 0x0c)
 }
 
 pub(crate) fn lesser(a: u8, b: u8) -> u8

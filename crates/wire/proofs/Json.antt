@@ -103,6 +103,15 @@ unfolding controlCount
 count-none [] h = refl
 count-none (x ∷ l) h = rw (no-left (isControl x) (hasControl l) h, count-none l (no-right (isControl x) (hasControl l) h))
 
+pub none-has : (l : List ℕ) → controlCount l ≡ 0 → hasControl l ≡ false
+unfolding controlCount
+none-has [] h = refl
+none-has (x ∷ l) h = go (isControl x) h (none-has l)
+  where
+    go : (t : Bool) → cond t (suc (controlCount l)) (controlCount l) ≡ 0 → (controlCount l ≡ 0 → hasControl l ≡ false) → (t || hasControl l) ≡ false
+    go true q f = absurd (omega arith)
+    go false q f = f q
+
 pub count-cons : (x : ℕ) (l : List ℕ) → controlCount (x ∷ l) ≡ controlCount (x ∷ []) + controlCount l
 unfolding controlCount
 count-cons x l = go (isControl x)

@@ -1,4 +1,4 @@
--- Three tests tell it.
+-- A test for each byte that has an escape.
 use Rattle.text.proofs.Blocks.{raw-is}
 use Rattle.text.proofs.body.is_raw.Statement.{statement}
 use Rattle.text.proofs.body.is_raw.Tie as tie
