@@ -365,10 +365,27 @@ def lines():
     return out
 
 
+def control_lines():
+    """Newer events of keys that the long run below holds, with control characters, and what is asked of them."""
+    short = [made(key, MAX_TIME - 1, kind, [["d", "a"], ["g", BELOW]], BELOW) for key in (A, B) for kind in (3, 30000)]
+    long = []
+    for key, kind in ((A, 3), (B, 30000)):
+        # Of equal times the lowest id stays.
+        choice = [made(key, MAX_TIME, kind, [["d", "a"], ["g", "\x00"]], "\x1f" * (LONGEST - 60 - n)) for n in range(16)]
+        long.append(min(choice, key=id_in))
+    subs = [plain(BELOW + "\x7f"), plain("\x01" * 64), in_capitals(BELOW * 2), in_capitals(BELOW * 2 + "\x00"), '"\x01"']
+    for events, value in ((short, BELOW), (long, "\x00")):
+        yield from (offer(fields, string) for fields in events for string in (plain, in_capitals))
+        for sub in subs:
+            yield req('{"#g":[%s]}' % plain(value), sub=sub)
+            yield req('{"limit":-1}', sub=sub)
+            yield '["CLOSE",%s]' % sub
+
+
 def relay_lines():
     """The stored input of the program relay itself: 01's four lines, then one long run, whose last line has no 0A."""
     rng = random.Random(22)
     out = [raw(text) for text in FOUR] + [b"x" * size for size in (8192, 8193, 16000, 1000000)]
-    for _, _, given in list(random_runs(rng, 40)):
+    for _, _, given in list(random_runs(rng, 40)) + list(random_runs(random.Random(24), 6, FEW_TAGS + CONTROL_TAGS, WIDE)):
         out += [line[1:] for line in given]
-    return out + [raw(req("{}"))]
+    return out + [raw(text) for text in control_lines()] + [raw(req("{}"))]

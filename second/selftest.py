@@ -6,6 +6,7 @@ Exits 1 on a difference.
 import hashlib
 import json
 import random
+import re
 import struct
 import sys
 from functools import cache
@@ -22,9 +23,10 @@ import relay
 from answer import ANSWERS, lines
 from cases import stdin
 from json_text import NotUtf8, characters
-from rows import text_of
+from parts import body_faults, lowest
+from rows import EVENT, IN_REPLIES, spelled_record, text_of
 from sha256 import sha256
-from spell import damaged, raw
+from spell import BELOW, damaged, raw, u_escapes
 from table import Event, Program, held, parts_event
 
 A = "a" * 64
@@ -118,9 +120,26 @@ def library_row(line):
         return 3
     if depth_of(value) > 8:
         return 3
-    found = "".join(s + "." for s in strings_of(value))
-    good = all(0xD800 > ord(c) >= 0x20 or ord(c) > 0xDFFF or c in "\b\t\n\f\r" for c in found)
-    return 0 if good else 4
+    return 4 if any(map(has_surrogate, strings_of(value))) else 0
+
+
+def has_surrogate(s):
+    return any(0xD800 <= ord(c) <= 0xDFFF for c in s)
+
+
+def reply_bytes(value):
+    """A value as json writes it: 01's escapes, and every other control character as \\u and four lower-case digits."""
+    return json.dumps(value, ensure_ascii=False, separators=(",", ":")).encode()
+
+
+def text_bytes(value):
+    """The same with the control characters that have no short escape raw, as they stand in the text that is hashed."""
+    return re.sub(rb"\\u00([01].)|\\.", lambda m: bytes.fromhex(m[1].decode()) if m[1] else m[0], reply_bytes(value))
+
+
+def held_value(text):
+    """A text in whose strings control characters stand raw, read by json."""
+    return json.loads(text.decode(), strict=False)
 
 
 def test_json():
@@ -151,8 +170,17 @@ KNOWN = [
     (7, '["REQ","s",{"ids":[""]}]'),
     (0, '["REQ","s",{"ids":["%s"]}]' % ("\\u0061" * 64)),
     (3, '["REQ","s",{"limit":01}]'),
-    (4, '["CLOSE","\\u0001"]'),
+    (0, '["CLOSE","\\u0001"]'),
+    (0, '["CLOSE","\\u0000\\u001F\\u001f"]'),
+    (0, '["REQ","%s",{}]' % ("\\u0000" * 64)),
+    (8, '["REQ","%s",{}]' % ("\\u0000" * 65)),
+    (5, '{"\\u0001":1}'),
+    (5, '["REQ","s",{"\\u0001":1}]'),
+    (4, '{"\\u0001\\ud800":1}'),
+    (4, '["CLOSE","\\u0000\\udc00"]'),
     (3, '["CLOSE","\x01"]'),
+    (3, '["CLOSE","\x00'),
+    (3, '["CLOSE","s"]\x00'),
     (2, '["CLOSE","\udced\udca0\udc80"]'),
 ]
 
@@ -163,8 +191,9 @@ def test_messages():
     for line in stored("message_cases"):
         answer = message_answer(line)
         if row_of(answer) == 0:
-            same("canonical %r" % line[:200], json.loads(answer[2:]), json.loads(line))
-            same("twice %r" % line[:200], message_answer(answer[2:]), answer)
+            same("canonical %r" % line[:200], held_value(answer[2:]), json.loads(line))
+            same("in short %r" % line[:200], text_bytes(held_value(answer[2:])), answer[2:])
+            same("twice %r" % line[:200], message_answer(reply_bytes(held_value(answer[2:]))), answer)
     filters = '{"#z":["1"],"#a":["2"],"#Z":["3"],"limit":1,"until":2,"since":3,"kinds":[4]}'
     same(
         "order of filter fields",
@@ -186,19 +215,68 @@ def test_events():
             same("text %r" % line[:300], answer, library_text_answer(line[2:]))
         elif row_of(answer) in (0, 10):
             event = json.loads(line)[1]
-            body = [0] + [event[name] for name in ("pubkey", "created_at", "kind", "tags", "content")]
-            text = json.dumps(body, ensure_ascii=False, separators=(",", ":")).encode()
+            text = text_bytes([0] + [event[name] for name in ("pubkey", "created_at", "kind", "tags", "content")])
             digest = hashlib.sha256(text).hexdigest()
             row = 0 if event["id"] == digest else 10
             same("offer %r" % line[:300], answer, b"%d %s %s" % (row, digest.encode(), text))
 
 
+# 02, Wish 3: what a content of all 32 characters below U+0020 is in the text, and in a reply.
+IN_TEXT = b"\0\1\2\3\4\5\6\7\\b\\t\\n\x0b\\f\\r\x0e\x0f\x10\x11\x12\x13\x14\x15\x16\x17\x18\x19\x1a\x1b\x1c\x1d\x1e\x1f"
+IN_REPLY = (
+    r"\u0000\u0001\u0002\u0003\u0004\u0005\u0006\u0007\b\t\n\u000b\f\r\u000e\u000f"
+    r"\u0010\u0011\u0012\u0013\u0014\u0015\u0016\u0017\u0018\u0019\u001a\u001b\u001c\u001d\u001e\u001f"
+)
+EVENT_LINE, OTHER_LINE = 24827, 428  # the most bytes that a reply has with its 0A: an EVENT, any other
+
+
+def test_controls():
+    below = cases_event.made(content=BELOW + "\x7f")
+    same("32 in a text", text_of(below), b'[0,"%s",0,0,[],"%s\x7f"]' % (A.encode(), IN_TEXT))
+    same("32 in a reply", relay.string(BELOW + "\x7f"), '"' + IN_REPLY + '\x7f"')
+    # One text and one id of a message, however it is spelled.
+    answers = {}
+    for line in cases_event.one_spelling():
+        answers.setdefault(json.loads(line)[1]["content"], set()).add(event_answer(raw(line)))
+    same("contents", list(answers), [c + "A" for c in BELOW])
+    for said, found in answers.items():
+        same("one answer of %r" % said, len(found), 1)
+    for c in BELOW:
+        for spelled in u_escapes(c):
+            same("text with %r" % spelled, event_answer(raw('T [0,"%s",0,0,[],"%s"]' % (A, spelled))), b"5")
+    # The longest replies: an event whose text is all control characters, a subscription id of 64 of them.
+    sub = relay.string("\x01" * 64)
+    longest = cases_event.made(content="\x01" * 4016)
+    same("longest text", len(text_of(longest)), 4096)
+    fields = spelled_record({**longest, "id": A, "sig": A + A}, EVENT, IN_REPLIES)
+    same("longest EVENT", len(relay.reply("EVENT", sub, fields)), EVENT_LINE)
+    others = [relay.reply("EOSE", sub)] + [relay.reply("OK", relay.string(A), "true", relay.string(s)) for s in relay.ACCEPTED.values()]
+    for row, reason in relay.REFUSED.items():
+        others += [relay.reply("CLOSED", sub, relay.string(reason)), relay.notice(row)]
+        others += [relay.reply("OK", relay.string(A), "false", relay.string(reason))]
+    same("longest other", max(map(len, others)), OTHER_LINE)
+
+
+def test_replies():
+    """Every reply is JSON, spelled as json spells it."""
+    given = [stdin("relay")] + [b"".join(map(relay.fed, pieces)) for _, _, pieces in cases_relay.runs()]
+    for data in given:
+        for line in lines(relay.output(data)):
+            try:
+                same("reply %r" % line[:300], reply_bytes(json.loads(line)), line)
+            except ValueError:
+                same("reply %r" % line[:300], "no JSON", "JSON")
+            same("length of %r" % line[:300], len(line) < (EVENT_LINE if line.startswith(b'["EVENT"') else OTHER_LINE), True)
+
+
 def library_text_answer(text):
     """A text read back, by json."""
     try:
-        value = json.loads(text) if len(text) <= 4096 else 9
-        if value == 9 or json.dumps(value, ensure_ascii=False, separators=(",", ":")).encode() != text:
-            return b"9" if value == 9 else b"5"
+        if len(text) > 4096:
+            return b"9"
+        value = held_value(text)
+        if text_bytes(value) != text:
+            return b"5"
         zero, pubkey, time, kind, tags, content = value
         strings = [pubkey, content] + [s for tag in tags for s in tag]
         good = (
@@ -213,7 +291,6 @@ def library_text_answer(text):
             and set(pubkey) <= set("0123456789abcdef")
             and len(tags) <= 64
             and all(len(tag) in range(1, 17) for tag in tags)
-            and not any(ord(c) < 32 and c not in "\b\t\n\f\r" for s in strings for c in s)
         )
     except (ValueError, TypeError, RecursionError):
         return b"5"
@@ -243,10 +320,56 @@ def test_parts():
             same_field(bytes.fromhex(buffer.strip(b"-").decode()), *map(int, numbers), answer)
 
 
+# What lent strings are made of at random.
+PIECES = [b"\x00", b"\x01", b"\x0b", b"\x1f", b"\x08", b"\t", b"\n", b"\f", b"\r", b'"', b"\\", b"\\u0000", b"\\u001F", b"\\ud800", b"\\udc00"]
+PIECES += [b"\\n", b"\\/", b"\x7f", b"x", b" ", b",", b"[", b"]", "é".encode(), b"\xff"]
+# Each control character that has no short escape, as a character that json takes.
+AS_PLAIN = {code: 0xE000 + code for code in range(32) if chr(code) not in "\b\t\n\f\r"}
+
+
+def library_content_row(data):
+    """A string part by json: rows 2, 5 and 4."""
+    try:
+        found = json.loads('"' + data.decode().translate(AS_PLAIN) + '"')
+    except UnicodeDecodeError:
+        return 2
+    except ValueError:
+        return 5
+    return 4 if has_surrogate(found) else 0
+
+
+def library_tags_row(data):
+    """Tags that begin at the bytes' start, by json: 5 where no value begins, else rows 2, 4, 5 and 8 of that value."""
+    try:
+        _, end = json.JSONDecoder().raw_decode(data.decode("latin-1").translate(AS_PLAIN))
+        found = json.loads(data[:end].decode().translate(AS_PLAIN))
+    except UnicodeDecodeError:
+        return 2
+    except (ValueError, RecursionError):
+        return 5
+    if depth_of(found) > 8 or any(map(has_surrogate, strings_of(found))):
+        return 5 if depth_of(found) > 8 else 4
+    if not isinstance(found, list) or not all(isinstance(tag, list) and all(isinstance(s, str) for s in tag) for tag in found):
+        return 5
+    return 0 if len(found) <= 64 and all(1 <= len(tag) <= 16 for tag in found) else 8
+
+
+def test_lent_strings():
+    rng = random.Random(7)
+    for _ in range(20000):
+        inner = b"".join(rng.choice(PIECES) for _ in range(rng.randrange(5)))
+        buffer = raw(A + "[]") + inner
+        faults, _ = body_faults(buffer, (0, 64), 0, 1, 64, (66, len(inner)))
+        same("content %r" % inner, lowest(faults), library_content_row(inner))
+        data = rng.choice([b'[["%s"]]', b'[["a","%s"]]', b'[["%s', b'[["%s"', b"[%s]", b'["%s"]']) % inner
+        faults, _ = body_faults(raw(A) + data, (0, 64), 0, 1, 64, (0, 0))
+        same("tags %r" % data, lowest(faults), library_tags_row(data))
+
+
 def library_d(text):
     """d as the bytes of the text spell it, by json."""
-    values = [tag[1] if len(tag) > 1 else "" for tag in json.loads(text)[4] if tag[0] == "d"]
-    return json.dumps(values[0], ensure_ascii=False).encode()[1:-1] if values else b""
+    values = [tag[1] if len(tag) > 1 else "" for tag in held_value(text)[4] if tag[0] == "d"]
+    return text_bytes(values[0])[1:-1] if values else b""
 
 
 def same_field(buffer, at, width, number, answer):
@@ -301,7 +424,7 @@ def same_slots(table, count):
         slot = table[16 + 4208 * k : 16 + 4208 * (k + 1)]
         _, _, time, kind, size, at, length, text = struct.unpack("<32s64sqHHHH4096s", slot)
         same("rest of slot %d" % k, text[size:].strip(b"\0"), b"")
-        same("fields of slot %d" % k, [time, kind], json.loads(text[:size])[2:4])
+        same("fields of slot %d" % k, [time, kind], held_value(text[:size])[2:4])
         same("d of slot %d" % k, text[at : at + length], library_d(text[:size]) if 30000 <= kind <= 39999 else b"")
 
 
@@ -345,7 +468,7 @@ def library_answer(table, filters):
     """A slot is listed if for some filter it is among the newest matches up to the limit: fewer are newer than the limit."""
     count = int.from_bytes(table[4:8], "little")
     slots = [table[16 + 4208 * k : 16 + 4208 * (k + 1)] for k in range(count)]
-    events = [json.loads(slot[112 : 112 + int.from_bytes(slot[106:108], "little")]) for slot in slots]
+    events = [held_value(slot[112 : 112 + int.from_bytes(slot[106:108], "little")]) for slot in slots]
     ages = [(-event[2], slot[:32].hex()) for slot, event in zip(slots, events)]
     out = set()
     for wanted in filters:
@@ -396,6 +519,12 @@ RELAY = [
     ('["EVENT",{e}]\n["REQ","s",{}]', '["OK","{id}",true,""]\n["EVENT","s",{e}]\n["EOSE","s"]\n'),
     ('["REQ","s",{"limit":0}]\n["EVENT",{e}]\n["REQ","s",{"limit":0},{"since":1}]',
      '["EOSE","s"]\n["OK","{id}",true,""]\n["EOSE","s"]\n'),
+    ('["REQ","\\u0001\\u001F\\u0009\x7f",{}]\n["REQ","\\u0000",{"limit":-0}]\n["CLOSE","\\u0001"]',
+     '["EOSE","\\u0001\\u001f\\t\x7f"]\n["CLOSED","\\u0000","invalid: number"]\n'),
+    ('["REQ","%s",{}]\n["REQ","%s",{}]' % ("\\u000B" * 64, "\\u000B" * 65),
+     '["EOSE","%s"]\n' % ("\\u000b" * 64) + NOTICE % "count or length"),
+    ('["REQ","\x01",{}]\n{"\\u0001":1}\n["CLOSE","\\u0001\\ud800"]',
+     NOTICE % "not JSON" + NOTICE % "wrong shape" + NOTICE % "string not allowed"),
     ('["EVENT",{e}]\n["EVENT",{e}]',
      '["OK","{id}",true,""]\n["OK","{id}",true,"duplicate: already have this event"]\n'),
 ]
@@ -412,7 +541,8 @@ def test_relay():
 
 
 if __name__ == "__main__":
-    for test in (test_digest, test_utf8, test_json, test_messages, test_events, test_parts, test_table, test_query, test_relay):
+    tests = (test_digest, test_utf8, test_json, test_messages, test_events, test_controls, test_parts, test_lent_strings)
+    for test in tests + (test_table, test_query, test_relay, test_replies):
         test()
     print("selftest: %d differences" % len(failures))
     sys.exit(1 if failures else 0)

@@ -8,16 +8,22 @@ import subprocess
 import sys
 
 from cases_message import random_lines
-from cases_relay import random_fields, random_text
+from cases_relay import CONTROL_TAGS, FEW_TAGS, LONGEST, random_fields, random_text
 from relay import output
+from spell import CONTROLS, WIDE
 
 RUN = 1000
 
 
 def one_run(rng, strays):
-    """Lines about few events or many, so that tables fill slowly or at once; some lines too long, at times a last one without 0A."""
-    events = [random_fields(rng) for _ in range(rng.choice([4, 8, 12, 40]))]
-    pool = [random_text(rng, events, strays).replace(b"\n", b" ") for _ in range(400)]
+    """Lines about few events or many, so that tables fill slowly or at once; some lines too long, at times a last one without 0A.
+
+    Control characters stand in all strings, at times in one event or in eight as many as a message holds, or a few more.
+    """
+    events = [random_fields(rng, FEW_TAGS + CONTROL_TAGS, WIDE) for _ in range(rng.choice([4, 8, 12, 40]))]
+    for fields in events[: rng.choice([0] * 8 + [1, 8])]:
+        fields["content"] = rng.choice(CONTROLS) * rng.randrange(LONGEST + 20)
+    pool = [random_text(rng, events, strays, WIDE).replace(b"\n", b" ") for _ in range(400)]
     lines = [rng.choice(pool) for _ in range(RUN)]
     lines[rng.randrange(RUN)] = b" " * rng.choice([8191, 8192, 8193, 20000])
     return b"\n".join(lines) + rng.choice([b"\n", b""])
@@ -25,7 +31,7 @@ def one_run(rng, strays):
 
 def main(program, count=1000000, seed=1):
     rng = random.Random(seed)
-    strays = [line for line in random_lines(rng) if b"\n" not in line]
+    strays = [line for line in random_lines(rng, 460, WIDE) if b"\n" not in line]
     written = 0
     for turn in range(count // RUN):
         given = one_run(rng, strays)

@@ -1,7 +1,7 @@
 -- What the private functions promise each other as they walk over the tags, be it to write them or to count their
 -- bytes.
 use Prim.Native.Nat.{ℕ, _+_, min}
-use mathlib.Core.Bool.{true, false}
+use mathlib.Core.Bool.{Bool, true, false}
 use mathlib.Core.Path.{_≡_}
 use mathlib.Core.List.{List, _++_}
 use lib.ListN.{length, take}
@@ -12,6 +12,7 @@ use Rattle.json.specs.declared.Out.the-variants.{End, Bad}
 use Rattle.json.specs.declared.Start.{Start}
 use Rattle.json.specs.declared.Start.the-variants.{Leaf, Empty, Many}
 use Rattle.wire.specs.Put.{Puts}
+use Rattle.wire.specs.Escape.{jsonOf}
 use Rattle.numeral.specs.Decimal.{digits, decimal}
 use Rattle.text.specs.Event.{opening, closing, comma, bracket, quoted, membersText, tagText, tagsText}
 use Rattle.message.specs.declared.Body.{Body}
@@ -30,12 +31,17 @@ tagDepth = 7
 abbrev pub stringDepth : ℕ
 stringDepth = 6
 
--- a writer's state: the buffer and the index in it
-abbrev pub puts : (x : List ℕ × ℕ) (s : Bytes) (y : List ℕ × ℕ) → Type 0
-puts x s y = Puts (x .0) (x .1) s (y .1) (y .0)
+-- what is escaped, as it stands in a reply or in the text
+abbrev pub inForm : (json : Bool) → Bytes → Bytes
+inForm true s = jsonOf s
+inForm false s = s
 
-pub record Counts (n : ℕ) (s : List ℕ) (m : ℕ) : Type 0 where
-  pub is : m ≡ min (n + length s) mostLength
+-- a writer's state: the buffer and the index in it
+abbrev pub puts : (json : Bool) (x : List ℕ × ℕ) (s : Bytes) (y : List ℕ × ℕ) → Type 0
+puts json x s y = Puts (x .0) (x .1) (inForm json s) (y .1) (y .0)
+
+pub record Counts (json : Bool) (n : ℕ) (s : List ℕ) (m : ℕ) : Type 0 where
+  pub is : m ≡ min (n + length (inForm json s)) mostLength
 
 -- what is read at a place, if anything is, is done as p says, from one state to another, and the place after it is
 -- found

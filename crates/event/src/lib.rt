@@ -2,7 +2,7 @@
 ghost use mathlib.Core.Path.{_≡_};
 ghost use lib.ListN.{length};
 ghost use Rattle.wire.specs.Put.{Puts};
-ghost use Rattle.wire.specs.Escape.{escape};
+ghost use Rattle.wire.specs.Escape.{escape, jsonOf};
 ghost use Rattle.spell.specs.Spell.{decode};
 ghost use Rattle.text.specs.Event.{quoted, tagsText};
 ghost use Rattle.event.specs.Lent.{said, natural, lentTagsAt, textOf};
@@ -49,28 +49,43 @@ pub fn put_quoted(out: &mut [u8], at: usize, p: &[u8]) -> usize
     wire::put(out, c, b"\"")
 }
 
-// A string part, decoded and escaped between quotes.
-pub fn put_part(out: &mut [u8], at: usize, b: &[u8], s: message::Span) -> usize
-    ensures { λ r. ⌜ Puts (now (out .entry)) at (quoted (said (now (b .entry)) s)) r (now (out .exit)) ⌝ }
+// The same as it stands in a reply.
+pub fn put_json(out: &mut [u8], at: usize, p: &[u8]) -> usize
+    ensures { λ r. ⌜ Puts (now (out .entry)) at (jsonOf (quoted (decode (now (p .entry))))) r (now (out .exit)) ⌝ }
 {
     let a = wire::put(out, at, b"\"");
-    let c = spell::put_escaped(out, a, wire::piece(b, s.start, s.len));
+    let c = spell::put_json(out, a, p);
     wire::put(out, c, b"\"")
 }
 
-// How long a string part is once it is decoded and escaped, but for the quotes.
-pub fn part_len(b: &[u8], s: message::Span) -> usize
-    ensures { λ r. ⌜ r ≡ length (escape (said (now (b .entry)) s)) ⌝ }
+// A string part, decoded, as it stands in a reply.
+pub fn put_part(out: &mut [u8], at: usize, b: &[u8], s: message::Span) -> usize
+    ensures { λ r. ⌜ Puts (now (out .entry)) at (jsonOf (quoted (said (now (b .entry)) s))) r (now (out .exit)) ⌝ }
 {
-    spell::escaped_len(wire::piece(b, s.start, s.len))
+    put_json(out, at, wire::piece(b, s.start, s.len))
 }
 
-// The tags of the array at `tags`; [] where there is none.
+// How long a string as spelled is in a reply, but for the quotes, up to the most that a number holds.
+pub fn string_len(p: &[u8]) -> usize
+    ensures { λ r. ⌜ r ≡ lengthOf (jsonOf (escape (decode (now (p .entry))))) ⌝ }
+{
+    counting::string_len(p, true)
+}
+
+// The same of a string part.
+pub fn part_len(b: &[u8], s: message::Span) -> usize
+    ensures { λ r. ⌜ r ≡ lengthOf (jsonOf (escape (said (now (b .entry)) s))) ⌝ }
+{
+    string_len(wire::piece(b, s.start, s.len))
+}
+
+// The tags of the array at `tags`, as they stand in a reply; [] where there is none.
 pub fn put_tags(out: &mut [u8], at: usize, b: &[u8], tags: usize) -> usize
-    ensures { λ r. ⌜ Puts (now (out .entry)) at (tagsText (lentTagsAt (now (b .entry)) tags)) r (now (out .exit)) ⌝ }
+    ensures { λ r. ⌜ Puts (now (out .entry)) at (jsonOf (tagsText (lentTagsAt (now (b .entry)) tags))) r
+        (now (out .exit)) ⌝ }
 {
     let known = writing::first_tag(b, tags);
-    writing::put_tags_from(out, at, b, tags, known)
+    writing::put_tags_from(out, at, b, tags, known, true)
 }
 
 // A kind that is not negative, and 0 for one that is.
@@ -95,19 +110,14 @@ pub fn put_text(out: &mut [u8], at: usize, b: &[u8], p: message::Body) -> usize
 pub fn text_len(b: &[u8], p: message::Body) -> usize
     ensures { λ r. ⌜ r ≡ lengthOf (textOf (now (b .entry)) p) ⌝ }
 {
-    let pubkey = p.pubkey;
-    let content = p.content;
-    let a = counting::more(
-        12,
-        spell::decoded_len(wire::piece(b, pubkey.start, pubkey.len)),
-    );
-    let c = counting::more(a, numeral::decimal_len(p.created_at));
-    let d = counting::more(c, numeral::natural_len(kind_of(p.kind)));
-    let e = counting::more(d, counting::tags_len(b, p.tags));
-    counting::more(
-        e,
-        spell::escaped_len(wire::piece(b, content.start, content.len)),
-    )
+    counting::length_in(b, p, false)
+}
+
+// How long it would be with every string as it stands in a reply.
+pub fn json_len(b: &[u8], p: message::Body) -> usize
+    ensures { λ r. ⌜ r ≡ lengthOf (jsonOf (textOf (now (b .entry)) p)) ⌝ }
+{
+    counting::length_in(b, p, true)
 }
 
 // The hex digits of bytes, in lower case, into `out` from `at` on; the index after them.

@@ -6,11 +6,12 @@ ghost use lib.ListN.{length};
 ghost use Rattle.wire.specs.Put.{Puts};
 ghost use Rattle.json.specs.Grammar.{case, startAt};
 ghost use Rattle.json.specs.Tree.{endOf, treeAt, itemsAt};
-ghost use Rattle.text.specs.Event.{tagsText};
+ghost use Rattle.spell.specs.Spell.{decode};
+ghost use Rattle.text.specs.Event.{quoted, tagsText};
 ghost use Rattle.event.specs.Lent.{lentTagsAt, textOf};
-ghost use Rattle.event.specs.Inner.{tagDepth, stringDepth, puts, Does, firstOut, firstTag, frontText, backText};
+ghost use Rattle.event.specs.Inner.{tagDepth, stringDepth, inForm, puts, Does, firstOut, firstTag, frontText, backText};
 ghost use Rattle.event.specs.Inner.{stringText, stringsText, oneTagText, allTagsText};
-ghost use Rattle.event.specs.Answer.{hexDigit};
+ghost use Rattle.wire.specs.Bytes.{hexDigit};
 use crate::Reached;
 use json::Out;
 use message::Body;
@@ -32,16 +33,26 @@ pub(crate) fn past(b: &[u8], v: usize, d: usize) -> usize
     }
 }
 
+// A string as spelled, decoded and escaped between quotes, as in a reply or as in the text.
+pub(crate) fn put_in(out: &mut [u8], at: usize, p: &[u8], json: bool) -> usize
+    ensures { λ r. ⌜ Puts (now (out .entry)) at (inForm json (quoted (decode (now (p .entry))))) r (now (out .exit)) ⌝ }
+{
+    if json {
+        return crate::put_json(out, at, p);
+    }
+    crate::put_quoted(out, at, p)
+}
+
 // One string of a tag; "" for what is no string.
-pub(crate) fn put_string(out: &mut [u8], at: usize, b: &[u8], v: usize) -> Reached
-    ensures { λ r. ⌜ Does puts (treeAt (now (b .entry)) stringDepth v) (stringText (now (b .entry))) (
+pub(crate) fn put_string(out: &mut [u8], at: usize, b: &[u8], v: usize, json: bool) -> Reached
+    ensures { λ r. ⌜ Does (puts json) (treeAt (now (b .entry)) stringDepth v) (stringText (now (b .entry))) (
       now (out .entry),
       at,
     ) (now (out .exit), r .at) (r .next) ⌝ }
 {
     match json::string(b, v) {
         Out::End(n) => {
-            let o = crate::put_quoted(out, at, wire::piece(b, v + 1, n - v - 2));
+            let o = put_in(out, at, wire::piece(b, v + 1, n - v - 2), json);
             Reached {
                 at: o,
                 next: json::space(b, n),
@@ -58,8 +69,8 @@ pub(crate) fn put_string(out: &mut [u8], at: usize, b: &[u8], v: usize) -> Reach
 }
 
 // The strings of a tag, commas between them, and the closing bracket; the first stands at `first`.
-pub(crate) fn put_strings(out: &mut [u8], at: usize, b: &[u8], first: usize) -> Reached
-    ensures { λ r. ⌜ Does puts (itemsAt (treeAt (now (b .entry)) stringDepth) (now (b .entry)) false
+pub(crate) fn put_strings(out: &mut [u8], at: usize, b: &[u8], first: usize, json: bool) -> Reached
+    ensures { λ r. ⌜ Does (puts json) (itemsAt (treeAt (now (b .entry)) stringDepth) (now (b .entry)) false
         (length (now (b .entry))) first) (stringsText (now (b .entry))) (now (out .entry), at) (now (out .exit), r .at)
         (r .next) ⌝ }
 {
@@ -67,7 +78,7 @@ pub(crate) fn put_strings(out: &mut [u8], at: usize, b: &[u8], first: usize) -> 
     let mut i = first;
     let mut k: usize = 0;
     while k < b.len() {
-        let w = put_string(out, o, b, i);
+        let w = put_string(out, o, b, i, json);
         match json::after(b, w.next, false) {
             json::Next::More(j) => {
                 o = wire::put(out, w.at, b",");
@@ -87,8 +98,8 @@ pub(crate) fn put_strings(out: &mut [u8], at: usize, b: &[u8], first: usize) -> 
 }
 
 // One tag; [] for what is no array.
-pub(crate) fn put_tag(out: &mut [u8], at: usize, b: &[u8], v: usize) -> Reached
-    ensures { λ r. ⌜ Does puts (treeAt (now (b .entry)) tagDepth v) (oneTagText (now (b .entry))) (
+pub(crate) fn put_tag(out: &mut [u8], at: usize, b: &[u8], v: usize, json: bool) -> Reached
+    ensures { λ r. ⌜ Does (puts json) (treeAt (now (b .entry)) tagDepth v) (oneTagText (now (b .entry))) (
       now (out .entry),
       at,
     ) (now (out .exit), r .at) (r .next) ⌝ }
@@ -103,7 +114,7 @@ pub(crate) fn put_tag(out: &mut [u8], at: usize, b: &[u8], v: usize) -> Reached
                 };
             }
             let o = wire::put(out, at, b"[");
-            put_strings(out, o, b, first)
+            put_strings(out, o, b, first, json)
         }
         json::Start::Empty(n, _) => {
             let o = wire::put(out, at, b"[]");
@@ -120,8 +131,8 @@ pub(crate) fn put_tag(out: &mut [u8], at: usize, b: &[u8], v: usize) -> Reached
 }
 
 // The tags, commas between them, and the closing bracket; the first stands at `first`.
-pub(crate) fn put_all(out: &mut [u8], at: usize, b: &[u8], first: usize) -> Reached
-    ensures { λ r. ⌜ Does puts (itemsAt (treeAt (now (b .entry)) tagDepth) (now (b .entry)) false
+pub(crate) fn put_all(out: &mut [u8], at: usize, b: &[u8], first: usize, json: bool) -> Reached
+    ensures { λ r. ⌜ Does (puts json) (itemsAt (treeAt (now (b .entry)) tagDepth) (now (b .entry)) false
         (length (now (b .entry))) first) (allTagsText (now (b .entry))) (now (out .entry), at) (now (out .exit), r .at)
         (r .next) ⌝ }
 {
@@ -129,7 +140,7 @@ pub(crate) fn put_all(out: &mut [u8], at: usize, b: &[u8], first: usize) -> Reac
     let mut i = first;
     let mut k: usize = 0;
     while k < b.len() {
-        let w = put_tag(out, o, b, i);
+        let w = put_tag(out, o, b, i, json);
         match json::after(b, w.next, false) {
             json::Next::More(j) => {
                 o = wire::put(out, w.at, b",");
@@ -175,14 +186,22 @@ pub(crate) fn first_tag(b: &[u8], tags: usize) -> Out
 }
 
 // The tags of the array at `tags`, the first of which is known; [] where there is none.
-pub(crate) fn put_tags_from(out: &mut [u8], at: usize, b: &[u8], tags: usize, known: Out) -> usize
+pub(crate) fn put_tags_from(
+    out: &mut [u8],
+    at: usize,
+    b: &[u8],
+    tags: usize,
+    known: Out,
+    json: bool,
+) -> usize
     requires { ⌜ known ≡ firstTag (now b) tags ⌝ }
-    ensures { λ r. ⌜ Puts (now (out .entry)) at (tagsText (lentTagsAt (now (b .entry)) tags)) r (now (out .exit)) ⌝ }
+    ensures { λ r. ⌜ Puts (now (out .entry)) at (inForm json (tagsText (lentTagsAt (now (b .entry)) tags))) r
+        (now (out .exit)) ⌝ }
 {
     match known {
         Out::End(first) => {
             let o = wire::put(out, at, b"[");
-            let w = put_all(out, o, b, first);
+            let w = put_all(out, o, b, first, json);
             w.at
         }
         Out::Bad => wire::put(out, at, b"[]"),
@@ -209,7 +228,7 @@ pub(crate) fn put_back(out: &mut [u8], at: usize, b: &[u8], p: Body, known: Out)
     ensures { λ r. ⌜ Puts (now (out .entry)) at (backText (now (b .entry)) p) r (now (out .exit)) ⌝ }
 {
     let content = p.content;
-    let a = put_tags_from(out, at, b, p.tags, known);
+    let a = put_tags_from(out, at, b, p.tags, known, false);
     let c = wire::put(out, a, b",");
     let d = crate::put_quoted(out, c, wire::piece(b, content.start, content.len));
     wire::put(out, d, b"]")

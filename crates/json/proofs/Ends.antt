@@ -4,9 +4,11 @@ use mathlib.Core.Path.{_≡_, refl, sym, ap, _∙_}
 use mathlib.Core.List.{List}
 use mathlib.Core.Bool.{Bool, true, false, cond, false≢true, _&&_}
 use Prim.Native.Nat.{ℕ, zero, suc, _+_, _<_, _≤_}
+use native.Mathlib.Decide.{decLt}
 use native.Mathlib.Omega.{arith}
+use lib.Dec.{ltb}
 use lib.ListN.{length, getD}
-use borrow.Author.Tests.{eqb-true}
+use borrow.Author.Tests.{eqb-true, lt-ltb, le-ltb}
 use Rattle.json.specs.Grammar.{case, inClass, oneAt, hexAt, escapedAt, charAt, charsUpTo, charsAt}
 use Rattle.json.specs.declared.Class.{Class}
 use Rattle.json.specs.declared.Class.the-variants.{Plain, Hex, Short, Byte}
@@ -94,9 +96,29 @@ module _ (s : List ℕ) where
   unfolding escapedAt inClass
   escaped-ends at = ends-then at _ _ _ (one-ends (Byte 0x5C) at refl) λ n. ends-if n _ _ _ _ (one-ends (Byte 0x75) n refl) hex-ends (one-ends Short n refl)
 
+  -- ---- char: the 0 past the end is none
+  pub char-inside : (at : ℕ) → at < length s → charAt s at ≡ case (oneAt s Plain at) End (escapedAt s at)
+  unfolding charAt
+  char-inside at h = rw (lt-ltb at (length s) h)
+
+  pub char-outside : (at : ℕ) → length s ≤ at → charAt s at ≡ Bad
+  unfolding charAt
+  char-outside at h = rw (le-ltb at (length s) h)
+
   pub char-ends : (at : ℕ) → Ends at (length s) (charAt s at)
-  unfolding charAt inClass
-  char-ends at = ends-or at _ _ _ (one-ends Plain at refl) (escaped-ends at)
+  char-ends at n e = elim (decLt at (length s)) [
+    | yes h ↦ ends-or at _ _ _ (λ m q. let w = one-is Plain at q .1 in omega arith) (escaped-ends at) n (sym (char-inside at h) ∙ e)
+    | no h ↦ ends-bad (sym (char-outside at (omega arith)) ∙ e)
+  ]
+
+  -- a quotation mark is none
+  pub char-quote : (at : ℕ) → getD s at 0 ≡ 0x22 → charAt s at ≡ Bad
+  unfolding charAt escapedAt oneAt inClass
+  char-quote at e = go (ltb at (length s))
+    where
+      go : (b : Bool) → cond b (case (oneAt s Plain at) End (escapedAt s at)) Bad ≡ Bad
+      go true = rw e
+      go false = refl
 
   -- ---- *char: where there is a character it goes on, and else it stops; the fuel is enough
   enough : (f at : ℕ) → length s ≤ f + at → charsUpTo (suc f) s at ≡ charsUpTo f s at
@@ -130,33 +152,26 @@ module _ (s : List ℕ) where
 
   -- ---- the same by the byte that stands there
   module _ (at : ℕ) where
-    pub char-plain : inClass Plain (getD s at 0) ≡ true → charAt s at ≡ End (at + 1)
-    unfolding charAt oneAt
-    char-plain e = rw e
+    pub char-plain : at < length s → inClass Plain (getD s at 0) ≡ true → charAt s at ≡ End (at + 1)
+    char-plain h e = rw (char-inside at h, one-of Plain at e)
 
-    pub char-escaped : inClass Plain (getD s at 0) ≡ false → charAt s at ≡ escapedAt s at
-    unfolding charAt oneAt
-    char-escaped e = rw e
-
-    -- four characters that are bytes which stand for themselves
-    pub chars-four : inClass Plain (getD s at 0) ≡ true → inClass Plain (getD s (at + 1) 0) ≡ true → inClass Plain (getD s (at + 2) 0) ≡ true
-        → inClass Plain (getD s (at + 3) 0) ≡ true → charsAt s (at + 4) ≡ charsAt s at
-    unfolding charAt oneAt
-    chars-four a b c d =
-        let y : at + 1 + 1 ≡ at + 2 = omega arith in
-        let z : at + 2 + 1 ≡ at + 3 = omega arith in
-        let w : at + 3 + 1 ≡ at + 4 = omega arith in
-        chars-more (at + 3) (at + 4) (rw d (ap End w))
-        ∙ chars-more (at + 2) (at + 3) (rw c (ap End z))
-        ∙ chars-more (at + 1) (at + 2) (rw b (ap End y))
-        ∙ chars-more at (at + 1) (char-plain a)
+    pub char-escaped : at < length s → inClass Plain (getD s at 0) ≡ false → charAt s at ≡ escapedAt s at
+    char-escaped h e = rw (char-inside at h, one-not Plain at e)
 
     pub chars-eight : charsAt s (at + 4 + 4) ≡ charsAt s (at + 4) → charsAt s (at + 4) ≡ charsAt s at → charsAt s (at + 8) ≡ charsAt s at
     chars-eight x y = let z : at + 8 ≡ at + 4 + 4 = omega arith in ap (charsAt s) z ∙ x ∙ y
 
     pub chars-past : length s ≤ at → charsAt s at ≡ at
-    chars-past h = go (charAt s at) refl
-      where
-        go : (o : Out) → charAt s at ≡ o → charsAt s at ≡ at
-        go (End n) e = let q = char-ends at n e in absurd (omega arith)
-        go Bad e = chars-none at e
+    chars-past h = chars-none at (char-outside at h)
+
+  -- four characters that are bytes which stand for themselves
+  pub chars-four : (at : ℕ) → at + 4 ≤ length s → inClass Plain (getD s at 0) ≡ true → inClass Plain (getD s (at + 1) 0) ≡ true
+      → inClass Plain (getD s (at + 2) 0) ≡ true → inClass Plain (getD s (at + 3) 0) ≡ true → charsAt s (at + 4) ≡ charsAt s at
+  chars-four at h a b c d =
+      let y : at + 1 + 1 ≡ at + 2 = omega arith in
+      let z : at + 2 + 1 ≡ at + 3 = omega arith in
+      let w : at + 3 + 1 ≡ at + 4 = omega arith in
+      chars-more (at + 3) (at + 4) (char-plain (at + 3) (omega arith) d ∙ ap End w)
+      ∙ chars-more (at + 2) (at + 3) (char-plain (at + 2) (omega arith) c ∙ ap End z)
+      ∙ chars-more (at + 1) (at + 2) (char-plain (at + 1) (omega arith) b ∙ ap End y)
+      ∙ chars-more at (at + 1) (char-plain at (omega arith) a)

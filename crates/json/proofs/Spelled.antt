@@ -3,6 +3,7 @@ use mathlib.Core.Path.{_≡_, refl, sym, ap, _∙_}
 use mathlib.Core.List.{List}
 use mathlib.Core.Bool.{true, false}
 use Prim.Native.Nat.{ℕ, zero, suc, _+_, _-_, _<_, _≤_}
+use native.Mathlib.Decide.{decLt}
 use native.Mathlib.Omega.{arith}
 use lib.ListN.{length, getD, take, drop, length-take, length-drop}
 use lib.Seq.{getD-take, getD-drop}
@@ -13,12 +14,12 @@ use Rattle.json.specs.declared.Class.{Class}
 use Rattle.json.specs.declared.Class.the-variants.{Plain, Hex, Short, Byte}
 use Rattle.json.specs.declared.Out.{Out}
 use Rattle.json.specs.declared.Out.the-variants.{End, Bad}
-use Rattle.json.proofs.Ends.{then-end, one-is, one-of, byte-not, not-byte, one-ends, char-ends, chars-more}
-use Rattle.json.proofs.Ends.{chars-past}
+use Rattle.json.proofs.Ends.{ends-bad, then-end, one-is, one-of, byte-not, not-byte, one-ends, char-inside}
+use Rattle.json.proofs.Ends.{char-outside, char-ends, chars-more, chars-past}
 
--- ---- char and *char as RFC 8259 has them
+-- ---- char and *char as RFC 8259 has them, with the bytes of `Plain` for unescaped
 pub data Char (s : List ℕ) : ℕ → ℕ → Type 0 where
-  plain : {at n : ℕ} → oneAt s Plain at ≡ End n → Char s at n
+  plain : {at n : ℕ} → at < length s → oneAt s Plain at ≡ End n → Char s at n
   short : {at a n : ℕ} → oneAt s (Byte 0x5C) at ≡ End a → oneAt s Short a ≡ End n → Char s at n
   code : {at a b c d e n : ℕ} → oneAt s (Byte 0x5C) at ≡ End a → oneAt s (Byte 0x75) a ≡ End b
       → oneAt s Hex b ≡ End c → oneAt s Hex c ≡ End d → oneAt s Hex d ≡ End e → oneAt s Hex e ≡ End n → Char s at n
@@ -29,8 +30,11 @@ pub data Chars (s : List ℕ) : ℕ → ℕ → Type 0 where
 
 module _ (s : List ℕ) where
   pub char-sound : (at n : ℕ) → charAt s at ≡ End n → Char s at n
-  unfolding charAt escapedAt hexAt
-  char-sound at n e = unescaped (oneAt s Plain at) refl e
+  unfolding escapedAt hexAt
+  char-sound at n e = elim (decLt at (length s)) [
+    | yes h ↦ unescaped h (oneAt s Plain at) refl (sym (char-inside s at h) ∙ e)
+    | no h ↦ ends-bad (sym (char-outside s at (omega arith)) ∙ e)
+  ]
     where
       letter : (a : ℕ) (o : Out) → oneAt s (Byte 0x5C) at ≡ End a → oneAt s (Byte 0x75) a ≡ o → case o (hexAt s) (oneAt s Short a) ≡ End n → Char s at n
       letter a (End b) p q z =
@@ -40,15 +44,19 @@ module _ (s : List ℕ) where
           code p q e₁ e₂ e₃ e₄
       letter a Bad p q z = short p z
 
-      unescaped : (o : Out) → oneAt s Plain at ≡ o → case o End (escapedAt s at) ≡ End n → Char s at n
-      unescaped (End m) p z = plain (p ∙ z)
-      unescaped Bad p z = let (a, q, y) = then-end (oneAt s (Byte 0x5C) at) _ z in letter a (oneAt s (Byte 0x75) a) q refl y
+      unescaped : at < length s → (o : Out) → oneAt s Plain at ≡ o → case o End (escapedAt s at) ≡ End n → Char s at n
+      unescaped h (End m) p z = plain h (p ∙ z)
+      unescaped h Bad p z = let (a, q, y) = then-end (oneAt s (Byte 0x5C) at) _ z in letter a (oneAt s (Byte 0x75) a) q refl y
 
   pub char-taken : (at n : ℕ) → Char s at n → charAt s at ≡ End n
-  unfolding charAt escapedAt hexAt inClass
-  char-taken at n (plain e) = simp e
-  char-taken at n (short {a = a} e f) = simp (byte-not s 0x5C Plain at refl e, e, not-byte s 0x75 Short a refl f, f)
-  char-taken at n (code e f g h i j) = simp (byte-not s 0x5C Plain at refl e, e, f, g, h, i, j)
+  unfolding escapedAt hexAt inClass
+  char-taken at n (plain h e) = rw (char-inside s at h, e)
+  char-taken at n (short {a = a} e f) =
+      let h = one-ends s (Byte 0x5C) at refl a e in
+      simp (char-inside s at (omega arith), byte-not s 0x5C Plain at refl e, e, not-byte s 0x75 Short a refl f, f)
+  char-taken at n (code {a = a} e f g h i j) =
+      let k = one-ends s (Byte 0x5C) at refl a e in
+      simp (char-inside s at (omega arith), byte-not s 0x5C Plain at refl e, e, f, g, h, i, j)
 
   reach : (f at : ℕ) → Chars s at (charsUpTo f s at)
   unfolding charsUpTo
@@ -72,34 +80,34 @@ module _ (s : List ℕ) where
   chars-from at n (more {m = m} c r) = let p = char-ends s at m (char-taken at m c) in let q = chars-from m n r in omega arith
 
 -- ---- the bytes of s from lo to hi stand in t, each at its place by g
-module _ (s t : List ℕ) (g : ℕ → ℕ) (lo hi : ℕ)
+module _ (s t : List ℕ) (g : ℕ → ℕ) (lo hi : ℕ) (within : (x : ℕ) → lo ≤ x → x < hi → g x < length t)
     (same : (x : ℕ) → lo ≤ x → x < hi → getD t (g x) 0 ≡ getD s x 0) (step : (x : ℕ) → lo ≤ x → g x + 1 ≡ g (x + 1)) where
-  one-moved : (class : Class) (x m : ℕ) → inClass class 0 ≡ false → lo ≤ x → m ≤ hi → oneAt s class x ≡ End m → (oneAt t class (g x) ≡ End (g m)) × (lo ≤ m)
-  one-moved class x m z l h e =
+  one-moved : (class : Class) (x m : ℕ) → lo ≤ x → m ≤ hi → oneAt s class x ≡ End m → (oneAt t class (g x) ≡ End (g m)) × (lo ≤ m) × (g x < length t)
+  one-moved class x m l h e =
       let (q, w) = one-is s class x e in
       let k : x < hi = omega arith in
       let p : inClass class (getD t (g x) 0) ≡ true = rw (same x l k) q in
-      (one-of t class (g x) p ∙ ap End (step x l ∙ ap g w), omega arith)
+      (one-of t class (g x) p ∙ ap End (step x l ∙ ap g w), omega arith, within x l k)
 
   char-moved : (x m : ℕ) → lo ≤ x → m ≤ hi → Char s x m → Char t (g x) (g m)
   unfolding inClass
-  char-moved x m l h (plain e) = plain (one-moved Plain x m refl l h e .0)
+  char-moved x m l h (plain w e) = let (p, k, i) = one-moved Plain x m l h e in plain i p
   char-moved x m l h (short {a = a} e f) =
       let q = one-ends s Short a refl m f in
-      let (p, k) = one-moved (Byte 0x5C) x a refl l (omega arith) e in
-      short p (one-moved Short a m refl k h f .0)
+      let (p, k, i) = one-moved (Byte 0x5C) x a l (omega arith) e in
+      short p (one-moved Short a m k h f .0)
   char-moved x m l h (code {a = a} {b = b} {c = c} {d = d} {e = e} i j k o q r) =
       let h₄ = one-ends s Hex e refl m r in
       let h₃ = one-ends s Hex d refl e q in
       let h₂ = one-ends s Hex c refl d o in
       let h₁ = one-ends s Hex b refl c k in
       let h₀ = one-ends s (Byte 0x75) a refl b j in
-      let (e₀, l₀) = one-moved (Byte 0x5C) x a refl l (omega arith) i in
-      let (e₁, l₁) = one-moved (Byte 0x75) a b refl l₀ (omega arith) j in
-      let (e₂, l₂) = one-moved Hex b c refl l₁ (omega arith) k in
-      let (e₃, l₃) = one-moved Hex c d refl l₂ (omega arith) o in
-      let (e₄, l₄) = one-moved Hex d e refl l₃ (omega arith) q in
-      code e₀ e₁ e₂ e₃ e₄ (one-moved Hex e m refl l₄ h r .0)
+      let (e₀, l₀, i₀) = one-moved (Byte 0x5C) x a l (omega arith) i in
+      let (e₁, l₁, i₁) = one-moved (Byte 0x75) a b l₀ (omega arith) j in
+      let (e₂, l₂, i₂) = one-moved Hex b c l₁ (omega arith) k in
+      let (e₃, l₃, i₃) = one-moved Hex c d l₂ (omega arith) o in
+      let (e₄, l₄, i₄) = one-moved Hex d e l₃ (omega arith) q in
+      code e₀ e₁ e₂ e₃ e₄ (one-moved Hex e m l₄ h r .0)
 
   chars-moved : (x m : ℕ) → lo ≤ x → m ≤ hi → Chars s x m → Chars t (g x) (g m)
   chars-moved x m l h stop = stop
@@ -146,8 +154,8 @@ string-spelled s at n e = eq-eqb _ _ (ap (charsAt p) zeroth ∙ sym (chars-taken
         let q : at + 1 + (x - (at + 1)) ≡ x = omega arith in
         getD-take (n - at - 2) (drop (at + 1) s) (g x) 0 (omega (arith, ends)) ∙ getD-drop (at + 1) s (g x) 0 ∙ ap (λ (i : ℕ). getD s i 0) q
 
-    moved : Chars p (g (at + 1)) (g m)
-    moved = chars-moved s p g (at + 1) m same (λ x l. omega arith) (at + 1) m (omega arith) (omega arith) (chars-sound s (at + 1))
-
     size : length p ≡ g m
     size = simp (length-take, length-drop) (omega (arith, ends))
+
+    moved : Chars p (g (at + 1)) (g m)
+    moved = chars-moved s p g (at + 1) m (λ x l h. omega (arith, size)) same (λ x l. omega arith) (at + 1) m (omega arith) (omega arith) (chars-sound s (at + 1))

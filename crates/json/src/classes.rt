@@ -7,18 +7,13 @@ ghost use Rattle.json.specs.Grammar.{case, inClass, past, oneAt, tokenAt
 use crate::Class;
 use crate::Out;
 
-// A byte of a string that stands for itself.
-pub(crate) fn plain(b: u8) -> bool
-    ensures { λ r. ⌜ r ≡ inClass Class.Plain b ⌝ }
-{
-    0x5d <= b || (crate::between(0x23, 0x5b, b) || crate::between(0x20, 0x21, b))
-}
-
-// Whether a byte stands for itself, with no branch.
+// Whether a byte of a string stands for itself, with no branch: all do but seven.
 pub(crate) fn own(b: u8) -> bool
     ensures { λ r. ⌜ r ≡ inClass Class.Plain b ⌝ }
 {
-    (0x20 <= b) & (b != 0x22) & (b != 0x5c)
+    (b != 0x22)
+        & ((b != 0x5c)
+            & ((b != 0x08) & ((b != 0x09) & ((b != 0x0a) & ((b != 0x0c) & (b != 0x0d))))))
 }
 
 // Whether four bytes from i on do.
@@ -67,7 +62,7 @@ pub(crate) fn is(class: Class, b: u8) -> bool
     match class {
         Class::Space => b == 0x20 || (b == 0x09 || (b == 0x0a || b == 0x0d)),
         Class::Digit => crate::between(0x30, 0x39, b),
-        Class::Plain => plain(b),
+        Class::Plain => own(b),
         Class::Hex => hex_digit(b),
         Class::Short => short(b),
         Class::Exponent => b == 0x65 || b == 0x45,

@@ -113,7 +113,7 @@ pub(crate) fn chars(s: &[u8], at: usize) -> usize
             i = n;
             continue;
         }
-        if classes::plain(s[i]) {
+        if classes::own(s[i]) {
             i += 1;
             continue;
         }

@@ -1,5 +1,6 @@
 // RFC 8259's grammar by recursive descent, with at most DEPTH brackets and braces open at once (01, row 3), and the
-// calls by which a text is walked. A place may be any number: past the end stands 0, which no rule takes.
+// calls by which a text is walked. A place may be any number: past the end stands 0, which no rule takes but a string's
+// characters, and these test the end.
 ghost use mathlib.Core.Path.{_≡_};
 ghost use Prim.Native.Nat.{_<_};
 ghost use Rattle.json.specs.Grammar.{isBetween, wsAt, stringAt, isSpelling, scalarAt, closeOf, openedAt, startAt};

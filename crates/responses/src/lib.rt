@@ -5,12 +5,11 @@ ghost use mathlib.Core.Bool.{true};
 ghost use Prim.Native.Nat.{_+_, _≤_};
 ghost use lib.ListN.{length};
 ghost use Rattle.wire.specs.Put.{Puts};
-ghost use Rattle.text.specs.Event.{quoted};
 ghost use Rattle.message.specs.Read.{readOf};
 ghost use Rattle.message.specs.declared.Message.the-variants as message;
 ghost use Rattle.event.specs.Lent.{said};
 ghost use Rattle.event.specs.Answer.{writtenNumber};
-ghost use Rattle.reply.specs.Replies.{reasonOf};
+ghost use Rattle.reply.specs.Replies.{stringJson, reasonOf};
 ghost use Rattle.program.specs.Respond.{response, responded, respondRow, respondedOut, respondedTable};
 ghost use Rattle.replies.specs.Inner.{Room};
 ghost use Rattle.responses.specs.Refused.{refusedReply, refusedRow, refusedOut};
@@ -36,7 +35,7 @@ const LONGEST_OK: usize = 116;
 // ---- pieces of a reply
 // The reply text of a row, between quotes; rows 0, 13 and later have none.
 fn put_reason(out: &mut [u8], at: usize, row: u8) -> usize
-    ensures { λ r. ⌜ Puts (now (out .entry)) at (quoted (reasonOf row)) r (now (out .exit)) ⌝ }
+    ensures { λ r. ⌜ Puts (now (out .entry)) at (stringJson (reasonOf row)) r (now (out .exit)) ⌝ }
 {
     match row {
         1 => wire::put(out, at, b"\"invalid: message too long\""),
@@ -57,7 +56,7 @@ fn put_reason(out: &mut [u8], at: usize, row: u8) -> usize
 
 // How long it is.
 fn reason_len(row: u8) -> usize
-    ensures { λ r. ⌜ (r ≡ length (quoted (reasonOf row))) × (r ≤ 29) ⌝ }
+    ensures { λ r. ⌜ (r ≡ length (stringJson (reasonOf row))) × (r ≤ 29) ⌝ }
 {
     if row < 13 {
         return LENGTHS[row as usize];
@@ -243,7 +242,7 @@ fn put_answer(table: &[u8], m: &[u8], sub: Span, ks: &[u16], out: &mut [u8]) -> 
     let id = wire::piece(m, sub.start, sub.len);
     match slot_replies::events_left(table, id, ks, out.len()) {
         Left::Room(room) => {
-            if has_room(room, 12, spell::escaped_len(id)) {
+            if has_room(room, 12, event::string_len(id)) {
                 let a = slot_replies::put_events(out, 0, table, id, ks);
                 return Written::Wrote(put_eose(out, a, m, sub));
             }

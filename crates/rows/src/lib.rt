@@ -194,5 +194,8 @@ pub fn text_row(s: &[u8]) -> u8
     if !utf8::is_utf8(s) {
         return 2;
     }
+    if wire::has_control(s) {
+        return 3;
+    }
     told(whole(s), s.len())
 }

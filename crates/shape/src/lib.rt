@@ -116,6 +116,9 @@ pub fn message_row(s: &[u8]) -> u8
     if !utf8::is_utf8(s) {
         return 2;
     }
+    if wire::has_control(s) {
+        return 3;
+    }
     let at = json::space(s, 0);
     match judge(s, at, json::DEPTH, opening(s, at)) {
         Judged::Ends(n, row) => { if n == s.len() { told(row) } else { 3 } }

@@ -3,7 +3,7 @@
 use mathlib.Core.Path.{_≡_}
 use mathlib.Core.Bool.{cond, _&&_}
 use mathlib.Core.List.{List, [], _∷_, _++_, map}
-use Prim.Native.Nat.{ℕ, suc, _+_, _-_, _*_}
+use Prim.Native.Nat.{ℕ, suc, _+_, _-_}
 use lib.Dec.{eqb, ltb}
 use lib.ListN.{length}
 use Rattle.wire.specs.Escape.{jsonOf}
@@ -64,12 +64,12 @@ heldText sub s = firstText (eventReplies sub s (readText (textIn s)))
 unfoldable pub heldLine : (sub s : Bytes) → Bytes
 heldLine sub s = written (eventReplies sub s (readText (textIn s)))
 
--- how long each of these lines is, for a subscription id that has n bytes when escaped, c of them control characters
-abbrev pub lineSize : (b : Bytes) (n c k : ℕ) → ℕ
-lineSize b n c k = length (jsonOf (textIn (slotAt b k))) + (n + 5 * c) + 267
+-- how long each of these lines is, for a subscription id that takes n bytes in a reply
+abbrev pub lineSize : (b : Bytes) (n k : ℕ) → ℕ
+lineSize b n k = length (jsonOf (textIn (slotAt b k))) + n + 267
 
-abbrev pub sizes : (b : Bytes) (n c : ℕ) (ks : List ℕ) → List ℕ
-sizes b n c ks = map (lineSize b n c) ks
+abbrev pub sizes : (b : Bytes) (n : ℕ) (ks : List ℕ) → List ℕ
+sizes b n ks = map (lineSize b n) ks
 
 -- how many of these sizes a room has, from the first on, with the i before them, and what they leave of it
 abbrev pub stopped : (i room : ℕ) → Fitted

@@ -1,17 +1,17 @@
-// EVENT replies of held slots, written into lent bytes. The text of a slot is copied, never decoded. Every row is
-// tested before the first byte is written.
+// EVENT replies of held slots, written into lent bytes. The text of a slot is copied, its control characters spelled out,
+// and never decoded. Every row is tested before the first byte is written.
 ghost use mathlib.Core.Path.{_≡_};
 ghost use mathlib.Core.Bool.{true};
-ghost use Prim.Native.Nat.{_+_};
+ghost use Prim.Native.Nat.{_+_, _≤_};
 ghost use lib.ListN.{length, getD};
 ghost use Rattle.wire.specs.Put.{Puts};
-ghost use Rattle.wire.specs.Escape.{escape};
+ghost use Rattle.wire.specs.Escape.{escape, jsonOf};
 ghost use Rattle.spell.specs.Spell.{decode};
-ghost use Rattle.text.specs.Event.{quoted};
 ghost use Rattle.event.specs.Answer.{hexOf, writtenNumber};
-ghost use Rattle.table.specs.Layout.{lengthIn};
+ghost use Rattle.table.specs.Layout.{textIn};
 ghost use Rattle.table.specs.Sound.{sound};
 ghost use Rattle.table.specs.Format.{shownRow};
+ghost use Rattle.reply.specs.Replies.{stringJson};
 ghost use Rattle.program.specs.Program.{eventsOf, written};
 ghost use Rattle.program.specs.Respond.{slotEvent, slotEventRow, slotEventOut, eventsRow, sentEvents, sentEventsOut};
 ghost use Rattle.program.specs.Respond.{sentNumber};
@@ -34,7 +34,7 @@ pub enum Left {
 
 // Bytes in hex, between quotes.
 fn put_hex(out: &mut [u8], at: usize, s: &[u8]) -> usize
-    ensures { λ r. ⌜ Puts (now (out .entry)) at (quoted (hexOf (now (s .entry)))) r (now (out .exit)) ⌝ }
+    ensures { λ r. ⌜ Puts (now (out .entry)) at (stringJson (hexOf (now (s .entry)))) r (now (out .exit)) ⌝ }
 {
     let a = wire::put(out, at, b"\"");
     let c = event::put_hex(out, a, s);
@@ -47,7 +47,7 @@ fn put_front(out: &mut [u8], at: usize, sub: &[u8], id: &[u8]) -> usize
         (now (out .exit)) ⌝ }
 {
     let a = wire::put(out, at, b"[\"EVENT\",");
-    let b = event::put_quoted(out, a, sub);
+    let b = event::put_json(out, a, sub);
     let c = wire::put(out, b, b",{\"id\":");
     put_hex(out, c, id)
 }
@@ -67,7 +67,7 @@ fn put_numbers(out: &mut [u8], at: usize, t: &[u8], x: Text) -> usize
     numeral::put_natural(out, e, kind)
 }
 
-// ,"tags":TAGS,"content":CONTENT copied from it.
+// ,"tags":TAGS,"content":CONTENT from it.
 fn put_strings(out: &mut [u8], at: usize, t: &[u8], x: Text) -> usize
     requires { ⌜ ReadAs (now t) x ⌝ }
     ensures { λ r. ⌜ Puts (now (out .entry)) at (stringBytes (now (t .entry))) r (now (out .exit)) ⌝ }
@@ -79,9 +79,9 @@ fn put_strings(out: &mut [u8], at: usize, t: &[u8], x: Text) -> usize
     let quote = content - 1;
     let quoted_len = len + 2;
     let a = wire::put(out, at, b",\"tags\":");
-    let b = wire::put(out, a, wire::piece(t, tags, tags_len));
+    let b = wire::put_json(out, a, wire::piece(t, tags, tags_len));
     let c = wire::put(out, b, b",\"content\":");
-    wire::put(out, c, wire::piece(t, quote, quoted_len))
+    wire::put_json(out, c, wire::piece(t, quote, quoted_len))
 }
 
 // ,"sig":SIG}]
@@ -117,21 +117,27 @@ fn put_slot(out: &mut [u8], at: usize, sub: &[u8], s: &[u8]) -> usize
     }
 }
 
+// How long the text of a slot is as it stands in a reply.
+fn text_size(s: &[u8]) -> usize
+    ensures { λ r. ⌜ (r ≡ length (jsonOf (textIn (now (s .entry))))) × (r ≤ 393210) ⌝ }
+{
+    let n = wire::le_at(s, slots::LENGTH_PLACE, 2) as usize;
+    let t = wire::piece(s, slots::TEXT_PLACE, n);
+    t.len() + 5 * wire::control_count(t)
+}
+
 // Whether the EVENT of a sound slot has room: it is 266 bytes longer than its text and the subscription id. By
 // subtraction: the sum may be more than a number holds.
 fn slot_fits(s: &[u8], sub: &[u8], room: usize) -> bool
-    ensures { λ r. ⌜ Room (lengthIn (now (s .entry)) + length (escape (decode (now (sub .entry)))) + 266) room r ⌝ }
+    ensures { λ r. ⌜ Room (length (jsonOf (textIn (now (s .entry)))) +
+        length (jsonOf (escape (decode (now (sub .entry))))) + 266) room r ⌝ }
 {
-    let n = spell::escaped_len(sub);
-    let k = wire::le_at(s, slots::LENGTH_PLACE, 2);
-    if room < 266 {
+    let n = event::string_len(sub);
+    let size = text_size(s) + 266;
+    if room < size {
         return false;
     }
-    let rest = room - 266;
-    if (rest as u64) < k {
-        return false;
-    }
-    n <= rest - k as usize
+    n <= room - size
 }
 
 // Row 11 or 14, or 0 where the slot is held.
@@ -216,11 +222,11 @@ pub fn put_events(out: &mut [u8], at: usize, table: &[u8], sub: &[u8], ks: &[u16
 }
 
 // What the line of a sound slot leaves of a room: it is 267 bytes longer than the slot's text and the subscription id,
-// which has n bytes when escaped. By subtraction: the sum may be more than a number holds.
+// which takes n bytes. By subtraction: the sum may be more than a number holds.
 fn line_left(s: &[u8], n: usize, room: usize) -> Left
-    ensures { λ r. ⌜ r ≡ leftIn room (lengthIn (now (s .entry)) + n + 267) ⌝ }
+    ensures { λ r. ⌜ r ≡ leftIn room (length (jsonOf (textIn (now (s .entry)))) + n + 267) ⌝ }
 {
-    let size = wire::le_at(s, slots::LENGTH_PLACE, 2) as usize + 267;
+    let size = text_size(s) + 267;
     if room < size {
         return Left::Short;
     }
@@ -231,7 +237,7 @@ fn line_left(s: &[u8], n: usize, room: usize) -> Left
     Left::Room(rest - n)
 }
 
-// The lines of the slots ks that fit, for a subscription id that has n bytes when escaped.
+// The lines of the slots ks that fit, for a subscription id that takes n bytes.
 fn fit_lines(table: &[u8], n: usize, ks: &[u16], room: usize) -> Fitted
     ensures { λ r. ⌜ r ≡ fittedIn 0 room (sizes (now (table .entry)) n (now (ks .entry))) ⌝ }
 {
@@ -253,7 +259,7 @@ fn fit_lines(table: &[u8], n: usize, ks: &[u16], room: usize) -> Fitted
 pub fn events_left(table: &[u8], sub: &[u8], ks: &[u16], room: usize) -> Left
     ensures { λ r. ⌜ r ≡ leftIn room (linesSize (now (table .entry)) (decode (now (sub .entry))) (now (ks .entry))) ⌝ }
 {
-    let n = spell::escaped_len(sub);
+    let n = event::string_len(sub);
     let f = fit_lines(table, n, ks, room);
     if f.lines < ks.len() {
         return Left::Short;
@@ -304,7 +310,7 @@ fn send(table: &[u8], ks: &[u16], sub: &[u8], out: &mut [u8]) -> Sent
     ensures { λ _. ⌜ now (out .exit) ≡ sentLinesOut (now (table .entry)) (decode (now (sub .entry))) (now (ks .entry))
         (now (out .entry)) ⌝ }
 {
-    let n = spell::escaped_len(sub);
+    let n = event::string_len(sub);
     let held = held_len(table, ks);
     let f = fit_lines(table, n, &ks[..held], out.len());
     let lines = f.lines;

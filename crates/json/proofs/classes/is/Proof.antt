@@ -17,7 +17,7 @@ is-spec =
     (λ c. search (tests, c .before .before .before .enum-told .given .1))
     (λ c. search (tests, c .before .before .before .enum-told .given .1))
     (λ c. simp (c .before .enum-told2 .given .1, c .between .ensures))
-    (λ c. simp (c .before .enum-told3 .given .1, c .plain .ensures))
+    (λ c. simp (c .before .enum-told3 .given .1, c .own .ensures))
     (λ c. simp (c .before .enum-told4 .given .1, c .hex-digit .ensures))
     (λ c. simp (c .before .enum-told5 .given .1, c .short .ensures))
     (λ c. search (tests, c .before .enum-told6 .given .1))

@@ -15,7 +15,7 @@ returns c =
           let (x, d) = all-both _ _ t in
           let (y, e) = all-both _ _ x in
           let (a, b) = all-both _ _ y in
-          chars-four _ _ (sym (c₁ .own .ensures) ∙ a) (sym (c₂ .own2 .ensures) ∙ b) (sym (c₃ .own3 .ensures) ∙ e) (sym (c .own4 .ensures) ∙ d);
+          chars-four _ _ (search needs) (sym (c₁ .own .ensures) ∙ a) (sym (c₂ .own2 .ensures) ∙ b) (sym (c₃ .own3 .ensures) ∙ e) (sym (c .own4 .ensures) ∙ d);
     }
 
 pub own4-spec : {M : Type 1} → statement M

@@ -31,13 +31,13 @@ loop-less-3 c =
 loop-again-3 : tie.Need-loop-again-3 Inv-loop μ-loop
 loop-again-3 c =
     let d = c .before .before .before in
-    let p = char-escaped _ _ (sym (d .before .before .plain .ensures) ∙ d .before .if2 .left) in
+    let p = char-escaped _ _ (d .before .before .before .before .before .before .loop-test .taken) (sym (d .before .before .own .ensures) ∙ d .before .if2 .left) in
     chars-more _ _ _ (p ∙ sym (d .escaped .ensures) ∙ c .before .n .given .1) ∙ d .before .before .before .before .before .before .before .loop .inv
 
 returns : tie.Need-returns Inv-loop μ-loop
 returns c =
     let d = c .before .before in
-    let p = char-escaped _ _ (sym (d .before .before .plain .ensures) ∙ d .before .if2 .left) in
+    let p = char-escaped _ _ (d .before .before .before .before .before .before .loop-test .taken) (sym (d .before .before .own .ensures) ∙ d .before .if2 .left) in
     sym (chars-none _ _ (p ∙ sym (d .escaped .ensures) ∙ c .enum-told .given .1)) ∙ d .before .before .before .before .before .before .before .loop .inv
 
 pub chars-spec : {M : Type 1} → statement M
@@ -52,7 +52,7 @@ chars-spec =
     loop-again
     (search needs) (search needs) (search needs)
     (λ c. omega arith)
-    (λ c. chars-more _ _ _ (char-plain _ _ (sym (c .before .plain .ensures) ∙ c .if2 .taken)) ∙ c .before .before .before .before .before .before .loop .inv)
+    (λ c. chars-more _ _ _ (char-plain _ _ (c .before .before .before .before .before .loop-test .taken) (sym (c .before .own .ensures) ∙ c .if2 .taken)) ∙ c .before .before .before .before .before .before .loop .inv)
     (search needs) (search needs) (search needs)
     returns
     loop-less-3
