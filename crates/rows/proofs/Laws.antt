@@ -25,6 +25,7 @@ use Rattle.rows.specs.declared.Seen.{Seen}
 use Rattle.rows.specs.declared.Seen.the-variants.{Clean, Missing}
 use Rattle.rows.specs.Strings.{spelledAt, refusedIn, refusedItems}
 use Rattle.wire.specs.Limits.{mostMessage}
+use Rattle.wire.specs.Bytes.{hasControl}
 use Rattle.rows.specs.Rows.{onRoot, row4, textRow}
 use Rattle.rows.specs.Inner.{made, seenOf, nameSeen, seenEnd, seenRefused, seenTold}
 
@@ -168,7 +169,7 @@ module _ (s : List ℕ) where
       go false true q = rw q
       go false false q = rw q
 
-  -- the three ways out of text_row
+  -- the ways out of text_row
   pub row-long : mostMessage < length s → 1 ≡ textRow s
   unfolding textRow
   row-long h = rw (lt-ltb mostMessage (length s) h)
@@ -178,6 +179,10 @@ module _ (s : List ℕ) where
     unfolding textRow
     row-bytes b e q = rw (le-ltb mostMessage (length s) h, ← e, q)
 
-    pub row-told : (b : Bool) (x : Seen) (r : ℕ) → b ≡ isUtf8 s → not b ≡ false → x ≡ seenOf s (root s) → r ≡ seenTold x (length s) → r ≡ textRow s
+    pub row-raw : (b t : Bool) → b ≡ isUtf8 s → not b ≡ false → t ≡ hasControl s → t ≡ true → 3 ≡ textRow s
+    unfolding textRow
+    row-raw b t e q f g = rw (le-ltb mostMessage (length s) h, ← e, q, ← f, g)
+
+    pub row-told : (b t : Bool) (x : Seen) (r : ℕ) → b ≡ isUtf8 s → not b ≡ false → t ≡ hasControl s → t ≡ false → x ≡ seenOf s (root s) → r ≡ seenTold x (length s) → r ≡ textRow s
     unfolding textRow row4
-    row-told b x r e q ex er = er ∙ rw (ex, le-ltb mostMessage (length s) h, ← e, q) (told-root (length s) (root s))
+    row-told b t x r e q f g ex er = er ∙ rw (ex, le-ltb mostMessage (length s) h, ← e, q, ← f, g) (told-root (length s) (root s))

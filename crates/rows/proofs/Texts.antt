@@ -53,10 +53,20 @@ module _ (s : List ℕ) where
 
 -- ---- worked texts
 module _ where
-  -- {"\u0001":0}: an escaped control, in a name
-  pub control-in-name : textRow (0x7b ∷ 0x22 ∷ 0x5c ∷ 0x75 ∷ 0x30 ∷ 0x30 ∷ 0x30 ∷ 0x31 ∷ 0x22 ∷ 0x3a ∷ 0x30 ∷ 0x7d ∷ []) ≡ 4
+  -- {"\u0001":0}: a control character in a name, spelled out (02, Wish 3)
+  pub control-in-name : textRow (0x7b ∷ 0x22 ∷ 0x5c ∷ 0x75 ∷ 0x30 ∷ 0x30 ∷ 0x30 ∷ 0x31 ∷ 0x22 ∷ 0x3a ∷ 0x30 ∷ 0x7d ∷ []) ≡ 0
   unfolding textRow row4 spelledAt refusedIn isUtf8 utf8From leadOf treeAt itemsAt scalarAt stringAt charsAt charsUpTo charAt escapedAt hexAt numberAt expAt fracAt intAt digitsAt literalAt wordAt tokenAt oneAt past run inClass refuses any isRefused charsFrom charOf unicodeOf pairOf isPair shortOf fourAt four hexVal
   control-in-name = refl
+
+  -- {"\ud800":0}: an unpaired surrogate in a name
+  pub surrogate-in-name : textRow (0x7b ∷ 0x22 ∷ 0x5c ∷ 0x75 ∷ 0x64 ∷ 0x38 ∷ 0x30 ∷ 0x30 ∷ 0x22 ∷ 0x3a ∷ 0x30 ∷ 0x7d ∷ []) ≡ 4
+  unfolding textRow row4 spelledAt refusedIn isUtf8 utf8From leadOf treeAt itemsAt scalarAt stringAt charsAt charsUpTo charAt escapedAt hexAt numberAt expAt fracAt intAt digitsAt literalAt wordAt tokenAt oneAt past run inClass refuses any isRefused charsFrom charOf unicodeOf pairOf isPair shortOf fourAt four hexVal
+  surrogate-in-name = refl
+
+  -- ["..."] with a raw 01, and with a raw 00, in the string
+  pub raw-control : (textRow (0x5b ∷ 0x22 ∷ 0x01 ∷ 0x22 ∷ 0x5d ∷ []) ≡ 3) × (textRow (0x5b ∷ 0x22 ∷ 0x00 ∷ 0x22 ∷ 0x5d ∷ []) ≡ 3)
+  unfolding textRow row4 spelledAt refusedIn isUtf8 utf8From leadOf treeAt itemsAt scalarAt stringAt charsAt charsUpTo charAt escapedAt hexAt numberAt expAt fracAt intAt digitsAt literalAt wordAt tokenAt oneAt past run inClass refuses any isRefused charsFrom charOf unicodeOf pairOf isPair shortOf fourAt four hexVal
+  raw-control = (refl, refl)
 
   -- ["\u0009"]: one of the five controls that a string may have
   pub control-allowed : textRow (0x5b ∷ 0x22 ∷ 0x5c ∷ 0x75 ∷ 0x30 ∷ 0x30 ∷ 0x30 ∷ 0x39 ∷ 0x22 ∷ 0x5d ∷ []) ≡ 0

@@ -2,12 +2,13 @@
 use mathlib.Core.Path.{_≡_, refl, sym, ap, _∙_}
 use mathlib.Core.List.{List}
 use mathlib.Core.Logic.{_↔_}
-use mathlib.Core.Bool.{Bool, true, false, cond, not}
+use mathlib.Core.Bool.{Bool, true, false, cond, not, _&&_}
 use Prim.Native.Nat.{ℕ, zero, suc, _+_, _≤_, _<_}
 use native.Mathlib.Omega.{arith}
 use borrow.Author.Tests.{ne-eqb, eqb-true, eqb-false, ltb-true, ltb-false}
 use lib.Dec.{eqb, ltb}
 use lib.ListN.{length}
+use Rattle.wire.specs.Bytes.{hasControl}
 use Rattle.json.specs.Tree.{Json, Got, none, got, endOf, endsAt, root}
 use Rattle.rows.specs.Rows.{row1, row2, row3, onRoot}
 use Rattle.shape.specs.Rows.{row4, row5, row6, row7, row8, treeRow, rootRow, messageRow}
@@ -76,12 +77,13 @@ module _ (f : ℕ → Bool) where
 module _ (s : List ℕ) where
   answer-first : messageRow s ≡ first (holds s) 8 1
   unfolding messageRow treeRow first holds
-  answer-first = ap (λ (n : ℕ). cond (row1 s) 1 (cond (row2 s) 2 n)) (go (root s))
+  answer-first = ap (λ (n : ℕ). cond (row1 s) 1 (cond (row2 s) 2 n)) (go (hasControl s) (root s))
     where
-      go : (g : Got Json) → cond (not (endsAt (length s) (endOf g))) 3 (rootRow s g)
-          ≡ cond (not (endsAt (length s) (endOf g))) 3 (cond (onRoot (row4 s) g) 4 (cond (onRoot (row5 s) g) 5 (cond (onRoot (row6 s) g) 6 (cond (onRoot (row7 s) g) 7 (cond (onRoot (row8 s) g) 8 0)))))
-      go none = refl
-      go (got t n) = refl
+      go : (c : Bool) (g : Got Json) → cond (not (not c && endsAt (length s) (endOf g))) 3 (rootRow s g)
+          ≡ cond (not (not c && endsAt (length s) (endOf g))) 3 (cond (onRoot (row4 s) g) 4 (cond (onRoot (row5 s) g) 5 (cond (onRoot (row6 s) g) 6 (cond (onRoot (row7 s) g) 7 (cond (onRoot (row8 s) g) 8 0)))))
+      go true g = refl
+      go false none = refl
+      go false (got t n) = refl
 
   no-zero : holds s 0 ≡ false
   unfolding holds

@@ -23,7 +23,7 @@ use Rattle.json.specs.declared.Next.the-variants.{Wrong as NextWrong}
 use Rattle.json.proofs.Ends.{ends-bad}
 use Rattle.json.proofs.Trees.{tree-open, value-flat}
 use Rattle.wire.specs.Limits.{mostMessage}
-use Rattle.wire.specs.Bytes.{sameBytes}
+use Rattle.wire.specs.Bytes.{sameBytes, hasControl}
 use Rattle.spell.specs.Spell.{charsFrom, charsBytes, decode}
 use Rattle.rows.specs.Strings.{part, spelledAt}
 use Rattle.shape.specs.Shape.{nameAt, other, wordOf, opened}
@@ -165,10 +165,10 @@ module _ (s : List ℕ) (d at : ℕ) where
       go (Many i false) w = ap wordForm (items-first t m i (itemsAt (treeAt s d) s false (length s) i) refl w)
 
 -- ---- the ways out of message_row
-module _ (s : List ℕ) {f : ℕ} {at : ℕ} (short : length s ≤ mostMessage) (utf : isUtf8 s ≡ true) (place : at ≡ wsAt s 0) (form : f ≡ openingOf s (startAt s at)) where
-  by-root : {x : ℕ} → x ≡ cond (row3 s) 3 (rootRow s (root s)) → x ≡ messageRow s
+module _ (s : List ℕ) {f : ℕ} {at : ℕ} (short : length s ≤ mostMessage) (utf : isUtf8 s ≡ true) (clean : hasControl s ≡ false) (place : at ≡ wsAt s 0) (form : f ≡ openingOf s (startAt s at)) where
+  by-root : {x : ℕ} → x ≡ cond (not (endsAt (length s) (endOf (root s)))) 3 (rootRow s (root s)) → x ≡ messageRow s
   unfolding messageRow
-  by-root e = rw (le-ltb mostMessage (length s) short, utf) e
+  by-root e = rw (le-ltb mostMessage (length s) short, utf, clean) e
 
   pub message-wrong : Wrong ≡ judgedOf s f (treeAt s depth at) → 3 ≡ messageRow s
   unfolding judgedOf
