@@ -257,8 +257,9 @@ def control_texts():
     """(row, text): control characters raw in the strings of a text, spelled, outside its strings, and at a text's end."""
     forms = ['[0,"%s",0,1,[],"_"]', '[0,"%s",0,1,[],"x_"]', '[0,"%s",0,1,[["_"]],""]', '[0,"%s",0,1,[["d","_x","_"]],""]']
     forms = [form % A for form in forms]
-    outside = ['_[0,"%s",0,1,[],""]', '[0,_"%s",0,1,[],""]', '[0,"%s",0,1_,[],""]', '[0,"%s",0,1,[["a"_]],""]', '[0,"%s",0,1,[],""_]']
-    outside = [form % A for form in outside] + [forms[0].replace("_", "") + "_", forms[0].replace(A, A[1:] + "_").replace(',"_"', ',""')]
+    outside = ['_[0,"%s",0,1,[],""]', '[0,_"%s",0,1,[],""]', '[0,"%s",0,1_,[],""]', '[0,"%s",0,1,[["a"_]],""]']
+    outside += ['[0,"%s",0,1,[],""_]', '[0,"%s",0,1,[],""]_']
+    outside = [form % A for form in outside] + ['[0,"%s_",0,1,[],""]' % A[1:]]
     for c in BELOW:
         if c != "\n":
             yield from ((0 if c in CONTROLS else 5, form.replace("_", c)) for form in forms)

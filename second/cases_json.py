@@ -134,7 +134,8 @@ CONTROL_FORMS = (
     '"\\ud800%s" "%s\\udc00" {"%s\\ud800":1} ["CLOSE","%s\\udfff"] "\\ud83d%s\\ude00"'
 ).split(" ")
 RAW_FORMS = (
-    '"a%s" "%sa" {"%s":1} {"a":"%s"} ["CLOSE","%s"] ["REQ","s",{"#t":["%s"]}] "\\ud800%s" "%s\\udc00" "%s "a%s "%s\\" ["%s "\\u%s001"'
+    '"a%s" "%sa" {"%s":1} {"a":"%s"} ["CLOSE","%s"] ["REQ","s",{"#t":["%s"]}] "\\ud800%s" "%s\\udc00" '
+    '"%s "a%s "%s\\" ["%s "\\u%s001"'
 ).split(" ")
 
 

@@ -498,7 +498,7 @@ def pairs():
 
 
 def controls():
-    """Spelled, with digits in either case, in every string of a message; as a name or in hex the rows are those of other characters."""
+    """Spelled, with digits in either case, in every string of a message; in names and hex they are like any other character."""
     for c in BELOW:
         for s in u_escapes(c):
             yield 0, event_with(content='"x%sy"' % s, tags='[["%s"],["t","%s%s"]]' % (s, s, s))

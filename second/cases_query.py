@@ -305,8 +305,9 @@ def spellings():
 
 def control_conditions():
     """02, Wish 3: each control character asked for, spelled with digits in either case, and raw where the filter is lent."""
-    events = [made(A, k, 1, [tag for c in BELOW[4 * k : 4 * k + 4] for tag in (["t", c], ["t", c + "x"])], BELOW) for k in range(7)]
-    events.append(made(A, 7, 30000, [["t", c] for c in BELOW[28:]] + [["x", BELOW], ["d", "\x00\x01"]]))
+    four = lambda k: BELOW[4 * k : 4 * k + 4]
+    events = [made(A, k, 1, [tag for c in four(k) for tag in (["t", c], ["t", c + "x"])], BELOW) for k in range(7)]
+    events.append(made(A, 7, 30000, [["t", c] for c in four(7)] + [["x", BELOW], ["d", "\x00\x01"]]))
     yield from filled(8, events)
     asked = Asked()
     for at, c in enumerate(BELOW):
@@ -326,7 +327,7 @@ def control_conditions():
         if asked.full():
             yield from asked.flush()
     for string in (plain, in_capitals, verbatim):
-        for value, slots in ((BELOW, [7]), (BELOW[:-1], []), (BELOW[1:], []), (BELOW + "\x00", []), (BELOW.replace("\x00", ""), [])):
+        for value, slots in ((BELOW, [7]), (BELOW[:-1], []), (BELOW[1:], []), (BELOW + "\x00", []), ("\x00" + BELOW, [])):
             asked.parts(listing(slots), filters_of({"#x": strings("\x01", value, string=string)}))
             if string != verbatim:
                 asked.req(listing(slots), filters_of({"#x": strings(value, "\x00", string=string)}))

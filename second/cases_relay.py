@@ -239,15 +239,16 @@ def controls():
             ]
             yield run(asked, (0, 1, 7)[ord(c) % 3])
         if c != "\n":
-            row = 3 if c < " " else 0
-            texts = [(eose(c), req("{}", sub='"%s"' % c)), ("", '["CLOSE","%s"]' % c), (taken(id_in(one)), offer(one).replace(said, c))]
-            yield run([(notice(row) if row else want, text) for want, text in texts])
+            texts = [(eose(c), req("{}", sub='"%s"' % c)), ("", '["CLOSE","%s"]' % c)]
+            texts += [(taken(id_in(one)), offer(one).replace(said, c))]
+            yield run([(notice(3) if c < " " else want, text) for want, text in texts])
 
 
 def control_replies():
     """All of them at once; subscription ids of 64 and 65; the longest events, whose answer is longer than 65,536 bytes."""
-    said = plain(BELOW + "\x7f")[1:-1]
-    first, second = [made(created_at=time, kind=30000, tags=[["d", BELOW], ["t", BELOW + "\x7f"]], content=BELOW + "\x7f") for time in (0, 1)]
+    every = BELOW + "\x7f"
+    said = plain(every)[1:-1]
+    first, second = [made(created_at=time, kind=30000, tags=[["d", BELOW], ["t", every]], content=every) for time in (0, 1)]
     other = made(created_at=2, kind=30000, tags=[["d", BELOW[:-1]]])
     yield run(
         [
@@ -256,16 +257,17 @@ def control_replies():
             (taken(id_in(second)), offer(second, in_capitals)),
             (taken(id_in(first), OLDER), offer(first, in_capitals)),
             (taken(id_in(other)), offer(other)),
-            (sent(other, said) + sent(second, said) + eose(said), req("{}", sub=in_capitals(BELOW + "\x7f"))),
-            (sent(second) + eose(), req('{"#t":[%s]}' % plain(BELOW + "\x7f"))),
+            (sent(other, said) + sent(second, said) + eose(said), req("{}", sub=in_capitals(every))),
+            (sent(second) + eose(), req('{"#t":[%s]}' % plain(every))),
             (closed(said, 6), req('{"limit":65536}', sub='"%s"' % said)),
-            (closed(said, 8), req('{"#d":[]}', sub=in_capitals(BELOW + "\x7f"))),
+            (closed(said, 8), req('{"#d":[]}', sub=in_capitals(every))),
         ]
     )
     for c in "\x00\x01\x1f\n":
         for count in (1, 63, 64, 65):
             sub, said = plain(c * count), plain(c * count)[1:-1]
-            asked = [(eose(said), req("{}", sub=sub)), (closed(said, 6), req('{"limit":-1}', sub=sub)), ("", '["CLOSE",%s]' % sub)]
+            asked = [(eose(said), req("{}", sub=sub)), (closed(said, 6), req('{"limit":-1}', sub=sub))]
+            asked.append(("", '["CLOSE",%s]' % sub))
             over = [(notice(row), text) for row, (_, text) in zip((8, 6, 8), asked)]
             yield run(over if count > 64 else asked)
     # What is hashed is the text with these raw, which has a byte for each.

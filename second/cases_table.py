@@ -557,7 +557,7 @@ def control_keys():
         yield b"0 ", line(b"H", 1)
     lent = Lent()
     values = ["", "\x00", "\x01", "\x00\x01", "\x01\x00", "\\u0001", "u0001", "\x7f", "\x00" * 32, "\x00" * 33]
-    ones = [(lent.event(made(kind=30000, tags=[["d", d]])), lent.event(made(kind=30000, tags=[["d", d]]), string=verbatim)) for d in values]
+    ones = [[lent.event(made(kind=30000, tags=[["d", d]]), string=string) for string in (plain, verbatim)] for d in values]
     yield lent.set()
     for (first, _), (_, second) in combinations(ones, 2):
         yield from fresh(2)
@@ -577,7 +577,8 @@ def control_slots():
     yield STORED, one.message()
     text = text_of(one.fields)
     inside = [text.index(b"xx"), text.index(b"xx") + 1, text.index(b"yy"), text.index(b"zz"), text.index(b"zz") + 1]
-    outside = [0, 1, 2, 4, 67, 68, 69, 71, text.index(b"[["), text.index(b'"d"'), text.index(b'"xx"'), text.index(b'],"zz') + 1, len(text) - 1]
+    outside = [0, 1, 2, 4, 67, 68, 69, 71, len(text) - 1]
+    outside += [text.index(part) for part in (b"[[", b'"d"', b'"xx"', b',"zz')]
     for c in BELOW:
         for at in inside:
             yield from turned(b"sound" if c in CONTROLS else b"unsound", HEADER + 112 + at, text[at] ^ ord(c))
@@ -685,7 +686,8 @@ def taken_over(rng, events):
 
 
 FEW_TAGS = [[], [["d"]], [["d", ""]], [["d", "a"]], [["d", "a\n"]], [["e", "x"], ["d", "a"]], [["d", "b"], ["d", "a"]]]
-CONTROL_TAGS = [[["d", "\x00"]], [["d", "\x00\x00"]], [["d", "\x1f"]], [["e", "\x0b"], ["d", "\x01"]], [["d\x00", "a"], ["d", "a\x00"]]]
+CONTROL_TAGS = [[["d", "\x00"]], [["d", "\x00\x00"]], [["d", "\x1f"]], [["e", "\x0b"], ["d", "\x01"]]]
+CONTROL_TAGS += [[["d\x00", "a"], ["d", "a\x00"]]]
 
 
 def random_event(rng, long, few=FEW_TAGS, sample=SAMPLE):

@@ -250,10 +250,11 @@ def test_controls():
     same("longest text", len(text_of(longest)), 4096)
     fields = spelled_record({**longest, "id": A, "sig": A + A}, EVENT, IN_REPLIES)
     same("longest EVENT", len(relay.reply("EVENT", sub, fields)), EVENT_LINE)
-    others = [relay.reply("EOSE", sub)] + [relay.reply("OK", relay.string(A), "true", relay.string(s)) for s in relay.ACCEPTED.values()]
-    for row, reason in relay.REFUSED.items():
-        others += [relay.reply("CLOSED", sub, relay.string(reason)), relay.notice(row)]
-        others += [relay.reply("OK", relay.string(A), "false", relay.string(reason))]
+    refused, accepted = [list(map(relay.string, reasons.values())) for reasons in (relay.REFUSED, relay.ACCEPTED)]
+    others = [relay.reply("EOSE", sub)] + [relay.reply("OK", relay.string(A), "true", reason) for reason in accepted]
+    for reason in refused:
+        others += [relay.reply("CLOSED", sub, reason), relay.reply("NOTICE", reason)]
+        others += [relay.reply("OK", relay.string(A), "false", reason)]
     same("longest other", max(map(len, others)), OTHER_LINE)
 
 
@@ -321,8 +322,8 @@ def test_parts():
 
 
 # What lent strings are made of at random.
-PIECES = [b"\x00", b"\x01", b"\x0b", b"\x1f", b"\x08", b"\t", b"\n", b"\f", b"\r", b'"', b"\\", b"\\u0000", b"\\u001F", b"\\ud800", b"\\udc00"]
-PIECES += [b"\\n", b"\\/", b"\x7f", b"x", b" ", b",", b"[", b"]", "é".encode(), b"\xff"]
+PIECES = [b"\x00", b"\x01", b"\x0b", b"\x1f", b"\x08", b"\t", b"\n", b"\f", b"\r", b'"', b"\\"]
+PIECES += [b"\\u0000", b"\\u001F", b"\\ud800", b"\\udc00", b"\\n", b"\\/", b"\x7f", b"x", b" ", b",", b"[", b"]", "é".encode(), b"\xff"]
 # Each control character that has no short escape, as a character that json takes.
 AS_PLAIN = {code: 0xE000 + code for code in range(32) if chr(code) not in "\b\t\n\f\r"}
 

@@ -18,11 +18,11 @@ RUN = 1000
 def one_run(rng, strays):
     """Lines about few events or many, so that tables fill slowly or at once; some lines too long, at times a last one without 0A.
 
-    Control characters stand in all strings, at times in one event or in eight as many as a message holds, or a few more.
+    Control characters stand in all strings, at times in one event or in eight about as many as a message holds.
     """
     events = [random_fields(rng, FEW_TAGS + CONTROL_TAGS, WIDE) for _ in range(rng.choice([4, 8, 12, 40]))]
-    for fields in events[: rng.choice([0] * 8 + [1, 8])]:
-        fields["content"] = rng.choice(CONTROLS) * rng.randrange(LONGEST + 20)
+    for fields in events[: rng.choice([0] * 12 + [1, 2, 8])]:
+        fields["content"] = rng.choice(CONTROLS) * (LONGEST + 10 - rng.randrange(rng.choice([100, LONGEST])))
     pool = [random_text(rng, events, strays, WIDE).replace(b"\n", b" ") for _ in range(400)]
     lines = [rng.choice(pool) for _ in range(RUN)]
     lines[rng.randrange(RUN)] = b" " * rng.choice([8191, 8192, 8193, 20000])

@@ -1,6 +1,7 @@
 -- Fit has what other crates may cite: parts that pass the rows spell an event within the limits, and parts that decode
--- alike have one text. Strings, Walks, Answers and Decoded are open too, for the converse: what a table holds passes
+-- alike have one text. Forms, Strings, Walks, Answers and Decoded are open too, for the converse: what a table holds passes
 -- the rows when it is offered again.
+pub mod Forms
 pub mod Strings
 pub mod Walks
 mod Tags

@@ -12,7 +12,7 @@ use mir.Val.{toZ, ofZ, SFits}
 use mir.ValLaws.{toZ-ofZ}
 use lib.ListN.{length}
 use Rattle.wire.specs.Put.{Puts}
-use Rattle.wire.specs.Escape.{escape}
+use Rattle.wire.specs.Escape.{escape, jsonOf}
 use Rattle.wire.specs.Field.{unsigned}
 use Rattle.wire.proofs.Laws.{puts-then}
 use Rattle.spell.specs.Spell.{charsFrom, charsBytes, decode}
@@ -31,23 +31,19 @@ use Rattle.rows.specs.Strings.{part, spelledAt}
 use Rattle.text.specs.Event.{quoted}
 use Rattle.message.proofs.Walks.{never}
 use Rattle.event.specs.Lent.{stringOf, natural}
-use Rattle.event.specs.Inner.{Does, stringText}
+use Rattle.event.specs.Inner.{inForm, Does, stringText}
+use Rattle.event.proofs.Forms.{form-quoted}
 
 -- ---- between quotes
 pub quoted-put : {d o₁ o₂ o₃ : List ℕ} {i a c r : ℕ} (v : List ℕ) → Puts d i (34 ∷ []) a o₁ → Puts o₁ a (escape v) c o₂ → Puts o₂ c (34 ∷ []) r o₃ → Puts d i (quoted v) r o₃
 unfolding quoted
 quoted-put v x y z = puts-then x (puts-then y z)
 
-pub string-piece : {d o : List ℕ} {i r : ℕ} {p q : List ℕ} → p ≡ q → Puts d i (quoted (decode p)) r o → Puts d i (quoted (decode q)) r o
-string-piece e x = rw e at x
+pub json-put : {d o₁ o₂ o₃ : List ℕ} {i a c r : ℕ} (v : List ℕ) → Puts d i (34 ∷ []) a o₁ → Puts o₁ a (jsonOf (escape v)) c o₂ → Puts o₂ c (34 ∷ []) r o₃ → Puts d i (jsonOf (quoted v)) r o₃
+json-put v x y z = rw (form-quoted true v) (puts-then x (puts-then y z))
 
--- a part as it stands in its buffer
-pub part-put : {d o₁ o₂ o₃ : List ℕ} {i a c r : ℕ} (v : List ℕ) {w : List ℕ} → w ≡ v → Puts d i (34 ∷ []) a o₁ → Puts o₁ a (escape (decode w)) c o₂ → Puts o₂ c (34 ∷ []) r o₃
-    → Puts d i (quoted (decode v)) r o₃
-part-put v e x y z = quoted-put (decode v) x (rw e at y) z
-
-pub part-length : (v : List ℕ) {w : List ℕ} {n : ℕ} → w ≡ v → n ≡ length (escape (decode w)) → n ≡ length (escape (decode v))
-part-length v e q = rw e at q
+pub string-piece : {d o : List ℕ} {i r : ℕ} {p q : List ℕ} (json : Bool) → p ≡ q → Puts d i (inForm json (quoted (decode p))) r o → Puts d i (inForm json (quoted (decode q))) r o
+string-piece json e x = rw e at x
 
 -- ---- a kind that is not negative
 module _ (x : ℤ) (f : SFits w64 x) where

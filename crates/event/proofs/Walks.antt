@@ -1,7 +1,7 @@
 -- Items are written, or counted, one after the other in step with the tree's items: what is still to be done gives the
 -- whole.
 use mathlib.Core.Path.{_≡_, refl, sym, ap, _∙_}
-use mathlib.Core.Bool.{false}
+use mathlib.Core.Bool.{Bool, false}
 use mathlib.Core.List.{List, [], _∷_, _++_}
 use Prim.Native.Nat.{ℕ, zero, suc, _+_, _-_, _≤_}
 use native.Mathlib.Nat.{sub-zero}
@@ -13,7 +13,8 @@ use Rattle.json.specs.Tree.{Json, Items, nil, item, Got, got, follow, itemsAt}
 use Rattle.json.specs.declared.Next.{Next}
 use Rattle.json.specs.declared.Next.the-variants.{More, Done, Wrong}
 use Rattle.message.proofs.Walks.{never, bind-got}
-use Rattle.event.specs.Inner.{puts, Counts, Does}
+use Rattle.event.specs.Inner.{inForm, puts, Counts, Does}
+use Rattle.event.proofs.Forms.{form-append}
 
 -- an array's items from i on, of at most f, up to n
 pub data Walk (value : ℕ → Got Json) (s : List ℕ) : ℕ → ℕ → Items → ℕ → Type 0 where
@@ -51,11 +52,12 @@ pub record Printer (one : Json → List ℕ) (all : Items → List ℕ) : Type 0
 pub record Chains {S : Type 0} (does : S → List ℕ → S → Type 0) : Type 0 where
   pub then : {x y z : S} {s t : List ℕ} → does x s y → does y t z → does x (s ++ t) z
 
-pub puts-chain : Chains puts
-puts-chain = record { then = λ a b. puts-then a b }
+pub puts-chain : (json : Bool) → Chains (puts json)
+puts-chain json = record { then = λ {x} {y} {z} {s} {t} a b. rw (form-append json s t) (puts-then a b) }
 
-pub counts-chain : Chains Counts
-counts-chain = record { then = λ {x} {y} {z} {s} {t} a b. record { is = omega (arith, length-append s t) } }
+pub counts-chain : (json : Bool) → Chains (Counts json)
+counts-chain json =
+    record { then = λ {x} {y} {z} {s} {t} a b. record { is = omega (arith, a .is, b .is, ap length (form-append json s t), length-append (inForm json s) (inForm json t)) } }
 
 -- the items from i on, after k of them, are to be done from the state y; then all of them are done from x
 pub record Going {S : Type 0} (does : S → List ℕ → S → Type 0) (value : ℕ → Got Json) (s : List ℕ) (all : Items → List ℕ) (x : S) (ts : Items) (n k i : ℕ) (y : S) : Type 0 where

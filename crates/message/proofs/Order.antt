@@ -1,13 +1,14 @@
 -- Rows 1 to 4, which hold of the text, go before rows 5 to 8, which hold of the message.
 use mathlib.Core.Path.{_≡_, refl, sym, _∙_}
 use mathlib.Core.List.{List}
-use mathlib.Core.Bool.{Bool, true, false, cond, not, false≢true}
+use mathlib.Core.Bool.{Bool, true, false, cond, not, _&&_, false≢true}
 use mathlib.Core.Logic.{_≢_, _⊎_, inl, inr}
 use Prim.Native.Nat.{ℕ, _≤_}
 use native.Mathlib.Omega.{arith}
 use borrow.Author.Tests.{eqb-true, eqb-false}
 use lib.Dec.{eqb}
 use lib.ListN.{length}
+use Rattle.wire.specs.Bytes.{hasControl}
 use Rattle.json.specs.Tree.{Json, Got, none, got, endOf, endsAt, root}
 use Rattle.rows.specs.Strings.{refusedIn}
 use Rattle.rows.specs.Rows.{row1, row2, row3, row4, onRoot, textRow}
@@ -53,11 +54,12 @@ module _ (m : List ℕ) where
   -- where none does, none is the message's row
   pub rows-late : textRow m ≡ 0 → Late (messageRow m)
   unfolding textRow messageRow row4 treeRow
-  rows-late = late-of (row1 m) (row2 m) (row3 m) (onRoot (refusedIn m) (root m)) (rootRow m (root m)) (go (root m))
+  rows-late = late-of (row1 m) (row2 m) (row3 m) (onRoot (refusedIn m) (root m)) (rootRow m (root m)) (go (hasControl m) (root m))
     where
-      go : (g : Got Json) → not (endsAt (length m) (endOf g)) ≡ false → onRoot (refusedIn m) g ≡ false → Late (rootRow m g)
-      go none c e = absurd (false≢true (sym c))
-      go (got t n) c e = rw e (tree-late (row5 m t) (row6 m t) (row7 m t) (row8 m t))
+      go : (x : Bool) (g : Got Json) → not (not x && endsAt (length m) (endOf g)) ≡ false → onRoot (refusedIn m) g ≡ false → Late (rootRow m g)
+      go true g c e = absurd (false≢true (sym c))
+      go false none c e = absurd (false≢true (sym c))
+      go false (got t n) c e = rw e (tree-late (row5 m t) (row6 m t) (row7 m t) (row8 m t))
 
   pub text-clean : messageRow m ≡ 0 → textRow m ≡ 0
   text-clean e = go (eqb (textRow m) 0) refl
