@@ -28,7 +28,8 @@ use Rattle.event.specs.declared.Written.the-variants.{Wrote, Refused}
 use Rattle.event.specs.declared.Identified.{Identified}
 use Rattle.event.specs.Lent.{said, textOf}
 use Rattle.event.specs.Answer.{orElse, isLarge, bodyTextRow, shortRow, serialisedRow, answered, serialised}
-use Rattle.event.specs.Answer.{writtenNumber, outputAfter, serialisedOut, hashedOf, identified, hexDigit, hexOf}
+use Rattle.event.specs.Answer.{writtenNumber, outputAfter, serialisedOut, hashedOf, identified, hexOf}
+use Rattle.wire.specs.Bytes.{hexDigit}
 use Rattle.event.specs.Answer.{hasId, offeredRow}
 use Rattle.event.specs.Answer.{offeredTextRow, offered, offeredOut}
 use Rattle.event.specs.Inner.{Tested}

@@ -1,6 +1,6 @@
 -- A spelling that is UTF-8, and that row 4 lets pass, decodes to a string within the limits: a character at a time,
 -- with the state that UTF-8 is in before it.
-use mathlib.Core.Bool.{Bool, true, false, cond, not, _&&_, _||_}
+use mathlib.Core.Bool.{Bool, true, false, cond, _&&_, _||_}
 use mathlib.Core.Path.{_≡_, refl, sym, ap, _∙_}
 use mathlib.Core.List.{List, [], _∷_, _++_}
 use Prim.Native.Nat.{ℕ, zero, suc, _+_, _-_, _/_, _%_, _≤_, _<_}
@@ -12,7 +12,7 @@ use lib.Dec.{ltb, leb, eqb}
 use lib.ListN.{length, getD, drop}
 use lib.Seq.{drop-cons, drop-length}
 use Rattle.wire.specs.Bytes.{isControl}
-use Rattle.wire.proofs.Escapes.{control-high}
+use Rattle.wire.proofs.Json.{control-low}
 use Rattle.utf8.specs.Utf8.{nextWant, utf8From, isUtf8}
 use Rattle.utf8.specs.declared.Want.{Want}
 use Rattle.utf8.specs.declared.Want.the-variants.{Lead}
@@ -20,14 +20,14 @@ use Rattle.utf8.specs.Abnf.{Octets, utf8-1, utf8-2, utf8-3-e0, utf8-3-e1, utf8-
 use Rattle.utf8.specs.Abnf.{utf8-4-f4}
 use Rattle.utf8.proofs.Abnf.{as-in-abnf}
 use Rattle.utf8.proofs.States.{Reached, lead-reached, next-reached, lead-low, low-lead}
-use Rattle.json.specs.Grammar.{isBetween, inClass, charsAt, isSpelling}
+use Rattle.json.specs.Grammar.{isBetween, isUnescaped, inClass, charsAt, isSpelling}
 use Rattle.json.proofs.Ends.{one-is, one-ends, byte-is}
 use Rattle.json.proofs.Spelled.{Char, Chars, chars-sound}
 use Rattle.json.proofs.Spelled as json
 use Rattle.spell.specs.declared.Char as spell
 use Rattle.spell.specs.Spell.{hexVal, four, fourAt, shortOf, isPair, pairOf, unicodeOf, charOf, chars, charsFrom}
 use Rattle.spell.specs.Spell.{utf8Of, charBytes, charsBytes, decode, isSurrogate, isRefused, any, refuses}
-use Rattle.text.specs.Event.{all, isPlainByte, isStringBytes}
+use Rattle.text.specs.Event.{isStringBytes}
 
 -- ---- Bools
 pub and-both : (a b : Bool) → (a && b) ≡ true → (a ≡ true) × (b ≡ true)
@@ -46,11 +46,12 @@ within-bounds : (low high x : ℕ) → isBetween low high x ≡ true → (low �
 within-bounds low high x e = let (p, q) = and-both (leb low x) (leb x high) e in (leb-true low x p, leb-true x high q)
 
 -- ---- bytes of a spelling, by RFC 8259's classes
-plain-byte : (x : ℕ) → (isBetween 0x20 0x21 x || (isBetween 0x23 0x5B x || leb 0x5D x)) ≡ true → (0x20 ≤ x) × (x ≡ 0x5c → ⊥)
-plain-byte x e =
-    or-either (isBetween 0x20 0x21 x) _ (λ p. let h = within-bounds 0x20 0x21 x p in (h .0, λ q. omega arith))
-    (λ e. or-either (isBetween 0x23 0x5B x) _ (λ p. let h = within-bounds 0x23 0x5B x p in (omega arith, λ q. omega arith))
-    (λ p. let h = leb-true 0x5D x p in (omega arith, λ q. omega arith)) e) e
+plain-byte : (x : ℕ) → (isUnescaped x || isControl x) ≡ true → x ≡ 0x5c → ⊥
+plain-byte x e q =
+    or-either (isUnescaped x) (isControl x)
+    (λ e. or-either (isBetween 0x20 0x21 x) _ (λ p. omega (arith, within-bounds 0x20 0x21 x p .1))
+    (λ e. or-either (isBetween 0x23 0x5B x) _ (λ p. omega (arith, within-bounds 0x23 0x5B x p .1)) (λ p. omega (arith, leb-true 0x5D x p)) e) e)
+    (λ p. omega (arith, control-low x p)) e
 
 hex-byte : (x : ℕ) → (isBetween 0x30 0x39 x || (isBetween 0x41 0x46 x || isBetween 0x61 0x66 x)) ≡ true → x < 128
 hex-byte x e =
@@ -62,26 +63,25 @@ pub record Short (y : ℕ) : Type 0 where
   pub other : y ≡ 0x75 → ⊥
   pub low : y < 128
   pub means : shortOf y < 128
-  pub fine : isPlainByte (shortOf y) ≡ true
 
 short-byte : (y : ℕ) → (eqb y 0x22 || (eqb y 0x5C || (eqb y 0x2F || (eqb y 0x62 || (eqb y 0x66 || (eqb y 0x6E || (eqb y 0x72 || eqb y 0x74))))))) ≡ true → Short y
-unfolding shortOf isPlainByte
+unfolding shortOf
 short-byte y e =
-    or-either (eqb y 0x22) _ (is 0x22 (λ q. omega arith) (omega arith) (omega arith) refl)
-    (λ e. or-either (eqb y 0x5C) _ (is 0x5C (λ q. omega arith) (omega arith) (omega arith) refl)
-    (λ e. or-either (eqb y 0x2F) _ (is 0x2F (λ q. omega arith) (omega arith) (omega arith) refl)
-    (λ e. or-either (eqb y 0x62) _ (is 0x62 (λ q. omega arith) (omega arith) (omega arith) refl)
-    (λ e. or-either (eqb y 0x66) _ (is 0x66 (λ q. omega arith) (omega arith) (omega arith) refl)
-    (λ e. or-either (eqb y 0x6E) _ (is 0x6E (λ q. omega arith) (omega arith) (omega arith) refl)
-    (λ e. or-either (eqb y 0x72) _ (is 0x72 (λ q. omega arith) (omega arith) (omega arith) refl) (is 0x74 (λ q. omega arith) (omega arith) (omega arith) refl) e) e) e) e) e) e) e
+    or-either (eqb y 0x22) _ (is 0x22 (λ q. omega arith) (omega arith) (omega arith))
+    (λ e. or-either (eqb y 0x5C) _ (is 0x5C (λ q. omega arith) (omega arith) (omega arith))
+    (λ e. or-either (eqb y 0x2F) _ (is 0x2F (λ q. omega arith) (omega arith) (omega arith))
+    (λ e. or-either (eqb y 0x62) _ (is 0x62 (λ q. omega arith) (omega arith) (omega arith))
+    (λ e. or-either (eqb y 0x66) _ (is 0x66 (λ q. omega arith) (omega arith) (omega arith))
+    (λ e. or-either (eqb y 0x6E) _ (is 0x6E (λ q. omega arith) (omega arith) (omega arith))
+    (λ e. or-either (eqb y 0x72) _ (is 0x72 (λ q. omega arith) (omega arith) (omega arith)) (is 0x74 (λ q. omega arith) (omega arith) (omega arith)) e) e) e) e) e) e) e
   where
-    is : (k : ℕ) → (k ≡ 0x75 → ⊥) → k < 128 → shortOf k < 128 → isPlainByte (shortOf k) ≡ true → eqb y k ≡ true → Short y
-    is k o l m f e = rw (eqb-true y k e) (record { other = o; low = l; means = m; fine = f })
+    is : (k : ℕ) → (k ≡ 0x75 → ⊥) → k < 128 → shortOf k < 128 → eqb y k ≡ true → Short y
+    is k o l m e = rw (eqb-true y k e) (record { other = o; low = l; means = m })
 
 -- ---- a spelling as a list
 pub data Spelling : List ℕ → Type 0 where
   end : Spelling []
-  plain : {x : ℕ} {l : List ℕ} → 0x20 ≤ x → (x ≡ 0x5c → ⊥) → Spelling l → Spelling (x ∷ l)
+  plain : {x : ℕ} {l : List ℕ} → (x ≡ 0x5c → ⊥) → Spelling l → Spelling (x ∷ l)
   short : {y : ℕ} {l : List ℕ} → Short y → Spelling l → Spelling (0x5c ∷ y ∷ l)
   code : {a b c d : ℕ} {l : List ℕ} → a < 128 → b < 128 → c < 128 → d < 128 → Spelling l → Spelling (0x5c ∷ 0x75 ∷ a ∷ b ∷ c ∷ d ∷ l)
 
@@ -92,10 +92,9 @@ module _ (s : List ℕ) where
   spelling : (at n : ℕ) → Chars s at n → n ≡ length s → Spelling (drop at s)
   unfolding inClass
   spelling at n json.stop z = rw (z, drop-length s) end
-  spelling at n (json.more {m = m} (json.plain e) r) z =
+  spelling at n (json.more {m = m} (json.plain h e) r) z =
       let q = one-is s _ at e in
-      let x = plain-byte (getD s at 0) (q .0) in
-      rw (here at m (q .1) (one-ends s _ at refl m e .1)) (plain (x .0) (x .1) (spelling m n r z))
+      rw (here at m (q .1) (omega (arith, q .1))) (plain (plain-byte (getD s at 0) (q .0)) (spelling m n r z))
   spelling at n (json.more {m = m} (json.short {a = a} e f) r) z =
       let q = one-is s _ at e in
       let w = one-is s _ a f in
@@ -148,13 +147,9 @@ module _ (l m : List ℕ) {c : spell.Char} (e : chars l ≡ c ∷ chars m) where
   unfolding decode charsBytes
   decode-more = rw e
 
-  refuses-more : refuses l ≡ false → (isSurrogate (c .code) ≡ false) × (isControl (c .code) ≡ false) × (refuses m ≡ false)
+  refuses-more : refuses l ≡ false → (isSurrogate (c .code) ≡ false) × (refuses m ≡ false)
   unfolding refuses any isRefused
-  refuses-more h =
-      let q : (isRefused c || any isRefused (chars m)) ≡ false = rw e at h in
-      let (x, y) = or-neither (isRefused c) _ q in
-      let (u, v) = or-neither (isSurrogate (c .code)) _ x in
-      (u, v, y)
+  refuses-more h = or-neither (isSurrogate (c .code)) _ (rw e at h)
 
 -- ---- the code of an escape
 pub digit-few : (x : ℕ) → hexVal x ≤ 15
@@ -247,28 +242,6 @@ module _ (n : ℕ) where
       ]
     ]
 
--- ---- plain bytes
-pub plain-high : (x : ℕ) → 0x20 ≤ x → isPlainByte x ≡ true
-unfolding isPlainByte
-plain-high x h = ap not (control-high x h)
-
-plain-low : (n : ℕ) → isControl n ≡ false → isPlainByte n ≡ true
-unfolding isPlainByte
-plain-low n e = ap not e
-
-plain-of : (n : ℕ) (t : List ℕ) → isControl n ≡ false → all isPlainByte t ≡ true → all isPlainByte (utf8Of n ++ t) ≡ true
-unfolding utf8Of all
-plain-of n t e f = elim (decLt n 0x80) [
-  | yes a ↦ rw (lt-ltb n 0x80 a, all, plain-low n e) f
-  | no a ↦ elim (decLt n 0x800) [
-    | yes b ↦ rw (le-ltb n 0x80 (omega arith), lt-ltb n 0x800 b, all, plain-high (0xc0 + n / 0x40) (omega arith), plain-high (0x80 + n % 0x40) (omega arith)) f
-    | no b ↦ elim (decLt n 0x10000) [
-      | yes c ↦ rw (le-ltb n 0x80 (omega arith), le-ltb n 0x800 (omega arith), lt-ltb n 0x10000 c, all, plain-high (0xe0 + n / 0x1000) (omega arith), plain-high (0x80 + n / 0x40 % 0x40) (omega arith), plain-high (0x80 + n % 0x40) (omega arith)) f
-      | no c ↦ rw (le-ltb n 0x80 (omega arith), le-ltb n 0x800 (omega arith), le-ltb n 0x10000 (omega arith), all, plain-high (0xf0 + n / 0x40000) (omega arith), plain-high (0x80 + n / 0x1000 % 0x40) (omega arith), plain-high (0x80 + n / 0x40 % 0x40) (omega arith), plain-high (0x80 + n % 0x40) (omega arith)) f
-    ]
-  ]
-]
-
 -- ---- UTF-8 from a state on
 lead-of : (n : ℕ) (t : List ℕ) → n ≤ 0x10ffff → isSurrogate n ≡ false → utf8From Lead t ≡ true → utf8From Lead (utf8Of n ++ t) ≡ true
 unfolding isUtf8
@@ -276,25 +249,23 @@ lead-of n t h e u = as-in-abnf (utf8Of n ++ t) .1 (octets-of n t (as-in-abnf t .
 
 -- ---- the whole
 abbrev Good : Want → List ℕ → Type 0
-Good w t = (utf8From w t ≡ true) × (all isPlainByte t ≡ true)
+Good w t = utf8From w t ≡ true
 
-step-plain : (x : ℕ) (l : List ℕ) → 0x20 ≤ x → (x ≡ 0x5c → ⊥) → (w : Want) → refuses (x ∷ l) ≡ false → utf8From w (x ∷ l) ≡ true
+step-plain : (x : ℕ) (l : List ℕ) → (x ≡ 0x5c → ⊥) → (w : Want) → refuses (x ∷ l) ≡ false → utf8From w (x ∷ l) ≡ true
     → (refuses l ≡ false → utf8From (nextWant w x) l ≡ true → Good (nextWant w x) (decode l)) → Good w (decode (x ∷ l))
-unfolding utf8From all charBytes
-step-plain x l h n w r u ih =
+unfolding utf8From charBytes
+step-plain x l n w r u ih =
     let e = chars-plain x l n in
-    let g = ih (refuses-more (x ∷ l) l e r .2) u in
-    rw (decode-more (x ∷ l) l e) (g .0, rw (plain-high x h) (g .1))
+    rw (decode-more (x ∷ l) l e) (ih (refuses-more (x ∷ l) l e r .1) u)
 
 step-short : (y : ℕ) (l : List ℕ) → Short y → (w : Want) → Reached w → refuses (0x5c ∷ y ∷ l) ≡ false → utf8From w (0x5c ∷ y ∷ l) ≡ true
     → (refuses l ≡ false → utf8From Lead l ≡ true → Good Lead (decode l)) → Good w (decode (0x5c ∷ y ∷ l))
-unfolding all charBytes
+unfolding charBytes
 step-short y l s w v r u ih =
     let (z, u₁) = low-lead w 0x5c (y ∷ l) v (omega arith) u in
     let u₂ = low-lead Lead y l lead-reached (s .low) u₁ .1 in
     let e = chars-short y l (s .other) in
-    let g = ih (refuses-more (0x5c ∷ y ∷ l) l e r .2) u₂ in
-    rw (decode-more (0x5c ∷ y ∷ l) l e, z) (lead-low (shortOf y) (decode l) (s .means) (g .0), rw (s .fine) (g .1))
+    rw (decode-more (0x5c ∷ y ∷ l) l e, z) (lead-low (shortOf y) (decode l) (s .means) (ih (refuses-more (0x5c ∷ y ∷ l) l e r .1) u₂))
 
 module _ {a b c d : ℕ} (ha : a < 128) (hb : b < 128) (hc : c < 128) (hd : d < 128) where
   -- an escape stands only where a character may begin
@@ -313,8 +284,7 @@ step-code : (l m : List ℕ) (n k : ℕ) (w : Want) → w ≡ Lead → n ≤ 0x1
 unfolding charBytes
 step-code l m n k w z h e r ih =
     let q = refuses-more l m e r in
-    let g = ih (q .2) in
-    rw (decode-more l m e, z) (lead-of n (decode m) h (q .0) (g .0), plain-of n (decode m) (q .1) (g .1))
+    rw (decode-more l m e, z) (lead-of n (decode m) h (q .0) (ih (q .1)))
 
 module _ (a b c d : ℕ) (ha : a < 128) (hb : b < 128) (hc : c < 128) (hd : d < 128) (w : Want) (v : Reached w) where
   abbrev Rest : List ℕ → Type 0
@@ -324,7 +294,7 @@ module _ (a b c d : ℕ) (ha : a < 128) (hb : b < 128) (hc : c < 128) (hd : d < 
       → refuses (0x5c ∷ 0x75 ∷ a ∷ b ∷ c ∷ d ∷ l) ≡ false → utf8From w (0x5c ∷ 0x75 ∷ a ∷ b ∷ c ∷ d ∷ l) ≡ true → Good w (decode (0x5c ∷ 0x75 ∷ a ∷ b ∷ c ∷ d ∷ l))
   unfolding fourAt pairOf
   step-pair end e ih r u = let p = paired _ _ _ _ e in absurd (omega (arith, p .slash))
-  step-pair (plain h n s) e ih r u = let p = paired _ _ _ _ e in absurd (n (p .slash))
+  step-pair (plain n s) e ih r u = let p = paired _ _ _ _ e in absurd (n (p .slash))
   step-pair (short y s) e ih r u = let p = paired _ _ _ _ e in absurd (y .other (p .letter))
   step-pair (code {a = i} {b = j} {c = x} {d = y} {l = m} hi hj hx hy s) e ih r u =
       let p = paired (four a b c d) 0x5c 0x75 (four i j x y) e in
@@ -346,12 +316,12 @@ abbrev Upto : ℕ → Type 0
 Upto k = (l : List ℕ) → length l ≤ k → Spelling l → (w : Want) → Reached w → refuses l ≡ false → utf8From w l ≡ true → Good w (decode l)
 
 none-decoded : (w : Want) → utf8From w [] ≡ true → Good w (decode [])
-unfolding decode charsBytes charsFrom all
-none-decoded w u = (u, refl)
+unfolding decode charsBytes charsFrom
+none-decoded w u = u
 
 longer : (k : ℕ) → Upto k → Upto (suc k)
 longer k ih l h end w v r u = none-decoded w u
-longer k ih l h (plain {x = x} {l = m} y n s) w v r u = step-plain x m y n w r u (λ e f. ih m (omega arith) s (nextWant w x) (next-reached w x v) e f)
+longer k ih l h (plain {x = x} {l = m} n s) w v r u = step-plain x m n w r u (λ e f. ih m (omega arith) s (nextWant w x) (next-reached w x v) e f)
 longer k ih l h (short {y = y} {l = m} t s) w v r u = step-short y m t w v r u (λ e f. ih m (omega arith) s Lead lead-reached e f)
 longer k ih l h (code {a = a} {b = b} {c = c} {d = d} {l = m} ha hb hc hd s) w v r u =
     step-escape a b c d ha hb hc hd w v s (λ i g t e f. ih i (omega arith) t Lead lead-reached e f) r u
@@ -367,4 +337,4 @@ decoded (suc k) = longer k (decoded k)
 -- the theorem
 pub decoded-string : (l : List ℕ) → isUtf8 l ≡ true → isSpelling l ≡ true → refuses l ≡ false → isStringBytes (decode l) ≡ true
 unfolding isUtf8 isStringBytes
-decoded-string l u s r = let g = decoded (length l) l (omega arith) (is-spelling l s) Lead lead-reached r u in rw (g .1) (g .0)
+decoded-string l u s r = decoded (length l) l (omega arith) (is-spelling l s) Lead lead-reached r u

@@ -38,7 +38,7 @@ pub form-quoted : (json : Bool) (v : List ℕ) → inForm json (quoted v) ≡ 34
 unfolding quoted
 form-quoted json v =
     form-append json (34 ∷ []) (escape v ++ (34 ∷ []))
-    ∙ rw (form-fixed json (34 ∷ []) refl, form-append json (escape v) (34 ∷ []))
+    ∙ rw (form-append json (escape v) (34 ∷ []), form-fixed json (34 ∷ []) refl)
 
 -- ---- numbers have none
 none-append : (a b : List ℕ) → hasControl a ≡ false → hasControl b ≡ false → hasControl (a ++ b) ≡ false

@@ -1,6 +1,6 @@
 -- Counts that stop at the most that a number holds.
 use mathlib.Core.Bool.{Bool}
-use mathlib.Core.Path.{_≡_, sym, ap, _∙_}
+use mathlib.Core.Path.{_≡_, refl, sym, ap, _∙_}
 use mathlib.Core.List.{List, [], _∷_}
 use Prim.Native.Nat.{ℕ, _+_, _*_, _^_, _<_, min}
 use native.Mathlib.Omega.{arith}
@@ -9,7 +9,7 @@ use lib.Signed.{mag}
 use mir.Syntax.{w64}
 use mir.Val.{toZ, ofZ}
 use Rattle.wire.specs.Escape.{escape, jsonOf, controlCount}
-use Rattle.wire.proofs.Json.{json-length}
+use Rattle.wire.proofs.Json.{json-length, count-escape}
 use Rattle.numeral.specs.Decimal.{digits, decimal}
 use Rattle.numeral.proofs.Ways.{back}
 use Rattle.spell.specs.Spell.{decode}
@@ -24,6 +24,13 @@ use Rattle.event.specs.Lent.{mostLength, lengthOf}
 -- five bytes more for each control character
 pub json-count : {n c k m : ℕ} (l : List ℕ) → n ≡ length l → c ≡ controlCount l → k ≡ min (5 * c) mostLength → m ≡ min (n + k) mostLength → m ≡ lengthOf (jsonOf l)
 json-count l e f g h = omega (arith, json-length l)
+
+pub escape-count : {n c k m : ℕ} (l : List ℕ) → n ≡ length (escape l) → c ≡ controlCount l → k ≡ min (5 * c) mostLength → m ≡ min (n + k) mostLength → m ≡ lengthOf (jsonOf (escape l))
+escape-count l e f g h = json-count (escape l) e (f ∙ sym (count-escape l)) g h
+
+-- a number of 64 bits is not cut off
+pub number-count : {n : ℕ} {l : List ℕ} → n ≡ length l → n < 2 ^ 64 → n ≡ lengthOf l
+number-count e h = omega (arith, e)
 
 -- a string between quotes
 pub string-count : {n k a m : ℕ} {p q : List ℕ} (json : Bool) → p ≡ q → k ≡ lengthOf (inForm json (escape (decode p))) → a ≡ min (n + k) mostLength → m ≡ min (a + 2) mostLength
@@ -59,7 +66,7 @@ module _ (json : Bool) (b : List ℕ) (p : Body) {key text : List ℕ} {a c d e 
       let x₂ : k₂ ≡ length (decimal (p .«created_at»)) = l₂ ∙ rw (back (p .«created_at») ft) in
       let x₃ : k₃ ≡ length (digits (natural (p .kind))) = l₃ ∙ rw (en, back (p .kind) fk) in
       let x₅ : k₅ ≡ lengthOf text′ = l₅ ∙ rw eq₁ in
-      let y₁ : a ≡ min (12 + length key′) mostLength = omega arith in
+      let y₁ = cut-both 12 (length key′) k₁ 12 a refl x₁ m₁ in
       let y₂ = cut (12 + length key′) k₂ a c y₁ m₂ in
       let y₃ = cut (12 + length key′ + k₂) k₃ c d y₂ m₃ in
       let y₄ = cut-both (12 + length key′ + k₂ + k₃) (length tags) k₄ d e y₃ l₄ m₄ in

@@ -15,7 +15,7 @@ use Rattle.utf8.specs.Utf8.{leadOf, utf8From, isUtf8}
 use Rattle.digest.specs.Block.{K, H0, words, schedule, round, rounds, chained, compress}
 use Rattle.digest.specs.Digest.{bigEndian, padding, padded, hashAfter, digestBytes, digest}
 use Rattle.text.specs.Event.{Event, quoted, membersText, tagText, tagsText, serialise, all, isPubkey, isTime, isTag}
-use Rattle.text.specs.Event.{isTags, isStringBytes, isPlainByte, isFit}
+use Rattle.text.specs.Event.{isTags, isStringBytes, isFit}
 
 abbrev pub noted : ℕ → Event
 noted t = record { pubkey = replicate 64 97; time = pos t; kind = 1; tags = []; content = [] }
@@ -25,11 +25,11 @@ pub record Suits (e : Event) : Type 0 where
   pub size : length (serialise e) ≡ 80
 
 pub suits₀ : Suits (noted 0)
-unfolding isFit isPubkey isTime isTag isTags isStringBytes isPlainByte all isWithin utf8From leadOf isUtf8 isHex serialise quoted tagsText membersText tagText decimal digits digitsIn escape escOne letterOf
+unfolding isFit isPubkey isTime isTag isTags isStringBytes all isWithin utf8From leadOf isUtf8 isHex serialise quoted tagsText membersText tagText decimal digits digitsIn escape escOne letterOf
 suits₀ = record { fit = refl; size = refl }
 
 pub suits₁ : Suits (noted 1)
-unfolding isFit isPubkey isTime isTag isTags isStringBytes isPlainByte all isWithin utf8From leadOf isUtf8 isHex serialise quoted tagsText membersText tagText decimal digits digitsIn escape escOne letterOf
+unfolding isFit isPubkey isTime isTag isTags isStringBytes all isWithin utf8From leadOf isUtf8 isHex serialise quoted tagsText membersText tagText decimal digits digitsIn escape escOne letterOf
 suits₁ = record { fit = refl; size = refl }
 
 -- the first bytes of their ids

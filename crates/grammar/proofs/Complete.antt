@@ -21,6 +21,7 @@ use Rattle.json.proofs.Trees.{tree-open, endItems, end-items, fold-next}
 use Rattle.grammar.specs.Rfc.{_∣_, token, literal, number, string, openOf, Value, plain, empty, group, Items}
 use Rattle.grammar.specs.Rfc.{last, more, Item, value, member, Text}
 use Rattle.grammar.proofs.Terms.{star-past, token-byte, token-taken}
+use Rattle.grammar.proofs.Clean.{text-clean}
 use Rattle.grammar.proofs.Strings.{string-taken}
 use Rattle.grammar.proofs.Numbers.{Stops}
 use Rattle.grammar.proofs.Firsts.{Quiet, ws-quiet, lead, plain-place, plain-taken, string-from, plain-from}
@@ -177,7 +178,7 @@ mutual
 
 pub text-taken : (s : List ℕ) → Text s → isText s ≡ true
 unfolding inClass
-text-taken s (a, w, (b, v, x)) = rw (star-past s Space 0 a w, value-taken s depth a b v (ws-quiet s b (length s) x (rw after (refl, refl, refl))), ended) (eq-eqb (length s) (length s) refl)
+text-taken s (a, w, (b, v, x)) = rw (text-clean s (a, w, (b, v, x)), star-past s Space 0 a w, value-taken s depth a b v (ws-quiet s b (length s) x (rw after (refl, refl, refl))), ended) (eq-eqb (length s) (length s) refl)
   where
     after : getD s (length s) 0 ≡ 0
     after = List·getD-eq-default s 0 (omega arith)

@@ -2,12 +2,10 @@
 use mathlib.Core.Path.{_≡_, refl, sym, _∙_}
 use mathlib.Core.Logic.{inl, inr}
 use mathlib.Core.List.{List, [], _∷_}
-use mathlib.Core.Bool.{Bool, true, false, _||_, false≢true}
+use mathlib.Core.Bool.{Bool, true, false, false≢true}
 use Prim.Native.Nat.{ℕ, _<_, _≤_}
 use native.Mathlib.Omega.{arith}
-use lib.Dec.{eqb}
 use lib.ListN.{length, getD}
-use borrow.Author.Tests.{eqb-true}
 use Rattle.json.specs.Grammar.{inClass, falseName, nullName, trueName, wsAt, wordAt, literalAt, digitsAt, intAt}
 use Rattle.json.specs.Grammar.{numberAt, stringAt, scalarAt}
 use Rattle.json.specs.Tree.{endOf, onLeaf}
@@ -22,7 +20,7 @@ use Rattle.json.proofs.Ends.{one-not, byte-not, not-byte}
 use Rattle.json.proofs.Spelled.{string-parts}
 use Rattle.grammar.specs.Rfc.{_∣_, opt, stop, step, one, ws, token, name, literal, digits, int, frac, exp, number}
 use Rattle.grammar.specs.Rfc.{string}
-use Rattle.grammar.proofs.Terms.{one-taken, star-from, name-taken}
+use Rattle.grammar.proofs.Terms.{space-is, one-taken, star-from, name-taken}
 use Rattle.grammar.proofs.Numbers.{first-digit, Stops, number-taken}
 use Rattle.grammar.proofs.Strings.{string-taken}
 
@@ -30,22 +28,6 @@ use Rattle.grammar.proofs.Strings.{string-taken}
 -- a byte with which no number goes on
 abbrev pub Quiet : ℕ → Type 0
 Quiet x = (inClass Digit x ≡ false) × (inClass (Byte 0x2E) x ≡ false) × (inClass Exponent x ≡ false)
-
-space-is : (P : ℕ → Type 0) → P 0x20 → P 0x09 → P 0x0A → P 0x0D → (x : ℕ) → inClass Space x ≡ true → P x
-unfolding inClass
-space-is P a b c d x e = go₁ (eqb x 0x20) refl e
-  where
-    go₃ : (t : Bool) → eqb x 0x0A ≡ t → (t || eqb x 0x0D) ≡ true → P x
-    go₃ true p q = rw (eqb-true x 0x0A p) c
-    go₃ false p q = rw (eqb-true x 0x0D q) d
-
-    go₂ : (t : Bool) → eqb x 0x09 ≡ t → (t || (eqb x 0x0A || eqb x 0x0D)) ≡ true → P x
-    go₂ true p q = rw (eqb-true x 0x09 p) b
-    go₂ false p q = go₃ (eqb x 0x0A) refl q
-
-    go₁ : (t : Bool) → eqb x 0x20 ≡ t → (t || (eqb x 0x09 || (eqb x 0x0A || eqb x 0x0D))) ≡ true → P x
-    go₁ true p q = rw (eqb-true x 0x20 p) a
-    go₁ false p q = go₂ (eqb x 0x09) refl q
 
 space-lacks : (x : ℕ) → inClass Space x ≡ true → Lacks x
 unfolding inClass

@@ -1,5 +1,6 @@
 -- Same has the theorem; the others are its parts.
 mod Terms
+mod Clean
 mod Numbers
 mod Strings
 mod Sound

@@ -1,13 +1,13 @@
--- What json's definition takes is a value by the rules, and the white space after it.
+-- Without control characters, what json's definition takes is a value by the rules, and the white space after it.
 use mathlib.Core.Path.{_≡_, refl, sym, ap, _∙_}
 use mathlib.Core.Logic.{inl, inr}
 use mathlib.Core.List.{List}
-use mathlib.Core.Bool.{Bool, true, false}
+use mathlib.Core.Bool.{Bool, true, false, not}
 use Prim.Native.Nat.{ℕ, zero, suc, _<_}
 use native.Mathlib.Omega.{arith}
 use lib.Dec.{lit<}
 use lib.ListN.{length}
-use borrow.Author.Tests.{eqb-true}
+use borrow.Author.Tests.{eqb-true, not-true}
 use Rattle.json.specs.Grammar.{case, inClass, falseName, nullName, trueName, wsAt, tokenAt, wordAt, literalAt, numberAt}
 use Rattle.json.specs.Grammar.{stringAt, scalarAt, closeOf, openedAt, startAt, headAt, nextAt}
 use Rattle.json.specs.Tree.{depth, Json, Items as Trees, item, Got, none, got, endOf, bind, onLeaf, node, follow}
@@ -18,10 +18,13 @@ use Rattle.json.specs.declared.Out.the-variants.{End, Bad}
 use Rattle.json.specs.declared.Kind.the-variants.{Str, Num, Word, None}
 use Rattle.json.specs.declared.Start.the-variants.{Leaf, Empty, Many}
 use Rattle.json.specs.declared.Next.the-variants.{More, Done, Wrong}
+use Rattle.json.proofs.Bytes.{both}
+use Rattle.wire.specs.Bytes.{hasControl}
 use Rattle.json.proofs.Ends.{ends-bad, then-end}
 use Rattle.grammar.specs.Rfc.{stop, ws, token, literal, openOf, Value, plain, empty, group, Items, last, more}
 use Rattle.grammar.specs.Rfc.{Item, value, member, Text}
 use Rattle.grammar.proofs.Terms.{same-end, star-sound, token-sound, name-sound}
+use Rattle.grammar.proofs.Clean.{Clean, none-clean}
 use Rattle.grammar.proofs.Numbers.{number-sound}
 use Rattle.grammar.proofs.Strings.{string-sound}
 
@@ -30,7 +33,7 @@ pub end-made : {A B : Type 0} (f : A → B) (g : Got A) {n : ℕ} → endOf (bin
 end-made f none e = e
 end-made f (got t m) e = e
 
-module _ (s : List ℕ) where
+module _ (s : List ℕ) (clean : Clean s 0 (length s)) where
   space-sound : (m n : ℕ) → wsAt s m ≡ n → ws s m n
   unfolding inClass
   space-sound m n e = star-sound s Space refl m n e
@@ -65,7 +68,7 @@ module _ (s : List ℕ) where
       num Bad p q = lit (literalAt s at) refl q
 
       str : (o : Out) → stringAt s at ≡ o → endOf (onLeaf s at (case o Str (case (numberAt s at) Num (case (literalAt s at) Word None)))) ≡ End n → Ended d at n
-      str (End m) p q = (m, plain (inr (inr (string-sound s at m p))), space-sound m n (same-end q))
+      str (End m) p q = (m, plain (inr (inr (string-sound s clean at m p))), space-sound m n (same-end q))
       str Bad p q = num (numberAt s at) refl q
 
   -- ---- items
@@ -76,7 +79,7 @@ module _ (s : List ℕ) where
   item-sound : (d : ℕ) (named : Bool) (at v m : ℕ) → headAt s at named ≡ End v → Value s d v m → Item s d named at m
   item-sound d true at v m e w =
       let (a, p, q) = then-end (stringAt s at) _ e in
-      member (string-sound s at a p) (token-sound s 0x3A a (wsAt s a) v (lit< tt) (space-sound a (wsAt s a) refl) q) w
+      member (string-sound s clean at a p) (token-sound s 0x3A a (wsAt s a) v (lit< tt) (space-sound a (wsAt s a) refl) q) w
   item-sound d false at v m e w = value (rw (sym (same-end e)) at w)
 
   module _ (d : ℕ) (val : ℕ → Got Json) (sound : (v n : ℕ) → endOf (val v) ≡ End n → Ended d v n) where
@@ -144,11 +147,17 @@ module _ (s : List ℕ) where
   value-sound zero at n e = leaf-sound zero at n e
   value-sound (suc d) at n e = group-sound d (treeAt s d) (λ v m q. value-sound d v m q) at n e
 
-  pub text-sound : isText s ≡ true → Text s
-  text-sound e = go (endOf (root s)) refl e
-    where
-      go : (o : Out) → endOf (root s) ≡ o → endsAt (length s) o ≡ true → Text s
-      go (End n) p q =
-          let (m, v, w) = value-sound depth (wsAt s 0) (length s) (p ∙ ap End (eqb-true n (length s) q)) in
-          (wsAt s 0, space-sound 0 (wsAt s 0) refl, (m, v, w))
-      go Bad p q = absurd (let z : _≡_ {A = ℕ} 0 1 = cc in omega arith)
+pub text-sound : (s : List ℕ) → isText s ≡ true → Text s
+text-sound s e = go (endOf (root s)) refl (parts .1)
+  where
+    parts : (not (hasControl s) ≡ true) × (endsAt (length s) (endOf (root s)) ≡ true)
+    parts = both (not (hasControl s)) (endsAt (length s) (endOf (root s))) e
+
+    clean : Clean s 0 (length s)
+    clean = none-clean s (not-true (hasControl s) (parts .0))
+
+    go : (o : Out) → endOf (root s) ≡ o → endsAt (length s) o ≡ true → Text s
+    go (End n) p q =
+        let (m, v, w) = value-sound s clean depth (wsAt s 0) (length s) (p ∙ ap End (eqb-true n (length s) q)) in
+        (wsAt s 0, space-sound s clean 0 (wsAt s 0) refl, (m, v, w))
+    go Bad p q = absurd (let z : _≡_ {A = ℕ} 0 1 = cc in omega arith)

@@ -2,12 +2,12 @@
 -- taken whole by a function and piecemeal by a rule, so a place is compared after the white space that stands there.
 use mathlib.Core.Path.{_≡_, refl, sym, ap, _∙_}
 use mathlib.Core.List.{List, [], _∷_}
-use mathlib.Core.Bool.{Bool, true, false, cond}
+use mathlib.Core.Bool.{Bool, true, false, cond, _||_}
 use Prim.Native.Nat.{ℕ, zero, suc, _+_, _<_, _≤_}
 use native.Mathlib.Omega.{arith}
 use lib.ListN.{length, getD}
-use lib.Dec.{ltb}
-use borrow.Author.Tests.{ltb-true}
+use lib.Dec.{eqb, ltb}
+use borrow.Author.Tests.{eqb-true, ltb-true}
 use Rattle.json.specs.Grammar.{noZero, inClass, past, wsAt, oneAt, tokenAt, wordAt}
 use Rattle.json.specs.declared.Class.{Class}
 use Rattle.json.specs.declared.Class.the-variants.{Space, Byte}
@@ -18,6 +18,23 @@ use Rattle.grammar.specs.Rfc.{Star, stop, step, one, ws, token, name}
 
 pub same-end : {m n : ℕ} → End m ≡ End n → m ≡ n
 same-end e = cc
+
+-- ---- the four bytes of white space
+pub space-is : (P : ℕ → Type 0) → P 0x20 → P 0x09 → P 0x0A → P 0x0D → (x : ℕ) → inClass Space x ≡ true → P x
+unfolding inClass
+space-is P a b c d x e = go₁ (eqb x 0x20) refl e
+  where
+    go₃ : (t : Bool) → eqb x 0x0A ≡ t → (t || eqb x 0x0D) ≡ true → P x
+    go₃ true p q = rw (eqb-true x 0x0A p) c
+    go₃ false p q = rw (eqb-true x 0x0D q) d
+
+    go₂ : (t : Bool) → eqb x 0x09 ≡ t → (t || (eqb x 0x0A || eqb x 0x0D)) ≡ true → P x
+    go₂ true p q = rw (eqb-true x 0x09 p) b
+    go₂ false p q = go₃ (eqb x 0x0A) refl q
+
+    go₁ : (t : Bool) → eqb x 0x20 ≡ t → (t || (eqb x 0x09 || (eqb x 0x0A || eqb x 0x0D))) ≡ true → P x
+    go₁ true p q = rw (eqb-true x 0x20 p) a
+    go₁ false p q = go₂ (eqb x 0x09) refl q
 
 module _ (s : List ℕ) where
   pub one-sound : (class : Class) (at n : ℕ) → inClass class 0 ≡ false → oneAt s class at ≡ End n → one s class at n

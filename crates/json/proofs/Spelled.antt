@@ -82,19 +82,19 @@ module _ (s : List ℕ) where
 -- ---- the bytes of s from lo to hi stand in t, each at its place by g
 module _ (s t : List ℕ) (g : ℕ → ℕ) (lo hi : ℕ) (within : (x : ℕ) → lo ≤ x → x < hi → g x < length t)
     (same : (x : ℕ) → lo ≤ x → x < hi → getD t (g x) 0 ≡ getD s x 0) (step : (x : ℕ) → lo ≤ x → g x + 1 ≡ g (x + 1)) where
-  one-moved : (class : Class) (x m : ℕ) → lo ≤ x → m ≤ hi → oneAt s class x ≡ End m → (oneAt t class (g x) ≡ End (g m)) × (lo ≤ m) × (g x < length t)
+  one-moved : (class : Class) (x m : ℕ) → lo ≤ x → m ≤ hi → oneAt s class x ≡ End m → (oneAt t class (g x) ≡ End (g m)) × (lo ≤ m)
   one-moved class x m l h e =
       let (q, w) = one-is s class x e in
       let k : x < hi = omega arith in
       let p : inClass class (getD t (g x) 0) ≡ true = rw (same x l k) q in
-      (one-of t class (g x) p ∙ ap End (step x l ∙ ap g w), omega arith, within x l k)
+      (one-of t class (g x) p ∙ ap End (step x l ∙ ap g w), omega arith)
 
   char-moved : (x m : ℕ) → lo ≤ x → m ≤ hi → Char s x m → Char t (g x) (g m)
   unfolding inClass
-  char-moved x m l h (plain w e) = let (p, k, i) = one-moved Plain x m l h e in plain i p
+  char-moved x m l h (plain w e) = let q = one-is s Plain x e .1 in plain (within x l (omega arith)) (one-moved Plain x m l h e .0)
   char-moved x m l h (short {a = a} e f) =
       let q = one-ends s Short a refl m f in
-      let (p, k, i) = one-moved (Byte 0x5C) x a l (omega arith) e in
+      let (p, k) = one-moved (Byte 0x5C) x a l (omega arith) e in
       short p (one-moved Short a m k h f .0)
   char-moved x m l h (code {a = a} {b = b} {c = c} {d = d} {e = e} i j k o q r) =
       let h₄ = one-ends s Hex e refl m r in
@@ -102,11 +102,11 @@ module _ (s t : List ℕ) (g : ℕ → ℕ) (lo hi : ℕ) (within : (x : ℕ) �
       let h₂ = one-ends s Hex c refl d o in
       let h₁ = one-ends s Hex b refl c k in
       let h₀ = one-ends s (Byte 0x75) a refl b j in
-      let (e₀, l₀, i₀) = one-moved (Byte 0x5C) x a l (omega arith) i in
-      let (e₁, l₁, i₁) = one-moved (Byte 0x75) a b l₀ (omega arith) j in
-      let (e₂, l₂, i₂) = one-moved Hex b c l₁ (omega arith) k in
-      let (e₃, l₃, i₃) = one-moved Hex c d l₂ (omega arith) o in
-      let (e₄, l₄, i₄) = one-moved Hex d e l₃ (omega arith) q in
+      let (e₀, l₀) = one-moved (Byte 0x5C) x a l (omega arith) i in
+      let (e₁, l₁) = one-moved (Byte 0x75) a b l₀ (omega arith) j in
+      let (e₂, l₂) = one-moved Hex b c l₁ (omega arith) k in
+      let (e₃, l₃) = one-moved Hex c d l₂ (omega arith) o in
+      let (e₄, l₄) = one-moved Hex d e l₃ (omega arith) q in
       code e₀ e₁ e₂ e₃ e₄ (one-moved Hex e m l₄ h r .0)
 
   chars-moved : (x m : ℕ) → lo ≤ x → m ≤ hi → Chars s x m → Chars t (g x) (g m)

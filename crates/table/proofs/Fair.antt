@@ -26,7 +26,8 @@ use Rattle.message.specs.declared.EventParts.{EventParts}
 use Rattle.message.specs.Lent.{spanBytes, isInside, isSpelled, isTagsShape, string2, string5, string7, value2, value5}
 use Rattle.message.specs.Lent.{wrongNumber, time6, body2, body5, body6, body7, event2, event5, event7}
 use Rattle.event.specs.Lent.{said, natural, eventOf, textOf}
-use Rattle.event.specs.Answer.{hexDigit, hexOf, hasId, offeredRow}
+use Rattle.event.specs.Answer.{hexOf, hasId, offeredRow}
+use Rattle.wire.specs.Bytes.{hexDigit}
 use Rattle.event.proofs.Decoded.{or-neither}
 use Rattle.event.proofs.Fit.{and-fails}
 use Rattle.law.specs.Demand3.{runOn}

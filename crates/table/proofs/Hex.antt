@@ -15,7 +15,8 @@ use Rattle.digest.specs.Digest.{hashed, padded, digestBytes, digestByte, digest
 use Rattle.digest.specs.Block.{H0}
 use Rattle.text.specs.Event.{all}
 use Rattle.text.proofs.Pieces.{both}
-use Rattle.event.specs.Answer.{hexDigit, hexOf}
+use Rattle.event.specs.Answer.{hexOf}
+use Rattle.wire.specs.Bytes.{hexDigit}
 use Rattle.event.proofs.Decoded.{digit-few}
 use Rattle.table.specs.Layout.{isByte}
 use Rattle.table.specs.Offer.{unhex}

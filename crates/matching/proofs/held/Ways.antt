@@ -26,7 +26,8 @@ use Rattle.text.proofs.Pieces.{and-true}
 use Rattle.text.proofs.RoundTrip.{read-same}
 use Rattle.message.specs.Lent.{isTagsShape, value5}
 use Rattle.event.specs.Lent.{lentTagsAt}
-use Rattle.event.specs.Answer.{hexDigit, hexOf}
+use Rattle.event.specs.Answer.{hexOf}
+use Rattle.wire.specs.Bytes.{hexDigit}
 use Rattle.table.specs.Layout.{isByte, slotSize, countOf, slotAt, idIn, textIn, timeIn, kindIn, lengthIn}
 use Rattle.table.specs.Sound.{sound}
 use Rattle.table.specs.Demand3.{SpellsTags}

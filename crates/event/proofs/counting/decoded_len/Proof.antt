@@ -1,12 +1,14 @@
+-- Five bytes more for each control character in a reply; in the text the length itself.
 use borrow.Author.Needs.{needs}
+use Rattle.event.proofs.Lengths.{json-count, number-count}
 use Rattle.event.proofs.counting.decoded_len.Statement.{statement}
 use Rattle.event.proofs.counting.decoded_len.Tie as tie
 
 returns : tie.Need-returns
-returns c = ?
+returns c = rw (c .before .before .before .if1 .taken) (json-count _ (c .before .before .before .before .decoded-len .ensures) (c .before .before .control-count .ensures) (c .before .five-each .ensures) (c .more .ensures))
 
 returns-2 : tie.Need-returns-2
-returns-2 c = ?
+returns-2 c = rw (c .if1 .left) (number-count (c .before .decoded-len .ensures) (c .before .decoded-len .ok))
 
 pub decoded-len-spec : {M : Type 1} → statement M
 decoded-len-spec =

@@ -1,7 +1,8 @@
 -- A string as it decodes, and what is no string as an empty one.
-use mathlib.Core.Path.{sym, _∙_}
+use mathlib.Core.Path.{refl, sym, _∙_}
 use native.Mathlib.Omega.{arith}
 use borrow.Author.Needs.{needs}
+use Rattle.event.proofs.Forms.{put-fixed}
 use Rattle.event.proofs.Strings.{string-ends, string-piece, string-done, string-empty}
 use Rattle.event.proofs.writing.put_string.Statement.{statement}
 use Rattle.event.proofs.writing.put_string.Tie as tie
@@ -34,7 +35,7 @@ returns c =
     let c7 = c4 .before .before .before in
     let c9 = c7 .before .before in
     let c12 = c9 .before .before .before in
-    string-done (c12 .args .b .now) (c12 .args .v) (sym (c9 .string .ensures) ∙ c7 .n .given .1) (string-piece (c4 .piece .ensures) (c3 .put-quoted .ensures)) (c .space .ensures)
+    string-done (c12 .args .b .now) (c12 .args .v) (sym (c9 .string .ensures) ∙ c7 .n .given .1) (string-piece _ (c4 .piece .ensures) (c3 .put-in .ensures)) (c .space .ensures)
 
 returns-2 : tie.Need-returns-2
 returns-2 c =
@@ -42,7 +43,7 @@ returns-2 c =
     let c6 = c3 .before .before .before in
     let c8 = c6 .before .before in
     let c11 = c8 .before .before .before in
-    string-empty (c11 .args .b .now) (c11 .args .v) (sym (c8 .string .ensures) ∙ c6 .enum-told .given .1) (c3 .put .ensures) (c .past .ensures)
+    string-empty (c11 .args .b .now) (c11 .args .v) (sym (c8 .string .ensures) ∙ c6 .enum-told .given .1) (put-fixed (c11 .args .json) _ refl (c3 .put .ensures)) (c .past .ensures)
 
 pub put-string-spec : {M : Type 1} → statement M
 put-string-spec =
