@@ -29,8 +29,8 @@ pub escape-count : {n c k m : ℕ} (l : List ℕ) → n ≡ length (escape l) �
 escape-count l e f g h = json-count (escape l) e (f ∙ sym (count-escape l)) g h
 
 -- a number of 64 bits is not cut off
-pub number-count : {n : ℕ} {l : List ℕ} → n ≡ length l → n < 2 ^ 64 → n ≡ lengthOf l
-number-count e h = omega (arith, e)
+pub number-count : {n : ℕ} (l : List ℕ) → n ≡ length l → n < 2 ^ 64 → n ≡ lengthOf l
+number-count l e h = omega (arith, e)
 
 -- a string between quotes
 pub string-count : {n k a m : ℕ} {p q : List ℕ} (json : Bool) → p ≡ q → k ≡ lengthOf (inForm json (escape (decode p))) → a ≡ min (n + k) mostLength → m ≡ min (a + 2) mostLength

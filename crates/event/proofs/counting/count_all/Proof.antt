@@ -22,7 +22,7 @@ pub count-all-spec : {M : Type 1} → statement M
 count-all-spec =
     tie.close
     (tie.spec Inv-loop μ-loop (λ c. left-start _ _ _ _ _ _) (search needs) (search needs) (search needs) (search needs) (search needs) (search needs)
-    (λ c. let d = c .before .before .before .before in left-done (d .before .before .before .loop .inv) (counts-chain _) (tags-printer _) (d .before .count-tag .ensures) (sym (d .after .ensures) ∙ c .before .before .e .given .1) (count-fixed (d .before .before .before .before .before .args .json) _ refl (c .more2 .ensures))) (search needs)
-    (λ c. let d = c .before .before in left-wrong (d .before .before .before .loop .inv) (counts-chain _) (tags-printer _) (d .before .count-tag .ensures) (sym (d .after .ensures) ∙ c .enum-told .given .1) _ _) (search needs) (λ c. omega arith)
-    (λ c. let d = c .before .before .before .before in left-more (d .before .before .before .loop .inv) (counts-chain _) (tags-printer _) (d .before .count-tag .ensures) (sym (d .after .ensures) ∙ c .before .before .j .given .1) (count-fixed (d .before .before .before .before .before .args .json) _ refl (c .more .ensures)))
+    (λ c. let d = c .before .before .before .before in left-done (d .before .before .before .loop .inv) (counts-chain (d .before .before .before .before .before .args .json)) (tags-printer _) (d .before .count-tag .ensures) (sym (d .after .ensures) ∙ c .before .before .e .given .1) (count-fixed (d .before .before .before .before .before .args .json) _ refl (c .more2 .ensures))) (search needs)
+    (λ c. let d = c .before .before in left-wrong (d .before .before .before .loop .inv) (counts-chain (d .before .before .before .before .before .args .json)) (tags-printer _) (d .before .count-tag .ensures) (sym (d .after .ensures) ∙ c .enum-told .given .1) _ _) (search needs) (λ c. omega arith)
+    (λ c. let d = c .before .before .before .before in left-more (d .before .before .before .loop .inv) (counts-chain (d .before .before .before .before .before .args .json)) (tags-printer _) (d .before .count-tag .ensures) (sym (d .after .ensures) ∙ c .before .before .j .given .1) (count-fixed (d .before .before .before .before .before .args .json) _ refl (c .more .ensures)))
     (λ c. left-gone (c .before .loop .inv) (c .loop-test .left) _ _))

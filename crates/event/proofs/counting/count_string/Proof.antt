@@ -38,7 +38,7 @@ returns c =
     let c6 = c4 .before .before in
     let c8 = c6 .before .before in
     let c10 = c8 .before .before in
-    string-done (c10 .args .b .now) (c10 .args .v) (sym (c8 .string .ensures) ∙ c6 .e .given .1) (string-count _ (c4 .piece .ensures) (c3 .string-len .ensures) (c2 .more .ensures) (c1 .more2 .ensures)) (c .space .ensures)
+    string-done (c10 .args .b .now) (c10 .args .v) (sym (c8 .string .ensures) ∙ c6 .e .given .1) (string-count (c10 .args .json) (c4 .piece .ensures) (c3 .string-len .ensures) (c2 .more .ensures) (c1 .more2 .ensures)) (c .space .ensures)
 
 returns-2 : tie.Need-returns-2
 returns-2 c =

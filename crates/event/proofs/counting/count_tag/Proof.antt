@@ -23,7 +23,7 @@ returns-2 c =
     let c4 = c2 .before .before in
     let c6 = c4 .before .before in
     let c8 = c6 .before .before in
-    tag-many (c8 .args .b .now) (c8 .args .v) (counts-chain _) (simp (← c6 .begin .ensures, c4 .first .given .1, c2 .if1 .left)) (count-fixed (c8 .args .json) _ refl (c1 .more2 .ensures)) (c .count-strings .ensures)
+    tag-many (c8 .args .b .now) (c8 .args .v) (counts-chain (c8 .args .json)) (simp (← c6 .begin .ensures, c4 .first .given .1, c2 .if1 .left)) (count-fixed (c8 .args .json) _ refl (c1 .more2 .ensures)) (c .count-strings .ensures)
 
 returns-3 : tie.Need-returns-3
 returns-3 c =

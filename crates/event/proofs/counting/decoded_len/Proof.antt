@@ -1,5 +1,7 @@
 -- Five bytes more for each control character in a reply; in the text the length itself.
 use borrow.Author.Needs.{needs}
+use denote.Ref.{now}
+use Rattle.spell.specs.Spell.{decode}
 use Rattle.event.proofs.Lengths.{json-count, number-count}
 use Rattle.event.proofs.counting.decoded_len.Statement.{statement}
 use Rattle.event.proofs.counting.decoded_len.Tie as tie
@@ -8,7 +10,7 @@ returns : tie.Need-returns
 returns c = rw (c .before .before .before .if1 .taken) (json-count _ (c .before .before .before .before .decoded-len .ensures) (c .before .before .control-count .ensures) (c .before .five-each .ensures) (c .more .ensures))
 
 returns-2 : tie.Need-returns-2
-returns-2 c = rw (c .if1 .left) (number-count (c .before .decoded-len .ensures) (c .before .decoded-len .ok))
+returns-2 c = rw (c .if1 .left) (number-count (decode (now (c .before .before .before .args .p))) (c .before .decoded-len .ensures) (c .before .decoded-len .ok))
 
 pub decoded-len-spec : {M : Type 1} → statement M
 decoded-len-spec =

@@ -35,7 +35,7 @@ returns c =
     let c7 = c4 .before .before .before in
     let c9 = c7 .before .before in
     let c12 = c9 .before .before .before in
-    string-done (c12 .args .b .now) (c12 .args .v) (sym (c9 .string .ensures) ∙ c7 .n .given .1) (string-piece _ (c4 .piece .ensures) (c3 .put-in .ensures)) (c .space .ensures)
+    string-done (c12 .args .b .now) (c12 .args .v) (sym (c9 .string .ensures) ∙ c7 .n .given .1) (string-piece (c12 .args .json) (c4 .piece .ensures) (c3 .put-in .ensures)) (c .space .ensures)
 
 returns-2 : tie.Need-returns-2
 returns-2 c =

@@ -22,7 +22,7 @@ pub put-strings-spec : {M : Type 1} → statement M
 put-strings-spec =
     tie.close
     (tie.spec Inv-loop μ-loop (λ c. (left-start _ _ _ _ _ _, refl)) (search needs) (search needs) (search needs) (search needs) (search needs) (search needs) (search needs) (search needs) (search needs)
-    (λ c. let d = c .before .before .before .before .before .before .before .before in left-done (d .before .before .before .before .before .before .loop .inv .0) (puts-chain _) (strings-printer _) (d .before .before .before .put-string .ensures) (sym (d .after .ensures) ∙ c .before .before .before .before .before .before .n .given .1) (put-fixed (d .before .before .before .before .before .before .before .before .before .args .json) _ refl (c .before .before .put2 .ensures))) (search needs) (search needs)
-    (λ c. let d = c .before .before in left-wrong (d .before .before .before .before .before .before .loop .inv .0) (puts-chain _) (strings-printer _) (d .before .before .before .put-string .ensures) (sym (d .after .ensures) ∙ c .enum-told .given .1) _ _) (search needs) (λ c. omega arith)
-    (λ c. let d = c .before .before .before .before .before .before .before .before in (left-more (d .before .before .before .before .before .before .loop .inv .0) (puts-chain _) (strings-printer _) (d .before .before .before .put-string .ensures) (sym (d .after .ensures) ∙ c .before .before .before .before .before .before .j .given .1) (put-fixed (d .before .before .before .before .before .before .before .before .before .args .json) _ refl (c .before .before .put .ensures)), c .before .out2 .given ∙ d .before .before .out .given ∙ d .before .before .before .before .before .before .loop .inv .1)) (search needs)
+    (λ c. let d = c .before .before .before .before .before .before .before .before in left-done (d .before .before .before .before .before .before .loop .inv .0) (puts-chain (d .before .before .before .before .before .before .before .before .before .args .json)) (strings-printer _) (d .before .before .before .put-string .ensures) (sym (d .after .ensures) ∙ c .before .before .before .before .before .before .n .given .1) (put-fixed (d .before .before .before .before .before .before .before .before .before .args .json) _ refl (c .before .before .put2 .ensures))) (search needs) (search needs)
+    (λ c. let d = c .before .before in left-wrong (d .before .before .before .before .before .before .loop .inv .0) (puts-chain (d .before .before .before .before .before .before .before .before .before .args .json)) (strings-printer _) (d .before .before .before .put-string .ensures) (sym (d .after .ensures) ∙ c .enum-told .given .1) _ _) (search needs) (λ c. omega arith)
+    (λ c. let d = c .before .before .before .before .before .before .before .before in (left-more (d .before .before .before .before .before .before .loop .inv .0) (puts-chain (d .before .before .before .before .before .before .before .before .before .args .json)) (strings-printer _) (d .before .before .before .put-string .ensures) (sym (d .after .ensures) ∙ c .before .before .before .before .before .before .j .given .1) (put-fixed (d .before .before .before .before .before .before .before .before .before .args .json) _ refl (c .before .before .put .ensures)), c .before .out2 .given ∙ d .before .before .out .given ∙ d .before .before .before .before .before .before .loop .inv .1)) (search needs)
     (λ c. left-gone (c .before .loop .inv .0) (c .loop-test .left) _ _))

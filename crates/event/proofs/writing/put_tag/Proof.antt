@@ -24,7 +24,7 @@ returns-2 c =
     let c11 = c9 .before .before in
     let c13 = c11 .before .before in
     let c16 = c13 .before .before .before in
-    tag-many (c16 .args .b .now) (c16 .args .v) (puts-chain _) (simp (← c13 .begin .ensures, c11 .first .given .1, c9 .if1 .left)) (put-fixed (c16 .args .json) _ refl (c6 .put2 .ensures)) (c2 .put-strings .ensures)
+    tag-many (c16 .args .b .now) (c16 .args .v) (puts-chain (c16 .args .json)) (simp (← c13 .begin .ensures, c11 .first .given .1, c9 .if1 .left)) (put-fixed (c16 .args .json) _ refl (c6 .put2 .ensures)) (c2 .put-strings .ensures)
 
 returns-3 : tie.Need-returns-3
 returns-3 c =

@@ -14,7 +14,7 @@ returns c =
     let c6 = c2 .before .before .before .before in
     let c10 = c6 .before .before .before .before in
     let c14 = c10 .before .before .before .before in
-    some-tags (puts (c14 .args .json)) (c14 .args .b .now) (c14 .args .tags) (puts-chain _) (sym (c14 .pre) ∙ c10 .known .given .1) (put-fixed (c14 .args .json) _ refl (c6 .put .ensures)) (c2 .put-all .ensures)
+    some-tags (puts (c14 .args .json)) (c14 .args .b .now) (c14 .args .tags) (puts-chain (c14 .args .json)) (sym (c14 .pre) ∙ c10 .known .given .1) (put-fixed (c14 .args .json) _ refl (c6 .put .ensures)) (c2 .put-all .ensures)
 
 returns-2 : tie.Need-returns-2
 returns-2 c =
