@@ -364,9 +364,9 @@ fn parts_alike(text: &[u8]) {
             event_alike(text, &q, 4200).ok();
         }
     }
-    for at in [p.tags + 1, p.content.start] {
+    for at in [p.tags + 1, p.tags + 3, p.content.start] {
         let mut wrong = text.to_vec();
-        for byte in [b'"', b'\\', b'[', b' ', 0x1f, 0x80, 0xff] {
+        for byte in [b'"', b'\\', b'[', b' ', 0x00, 0x0a, 0x1f, 0x80, 0xff] {
             wrong[at] = byte;
             event_alike(&wrong, &p, 4200).ok();
         }
@@ -408,7 +408,7 @@ fn back() {
         assert_eq!(text_alike(&out[..n]), 0, "{name}");
         for at in 0..n {
             let was = out[at];
-            for byte in [b'"', b'\\', b'x', 0x1f, 0x80, 0xc3, 0xed, 0xf4] {
+            for byte in [b'"', b'\\', b'x', 0x00, 0x0a, 0x1f, 0x80, 0xc3, 0xed, 0xf4] {
                 out[at] = byte;
                 text_alike(&out[..n]);
             }
@@ -436,6 +436,7 @@ fn event() {
         ),
         ("a full event, escapes", messages::sized(4096, "[\"d\",\"floor 3\"]", "\\n\\t\\\"")),
         ("a full event, UTF-8", messages::sized(4096, "[\"d\",\"floor 3\"]", "é€𝄞жあ😀ßñ")),
+        ("an event, control characters", messages::sized(4096, "[\"d\",\"floor 3\"]", "a tile of floor 3\\u0001 read by cart 17\\u001F ")),
     ];
     let mut out = vec![0u8; 4096];
     for (name, text) in &cases {

@@ -35,6 +35,13 @@ fn span(m: &[u8], s: Span) -> &[u8] {
     &m[s.start..s.start + s.len]
 }
 
+const DIGITS: &[u8; 16] = b"0123456789abcdef";
+
+// A control character that has no short escape.
+fn put_control(out: &mut Vec<u8>, b: u8) {
+    out.extend_from_slice(&[b'\\', b'u', b'0', b'0', DIGITS[(b >> 4) as usize], DIGITS[(b & 15) as usize]]);
+}
+
 // A string as spelled, decoded and escaped between quotes.
 fn put_quoted(out: &mut Vec<u8>, s: &[u8]) {
     out.push(b'"');
@@ -48,6 +55,7 @@ fn put_quoted(out: &mut Vec<u8>, s: &[u8]) {
                 0x09 => out.extend_from_slice(b"\\t"),
                 0x08 => out.extend_from_slice(b"\\b"),
                 0x0c => out.extend_from_slice(b"\\f"),
+                0x00..=0x1f => put_control(out, b),
                 _ => out.push(b),
             }
         }
@@ -57,8 +65,17 @@ fn put_quoted(out: &mut Vec<u8>, s: &[u8]) {
     out.push(b'"');
 }
 
+// A piece of a held text. What stands raw in it below U+0020 has no short escape.
+fn put_held(out: &mut Vec<u8>, s: &[u8]) {
+    if !s.iter().fold(false, |a, &b| a | (b < 0x20)) {
+        return out.extend_from_slice(s);
+    }
+    for &b in s {
+        if b < 0x20 { put_control(out, b) } else { out.push(b) }
+    }
+}
+
 fn put_hex(out: &mut Vec<u8>, s: &[u8]) {
-    const DIGITS: &[u8; 16] = b"0123456789abcdef";
     for b in s {
         out.push(DIGITS[(b >> 4) as usize]);
         out.push(DIGITS[(b & 15) as usize]);
@@ -97,7 +114,7 @@ fn refusal(out: &mut Vec<u8>, m: &[u8], parts: &Message, row: u8) {
     }
 }
 
-// The EVENT reply of a held slot: tags and content stand in its text as they go into the reply.
+// The EVENT reply of a held slot: tags and content stand in its text as they go into the reply, but for control characters.
 fn event(out: &mut Vec<u8>, sub: &[u8], s: &[u8]) {
     let text = &s[TEXT..TEXT + number(s, 106, 2)];
     let p = plain_event::read_text(text).unwrap_or_default();
@@ -108,9 +125,9 @@ fn event(out: &mut Vec<u8>, sub: &[u8], s: &[u8]) {
     out.extend_from_slice(b"\",\"pubkey\":");
     out.extend_from_slice(&text[3..69]);
     write!(out, ",\"created_at\":{},\"kind\":{},\"tags\":", word(&s[96..]) as i64, number(s, 104, 2)).unwrap();
-    out.extend_from_slice(&text[p.tags..p.content.start - 2]);
+    put_held(out, &text[p.tags..p.content.start - 2]);
     out.extend_from_slice(b",\"content\":");
-    out.extend_from_slice(&text[p.content.start - 1..text.len() - 1]);
+    put_held(out, &text[p.content.start - 1..text.len() - 1]);
     out.extend_from_slice(b",\"sig\":\"");
     put_hex(out, &s[32..96]);
     out.extend_from_slice(b"\"}]\n");
@@ -153,13 +170,17 @@ fn respond(table: &mut [u8], m: &[u8], out: &mut Vec<u8>, test: bool) {
     }
 }
 
+// Replies are written from so many bytes on; those to one message have at most so many: the EVENTs of 8 slots and an EOSE.
+const PIECE: usize = 65536;
+const REPLIES: usize = 8 * 24827 + 428;
+
 fn main() {
     let test = std::env::args().nth(1).as_deref() != Some("untested");
     let (mut input, mut output) = unsafe { (File::from_raw_fd(0), File::from_raw_fd(1)) };
     let mut table = vec![0u8; HEADER + 8 * SLOT];
     plain_table::format(&mut table, 8);
     let mut chunk = vec![0u8; 65536];
-    let (mut line, mut out) = (Vec::with_capacity(8193), Vec::with_capacity(131072));
+    let (mut line, mut out) = (Vec::with_capacity(8193), Vec::with_capacity(PIECE + REPLIES));
     loop {
         let n = input.read(&mut chunk).unwrap_or(0);
         if n == 0 {
@@ -175,7 +196,7 @@ fn main() {
                 line.clear();
             }
             rest = &rest[end + 1..];
-            if 65536 < out.len() {
+            if PIECE < out.len() {
                 output.write_all(&out).unwrap();
                 out.clear();
             }

@@ -13,9 +13,10 @@ use std::process::Command;
 const PUBKEY: &str = "5c83da77af1dec6d7289834998ad7aafbd9e2191396d75ec3cc27f5a77226f36";
 const SMALL: &str = "the shelf by the door has moved";
 
+// The content is spelled as in the text that is hashed, but for U+0001, which stands raw there.
 fn event(time: i64, d: usize, content: &str) -> String {
     let tags = format!("[[\"d\",\"floor-3/tile-{d:04}\"],[\"t\",\"floor 3\"]]");
-    let text = format!("[0,\"{PUBKEY}\",{time},30000,{tags},\"{content}\"]");
+    let text = format!("[0,\"{PUBKEY}\",{time},30000,{tags},\"{content}\"]").replace("\\u0001", "\x01");
     let id: String = plain_sha256::digest(text.as_bytes()).iter().map(|b| format!("{b:02x}")).collect();
     let sig = "0f".repeat(64);
     format!(
@@ -83,11 +84,14 @@ fn main() {
     let (relay, plain, dir) = (&words[1], &words[2], &words[3]);
     let rounds: usize = words[4].parse().unwrap();
     let full = &"a tile of floor 3, read by cart 17 ".repeat(113)[..3900];
+    let controls = &"a tile of floor 3\\u0001 read by cart 17 ".repeat(110);
     let cases = [
         ("EVENTs, small, new versions of 8 tiles", events(20000, SMALL)),
         ("EVENTs of 4 KB", events(5000, full)),
         ("REQs over 8 small tiles", requests(10000, SMALL)),
         ("REQs over 8 tiles of 4 KB", requests(4000, full)),
+        ("EVENTs of 4 KB, control characters", events(5000, controls)),
+        ("REQs over 8 tiles, control characters", requests(4000, controls)),
         ("mixed", mixed(5000)),
     ];
     println!("{:<40} {:>8} {:>12} {:>12} {:>7} {:>12} {:>7}", "lines a second of processor time", "lines", "proved", "plain", "ratio", "untested", "ratio");

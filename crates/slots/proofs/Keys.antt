@@ -15,7 +15,7 @@ use Rattle.wire.specs.Escape.{escape}
 use Rattle.wire.specs.Field.{fieldAt}
 use Rattle.wire.specs.Bytes.{sameBytes, part}
 use Rattle.wire.proofs.Bytes.{same-equal, equal-same}
-use Rattle.text.specs.Event.{Tag, Event, all, isPlainByte, isStringBytes, isTag, isTags}
+use Rattle.text.specs.Event.{Event, isTags}
 use Rattle.text.specs.Read.{Read, read, readText, IsTextOf}
 use Rattle.text.specs.Kinds.{Key, sameKey, keyIn, keyOf, classOf, isNamedD, second, dOf}
 use Rattle.text.specs.declared.Class.{Class}
@@ -34,35 +34,16 @@ use Rattle.table.proofs.DPlaces.{d-place}
 use Rattle.slots.specs.Slots.{hasKeyIn, pubkeyBytes, dBytesIn, sameIdIn, sameKeyIn, clash, slotsFrom}
 use Rattle.slots.proofs.Pairs.{none-map, none-or, none-as}
 
--- ---- d is a string
-second-plain : (t : Tag) → isTag t ≡ true → all isPlainByte (second t) ≡ true
-unfolding isTag isStringBytes all
-second-plain [] h = refl
-second-plain (v ∷ []) h = refl
-second-plain (v ∷ w ∷ t) h =
-    let n = length (v ∷ w ∷ t) in
-    let a = both (leb n mostStrings) (all isStringBytes (v ∷ w ∷ t)) (both (leb 1 n) (leb n mostStrings && all isStringBytes (v ∷ w ∷ t)) h .1) .1 in
-    both (all isPlainByte w) (isUtf8 w) (both (isStringBytes w) (all isStringBytes t) (both (isStringBytes v) (all isStringBytes (w ∷ t)) a .1) .0) .0
-
-d-plain : (ts : List Tag) → all isTag ts ≡ true → all isPlainByte (dOf ts) ≡ true
-unfolding dOf all
-d-plain [] h = refl
-d-plain (t ∷ ts) h = let a = both (isTag t) (all isTag ts) h in go (isNamedD t) (second-plain t (a .0)) (d-plain ts (a .1))
-  where
-    go : (n : Bool) → all isPlainByte (second t) ≡ true → all isPlainByte (dOf ts) ≡ true → all isPlainByte (cond n (second t) (dOf ts)) ≡ true
-    go true p q = p
-    go false p q = q
-
 -- two tests that imply each other
 same-tests : (a b : Bool) → (a ≡ true → b ≡ true) → (b ≡ true → a ≡ true) → a ≡ b
 same-tests true b f g = sym (f refl)
 same-tests false true f g = g refl
 same-tests false false f g = refl
 
-same-escaped : (u v : List ℕ) → all isPlainByte u ≡ true → all isPlainByte v ≡ true → sameBytes u v ≡ sameBytes (escape u) (escape v)
-same-escaped u v p q = same-tests (sameBytes u v) (sameBytes (escape u) (escape v))
+same-escaped : (u v : List ℕ) → sameBytes u v ≡ sameBytes (escape u) (escape v)
+same-escaped u v = same-tests (sameBytes u v) (sameBytes (escape u) (escape v))
     (λ e. equal-same (escape u) (escape v) (ap escape (same-equal u v e)))
-    (λ e. equal-same u v (escape-once u v p q (same-equal (escape u) (escape v) e)))
+    (λ e. equal-same u v (escape-once u v (same-equal (escape u) (escape v) e)))
 
 -- ---- a sound slot, by the event of its text
 pub record Slot (s : List ℕ) (e : Event) : Type 0 where
@@ -71,7 +52,6 @@ pub record Slot (s : List ℕ) (e : Event) : Type 0 where
   pub pubkey : pubkeyBytes s ≡ e .pubkey
   pub d-none : classOf (e .kind) ≢ Addressable → dBytesIn s ≡ []
   pub d-there : classOf (e .kind) ≡ Addressable → dBytesIn s ≡ escape (dOf (e .tags))
-  pub plain : all isPlainByte (dOf (e .tags)) ≡ true
 
 pub slot-of : (s : List ℕ) → slotSound s ≡ true → (e : Event) × Slot s e
 unfolding classOfText classOfEvent keyOf pubkeyBytes dBytesIn isTags
@@ -86,7 +66,6 @@ slot-of s ok =
         pubkey = pubkey-stands (textIn s) e t;
         d-none = λ n. rw (p .nowhere (inl n));
         d-there = p .stands;
-        plain = d-plain (e .tags) (both (leb (length (e .tags)) mostTags) (all isTag (e .tags)) (limits-of e (t .fit) .tags) .1);
       },
     )
 
@@ -122,7 +101,7 @@ key-alike Replaceable s t e f a b p q h =
     other : Replaceable ≢ Addressable
     other z = let y : _≡_ {A = ℕ} 0 1 = cc in omega arith
 key-alike Addressable s t e f a b p q h =
-    rw (h, b .d-there q, a .d-there p, same-escaped (dOf (f .tags)) (dOf (e .tags)) (b .plain) (a .plain))
+    rw (h, b .d-there q, a .d-there p, same-escaped (dOf (f .tags)) (dOf (e .tags)))
 
 pub key-same : (s t : List ℕ) → slotSound s ≡ true → slotSound t ≡ true → hasKey signedEvents (inSlot s) (inSlot t) ≡ sameKeyIn s t
 unfolding sameKeyIn

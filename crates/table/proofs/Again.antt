@@ -21,7 +21,7 @@ use Rattle.spell.proofs.Laws.{HexDigit, digit, letter, hex-digit}
 use Rattle.shape.specs.Shape.{anyItem, allItems, countItems, count, isArrayOf}
 use Rattle.shape.specs.Shape as shape
 use Rattle.shape.specs.Rows.{outside, wrongTag, wrongTags}
-use Rattle.text.specs.Event.{all, isPlainByte, isStringBytes, isTag, isTags}
+use Rattle.text.specs.Event.{all, isStringBytes, isTag, isTags}
 use Rattle.text.proofs.Pieces.{both, and-true}
 use Rattle.message.specs.declared.Span.{Span}
 use Rattle.message.specs.Lent.{spanBytes, isInside, isSpelled, string2, string4, string5, string7, value2, value4}
@@ -30,7 +30,6 @@ use Rattle.message.specs.Lent as lent
 use Rattle.event.specs.Lent.{stringOf, stringsOf, tagOf, tagsOf, tagsIn, lentTagsAt}
 use Rattle.event.proofs.Walks.{Walk, last, more}
 use Rattle.utf8.proofs.States.{lead-low}
-use Rattle.event.proofs.Decoded.{plain-high}
 use Rattle.event.proofs.Fit.{inner, ws-after, more-after, done-after, quoted, Array, bare, full, array, string-after}
 use Rattle.event.proofs.Fit.{walk-after, tag-after, strings-count, tags-count}
 use Rattle.table.specs.Demand3.{Spells}
@@ -50,15 +49,11 @@ hex-bounds (letter l h) = (omega arith, h)
 
 -- lower-case hex is a string within the limits
 pub hex-string : (s : List ℕ) → spell.all isHex s ≡ true → isStringBytes s ≡ true
-unfolding isStringBytes isUtf8 all spell.all utf8From
-hex-string s e = and-true (all isPlainByte s) _ (plain s e) (utf8 s e)
+unfolding isStringBytes isUtf8 spell.all utf8From
+hex-string s e = utf8 s e
   where
     bounds : (x : ℕ) (s : List ℕ) → spell.all isHex (x ∷ s) ≡ true → (0x30 ≤ x) × (x ≤ 0x66) × (spell.all isHex s ≡ true)
     bounds x s e = let (p, q) = both (isHex x) _ e in let (l, h) = hex-bounds (hex-digit x p) in (l, h, q)
-
-    plain : (s : List ℕ) → spell.all isHex s ≡ true → all isPlainByte s ≡ true
-    plain [] e = refl
-    plain (x ∷ s) e = let (l, h, r) = bounds x s e in and-true (isPlainByte x) _ (plain-high x (omega arith)) (plain s r)
 
     utf8 : (s : List ℕ) → spell.all isHex s ≡ true → utf8From Lead s ≡ true
     utf8 [] e = refl

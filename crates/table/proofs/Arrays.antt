@@ -22,11 +22,12 @@ use Rattle.json.proofs.Trees.{tree-open}
 use Rattle.rows.specs.Strings.{part}
 use Rattle.shape.specs.Shape.{allItems, isArrayOf}
 use Rattle.shape.specs.Shape as shape
-use Rattle.text.specs.Event.{Tag, quoted, membersText, tagText, tagsText, all, isPlainByte, isStringBytes, isTag}
+use Rattle.text.specs.Event.{Tag, quoted, membersText, tagText, tagsText, all, isStringBytes, isTag}
 use Rattle.text.specs.Event.{isTags}
 use Rattle.text.proofs.Pieces.{Spelt, left, right, tail, byte-is, both, spelt-inside}
 use Rattle.text.proofs.Strings.{utf8-escape}
-use Rattle.wire.specs.Escape.{escape}
+use Rattle.wire.specs.Escape.{escape, jsonOf}
+use Rattle.wire.proofs.Json.{json-append, json-same}
 use Rattle.message.specs.Lent.{value2, value5}
 use Rattle.message.specs.Lent as lent
 use Rattle.event.specs.Lent.{stringOf, stringsOf, tagOf, tagsOf, tagsIn, lentTagsAt}
@@ -79,12 +80,12 @@ record StandAll {A : Type 0} (s : List ℕ) (value : ℕ → Got Json) (mean : I
   fine : allItems (λ p t. ok t) items ≡ true
 
 -- it begins with a byte that is no white space and closes nothing
-record Begins (l : List ℕ) : Type 0 where
-  first : ℕ
-  rest : List ℕ
-  is : l ≡ first ∷ rest
-  dark : inClass Space first ≡ false
-  opens : eqb first 93 ≡ false
+pub record Begins (l : List ℕ) : Type 0 where
+  pub first : ℕ
+  pub rest : List ℕ
+  pub is : l ≡ first ∷ rest
+  pub dark : inClass Space first ≡ false
+  pub opens : eqb first 93 ≡ false
 
 begins-more : (l r : List ℕ) → Begins l → Begins (l ++ r)
 begins-more l r b = record { first = b .first; rest = b .rest ++ r; is = ap (λ k. k ++ r) (b .is); dark = b .dark; opens = b .opens }
@@ -129,44 +130,77 @@ quoted-begins : (v : List ℕ) → Begins (quoted v)
 unfolding quoted inClass
 quoted-begins v = record { first = 34; rest = escape v ++ (34 ∷ []); is = refl; dark = refl; opens = refl }
 
-tag-begins : (t : Tag) → Begins (tagText t)
-unfolding tagText inClass
-tag-begins t = record { first = 91; rest = membersText quoted t; is = refl; dark = refl; opens = refl }
+-- with so many brackets open at once as they hold, and d more; a string as `string` prints it
+module _ (string : List ℕ → List ℕ) (begins : (v : List ℕ) → Begins (string v)) (s : List ℕ) (d : ℕ)
+    (stands : (v : List ℕ) (at n : ℕ) → isStringBytes v ≡ true → Spelt s at (string v) n → Tight s n → Stands (treeAt s (suc d)) (stringOf s) shape.isString at v n) where
+  abbrev pub tagBy : Tag → List ℕ
+  tagBy t = 91 ∷ membersText string t
 
--- with so many brackets open at once as they hold, and d more
-module _ (s : List ℕ) (d : ℕ) where
-  string-stands : (v : List ℕ) (at n : ℕ) → isStringBytes v ≡ true → Spelt s at (quoted v) n → Tight s n → Stands (treeAt s (suc d)) (stringOf s) shape.isString at v n
-  unfolding isStringBytes
-  string-stands v at n h a w = record { tree = _; there = string-read s d v at n (both (all isPlainByte v) _ h .0) a w; means = string-says s v at n a; fine = refl }
+  tag-begins : (t : Tag) → Begins (tagBy t)
+  unfolding inClass
+  tag-begins t = record { first = 91; rest = membersText string t; is = refl; dark = refl; opens = refl }
 
-  tag-stands : (t : Tag) (at n : ℕ) → isTag t ≡ true → Spelt s at (tagText t) n → Tight s n → Stands (treeAt s (suc (suc d))) (tagOf s) (isArrayOf shape.isString) at t n
-  unfolding isTag tagText stringsOf
+  tag-stands : (t : Tag) (at n : ℕ) → isTag t ≡ true → Spelt s at (tagBy t) n → Tight s n → Stands (treeAt s (suc (suc d))) (tagOf s) (isArrayOf shape.isString) at t n
+  unfolding isTag stringsOf
   tag-stands [] at n h a w = absurd (let z : _≡_ {A = ℕ} 0 1 = cc in omega arith)
   tag-stands (v ∷ t) at n h a w =
-      let b = members-begin quoted quoted-begins v t in
+      let b = members-begin string begins v t in
       let g = both (leb (length (v ∷ t)) 16) _ (both (leb 1 (length (v ∷ t))) _ h .1) .1 in
-      let l = spelt-inside s at (91 ∷ membersText quoted (v ∷ t)) n a (omega arith) in
-      let i = members-read quoted quoted-begins s (treeAt s (suc d)) (stringOf s) (stringsOf s) shape.isString isStringBytes refl (λ p v t ts. refl) string-stands v t (length s) (at + 1) n g (tail a) w (omega (arith, a .end)) in
+      let l = spelt-inside s at (91 ∷ membersText string (v ∷ t)) n a (omega arith) in
+      let i = members-read string begins s (treeAt s (suc d)) (stringOf s) (stringsOf s) shape.isString isStringBytes refl (λ p v t ts. refl) stands v t (length s) (at + 1) n g (tail a) w (omega (arith, a .end)) in
       let e = begins-byte b (tail a) in
       record { tree = arr (i .items); there = array-many s (suc d) at n (i .items) (byte-is a) (rw e (b .dark)) (rw e (b .opens)) (i .there); means = i .means; fine = i .fine }
 
-  pub tags-read : (ts : List Tag) (at n : ℕ) → isTags ts ≡ true → Spelt s at (tagsText ts) n → Tight s n → Stands (treeAt s (suc (suc (suc d)))) (λ t. tagsIn s (got t n)) lent.isTagsShape at ts n
-  unfolding isTags tagsText tagsOf membersText allItems
-  tags-read [] at n h a w =
+  pub tags-by : (ts : List Tag) (at n : ℕ) → isTags ts ≡ true → Spelt s at (91 ∷ membersText tagBy ts) n → Tight s n
+      → Stands (treeAt s (suc (suc (suc d)))) (λ t. tagsIn s (got t n)) lent.isTagsShape at ts n
+  unfolding isTags tagsOf membersText allItems
+  tags-by [] at n h a w =
       let z : at + 1 + 1 ≡ n = omega (arith, a .end) in
       record { tree = arr nil; there = rw (← z) (array-none s (suc (suc d)) at (byte-is a) (byte-is (tail a)) (rw z w)); means = refl; fine = refl }
-  tags-read (t ∷ ts) at n h a w =
-      let b = members-begin tagText tag-begins t ts in
+  tags-by (t ∷ ts) at n h a w =
+      let b = members-begin tagBy tag-begins t ts in
       let g = both (leb (length (t ∷ ts)) 64) _ h .1 in
-      let l = spelt-inside s at (91 ∷ membersText tagText (t ∷ ts)) n a (omega arith) in
-      let i = members-read tagText tag-begins s (treeAt s (suc (suc d))) (tagOf s) (tagsOf s) (isArrayOf shape.isString) isTag refl (λ p v t ts. refl) tag-stands t ts (length s) (at + 1) n g (tail a) w (omega (arith, a .end)) in
+      let l = spelt-inside s at (91 ∷ membersText tagBy (t ∷ ts)) n a (omega arith) in
+      let i = members-read tagBy tag-begins s (treeAt s (suc (suc d))) (tagOf s) (tagsOf s) (isArrayOf shape.isString) isTag refl (λ p v t ts. refl) tag-stands t ts (length s) (at + 1) n g (tail a) w (omega (arith, a .end)) in
       let e = begins-byte b (tail a) in
       record { tree = arr (i .items); there = array-many s (suc (suc d)) at n (i .items) (byte-is a) (rw e (b .dark)) (rw e (b .opens)) (i .there); means = i .means; fine = i .fine }
+
+-- as the text has them
+module _ (s : List ℕ) (d : ℕ) where
+  string-stands : (v : List ℕ) (at n : ℕ) → isStringBytes v ≡ true → Spelt s at (quoted v) n → Tight s n → Stands (treeAt s (suc d)) (stringOf s) shape.isString at v n
+  string-stands v at n h a w = record { tree = _; there = string-read s d v at n a w; means = string-says s v at n a; fine = refl }
+
+  pub tags-read : (ts : List Tag) (at n : ℕ) → isTags ts ≡ true → Spelt s at (tagsText ts) n → Tight s n → Stands (treeAt s (suc (suc (suc d)))) (λ t. tagsIn s (got t n)) lent.isTagsShape at ts n
+  unfolding tagsText tagText
+  tags-read ts at n h a w = tags-by quoted quoted-begins s d string-stands ts at n h a w
+
+-- and as a reply has them: piece by piece
+members-json : {A : Type 0} (print : A → List ℕ) (xs : List A) → jsonOf (membersText print xs) ≡ membersText (λ x. jsonOf (print x)) xs
+unfolding membersText
+members-json print [] = json-same (93 ∷ []) refl
+members-json print (x ∷ []) = json-append (print x) (93 ∷ []) ∙ ap (λ l. jsonOf (print x) ++ l) (json-same (93 ∷ []) refl)
+members-json print (x ∷ y ∷ ys) =
+    json-append (print x) (44 ∷ membersText print (y ∷ ys))
+    ∙ ap (λ l. jsonOf (print x) ++ l) (json-append (44 ∷ []) (membersText print (y ∷ ys)) ∙ rw (json-same (44 ∷ []) refl, members-json print (y ∷ ys)))
+
+members-same : {A : Type 0} (print other : A → List ℕ) → ((x : A) → print x ≡ other x) → (xs : List A) → membersText print xs ≡ membersText other xs
+unfolding membersText
+members-same print other e [] = refl
+members-same print other e (x ∷ []) = rw (e x)
+members-same print other e (x ∷ y ∷ ys) = rw (e x, members-same print other e (y ∷ ys))
+
+pub tags-json : (ts : List Tag) → jsonOf (tagsText ts) ≡ 91 ∷ membersText (λ t. 91 ∷ membersText (λ v. jsonOf (quoted v)) t) ts
+unfolding tagsText tagText
+tags-json ts =
+    json-append (91 ∷ []) (membersText tagText ts)
+    ∙ rw (json-same (91 ∷ []) refl, members-json tagText ts)
+    (ap (λ l. 91 ∷ l) (members-same (λ t. jsonOf (tagText t)) (λ t. 91 ∷ membersText (λ v. jsonOf (quoted v)) t)
+    (λ t. json-append (91 ∷ []) (membersText quoted t) ∙ rw (json-same (91 ∷ []) refl, members-json quoted t)) ts))
 
 -- ---- their bytes are UTF-8
 pub quoted-utf8 : (v : List ℕ) → isStringBytes v ≡ true → utf8From Lead (quoted v) ≡ true
 unfolding quoted isStringBytes isUtf8 utf8From
-quoted-utf8 v h = lead-low 34 (escape v ++ (34 ∷ [])) (lit< tt) (utf8-append (escape v) (34 ∷ []) Lead (utf8-escape v ∙ both (all isPlainByte v) _ h .1) (lead-low 34 [] (lit< tt) refl))
+quoted-utf8 v h = lead-low 34 (escape v ++ (34 ∷ [])) (lit< tt) (utf8-append (escape v) (34 ∷ []) Lead (utf8-escape v ∙ h) (lead-low 34 [] (lit< tt) refl))
 
 members-utf8 : {A : Type 0} (print : A → List ℕ) (good : A → Bool) → ((x : A) → good x ≡ true → utf8From Lead (print x) ≡ true) → (xs : List A) → all good xs ≡ true
     → utf8From Lead (membersText print xs) ≡ true

@@ -22,21 +22,12 @@ use Rattle.json.specs.Grammar.{isSpelling}
 use Rattle.spell.specs.declared.Char as spell
 use Rattle.spell.specs.Spell.{four, fourAt, shortOf, isPair, pairOf, chars, charsFrom, utf8Of, charBytes, decode}
 use Rattle.spell.specs.Spell.{isSurrogate, isRefused, any, refuses}
-use Rattle.text.specs.Event.{all, isPlainByte, isStringBytes}
+use Rattle.text.specs.Event.{isStringBytes}
 use Rattle.text.proofs.Pieces.{both}
 use Rattle.event.proofs.Decoded.{Short, Spelling, end, plain, short, code, is-spelling, chars-plain, chars-short}
 use Rattle.event.proofs.Decoded.{chars-one, chars-pair, decode-more, paired, six-lead}
 
 -- ---- tests
-all-right : (p : ℕ → Bool) (s t : List ℕ) → all p (s ++ t) ≡ true → all p t ≡ true
-unfolding all
-all-right p [] t e = e
-all-right p (x ∷ s) t e = all-right p s t (both (p x) _ e .1)
-
-plain-control : (n : ℕ) → isPlainByte n ≡ true → isControl n ≡ false
-unfolding isPlainByte
-plain-control n e = not-true (isControl n) e
-
 few-surrogate : (n : ℕ) → n < 0xd800 → isSurrogate n ≡ false
 few-surrogate n h = rw (lt-leb 0xd800 n h)
 
@@ -110,45 +101,35 @@ module _ (n : ℕ) (t : List ℕ) where
   unfolding isUtf8
   code-utf8 u = let (p, o) = octets-rest (as-in-abnf (utf8Of n ++ t) .0 u) in (p, as-in-abnf t .1 o)
 
-  code-plain : all isPlainByte (utf8Of n ++ t) ≡ true → (isControl n ≡ false) × (all isPlainByte t ≡ true)
-  unfolding utf8Of all
-  code-plain e = elim (decLt n 0x80) [
-    | yes a ↦ (plain-control n (both (isPlainByte n) _ (rw (lt-ltb n 0x80 a) at e) .0), all-right isPlainByte (utf8Of n) t e)
-    | no a ↦ (rw (le-ltb n 0x20 (omega arith)), all-right isPlainByte (utf8Of n) t e)
-  ]
-
 -- ---- the whole
 module _ (l m : List ℕ) {c : spell.Char} (e : chars l ≡ c ∷ chars m) where
-  refuses-not : isSurrogate (c .code) ≡ false → isControl (c .code) ≡ false → refuses m ≡ false → refuses l ≡ false
+  refuses-not : isSurrogate (c .code) ≡ false → refuses m ≡ false → refuses l ≡ false
   unfolding refuses any isRefused
-  refuses-not p q r = rw (e, any, p, q) r
+  refuses-not p r = rw (e, any, p) r
 
--- from the state w the decoded bytes are UTF-8, and all are plain
-record Fine (w : Want) (t : List ℕ) : Type 0 where
-  utf8 : utf8From w t ≡ true
-  plain : all isPlainByte t ≡ true
+-- from the state w the decoded bytes are UTF-8
+abbrev Fine : Want → List ℕ → Type 0
+Fine w t = utf8From w t ≡ true
 
 step-plain : (x : ℕ) (l : List ℕ) → (x ≡ 0x5c → ⊥) → (w : Want) → Reached w → utf8From w (x ∷ l) ≡ true → Fine w (decode (x ∷ l))
     → (utf8From (nextWant w x) l ≡ true → Fine (nextWant w x) (decode l) → refuses l ≡ false) → refuses (x ∷ l) ≡ false
-unfolding utf8From all charBytes
+unfolding utf8From charBytes
 step-plain x l n w s u f ih =
     let e = chars-plain x l n in
     let d = decode-more (x ∷ l) l e in
-    let (p, q) = both (isPlainByte x) _ (rw d at (f .plain)) in
-    let v : utf8From (nextWant w x) (decode l) ≡ true = rw d at (f .utf8) in
-    refuses-not (x ∷ l) l e (few-surrogate x (omega (arith, byte-few w x l s u))) (plain-control x p) (ih u (record { utf8 = v; plain = q }))
+    let v : utf8From (nextWant w x) (decode l) ≡ true = rw d at f in
+    refuses-not (x ∷ l) l e (few-surrogate x (omega (arith, byte-few w x l s u))) (ih u v)
 
 step-short : (y : ℕ) (l : List ℕ) → Short y → (w : Want) → Reached w → utf8From w (0x5c ∷ y ∷ l) ≡ true → Fine w (decode (0x5c ∷ y ∷ l))
     → (utf8From Lead l ≡ true → Fine Lead (decode l) → refuses l ≡ false) → refuses (0x5c ∷ y ∷ l) ≡ false
-unfolding all charBytes
+unfolding charBytes
 step-short y l h w s u f ih =
     let (z, u₁) = low-lead w 0x5c (y ∷ l) s (omega arith) u in
     let u₂ = low-lead Lead y l lead-reached (h .low) u₁ .1 in
     let e = chars-short y l (h .other) in
     let d = decode-more (0x5c ∷ y ∷ l) l e in
-    let (p, q) = both (isPlainByte (shortOf y)) _ (rw d at (f .plain)) in
-    let v = low-lead w (shortOf y) (decode l) s (h .means) (rw d at (f .utf8)) .1 in
-    refuses-not (0x5c ∷ y ∷ l) l e (few-surrogate (shortOf y) (omega (arith, h .means))) (plain-control (shortOf y) p) (ih u₂ (record { utf8 = v; plain = q }))
+    let v = low-lead w (shortOf y) (decode l) s (h .means) (rw d at f) .1 in
+    refuses-not (0x5c ∷ y ∷ l) l e (few-surrogate (shortOf y) (omega (arith, h .means))) (ih u₂ v)
 
 -- a character of an escape, of a code point n, before m
 step-code : (l m : List ℕ) (n k : ℕ) (w : Want) → w ≡ Lead → chars l ≡ record { code = n; raw = false; width = k } ∷ chars m → Fine w (decode l)
@@ -156,9 +137,8 @@ step-code : (l m : List ℕ) (n k : ℕ) (w : Want) → w ≡ Lead → chars l �
 unfolding charBytes
 step-code l m n k w z e f ih =
     let d = decode-more l m e in
-    let (a, b) = code-utf8 n (decode m) (rw (d, z) at (f .utf8)) in
-    let (p, q) = code-plain n (decode m) (rw d at (f .plain)) in
-    refuses-not l m e a p (ih (record { utf8 = b; plain = q }))
+    let (a, b) = code-utf8 n (decode m) (rw (d, z) at f) in
+    refuses-not l m e a (ih b)
 
 module _ (a b c d : ℕ) (ha : a < 128) (hb : b < 128) (hc : c < 128) (hd : d < 128) (w : Want) (v : Reached w) where
   abbrev Rest : List ℕ → Type 0
@@ -168,7 +148,7 @@ module _ (a b c d : ℕ) (ha : a < 128) (hb : b < 128) (hc : c < 128) (hd : d < 
       → utf8From w (0x5c ∷ 0x75 ∷ a ∷ b ∷ c ∷ d ∷ l) ≡ true → Fine w (decode (0x5c ∷ 0x75 ∷ a ∷ b ∷ c ∷ d ∷ l)) → refuses (0x5c ∷ 0x75 ∷ a ∷ b ∷ c ∷ d ∷ l) ≡ false
   unfolding fourAt
   step-pair end e ih u f = let p = paired _ _ _ _ e in absurd (omega (arith, p .slash))
-  step-pair (plain h n s) e ih u f = let p = paired _ _ _ _ e in absurd (n (p .slash))
+  step-pair (plain n s) e ih u f = let p = paired _ _ _ _ e in absurd (n (p .slash))
   step-pair (short y s) e ih u f = let p = paired _ _ _ _ e in absurd (y .other (p .letter))
   step-pair (code {a = i} {b = j} {c = x} {d = y} {l = m} hi hj hx hy s) e ih u f =
       let (z, u₁) = six-lead ha hb hc hd w (0x5c ∷ 0x75 ∷ i ∷ j ∷ x ∷ y ∷ m) v u in
@@ -194,7 +174,7 @@ none-refused = refl
 
 longer : (k : ℕ) → Upto k → Upto (suc k)
 longer k ih l h end w v u f = none-refused
-longer k ih l h (plain {x = x} {l = m} y n s) w v u f = step-plain x m n w v u f (λ e g. ih m (omega arith) s (nextWant w x) (next-reached w x v) e g)
+longer k ih l h (plain {x = x} {l = m} n s) w v u f = step-plain x m n w v u f (λ e g. ih m (omega arith) s (nextWant w x) (next-reached w x v) e g)
 longer k ih l h (short {y = y} {l = m} t s) w v u f = step-short y m t w v u f (λ e g. ih m (omega arith) s Lead lead-reached e g)
 longer k ih l h (code {a = a} {b = b} {c = c} {d = d} {l = m} ha hb hc hd s) w v u f =
     step-escape a b c d ha hb hc hd w v s (λ i g t e j. ih i (omega arith) t Lead lead-reached e j) u f
@@ -210,6 +190,4 @@ upto (suc k) = longer k (upto k)
 -- the theorem
 pub not-refused : (l : List ℕ) → isUtf8 l ≡ true → isSpelling l ≡ true → isStringBytes (decode l) ≡ true → refuses l ≡ false
 unfolding isUtf8 isStringBytes
-not-refused l u s e =
-    let (p, q) = both (all isPlainByte (decode l)) _ e in
-    upto (length l) l (omega arith) (is-spelling l s) Lead lead-reached u (record { utf8 = q; plain = p })
+not-refused l u s e = upto (length l) l (omega arith) (is-spelling l s) Lead lead-reached u e

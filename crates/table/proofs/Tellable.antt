@@ -20,7 +20,7 @@ use Rattle.digest.specs.Digest.{digest}
 use Rattle.spell.specs.Spell.{decode}
 use Rattle.spell.specs.Spell as spell
 use Rattle.spell.proofs.Laws.{decode-escape, hex-itself, hex-escape}
-use Rattle.text.specs.Event.{Event, opening, closing, comma, bracket, quoted, tagsText, serialise, all, isPlainByte}
+use Rattle.text.specs.Event.{Event, opening, closing, comma, bracket, quoted, tagsText, serialise, all}
 use Rattle.text.specs.Event.{isStringBytes}
 use Rattle.text.specs.Read.{read, readText, IsTextOf}
 use Rattle.text.specs.Answer.{tagsPlace, contentPlace}
@@ -83,14 +83,12 @@ module _ (p q r : List ℕ) (at k : ℕ) (l : length p ≡ at) where
   spells-hex : length q ≡ k → spell.all isHex q ≡ true → Spells (p ++ (q ++ r)) (record { start = at; len = k }) q
   unfolding isStringBytes
   spells-hex m h =
-      let (a, u) = both (all isPlainByte q) _ (hex-string q h) in
-      spells p q r at k l m q u (rw (hex-escape q h) at (escape-spelling q a)) (hex-itself q h)
+      spells p q r at k l m q (hex-string q h) (rw (hex-escape q h) at (escape-spelling q)) (hex-itself q h)
 
   spells-string : length (escape q) ≡ k → isStringBytes q ≡ true → Spells (p ++ (escape q ++ r)) (record { start = at; len = k }) q
   unfolding isStringBytes
   spells-string m h =
-      let (a, u) = both (all isPlainByte q) _ h in
-      spells p (escape q) r at k l m q (utf8-escape q ∙ u) (escape-spelling q a) (decode-escape q)
+      spells p (escape q) r at k l m q (utf8-escape q ∙ h) (escape-spelling q) (decode-escape q)
 
 -- ---- the parts of an event in its text t, with any bytes r behind
 -- [0,"PUBKEY",TIME,KIND,
