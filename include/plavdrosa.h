@@ -14,6 +14,14 @@
  *
  * Strings are parts: a place in a buffer and a length, of what stands between the quotes, as spelled there. Lists are the place of their opening
  * bracket. Parts go in and out as rows of 64-bit numbers; signed numbers are their 64 bits, in two's complement.
+ *
+ * Every string may have control characters, those below U+0020. Five of them, 08 09 0A 0C 0D, have a short escape; the other 27 have none.
+ *   In a message:        escaped, in the short form or as \u00XX with digits of either case. A raw one makes it no JSON (3).
+ *   In an event's text:  the five in their short form, the 27 raw, one byte each. 00 is one of them, so a text is no C string.
+ *   In what is lent:     as in a message, and the 27 also raw, in a part and in the strings of a list or an object. One of the five raw is
+ *                        refused by 5.
+ *   In a reply:          the five in their short form, the 27 as \u00 and two lower-case hex digits, so that it is JSON.
+ * 7F is a character like any other.
  */
 #ifndef PLAVDROSA_H
 #define PLAVDROSA_H
@@ -39,8 +47,9 @@ extern "C" {
 /* The bytes of a table of n slots, 1 to 64. */
 #define PLAVDROSA_TABLE_SIZE(n) ((size_t)16 + (size_t)(n) * 4208)
 
-/* An output of so many bytes is never too short for plavdrosa_respond, plavdrosa_turn and plavdrosa_finish over a table of n slots. */
-#define PLAVDROSA_OUTPUT_SIZE(n) ((size_t)(n) * 4619 + 300)
+/* An output of so many bytes is never too short for plavdrosa_respond, plavdrosa_turn and plavdrosa_finish over a table of n slots: an EVENT with
+ * its 0A has at most 24,827 bytes, where each byte of a text's strings is a control character that takes six, and any other reply 428. */
+#define PLAVDROSA_OUTPUT_SIZE(n) ((size_t)(n) * 24827 + 428)
 
 /* The least bytes of the line buffer of plavdrosa_turn: one more than a message has tells that a line is too long. */
 #define PLAVDROSA_LINE_SIZE 8193
@@ -60,7 +69,7 @@ enum plavdrosa_row {
     PLAVDROSA_TOO_LONG = 1,         /* message over 8,192 bytes; "invalid: message too long" */
     PLAVDROSA_NOT_UTF8 = 2,         /* "invalid: not UTF-8" */
     PLAVDROSA_NOT_JSON = 3,         /* no JSON, or more than 8 brackets and braces open at once; "invalid: not JSON" */
-    PLAVDROSA_BAD_STRING = 4,       /* an unpaired surrogate, or a control character without a short escape; "invalid: string not allowed" */
+    PLAVDROSA_BAD_STRING = 4,       /* an unpaired surrogate; "invalid: string not allowed" */
     PLAVDROSA_WRONG_SHAPE = 5,      /* also a part outside its buffer, or no spelling of a string; "invalid: wrong shape" */
     PLAVDROSA_BAD_NUMBER = 6,       /* "invalid: number" */
     PLAVDROSA_BAD_HEX = 7,          /* an id, pubkey, sig or member of ids, authors, #e or #p; "invalid: hex" */
@@ -258,7 +267,7 @@ uint8_t plavdrosa_read(const uint8_t *bytes, size_t bytes_len, uint64_t *out, si
 
 /* ---- An event's text and id. */
 
-/** Serialise an event: the text that is hashed.
+/** Serialise an event: the text that is hashed. It may have zero bytes, so it is no C string.
  *
  *  Returns: the lowest of 2 and 4 to 9 that refuses the parts, 13 if the output has no room, or 0.
  *  In:      bytes: what the parts are places of.
@@ -371,7 +380,7 @@ uint8_t plavdrosa_offer_parts(uint8_t *table, size_t table_len, const uint8_t *b
  */
 uint8_t plavdrosa_judge(const uint8_t *table, size_t table_len, const uint8_t *message, size_t message_len);
 
-/** Show the text of a slot: where it stands in the table.
+/** Show the text of a slot: where it stands in the table. It may have zero bytes.
  *
  *  Returns: 11, 14 if the slot is not held, or 0.
  *  In:      table: the table.
@@ -426,7 +435,7 @@ uint8_t plavdrosa_refused(const uint8_t *message, size_t message_len, uint8_t ro
  *           slot:                           the slot's number, from 0 on.
  *           message:                        what the subscription id is a part of.
  *           subscription, subscription_len: that part.
- *  Out:     out:                            the reply, from its start; as found on a refusal.
+ *  Out:     out:                            the reply, from its start; as found on a refusal. PLAVDROSA_OUTPUT_SIZE(1) bytes are always enough.
  *           written:                        how many bytes it has; as found on a refusal.
  */
 uint8_t plavdrosa_slot_event(const uint8_t *table, size_t table_len, size_t slot, const uint8_t *message, size_t message_len, size_t subscription,

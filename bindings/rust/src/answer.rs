@@ -21,7 +21,7 @@ pub enum Refusal {
     NotUtf8 = 2,
     /// Not JSON, or more than 8 brackets and braces open at once.
     NotJson = 3,
-    /// A string with an unpaired surrogate, or with a control character that has no short escape.
+    /// A string with an unpaired surrogate.
     BadString = 4,
     /// A wrong shape; also a part that lies outside its buffer or is no spelling of a string.
     WrongShape = 5,

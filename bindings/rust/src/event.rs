@@ -96,7 +96,8 @@ pub fn class(kind: u16) -> Class {
     }
 }
 
-/// Serialises an event: the text that is hashed, from the start of `out`. 4,096 bytes are always enough.
+/// Serialises an event: the text that is hashed, from the start of `out`. 4,096 bytes are always enough. Control characters that have no short
+/// escape stand raw in it.
 ///
 /// ```
 /// use plavdrosa::{Message, read, sample, serialise};
@@ -119,6 +120,10 @@ pub fn serialise<'o>(bytes: &[u8], body: &Body, out: &'o mut [u8]) -> Result<&'o
 /// use plavdrosa::{Refusal, read_text};
 /// let text = br#"[0,"aaaaaaaaaaaaaaaaaaaaaaaaaaaaaaaaaaaaaaaaaaaaaaaaaaaaaaaaaaaaaaaa",-7200,1,[],"a\/b"]"#;
 /// assert_eq!(read_text(text), Err(Refusal::WrongShape));
+/// let escaped = br#"[0,"aaaaaaaaaaaaaaaaaaaaaaaaaaaaaaaaaaaaaaaaaaaaaaaaaaaaaaaaaaaaaaaa",-7200,1,[],"\u0001"]"#;
+/// assert_eq!(read_text(escaped), Err(Refusal::WrongShape));
+/// let raw = b"[0,\"aaaaaaaaaaaaaaaaaaaaaaaaaaaaaaaaaaaaaaaaaaaaaaaaaaaaaaaaaaaaaaaa\",-7200,1,[],\"\x01\"]";
+/// assert!(read_text(raw).is_ok());
 /// ```
 pub fn read_text(text: &[u8]) -> Result<TextParts, Refusal> {
     let mut row = [0; 7];

@@ -32,6 +32,12 @@
 //! A [`Span`] is where a string stands between its quotes in a buffer, as spelled there; a list is the place of its opening bracket. Whoever hands
 //! parts to a call hands over the buffer too, and parts that do not fit it are refused.
 //!
+//! # Control characters
+//!
+//! Every string may have characters below U+0020. A message spells them with an escape, the short one or `\u00XX`. In an event's text, and so in
+//! a slot, 08, 09, 0A, 0C and 0D have their short escape and the other 27 stand raw, one byte each; what is lent as parts may have these 27 raw
+//! too. Replies write them as `\u00` and two lower-case hex digits, so that they are JSON.
+//!
 //! # Features
 //!
 //! `std`, on by default, adds [`relay`], which answers what a reader gives until it ends. Without it the crate needs `core` alone.
@@ -93,11 +99,12 @@ pub const fn table_size(n: usize) -> usize {
     16 + n * 4208
 }
 
-/// So many bytes of output are never too short for an answer over a table of `n` slots.
+/// So many bytes of output are never too short for an answer over a table of `n` slots. An EVENT takes at most 24,827 of them with its line's end:
+/// each byte of a string may be a control character, which a reply spells with six.
 ///
 /// ```
-/// assert_eq!(plavdrosa::output_size(8), 37_252);
+/// assert_eq!(plavdrosa::output_size(8), 199_044);
 /// ```
 pub const fn output_size(n: usize) -> usize {
-    n * 4619 + 300
+    n * 24827 + 428
 }

@@ -14,7 +14,8 @@ const MESSAGE_NUMBERS: usize = 44;
 // What is answered where an event matches no filter.
 const DIFFERS: u8 = 103;
 
-/// A string part: where it stands between its quotes, as spelled there.
+/// A string part: where it stands between its quotes, as spelled there. Where parts are lent, control characters that have no short escape may
+/// stand raw in it.
 ///
 /// ```
 /// use plavdrosa::{Message, Span, read};
@@ -145,7 +146,9 @@ pub enum Message {
 /// use plavdrosa::{Refusal, text_row};
 /// assert_eq!(text_row(b"[1,2]"), Ok(()));
 /// assert_eq!(text_row(b"[1,2"), Err(Refusal::NotJson));
-/// assert_eq!(text_row(b"\"\\u0000\""), Err(Refusal::BadString));
+/// assert_eq!(text_row(b"\"\\ud800\""), Err(Refusal::BadString));
+/// assert_eq!(text_row(b"\"\\u0000\""), Ok(()));
+/// assert_eq!(text_row(b"\"\0\""), Err(Refusal::NotJson));
 /// ```
 pub fn text_row(bytes: &[u8]) -> Result<(), Refusal> {
     done(ffi::text_row(bytes))

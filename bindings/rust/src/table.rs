@@ -229,15 +229,16 @@ impl<'a> Table<'a> {
     }
 
     /// Writes the EVENT of a slot for a subscription id that is a part of `message`, without a line's end.
+    /// [`output_size`](crate::output_size)`(1)` bytes are always enough.
     ///
     /// ```
-    /// use plavdrosa::{Message, Table, read, sample, table_size};
+    /// use plavdrosa::{Message, Table, output_size, read, sample, table_size};
     /// let mut buffer = [0; table_size(1)];
     /// let mut table = Table::format(&mut buffer, 1)?;
     /// table.offer(sample::EVENT)?;
     /// let message = br#"["REQ","s",{}]"#;
     /// let Message::Req(parts) = read(message)? else { panic!() };
-    /// let mut out = [0; 5000];
+    /// let mut out = [0; output_size(1)];
     /// assert!(table.slot_event(0, message, parts.subscription, &mut out)?.starts_with(br#"["EVENT","s",{"id":"afb4"#));
     /// # Ok::<(), plavdrosa::Refusal>(())
     /// ```
@@ -264,13 +265,13 @@ impl<'a> Table<'a> {
     /// they are; refused by 13 if not even the first fits.
     ///
     /// ```
-    /// use plavdrosa::{Message, Table, read, sample, table_size};
+    /// use plavdrosa::{Message, Table, output_size, read, sample, table_size};
     /// let mut buffer = [0; table_size(1)];
     /// let mut table = Table::format(&mut buffer, 1)?;
     /// table.offer(sample::EVENT)?;
     /// let message = br#"["REQ","s",{}]"#;
     /// let Message::Req(parts) = read(message)? else { panic!() };
-    /// let mut out = [0; 5000];
+    /// let mut out = [0; output_size(1)];
     /// let (lines, sent) = table.events(&[0], message, parts.subscription, &mut out)?;
     /// assert!(lines.ends_with(b"\n"));
     /// assert_eq!(sent, 1);

@@ -1,6 +1,9 @@
 //! The library against the stored input and output of the program `relay`, and at its borders.
 
-use plavdrosa::{Feed, Message, Refusal, Span, Table, Verdict, output_size, read, refused, relay, sample, table_size};
+use plavdrosa::{
+    Body, EventParts, Feed, MAX_TEXT, Message, Refusal, Span, Table, Verdict, digest, output_size, read, read_text,
+    refused, relay, sample, table_size,
+};
 
 const STDIN: &[u8] = include_bytes!(concat!(env!("CARGO_MANIFEST_DIR"), "/../../crates/relay/stdin"));
 const STDOUT: &[u8] = include_bytes!(concat!(env!("CARGO_MANIFEST_DIR"), "/../../crates/relay/stdout"));
@@ -148,6 +151,75 @@ fn members_of_e_and_p_are_hex() {
 }
 
 #[test]
+fn control_characters_are_held_raw_and_given_back_escaped() {
+    let mut buffer = vec![0; table_size(1)];
+    let mut out = vec![0; output_size(1)];
+    let mut table = Table::format(&mut buffer, 1).unwrap();
+    let message = event_saying(0, "\\u0000\\u0001\\u001F\\u000a\x7f");
+    let mut replies = Vec::new();
+    for asked in [&message[..], br#"["REQ","s\u001E",{}]"#] {
+        table
+            .respond(asked, &mut out, |line| replies.push(line.to_vec()))
+            .unwrap();
+    }
+    let text = table.show(0).unwrap().to_vec();
+    assert!(text.ends_with(b",\"\x00\x01\x1f\\n\x7f\"]"));
+    assert!(replies[0].ends_with(br#",true,""]"#));
+    assert!(replies[1].starts_with(br#"["EVENT","s\u001e",{"id":"#));
+    assert!(holds(&replies[1], b"\"content\":\"\\u0000\\u0001\\u001f\\n\x7f\","));
+    assert_eq!(replies[2], br#"["EOSE","s\u001e"]"#);
+
+    // raw in a message
+    let mut raw = message.clone();
+    let at = message.windows(6).position(|six| six == b"\\u0001").unwrap();
+    raw.splice(at..at + 6, [1]);
+    assert_eq!(read(&raw), Err(Refusal::NotJson));
+    table
+        .respond(&raw, &mut out, |line| {
+            assert_eq!(line, br#"["NOTICE","invalid: not JSON"]"#)
+        })
+        .unwrap();
+
+    // raw in parts: those of the text itself, and of one with a character that has a short escape
+    let body = body_of(&text);
+    assert_eq!(plavdrosa::id(&text, &body), digest(&text));
+    let mut tab = text.clone();
+    tab[text.iter().position(|&byte| byte == 1).unwrap()] = b'\t';
+    assert_eq!(plavdrosa::id(&tab, &body), Err(Refusal::WrongShape));
+    assert_eq!(read_text(&tab), Err(Refusal::WrongShape));
+}
+
+#[test]
+fn the_longest_event_takes_what_output_size_counts() {
+    let key = "b".repeat(64);
+    let shortest = format!("[0,\"{key}\",0,1,[],\"\"]").len();
+    let text = format!("[0,\"{key}\",0,1,[],\"{}\"]", "\x01".repeat(MAX_TEXT - shortest)).into_bytes();
+    let id = hex(&digest(&text).unwrap());
+    let bytes = [&text[..], id.as_bytes(), &[b'0'; 128]].concat();
+    let parts = EventParts {
+        id: Span {
+            start: MAX_TEXT,
+            len: 64,
+        },
+        body: body_of(&text),
+        sig: Span {
+            start: MAX_TEXT + 64,
+            len: 128,
+        },
+    };
+    let mut buffer = vec![0; table_size(1)];
+    let mut out = vec![0; output_size(1)];
+    let mut table = Table::format(&mut buffer, 1).unwrap();
+    assert_eq!(table.offer_parts(&bytes, &parts), Ok(Verdict::Stored));
+    let request = format!("[\"REQ\",\"{}\",{{}}]", "\\u0001".repeat(64));
+    let mut lengths = Vec::new();
+    table
+        .respond(request.as_bytes(), &mut out, |line| lengths.push(line.len() + 1))
+        .unwrap();
+    assert_eq!(lengths, [output_size(1) - output_size(0), 8 + 2 + 64 * 6 + 2]);
+}
+
+#[test]
 fn a_table_moves_to_a_larger_one() {
     let mut small = vec![0; table_size(3)];
     let mut large = vec![0; table_size(4)];
@@ -156,7 +228,7 @@ fn a_table_moves_to_a_larger_one() {
         from.offer(&message).unwrap();
     }
     let mut to = Table::format(&mut large, 4).unwrap();
-    let mut out = vec![0; 5000];
+    let mut out = vec![0; output_size(1)];
     let subscription = Span { start: 0, len: 1 };
     for slot in (0..from.len()).rev() {
         let n = from.slot_event(slot, b"s", subscription, &mut out).unwrap().len();
@@ -170,11 +242,16 @@ fn a_table_moves_to_a_larger_one() {
 
 // A regular event of a time, with its id.
 fn event(time: i64) -> Vec<u8> {
+    event_saying(time, "x")
+}
+
+// The same with a content, as spelled.
+fn event_saying(time: i64, content: &str) -> Vec<u8> {
     let message = |id: &str| {
         let key = "b".repeat(64);
         let sig = "0".repeat(128);
         format!(
-            r#"["EVENT",{{"id":"{id}","pubkey":"{key}","created_at":{time},"kind":1,"tags":[],"content":"x","sig":"{sig}"}}]"#
+            r#"["EVENT",{{"id":"{id}","pubkey":"{key}","created_at":{time},"kind":1,"tags":[],"content":"{content}","sig":"{sig}"}}]"#
         )
     };
     let unnamed = message(&"0".repeat(64));
@@ -182,6 +259,25 @@ fn event(time: i64) -> Vec<u8> {
         panic!()
     };
     let id = plavdrosa::id(unnamed.as_bytes(), &parts.body).unwrap();
-    let hex: String = id.iter().map(|byte| format!("{byte:02x}")).collect();
-    message(&hex).into_bytes()
+    message(&hex(&id)).into_bytes()
+}
+
+fn hex(bytes: &[u8]) -> String {
+    bytes.iter().map(|byte| format!("{byte:02x}")).collect()
+}
+
+// The parts of a text that are hashed.
+fn body_of(text: &[u8]) -> Body {
+    let parts = read_text(text).unwrap();
+    Body {
+        pubkey: Span { start: 4, len: 64 },
+        created_at: parts.created_at,
+        kind: parts.kind.into(),
+        tags: parts.tags,
+        content: parts.content,
+    }
+}
+
+fn holds(bytes: &[u8], piece: &[u8]) -> bool {
+    bytes.windows(piece.len()).any(|here| here == piece)
 }

@@ -31,7 +31,7 @@ none-append f (x ∷ k) l p q = go (f x) p (λ h. none-append f k l h q)
 pub plain-append : (k l : List ℕ) → Plain k → Plain l → Plain (k ++ l)
 plain-append k l p q = none-append isNewline k l p q
 
-abbrev Raw : List ℕ → Type 0
+abbrev pub Raw : List ℕ → Type 0
 Raw l = any isLow l ≡ false
 
 module _ (k l : List ℕ) where
@@ -120,7 +120,7 @@ string : (s l : List ℕ) → Raw l → Raw (stringJson s ++ l)
 unfolding stringJson
 string s l q = raw-append (jsonOf (quoted s)) l (raw-string s) q
 
-raw-object : (i : List ℕ) (e : Event) (s : List ℕ) → Raw (objectText i e s)
+pub raw-object : (i : List ℕ) (e : Event) (s : List ℕ) → Raw (objectText i e s)
 unfolding objectText tagsJson
 raw-object i e s =
     string i _ (string (e .pubkey) _
