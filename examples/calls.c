@@ -44,6 +44,9 @@ static void texts(void) {
     size_t n = 0;
     uint64_t t[PLAVDROSA_TEXT_NUMBERS];
     EXPECT(plavdrosa_text_row(BYTES("[1")), PLAVDROSA_NOT_JSON);
+    EXPECT(plavdrosa_text_row(BYTES("\"\\ud800\"")), PLAVDROSA_BAD_STRING);
+    EXPECT(plavdrosa_text_row(BYTES("\"\\u0001\"")), PLAVDROSA_DONE);
+    EXPECT(plavdrosa_text_row(BYTES("\"\001\"")), PLAVDROSA_NOT_JSON);
     EXPECT(plavdrosa_message_row(BYTES("[1]")), PLAVDROSA_WRONG_SHAPE);
     EXPECT(plavdrosa_message_row(BYTES("[\"REQ\",\"s\",{\"#e\":[\"5c83\"]}]")), PLAVDROSA_BAD_HEX);
     EXPECT(plavdrosa_message_row(BYTES("[\"REQ\",\"s\",{\"#E\":[\"5c83\"]}]")), PLAVDROSA_DONE);
@@ -109,9 +112,11 @@ static void tables(void) {
 static void replies(void) {
     size_t n = 0, sent = 0, kept = 0, used = 0;
     const uint16_t slots[1] = {0};
-    const uint64_t eose[3] = {PLAVDROSA_REPLY_EOSE, 0, 1};
+    const uint64_t eose[3] = {PLAVDROSA_REPLY_EOSE, 0, 1}, controls[3] = {PLAVDROSA_REPLY_EOSE, 0, 7};
     EXPECT(plavdrosa_reply(BYTES("s"), eose, 3, out, sizeof out, &n), PLAVDROSA_DONE);
     EXPECT(is(n, "[\"EOSE\",\"s\"]"), 1);
+    EXPECT(plavdrosa_reply(BYTES("\037\\u001F"), controls, 3, out, sizeof out, &n), PLAVDROSA_DONE);
+    EXPECT(is(n, "[\"EOSE\",\"\\u001f\\u001f\"]"), 1);
     EXPECT(plavdrosa_refused(BYTES("[\"CLOSE\",\"\"]"), PLAVDROSA_BAD_COUNT, out, sizeof out, &n), PLAVDROSA_DONE);
     EXPECT(is(n, "[\"NOTICE\",\"invalid: count or length\"]"), 1);
     EXPECT(plavdrosa_slot_event(table, sizeof table, 0, BYTES("s"), 0, 1, out, sizeof out, &n), PLAVDROSA_DONE);

@@ -211,12 +211,14 @@ fn the_longest_event_takes_what_output_size_counts() {
     let mut out = vec![0; output_size(1)];
     let mut table = Table::format(&mut buffer, 1).unwrap();
     assert_eq!(table.offer_parts(&bytes, &parts), Ok(Verdict::Stored));
-    let request = format!("[\"REQ\",\"{}\",{{}}]", "\\u0001".repeat(64));
-    let mut lengths = Vec::new();
+    let subscription = "\\u0001".repeat(64);
+    let request = format!("[\"REQ\",\"{subscription}\",{{}}]");
+    let mut replies = Vec::new();
     table
-        .respond(request.as_bytes(), &mut out, |line| lengths.push(line.len() + 1))
+        .respond(request.as_bytes(), &mut out, |line| replies.push(line.to_vec()))
         .unwrap();
-    assert_eq!(lengths, [output_size(1) - output_size(0), 8 + 2 + 64 * 6 + 2]);
+    assert_eq!(replies[0].len() + 1, output_size(1) - output_size(0));
+    assert_eq!(replies[1], format!("[\"EOSE\",\"{subscription}\"]").as_bytes());
 }
 
 #[test]

@@ -27,7 +27,7 @@ use Rattle.message.specs.Parts.{memberOf, bodyOf, eventPartsOf, membersAt, filt
 use Rattle.message.specs.Read.{readOf}
 use Rattle.message.specs.declared.EventParts.{EventParts}
 use Rattle.message.specs.declared.Message.the-variants as message
-use Rattle.wire.specs.Escape.{letterOf, escOne, escape}
+use Rattle.wire.specs.Escape.{letterOf, escOne, escape, jsonOne, jsonOf}
 use Rattle.numeral.specs.Decimal.{digitsIn, digits, decimal}
 use Rattle.text.specs.Event.{quoted, membersText, tagText, tagsText, serialise}
 use Rattle.event.specs.Lent.{tagsOf, lentTagsAt, textOf, said}
@@ -60,7 +60,7 @@ use Rattle.query.specs.Answer.{matchesSlot}
 use Rattle.message.specs.Lists.{elementsFrom, upTo, nextOf}
 use Rattle.message.specs.Parts as msg
 use Rattle.message.specs.declared.Bound.the-variants.{Absent}
-use Rattle.reply.specs.Replies.{ok, event, eose, replyText, objectText}
+use Rattle.reply.specs.Replies.{ok, event, eose, stringJson, tagsJson, replyText, objectText}
 use Rattle.program.specs.Program.{isAccepted, verdictReason}
 use Rattle.program.specs.Program.{eventsOf, requestReplies, repliesTo, tableAfter, lines, written, outputFrom}
 use Rattle.program.specs.Program.{programSlots, freshTable, output}
@@ -218,7 +218,7 @@ request-reply = rw (request, table-sound, answered, slot-shown)
 
 texts-are : written (ok (hexOf id) true [] ∷ []) ++ (written (event (ascii "s") (hexOf id) content (hexOf (replicate 64 0xbb)) ∷ eose (ascii "s") ∷ []) ++ [])
     ≡ ascii "[\"OK\",\"3d4067efc37f3f54be41331244aaadf439dddfd47b27315e8ca570dffc7c927b\",true,\"\"]\n[\"EVENT\",\"s\",{\"id\":\"3d4067efc37f3f54be41331244aaadf439dddfd47b27315e8ca570dffc7c927b\",\"pubkey\":\"aaaaaaaaaaaaaaaaaaaaaaaaaaaaaaaaaaaaaaaaaaaaaaaaaaaaaaaaaaaaaaaa\",\"created_at\":0,\"kind\":1,\"tags\":[],\"content\":\"\",\"sig\":\"bbbbbbbbbbbbbbbbbbbbbbbbbbbbbbbbbbbbbbbbbbbbbbbbbbbbbbbbbbbbbbbbbbbbbbbbbbbbbbbbbbbbbbbbbbbbbbbbbbbbbbbbbbbbbbbbbbbbbbbbbbbbbbbb\"}]\n[\"EOSE\",\"s\"]\n"
-unfolding written replyText objectText hexOf letterOf escOne escape digitsIn digits decimal quoted membersText tagsText
+unfolding written stringJson tagsJson jsonOf jsonOne replyText objectText hexOf letterOf escOne escape digitsIn digits decimal quoted membersText tagsText
 texts-are = refl
 
 split : lines (sent ++ (0x0a ∷ asked)) ≡ sent ∷ asked ∷ []

@@ -9,7 +9,7 @@ use lib.Dec.{leb, ltb}
 use lib.ListN.{length, length-append}
 use lib.Seq.{take-all}
 use Rattle.wire.specs.Limits.{hexLength}
-use Rattle.wire.specs.Escape.{letterOf, escOne, escape}
+use Rattle.wire.specs.Escape.{letterOf, escOne, escape, jsonOne, jsonOf}
 use Rattle.utf8.specs.Utf8.{isUtf8}
 use Rattle.json.specs.Grammar.{wsAt, isSpelling}
 use Rattle.json.proofs.Spelled.{string-parts, string-spelled}
@@ -41,11 +41,10 @@ use Rattle.table.specs.Offer.{asMessage, answer}
 use Rattle.table.specs.declared.Offered.{Offered}
 use Rattle.table.specs.declared.Offered.the-variants as offered
 use Rattle.table.proofs.Bytes.{clauses}
-use Rattle.table.proofs.Shown.{text-small}
 use Rattle.query.specs.Answer.{answerList, filtersMeant}
 use Rattle.wire.proofs.Cases.{no-left, no-right}
 use Rattle.query.proofs.Tables.{answer-means}
-use Rattle.reply.specs.Replies.{Reply, ok, eose, closed, notice, truth, replyText, reasonOf}
+use Rattle.reply.specs.Replies.{Reply, ok, eose, closed, notice, truth, stringJson, replyText, reasonOf}
 use Rattle.program.specs.Program.{verdictReason}
 use Rattle.program.specs.Program.{refusalNaming, refusal, offerReply, requestReplies, repliesTo, replyLine}
 use Rattle.program.specs.Program.{written}
@@ -54,7 +53,7 @@ use Rattle.program.specs.Claims.Respond.{enoughFor, Enough}
 use Rattle.program.proofs.Which.{names-id, names-subscription}
 use Rattle.program.proofs.Shown.{answers-held}
 use Rattle.program.proofs.Streamed.{one-by-one}
-use Rattle.program.proofs.Sizes.{quoted-length, line-length, spelled-short, hex-short, reason-short}
+use Rattle.program.proofs.Sizes.{string-length, line-length, held-json, spelled-short, hex-short, reason-short}
 
 -- ---- what a message that rows 1 to 5 let pass is: UTF-8, and no string of it is refused
 late-utf8 : (s : List ℕ) → isEarly (messageRow s) ≡ false → isUtf8 s ≡ true
@@ -82,8 +81,8 @@ late-allowed s t n r e = go (row1 s) (row2 s) (row3 s) (ap (λ g. isEarly (cond 
 
 -- ---- what a refusal names is short
 abbrev NamedShort : List ℕ → Named → Type 0
-NamedShort m (names.Id p) = length (quoted (said m p)) ≡ 66
-NamedShort m (names.Subscription p) = length (quoted (said m p)) ≤ 258
+NamedShort m (names.Id p) = length (stringJson (said m p)) ≡ 66
+NamedShort m (names.Subscription p) = length (stringJson (said m p)) ≤ 386
 NamedShort m names.Nothing = Unit {0}
 
 id-short : (m : List ℕ) (p : Span) → NamedShort m (idNamed m p)
@@ -111,7 +110,7 @@ subscription-short m w k (str a n) f e h r = go (ltb (characterCount (part m a n
         let all : isUtf8 (part m 0 (length m - 0)) ≡ true = rw (take-all (length m - 0) m (omega arith)) f in
         let u : isUtf8 (part m a n) ≡ true = rw (x, y) at (inner m 0 (length m) w i all (omega arith) (string-parts m w i z .4) z) in
         let c : isSpelling (part m a n) ≡ true = rw (x, y) at (string-spelled m w i z) in
-        omega (arith, quoted-length (decode (part m a n)), spelled-short (part m a n) u c r, ltb-false 64 (characterCount (part m a n)) q)
+        omega (arith, string-length (decode (part m a n)), spelled-short (part m a n) u c r, ltb-false 64 (characterCount (part m a n)) q)
 
 named-short : (m : List ℕ) → NamedShort m (namedOf m)
 unfolding namedOf refusedIn
@@ -145,15 +144,15 @@ named-short m = early (isEarly (messageRow m)) refl
 line-of : (r : Reply) → length (replyLine r) ≡ length (replyText r) + 1
 line-of r = length-append (replyText r) (0x0a ∷ [])
 
-notice-line : (reason : List ℕ) → length (replyLine (notice reason)) ≡ length (quoted reason) + 12
+notice-line : (reason : List ℕ) → length (replyLine (notice reason)) ≡ length (stringJson reason) + 12
 unfolding replyText
 notice-line reason = line-of (notice reason) ∙ simp length-append (omega arith)
 
-eose-line : (sub : List ℕ) → length (replyLine (eose sub)) ≡ length (quoted sub) + 10
+eose-line : (sub : List ℕ) → length (replyLine (eose sub)) ≡ length (stringJson sub) + 10
 unfolding replyText
 eose-line sub = line-of (eose sub) ∙ simp length-append (omega arith)
 
-closed-line : (sub reason : List ℕ) → length (replyLine (closed sub reason)) ≡ length (quoted sub) + length (quoted reason) + 13
+closed-line : (sub reason : List ℕ) → length (replyLine (closed sub reason)) ≡ length (stringJson sub) + length (stringJson reason) + 13
 unfolding replyText
 closed-line sub reason = line-of (closed sub reason) ∙ simp length-append (omega arith)
 
@@ -161,27 +160,27 @@ truth-short : (a : Bool) → length (truth a) ≤ 5
 truth-short true = omega arith
 truth-short false = omega arith
 
-ok-line : (i : List ℕ) (a : Bool) (reason : List ℕ) → length (replyLine (ok i a reason)) ≤ length (quoted i) + length (quoted reason) + 15
+ok-line : (i : List ℕ) (a : Bool) (reason : List ℕ) → length (replyLine (ok i a reason)) ≤ length (stringJson i) + length (stringJson reason) + 15
 unfolding replyText
 ok-line i a reason = let t = truth-short a in let l = line-of (ok i a reason) in simp length-append (omega arith)
 
-refusal-short : (m : List ℕ) (r : ℕ) → length (replyLine (refusal m r)) ≤ 300
+refusal-short : (m : List ℕ) (r : ℕ) → length (replyLine (refusal m r)) ≤ 428
 unfolding refusal
 refusal-short m r = go (leb r 5) (namedOf m) (named-short m)
   where
-    go : (x : Bool) (n : Named) → NamedShort m n → length (replyLine (cond x (notice (reasonOf r)) (refusalNaming m n (reasonOf r)))) ≤ 300
+    go : (x : Bool) (n : Named) → NamedShort m n → length (replyLine (cond x (notice (reasonOf r)) (refusalNaming m n (reasonOf r)))) ≤ 428
     go true n h = omega (arith, notice-line (reasonOf r), reason-short r)
     go false (names.Id p) h = omega (arith, ok-line (said m p) false (reasonOf r), reason-short r, h)
     go false (names.Subscription p) h = omega (arith, closed-line (said m p) (reasonOf r), reason-short r, h)
     go false names.Nothing h = omega (arith, notice-line (reasonOf r), reason-short r)
 
 -- a verdict's reason has at most 34 bytes
-verdicts-short : (length (quoted (verdictReason offered.Ephemeral)) ≡ 2) × (length (quoted (verdictReason offered.Duplicate)) ≡ 36)
-    × (length (quoted (verdictReason offered.Older)) ≡ 33) × (length (quoted (verdictReason offered.Stored)) ≡ 2)
-unfolding quoted escape escOne letterOf
+verdicts-short : (length (stringJson (verdictReason offered.Ephemeral)) ≡ 2) × (length (stringJson (verdictReason offered.Duplicate)) ≡ 36)
+    × (length (stringJson (verdictReason offered.Older)) ≡ 33) × (length (stringJson (verdictReason offered.Stored)) ≡ 2)
+unfolding stringJson quoted jsonOf jsonOne escape escOne letterOf
 verdicts-short = (refl, refl, refl, refl)
 
-offer-short : (m i : List ℕ) (a : Offered) → length (quoted i) ≡ 66 → length (replyLine (offerReply m i a)) ≤ 300
+offer-short : (m i : List ℕ) (a : Offered) → length (stringJson i) ≡ 66 → length (replyLine (offerReply m i a)) ≤ 428
 offer-short m i offered.Ephemeral h = omega (arith, ok-line i true (verdictReason offered.Ephemeral), verdicts-short .0, h)
 offer-short m i offered.Duplicate h = omega (arith, ok-line i true (verdictReason offered.Duplicate), verdicts-short .1, h)
 offer-short m i offered.Older h = omega (arith, ok-line i true (verdictReason offered.Older), verdicts-short .2, h)
@@ -189,8 +188,8 @@ offer-short m i offered.Stored h = omega (arith, ok-line i true (verdictReason o
 offer-short m i (offered.Refused r) h = refusal-short m r
 
 -- ---- the whole
-slots-short : (b sub : List ℕ) → sound b ≡ true → length (quoted sub) ≤ 258 → (ks : List ℕ) → ((k : ℕ) → k ∈ ks → k < countOf b)
-    → length (joined (slotLines b sub ks)) ≤ length ks * 4619
+slots-short : (b sub : List ℕ) → sound b ≡ true → length (stringJson sub) ≤ 386 → (ks : List ℕ) → ((k : ℕ) → k ∈ ks → k < countOf b)
+    → length (joined (slotLines b sub ks)) ≤ length ks * 24827
 unfolding joined
 slots-short b sub s l [] h = omega arith
 slots-short b sub s l (k ∷ ks) h =
@@ -199,8 +198,8 @@ slots-short b sub s l (k ∷ ks) h =
       arith,
       length-append (slotLine b sub k) (joined (slotLines b sub ks)),
       line-length b k s i sub,
-      text-small b s k i,
-      quoted-length sub,
+      held-json b k s i,
+      string-length sub,
       l,
       slots-short b sub s l ks (λ j m. h j (List·Memᴰ·tail m)),
     )
@@ -211,7 +210,7 @@ one-written r = ap length (append-nil (replyLine r))
 
 module _ (b m : List ℕ) where
   -- one short reply is enough for any table
-  one-short : (r : Reply) → repliesTo b m ≡ r ∷ [] → length (replyLine r) ≤ 300 → length (response b m) ≤ enoughFor (capacityOf b)
+  one-short : (r : Reply) → repliesTo b m ≡ r ∷ [] → length (replyLine r) ≤ 428 → length (response b m) ≤ enoughFor (capacityOf b)
   unfolding response
   one-short r e h = omega (arith, ap (λ l. length (written l)) e, one-written r)
 
@@ -219,7 +218,7 @@ module _ (b m : List ℕ) where
   unfolding repliesTo requestReplies
   request-short r e = go (sound b) refl
     where
-      sub-short : length (quoted (said m (r .subscription))) ≤ 258
+      sub-short : length (stringJson (said m (r .subscription))) ≤ 386
       sub-short = rw (names-subscription m r e) at (named-short m)
 
       go : (x : Bool) → sound b ≡ x → length (response b m) ≤ enoughFor (capacityOf b)

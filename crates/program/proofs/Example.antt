@@ -5,7 +5,7 @@ use lib.Dec.{ltb}
 use mathlib.Core.List.{List, [], _∷_, _++_}
 use Prim.Native.Nat.{ℕ}
 use Rattle.wire.specs.Bytes.{sameBytes}
-use Rattle.wire.specs.Escape.{letterOf, escOne, escape}
+use Rattle.wire.specs.Escape.{letterOf, escOne, escape, jsonOne, jsonOf}
 use Rattle.utf8.specs.Utf8.{isUtf8, utf8From, leadOf}
 use Rattle.json.specs.Grammar.{inClass, run, past, oneAt, tokenAt, wordAt, literalAt, digitsAt, intAt, fracAt, expAt}
 use Rattle.json.specs.Grammar.{numberAt, hexAt, escapedAt, charAt, charsUpTo, charsAt, stringAt, scalarAt}
@@ -29,7 +29,7 @@ use Rattle.table.specs.Format.{formatRow, formatted}
 use Rattle.table.proofs.Formatted.{formatted-view, formatted-sound}
 use Rattle.query.specs.Answer.{keep, numbersFrom, newestFirst, union, answerList, filtersMeant}
 use Rattle.wire.specs.Ascii.{ascii}
-use Rattle.reply.specs.Replies.{Reply, eose, notice, replyText, reasonOf}
+use Rattle.reply.specs.Replies.{Reply, eose, notice, stringJson, replyText, reasonOf}
 use Rattle.program.specs.Program.{refusal, eventsOf, requestReplies, repliesTo, tableAfter, lines, written}
 use Rattle.program.specs.Program.{outputFrom, programSlots, freshTable, output}
 
@@ -104,7 +104,7 @@ last b m rs p = ap (λ r. written r ++ []) p
 
 texts : written (notice (reasonOf 5) ∷ []) ++ (written (eose (ascii "s") ∷ []) ++ (written [] ++ (written (notice (reasonOf 3) ∷ []) ++ [])))
     ≡ ascii "[\"NOTICE\",\"invalid: wrong shape\"]\n[\"EOSE\",\"s\"]\n[\"NOTICE\",\"invalid: not JSON\"]\n"
-unfolding written replyText reasonOf quoted letterOf escOne escape
+unfolding written stringJson jsonOf jsonOne replyText reasonOf quoted letterOf escOne escape
 texts = refl
 
 -- "Program input of four lines .. prints exactly"

@@ -18,6 +18,3 @@ pub mod Streamed
 pub mod Feed
 pub mod Sizes
 pub mod Enough
-pub mod Members
-pub mod Ordered
-pub mod Sendable

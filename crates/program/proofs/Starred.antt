@@ -25,7 +25,7 @@ use Rattle.spell.specs.Spell.{charOf, charsFrom, charBytes as bytesOfChar, char
 use Rattle.spell.proofs.Laws.{decode-escape}
 use Rattle.rows.specs.Strings.{spelledAt, refusedIn}
 use Rattle.shape.specs.Shape.{anyItem, allItems, countItems, nameAt, isCondition}
-use Rattle.text.specs.Event.{quoted, membersText, tagText, tagsText, serialise, all, isPlainByte, isStringBytes}
+use Rattle.text.specs.Event.{quoted, membersText, tagText, tagsText, serialise, all, isStringBytes}
 use Rattle.text.specs.Kinds.{classOf, dOf, keyOf}
 use Rattle.text.proofs.Cases.{xs-length, xs-cases}
 use Rattle.text.proofs.Pieces.{both}
@@ -78,9 +78,8 @@ clean : (b : List ℕ) (s : Span) (v : List ℕ) → spanBytes b s ≡ escape v 
     → (string2 b s ≡ false) × (string4 b s ≡ false) × (string5 b s ≡ false) × (said b s ≡ v)
 unfolding string2 string4 string5 isSpelled isStringBytes
 clean b s v q i h =
-    let (a, u) = both (all isPlainByte v) _ h in
-    let u′ : isUtf8 (escape v) ≡ true = utf8-escape v ∙ u in
-    let z = escape-spelling v a in
+    let u′ : isUtf8 (escape v) ≡ true = utf8-escape v ∙ h in
+    let z = escape-spelling v in
     let r = not-refused (escape v) u′ z (rw (decode-escape v) h) in
     (rw (i, q, u′), rw (i, q, z, r), rw (i, q, z), rw q (decode-escape v))
 
@@ -90,7 +89,7 @@ escape-xs zero = refl
 escape-xs (suc n) = ap (120 ∷_) (escape-xs n)
 
 string-xs : (n : ℕ) → isStringBytes (replicate n 120) ≡ true
-unfolding isStringBytes all isPlainByte isUtf8 utf8From leadOf
+unfolding isStringBytes all isUtf8 utf8From leadOf
 string-xs zero = refl
 string-xs (suc n) = string-xs n
 
@@ -106,7 +105,7 @@ module _ (n : ℕ) where
   size = length-append A (ascii "[]," ++ replicate n 120) ∙ omega (arith, length-replicate {A = ℕ} n 120)
 
   pubkey-clean : (string2 b (p .pubkey) ≡ false) × (string4 b (p .pubkey) ≡ false) × (string5 b (p .pubkey) ≡ false) × (said b (p .pubkey) ≡ A)
-  unfolding isInside isStringBytes all isPlainByte isUtf8 utf8From leadOf escape escOne letterOf
+  unfolding isInside isStringBytes all isUtf8 utf8From leadOf escape escOne letterOf
   pubkey-clean = clean b (p .pubkey) A refl (le-leb 64 (length b) (omega (arith, size))) refl
 
   content-clean : (string2 b (p .content) ≡ false) × (string4 b (p .content) ≡ false) × (string5 b (p .content) ≡ false) × (said b (p .content) ≡ replicate n 120)

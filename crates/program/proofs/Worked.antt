@@ -8,7 +8,7 @@ use lib.IntN.{negsuc}
 use lib.Dec.{eqb}
 use lib.ListN.{replicate}
 use Rattle.wire.specs.Bytes.{sameBytes, isHex}
-use Rattle.wire.specs.Escape.{letterOf, escOne, escape}
+use Rattle.wire.specs.Escape.{letterOf, escOne, escape, jsonOne, jsonOf}
 use Rattle.numeral.specs.Decimal.{digitsIn, digits, decimal}
 use Rattle.text.specs.Event.{Event, quoted, membersText, tagText, tagsText}
 use Rattle.numeral.specs.Whole.{wholeOf, wholeAnswer, isWithin, isNatural, allDigits, isDigit, valueFrom, naturalOf}
@@ -32,7 +32,8 @@ use Rattle.message.specs.Lent.{spanBytes as bytes}
 use Rattle.message.specs.Read.{readOf, namedOf}
 use Rattle.event.specs.Lent.{said}
 use Rattle.wire.specs.Ascii.{ascii}
-use Rattle.reply.specs.Replies.{ok, event, eose, closed, notice, objectText, replyText, reasonOf}
+use Rattle.reply.specs.Replies.{ok, event, eose, closed, notice, stringJson, tagsJson, objectText, replyText}
+use Rattle.reply.specs.Replies.{reasonOf}
 use Rattle.query.specs.Answer.{keep}
 use Rattle.program.specs.Program.{refusal, repliesTo, lines}
 use Rattle.program.specs.Claims.Program.{wordIn, idField}
