@@ -50,10 +50,10 @@ unfolding stringJson
 string-length v = ap length (form-quoted true v) ∙ simp length-append (omega arith)
 
 -- what has no control character is as long as in the text
-plain-length : (v : List ℕ) → escape v ≡ v → hasControl v ≡ false → length (stringJson v) ≡ length v + 2
+pub plain-length : (v : List ℕ) → escape v ≡ v → hasControl v ≡ false → length (stringJson v) ≡ length v + 2
 plain-length v e h = omega (arith, string-length v, ap length (ap jsonOf e ∙ json-same v h))
 
-hex-none : (l : List ℕ) → spell.all isHex l ≡ true → hasControl l ≡ false
+pub hex-none : (l : List ℕ) → spell.all isHex l ≡ true → hasControl l ≡ false
 unfolding spell.all isHex
 hex-none [] e = refl
 hex-none (x ∷ l) e =

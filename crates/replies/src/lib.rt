@@ -200,13 +200,13 @@ fn has_room(room: usize, fixed: usize, m: usize, n: usize) -> bool
     n <= room - fixed - m
 }
 
-// Whether an EVENT has room: it is 266 bytes longer than its text and the subscription id.
+// Whether an EVENT has room: it is 266 bytes longer than its text and the subscription id, as these stand in a reply.
 fn event_fits(b: &[u8], sub: Span, p: EventParts, room: usize) -> bool
     requires { ⌜ partsRow (now b) (eventParts sub p) ≡ 0 ⌝ }
     ensures { λ r. ⌜ Room (length (replyText (replyOf (now (b .entry)) (eventParts sub p)))) room r ⌝ }
 {
     let body = p.body;
-    has_room(room, 266, event::text_len(b, body), event::part_len(b, sub))
+    has_room(room, 266, event::json_len(b, body), event::part_len(b, sub))
 }
 
 // Whether the reply has room; its parts are tested.
