@@ -176,42 +176,40 @@ cut-room f x y n k room h l e g m = record { yes = λ q. omega (arith, m .yes q)
 none-cut : 0 ≡ min 0 mostLength
 none-cut = refl
 
+-- what a string takes between its quotes
+abbrev size : List ℕ → Span → ℕ
+size b s = length (jsonOf (escape (said b s)))
+
 module _ (b : List ℕ) {p : ReplyParts} {room : ℕ} (l : room < 2 ^ 64) {r : Bool} where
   pub eose-room : (s : Span) → p ≡ eoseParts s → {n : ℕ} → n ≡ lengthOf (jsonOf (escape (said b s))) → Room (11 + n + 0) room r → Room (length (replyText (replyOf b p))) room r
   unfolding replyText
-  eose-room s q {n} e m = rw q (room-as is (cut-room 11 (length (jsonOf (escape (said b s)))) 0 n 0 room (omega arith) l e none-cut m))
+  eose-room s q {n} e m = rw q (room-as is (cut-room 11 (size b s) 0 n 0 room (omega arith) l e none-cut m))
     where
-      is : 11 + length (jsonOf (escape (said b s))) + 0 ≡ length (replyText (replyOf b (eoseParts s)))
+      is : 11 + size b s + 0 ≡ length (replyText (replyOf b (eoseParts s)))
       is = simp length-append (omega (arith, string-length (said b s)))
 
   pub notice-room : (s : Span) → p ≡ noticeParts s → {n : ℕ} → n ≡ lengthOf (jsonOf (escape (said b s))) → Room (13 + n + 0) room r → Room (length (replyText (replyOf b p))) room r
   unfolding replyText
-  notice-room s q {n} e m = rw q (room-as is (cut-room 13 (length (jsonOf (escape (said b s)))) 0 n 0 room (omega arith) l e none-cut m))
+  notice-room s q {n} e m = rw q (room-as is (cut-room 13 (size b s) 0 n 0 room (omega arith) l e none-cut m))
     where
-      is : 13 + length (jsonOf (escape (said b s))) + 0 ≡ length (replyText (replyOf b (noticeParts s)))
+      is : 13 + size b s + 0 ≡ length (replyText (replyOf b (noticeParts s)))
       is = simp length-append (omega (arith, string-length (said b s)))
 
   module _ (s t : Span) {n k : ℕ} where
-    abbrev first : ℕ
-    first = length (jsonOf (escape (said b s)))
-
-    abbrev second : ℕ
-    second = length (jsonOf (escape (said b t)))
-
     pub closed-room : p ≡ closedParts s t → n ≡ lengthOf (jsonOf (escape (said b s))) → k ≡ lengthOf (jsonOf (escape (said b t))) → Room (16 + n + k) room r
         → Room (length (replyText (replyOf b p))) room r
     unfolding replyText
-    closed-room q e f m = rw q (room-as is (cut-room 16 first second n k room (omega arith) l e f m))
+    closed-room q e f m = rw q (room-as is (cut-room 16 (size b s) (size b t) n k room (omega arith) l e f m))
       where
-        is : 16 + first + second ≡ length (replyText (replyOf b (closedParts s t)))
+        is : 16 + size b s + size b t ≡ length (replyText (replyOf b (closedParts s t)))
         is = simp length-append (omega (arith, string-length (said b s), string-length (said b t)))
 
     pub ok-room : (a : Bool) → p ≡ okParts s a t → n ≡ lengthOf (jsonOf (escape (said b s))) → k ≡ lengthOf (jsonOf (escape (said b t))) → {h : ℕ} → h ≡ length (truth a)
         → Room (13 + h + n + k) room r → Room (length (replyText (replyOf b p))) room r
     unfolding replyText
-    ok-room a q e f {h} g m = rw q (room-as is (cut-room (13 + h) first second n k room (omega arith) l e f m))
+    ok-room a q e f {h} g m = rw q (room-as is (cut-room (13 + h) (size b s) (size b t) n k room (omega arith) l e f m))
       where
-        is : 13 + h + first + second ≡ length (replyText (replyOf b (okParts s a t)))
+        is : 13 + h + size b s + size b t ≡ length (replyText (replyOf b (okParts s a t)))
         is = simp length-append (omega (arith, g, string-length (said b s), string-length (said b t)))
 
 -- ---- an EVENT of tested parts: id, pubkey and signature are hex

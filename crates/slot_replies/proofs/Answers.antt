@@ -2,24 +2,25 @@
 use mathlib.Core.Path.{_≡_, sym, ap, _∙_}
 use mathlib.Core.Bool.{Bool, true, false, false≢true}
 use mathlib.Core.List.{List}
-use Prim.Native.Nat.{ℕ, _+_, _-_, _≤_, _<_}
+use Prim.Native.Nat.{ℕ, _+_, _-_, _*_, _^_, _≤_, _<_, min}
 use native.Mathlib.Omega.{arith}
 use borrow.Author.Tests.{lt-ltb, leb-true, leb-false}
 use lib.Dec.{leb}
-use lib.ListN.{length}
+use lib.ListN.{length, drop, length-take}
 use Rattle.wire.specs.Put.{Puts}
-use Rattle.wire.specs.Escape.{escape}
+use Rattle.wire.specs.Escape.{escape, jsonOf, controlCount}
+use Rattle.wire.proofs.Json.{json-length, count-most}
 use Rattle.wire.specs.Field.{Field}
 use Rattle.rows.specs.Strings.{part}
 use Rattle.spell.specs.Spell.{decode}
 use Rattle.message.specs.declared.Span.{Span}
 use Rattle.message.specs.Lent.{subscriptionRow}
-use Rattle.event.specs.Lent.{said}
+use Rattle.event.specs.Lent.{said, mostLength}
 use Rattle.event.specs.Answer.{orElse, writtenNumber}
 use Rattle.event.specs.declared.Written.{Written}
 use Rattle.event.specs.declared.Written.the-variants.{Wrote, Refused}
 use Rattle.event.proofs.Answers.{Outcome, refused, passed, too-short, room-for}
-use Rattle.table.specs.Layout.{countOf, slotAt, lengthIn}
+use Rattle.table.specs.Layout.{countOf, slotAt, lengthIn, textIn}
 use Rattle.table.specs.Format.{shownRow}
 use Rattle.table.proofs.Shown.{shown-if}
 use Rattle.slots.specs.Shown.{shownNumber}
@@ -32,21 +33,23 @@ use Rattle.replies.proofs.Written.{eose-row}
 use Rattle.slot_replies.specs.Inner.{heldText}
 
 -- ---- room
-pub length-is : (s : List ℕ) {k : ℕ} → Field s 106 2 k → k ≡ lengthIn s
-unfolding lengthIn
-length-is s f = f .is
+-- how long a text is as it stands in a reply, as the code counts it
+pub text-size : (s : List ℕ) {t : List ℕ} {k c : ℕ} → Field s 106 2 k → t ≡ part s 112 k → c ≡ controlCount t
+    → (length t + 5 * c ≡ length (jsonOf (textIn s))) × (length t + 5 * c ≤ 393210)
+unfolding textIn lengthIn
+text-size s {t} {k} {c} f q e =
+    let a : textIn s ≡ t = ap (part s 112) (sym (f .is)) ∙ sym q in
+    let l : length t ≤ k = omega (arith, ap length q, length-take k (drop 112 s)) in
+    (omega (arith, e, json-length t, ap (λ v. length (jsonOf v)) a), omega (arith, e, count-most t, f .small))
 
-module _ (s : List ℕ) {n k l room : ℕ} (f : Field s 106 2 k) (e : n ≡ l) where
-  pub no-head : room < 266 → Room (lengthIn s + l + 266) room false
-  no-head h = record { yes = λ q. absurd (false≢true q); no = λ q. omega arith }
+module _ (s : List ℕ) {n k : ℕ} (m : ℕ) {room : ℕ} (f : k ≡ length (jsonOf (textIn s))) (e : n ≡ min m mostLength) (h : room < 2 ^ 64) where
+  pub no-text : room < k + 266 → Room (length (jsonOf (textIn s)) + m + 266) room false
+  no-text g = record { yes = λ q. absurd (false≢true q); no = λ q. omega (arith, f) }
 
-  pub no-text : 266 ≤ room → room - 266 < k → Room (lengthIn s + l + 266) room false
-  no-text g h = record { yes = λ q. absurd (false≢true q); no = λ q. omega (arith, length-is s f) }
-
-  pub rest-room : 266 ≤ room → k ≤ room - 266 → Room (lengthIn s + l + 266) room (leb n (room - 266 - k))
-  rest-room g h = record {
-    yes = λ q. let z = leb-true n (room - 266 - k) q in omega (arith, length-is s f, e);
-    no = λ q. let z = leb-false n (room - 266 - k) q in omega (arith, length-is s f, e);
+  pub rest-room : k + 266 ≤ room → Room (length (jsonOf (textIn s)) + m + 266) room (leb n (room - (k + 266)))
+  rest-room g = record {
+    yes = λ q. let z = leb-true n (room - (k + 266)) q in omega (arith, f, e);
+    no = λ q. let z = leb-false n (room - (k + 266)) q in omega (arith, f, e);
   }
 
 -- ---- the row of a slot that is shown
@@ -81,8 +84,8 @@ module _ (b : List ℕ) (k : ℕ) (m : List ℕ) (s : Span) (out : List ℕ) {x 
     not-shown n = later (refused text out (shownRow b k) (shortRow text out) f n)
 
     module _ (v : y ≡ 0) {t id : List ℕ} (et : t ≡ slotAt b k) (ei : id ≡ part m (s .start) (s .len)) {r : Bool}
-        (room : Room (lengthIn t + length (escape (decode id)) + 266) (length out) r) where
-      size : length text ≡ lengthIn t + length (escape (decode id)) + 266
+        (room : Room (length (jsonOf (textIn t)) + length (jsonOf (escape (decode id))) + 266) (length out) r) where
+      size : length text ≡ length (jsonOf (textIn t)) + length (jsonOf (escape (decode id))) + 266
       size = let (a, h) = shown-if b k (sym f ∙ v) in slot-length b k a h (said m s) ∙ rw (et, ei)
 
       pub no-room : r ≡ false → AsSent b k m s out (Refused 13) out

@@ -2,7 +2,7 @@
 use mathlib.Core.Path.{_≡_, refl, sym, ap, ap₂, _∙_}
 use mathlib.Core.Bool.{Bool, true, false, cond, _&&_}
 use mathlib.Core.List.{List, [], _∷_, _++_}
-use Prim.Native.Nat.{ℕ, zero, suc, _+_, _-_, _≤_, _<_}
+use Prim.Native.Nat.{ℕ, zero, suc, _+_, _-_, _^_, _≤_, _<_}
 use native.Mathlib.Numerals.{add-one}
 use native.Mathlib.Omega.{arith}
 use borrow.Author.Tests.{eq-eqb, ne-eqb, lt-ltb, le-ltb, ltb-true}
@@ -10,7 +10,7 @@ use lib.Dec.{eqb, ltb}
 use lib.ListN.{length, getD, take, drop, length-take, drop-of-length-le}
 use lib.Seq.{drop-cons, take-all}
 use Rattle.wire.specs.Put.{Puts}
-use Rattle.wire.specs.Escape.{escape}
+use Rattle.wire.specs.Escape.{escape, jsonOf}
 use Rattle.wire.specs.Field.{Field}
 use Rattle.wire.proofs.Laws.{puts-whole}
 use Rattle.rows.specs.Strings.{part}
@@ -20,7 +20,7 @@ use Rattle.text.specs.Read.{readText}
 use Rattle.text.proofs.Pieces.{both}
 use Rattle.message.specs.declared.Span.{Span}
 use Rattle.message.specs.Lent.{subscriptionRow}
-use Rattle.event.specs.Lent.{said}
+use Rattle.event.specs.Lent.{said, lengthOf}
 use Rattle.table.specs.Layout.{countOf, slotAt, textIn}
 use Rattle.table.specs.Sound.{sound}
 use Rattle.reply.specs.Lent.{eoseRow, outputAfter}
@@ -36,6 +36,7 @@ use Rattle.replies.proofs.Written.{eose-row}
 use Rattle.slot_replies.specs.Inner.{lineSize, sizes, stopped, fittedIn, heldLen, fitRow, linesRow, sentBy}
 use Rattle.slot_replies.specs.Inner.{sentLines, sentLinesOut}
 use Rattle.slot_replies.specs.declared.Fitted.{Fitted}
+use Rattle.slot_replies.proofs.Lines.{cut-fitted}
 
 -- ---- held from the first on
 module _ (b ks : List ℕ) (i : ℕ) (inv : heldLen b ks ≡ i + heldLen b (drop i ks)) where
@@ -128,7 +129,7 @@ fitted-few b n i room (k ∷ ks) = go (ltb room (lineSize b n k)) (fitted-few b 
 
 module _ (b sub : List ℕ) (s : sound b ≡ true) where
   abbrev id-size : ℕ
-  id-size = length (escape sub)
+  id-size = length (jsonOf (escape sub))
 
   not-held-line : (k : ℕ) → ltb k (countOf b) ≡ false → length (slotLine b sub k) ≡ 0
   unfolding slotLine written
@@ -199,10 +200,12 @@ none-refuses true y e = absurd (omega arith)
 none-refuses false true e = refl
 none-refuses false false e = absurd (omega arith)
 
-module _ (b sub ks out : List ℕ) (s : sound b ≡ true) {m held : ℕ} {f : Fitted} (em : m ≡ length (escape sub)) (eh : held ≡ heldLen b ks)
+module _ (b sub ks out : List ℕ) (s : sound b ≡ true) {m held : ℕ} {f : Fitted} (room : length out < 2 ^ 64) (em : m ≡ lengthOf (jsonOf (escape sub))) (eh : held ≡ heldLen b ks)
     (ef : f ≡ fittedIn 0 (length out) (sizes b m (take held ks))) {row : ℕ} (er : row ≡ fitRow (f .lines) held (length ks)) where
-  fit-is : f ≡ fittedIn 0 (length out) (sizes b (length (escape sub)) (take (heldLen b ks) ks))
-  fit-is = ef ∙ ap₂ (λ x y. fittedIn 0 (length out) (sizes b x (take y ks))) em eh
+  fit-is : f ≡ fittedIn 0 (length out) (sizes b (length (jsonOf (escape sub))) (take (heldLen b ks) ks))
+  fit-is =
+      ef ∙ ap (λ y. fittedIn 0 (length out) (sizes b m (take y ks))) eh
+      ∙ cut-fitted b m (length (jsonOf (escape sub))) em 0 (length out) room (take (heldLen b ks) ks)
 
   fit-row : row ≡ linesRow b sub ks out
   fit-row = er ∙ ap₂ (λ x y. fitRow (x .lines) y (length ks)) fit-is eh ∙ row-is b sub s out ks
@@ -220,7 +223,7 @@ module _ (b sub ks out : List ℕ) (s : sound b ≡ true) {m held : ℕ} {f : Fi
     count-is-fitting : f .lines ≡ fitting (length out) (slotLines b sub ks)
     count-is-fitting =
         let e : take (heldLen b ks) ks ≡ ks = take-all (heldLen b ks) ks (omega (arith, held-full b ks held-all)) in
-        ap (λ v. v .lines) (fit-is ∙ ap (λ v. fittedIn 0 (length out) (sizes b (length (escape sub)) v)) e)
+        ap (λ v. v .lines) (fit-is ∙ ap (λ v. fittedIn 0 (length out) (sizes b (length (jsonOf (escape sub))) v)) e)
         ∙ fitted-lines b sub s 0 (length out) ks held-all ∙ omega arith
 
     text-is : written (eventsOf b sub (take (f .lines) ks)) ≡ fittingText b sub ks out

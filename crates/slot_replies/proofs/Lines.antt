@@ -2,7 +2,7 @@
 use mathlib.Core.Path.{_≡_, refl, sym, ap, ap₂, _∙_}
 use mathlib.Core.Bool.{Bool, true, false, cond}
 use mathlib.Core.List.{List, [], _∷_, _++_, append-nil, List·Memᴰ·head, List·Memᴰ·tail}
-use Prim.Native.Nat.{ℕ, suc, _+_, _-_, _≤_, _<_}
+use Prim.Native.Nat.{ℕ, suc, _+_, _-_, _^_, _≤_, _<_, min}
 use native.Mathlib.Numerals.{add-one}
 use native.Mathlib.Omega.{arith}
 use borrow.Author.Tests.{lt-ltb, le-ltb, ltb-true, ltb-false}
@@ -10,12 +10,12 @@ use lib.Dec.{ltb}
 use lib.ListN.{length, getD, drop, length-append, drop-of-length-le}
 use lib.Seq.{drop-cons}
 use Rattle.wire.specs.Put.{Puts}
-use Rattle.wire.specs.Escape.{escape}
-use Rattle.wire.specs.Field.{Field}
+use Rattle.wire.specs.Escape.{escape, jsonOf}
 use Rattle.wire.proofs.Laws.{put-out, length-put, puts-then, puts-out}
 use Rattle.text.specs.Read.{Read, tooLarge, wrongShape, read, readText}
 use Rattle.law.specs.Lists.{_∈_}
-use Rattle.table.specs.Layout.{countOf, slotAt, lengthIn, textIn}
+use Rattle.event.specs.Lent.{mostLength, lengthOf}
+use Rattle.table.specs.Layout.{countOf, slotAt, textIn}
 use Rattle.table.specs.Sound.{sound}
 use Rattle.reply.specs.Replies.{replyText}
 use Rattle.program.specs.Program.{eventReplies, eventsOf, written}
@@ -26,7 +26,6 @@ use Rattle.slot_replies.specs.Inner.{heldText, heldLine, lineSize, sizes
 use Rattle.slot_replies.specs.Left.{linesSize, leftIn}
 use Rattle.slot_replies.specs.declared.Left.the-variants.{Room, Short}
 use Rattle.slot_replies.specs.declared.Fitted.{Fitted}
-use Rattle.slot_replies.proofs.Answers.{length-is}
 
 -- ---- one line
 -- a text and 0A, or nothing
@@ -80,7 +79,7 @@ pub line-at : (b sub : List ℕ) {s d o : List ℕ} {k n i r : ℕ} → k ≡ n 
 line-at b sub q e p = rw (ap (heldLine sub) (e ∙ ap (slotAt b) q)) at p
 
 -- how long the lines of held slots of a sound table are
-one-size : (b sub : List ℕ) (k : ℕ) → sound b ≡ true → k < countOf b → length (heldLine sub (slotAt b k)) ≡ lengthIn (slotAt b k) + length (escape sub) + 267
+one-size : (b sub : List ℕ) (k : ℕ) → sound b ≡ true → k < countOf b → length (heldLine sub (slotAt b k)) ≡ length (jsonOf (textIn (slotAt b k))) + length (jsonOf (escape sub)) + 267
 unfolding heldLine slotLine
 one-size b sub k s h = rw (lt-ltb k (countOf b) h) at (line-length b k s h sub)
 
@@ -130,16 +129,16 @@ room-is l m x = go (ltb l m) refl
     go true e q = absurd (let y : _≡_ {A = ℕ} 0 1 = cc in omega arith)
     go false e q = (ltb-false l m e, cc)
 
--- one line, its text's length read from the slot
-module _ (s : List ℕ) (n room : ℕ) {t : ℕ} (f : Field s 106 2 t) where
-  pub no-head : room < t + 267 → Short ≡ leftIn room (lengthIn s + n + 267)
-  no-head h = left-short room _ (omega (arith, length-is s f))
+-- one line, by what its text takes
+module _ (s : List ℕ) (n room : ℕ) {t : ℕ} (f : t ≡ length (jsonOf (textIn s))) where
+  pub no-head : room < t + 267 → Short ≡ leftIn room (length (jsonOf (textIn s)) + n + 267)
+  no-head h = left-short room _ (omega (arith, f))
 
-  pub no-name : t + 267 ≤ room → room - (t + 267) < n → Short ≡ leftIn room (lengthIn s + n + 267)
-  no-name g h = left-short room _ (omega (arith, length-is s f))
+  pub no-name : t + 267 ≤ room → room - (t + 267) < n → Short ≡ leftIn room (length (jsonOf (textIn s)) + n + 267)
+  no-name g h = left-short room _ (omega (arith, f))
 
-  pub rest-left : t + 267 ≤ room → n ≤ room - (t + 267) → Room (room - (t + 267) - n) ≡ leftIn room (lengthIn s + n + 267)
-  rest-left g h = left-room room _ _ (omega (arith, length-is s f)) (omega (arith, length-is s f))
+  pub rest-left : t + 267 ≤ room → n ≤ room - (t + 267) → Room (room - (t + 267) - n) ≡ leftIn room (length (jsonOf (textIn s)) + n + 267)
+  rest-left g h = left-room room _ _ (omega (arith, f)) (omega (arith, f))
 
 -- ---- how many fit
 module _ (b ks : List ℕ) (n i l : ℕ) where
@@ -148,27 +147,42 @@ module _ (b ks : List ℕ) (n i l : ℕ) where
   fitted-end h = rw (drop-of-length-le ks {i = i} h) refl
 
   module _ (h : i < length ks) {k : ℕ} {s : List ℕ} (ek : k ≡ getD ks i 0) (es : s ≡ slotAt b k) where
-    size : lengthIn s + n + 267 ≡ lengthIn (slotAt b (getD ks i 0)) + n + 267
-    size = ap (λ v. lengthIn v + n + 267) (es ∙ ap (slotAt b) ek)
+    size : length (jsonOf (textIn s)) + n + 267 ≡ length (jsonOf (textIn (slotAt b (getD ks i 0)))) + n + 267
+    size = ap (λ v. length (jsonOf (textIn v)) + n + 267) (es ∙ ap (slotAt b) ek)
 
-    pub fitted-stop : Short ≡ leftIn l (lengthIn s + n + 267) → stopped i l ≡ fittedIn i l (sizes b n (drop i ks))
+    pub fitted-stop : Short ≡ leftIn l (length (jsonOf (textIn s)) + n + 267) → stopped i l ≡ fittedIn i l (sizes b n (drop i ks))
     unfolding fittedIn
-    fitted-stop q = rw (drop-cons ks i 0 h, lt-ltb l (lengthIn (slotAt b (getD ks i 0)) + n + 267) (omega (arith, size, short-is l _ q))) refl
+    fitted-stop q = rw (drop-cons ks i 0 h, lt-ltb l (length (jsonOf (textIn (slotAt b (getD ks i 0)))) + n + 267) (omega (arith, size, short-is l _ q))) refl
 
-    pub fitted-turn : {x : ℕ} → Room x ≡ leftIn l (lengthIn s + n + 267) → fittedIn i l (sizes b n (drop i ks)) ≡ fittedIn (i + 1) x (sizes b n (drop (i + 1) ks))
+    pub fitted-turn : {x : ℕ} → Room x ≡ leftIn l (length (jsonOf (textIn s)) + n + 267) → fittedIn i l (sizes b n (drop i ks)) ≡ fittedIn (i + 1) x (sizes b n (drop (i + 1) ks))
     unfolding fittedIn
     fitted-turn {x} q =
         let (g, e) = room-is l _ x q in
-        let z : x ≡ l - (lengthIn (slotAt b (getD ks i 0)) + n + 267) = e ∙ ap (l -_) size in
-        rw (drop-cons ks i 0 h, le-ltb l (lengthIn (slotAt b (getD ks i 0)) + n + 267) (omega (arith, size)), z, add-one i) refl
+        let z : x ≡ l - (length (jsonOf (textIn (slotAt b (getD ks i 0)))) + n + 267) = e ∙ ap (l -_) size in
+        rw (drop-cons ks i 0 h, le-ltb l (length (jsonOf (textIn (slotAt b (getD ks i 0)))) + n + 267) (omega (arith, size)), z, add-one i) refl
+
+-- a size that is cut off where a number ends has no room anyway
+pub cut-fitted : (b : List ℕ) (n m : ℕ) → n ≡ min m mostLength → (i room : ℕ) → room < 2 ^ 64 → (ks : List ℕ) → fittedIn i room (sizes b n ks) ≡ fittedIn i room (sizes b m ks)
+unfolding fittedIn
+cut-fitted b n m e i room h [] = refl
+cut-fitted b n m e i room h (k ∷ ks) = go (ltb room (lineSize b m k)) refl (λ l. cut-fitted b n m e (i + 1) (room - lineSize b m k) (omega arith) ks)
+  where
+    go : (t : Bool) → ltb room (lineSize b m k) ≡ t → (Unit {0} → fittedIn (i + 1) (room - lineSize b m k) (sizes b n ks) ≡ fittedIn (i + 1) (room - lineSize b m k) (sizes b m ks))
+        → cond (ltb room (lineSize b n k)) (stopped i room) (fittedIn (i + 1) (room - lineSize b n k) (sizes b n ks))
+        ≡ cond t (stopped i room) (fittedIn (i + 1) (room - lineSize b m k) (sizes b m ks))
+    go true q ih = rw (lt-ltb room (lineSize b n k) (omega (arith, e, ltb-true room (lineSize b m k) q)))
+    go false q ih =
+        let l = ltb-false room (lineSize b m k) q in
+        let z : n ≡ m = omega (arith, e) in
+        rw (z, q) (rw z at (ih tt))
 
 -- what all leave
 module _ (b sub : List ℕ) where
   abbrev size-of : ℕ → ℕ
-  size-of k = lineSize b (length (escape sub)) k
+  size-of k = lineSize b (length (jsonOf (escape sub))) k
 
   abbrev each : List ℕ → List ℕ
-  each ks = sizes b (length (escape sub)) ks
+  each ks = sizes b (length (jsonOf (escape sub))) ks
 
   all-left : (i room : ℕ) (ks : List ℕ) → i + length ks ≤ fittedIn i room (each ks) .lines → Room (fittedIn i room (each ks) .left) ≡ leftIn room (linesSize b sub ks)
   unfolding fittedIn linesSize
@@ -194,12 +208,12 @@ module _ (b sub : List ℕ) where
       go true e ih q = left-short room (size-of k + linesSize b sub ks) (omega (arith, ltb-true room (size-of k) e))
       go false e ih q = ih (omega arith) ∙ sym (left-turn room (size-of k) (linesSize b sub ks) (ltb-false room (size-of k) e))
 
-  module _ (ks : List ℕ) (room : ℕ) {n : ℕ} {f : Fitted} (en : n ≡ length (escape sub)) (ef : f ≡ fittedIn 0 room (sizes b n ks)) where
+  module _ (ks : List ℕ) (room : ℕ) (h : room < 2 ^ 64) {n : ℕ} {f : Fitted} (en : n ≡ lengthOf (jsonOf (escape sub))) (ef : f ≡ fittedIn 0 room (sizes b n ks)) where
     fitted-is : f ≡ fittedIn 0 room (each ks)
-    fitted-is = ef ∙ ap (λ v. fittedIn 0 room (sizes b v ks)) en
+    fitted-is = ef ∙ cut-fitted b n (length (jsonOf (escape sub))) en 0 room h ks
 
     pub all-fit : length ks ≤ f .lines → Room (f .left) ≡ leftIn room (linesSize b sub ks)
-    all-fit h = ap (λ v. Room (v .left)) fitted-is ∙ all-left 0 room ks (omega (arith, ap (λ v. v .lines) fitted-is))
+    all-fit g = ap (λ v. Room (v .left)) fitted-is ∙ all-left 0 room ks (omega (arith, ap (λ v. v .lines) fitted-is))
 
     pub not-all-fit : f .lines < length ks → Short ≡ leftIn room (linesSize b sub ks)
-    not-all-fit h = too-many 0 room ks (omega (arith, ap (λ v. v .lines) fitted-is))
+    not-all-fit g = too-many 0 room ks (omega (arith, ap (λ v. v .lines) fitted-is))

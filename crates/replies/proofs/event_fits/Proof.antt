@@ -7,7 +7,7 @@ use Rattle.replies.proofs.event_fits.Tie as tie
 returns : tie.Need-returns
 returns c =
     let c5 = c .before .before .before .before .before in
-    event-room _ _ _ (c5 .pre) ? (c .before .before .json-len .ensures) (c .before .part-len .ensures)
+    event-room _ _ _ (c5 .pre) (c5 .good .1 .1 .1 .0 .1) (c .before .before .json-len .ensures) (c .before .part-len .ensures)
     (c .has-room .ensures)
 
 pub event-fits-spec : {M : Type 1} → statement M

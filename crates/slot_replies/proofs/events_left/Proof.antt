@@ -7,12 +7,12 @@ use Rattle.slot_replies.proofs.events_left.Tie as tie
 returns : tie.Need-returns
 returns c =
     let c2 = c .before .before in
-    not-all-fit _ _ _ _ (c2 .before .escaped-len .ensures) (c2 .fit-lines .ensures) (c .if1 .taken)
+    not-all-fit _ _ _ _ (c2 .before .before .before .before .before .good .1 .1 .1 .0 .1) (c2 .before .string-len .ensures) (c2 .fit-lines .ensures) (c .if1 .taken)
 
 returns-2 : tie.Need-returns-2
 returns-2 c =
     let c2 = c .before .before in
-    all-fit _ _ _ _ (c2 .before .escaped-len .ensures) (c2 .fit-lines .ensures) (c .if1 .left)
+    all-fit _ _ _ _ (c2 .before .before .before .before .before .good .1 .1 .1 .0 .1) (c2 .before .string-len .ensures) (c2 .fit-lines .ensures) (c .if1 .left)
 
 pub events-left-spec : {M : Type 1} → statement M
 events-left-spec =

@@ -5,17 +5,17 @@ use Rattle.slot_replies.proofs.line_left.Statement.{statement}
 use Rattle.slot_replies.proofs.line_left.Tie as tie
 
 returns : tie.Need-returns
-returns c = no-head _ _ _ (c .before .le-at .ensures) (c .if1 .taken)
+returns c = no-head _ _ _ (c .before .text-size .ensures .0) (c .if1 .taken)
 
 returns-2 : tie.Need-returns-2
 returns-2 c =
     let c1 = c .before in
-    no-name _ _ _ (c1 .before .le-at .ensures) (c1 .if1 .left) (c .if2 .taken)
+    no-name _ _ _ (c1 .before .text-size .ensures .0) (c1 .if1 .left) (c .if2 .taken)
 
 returns-3 : tie.Need-returns-3
 returns-3 c =
     let c1 = c .before in
-    rest-left _ _ _ (c1 .before .le-at .ensures) (c1 .if1 .left) (c .if2 .left)
+    rest-left _ _ _ (c1 .before .text-size .ensures .0) (c1 .if1 .left) (c .if2 .left)
 
 pub line-left-spec : {M : Type 1} → statement M
 line-left-spec =

@@ -8,7 +8,7 @@ returns : tie.Need-returns
 returns c =
     let c6 = c .before .before .before .before .before .before in
     let c11 = c6 .before .before .before .before .before in
-    front-put _ _ (c11 .before .before .before .before .put .ensures) (c11 .put-quoted .ensures) (c6 .put2 .ensures)
+    front-put _ _ (c11 .before .before .before .before .put .ensures) (c11 .put-json .ensures) (c6 .put2 .ensures)
     (c .before .before .put-hex .ensures)
 
 pub put-front-spec : {M : Type 1} → statement M

@@ -13,7 +13,7 @@ returns c =
     let c17 = c12 .before .before .before .before .before in
     let c22 = c17 .before .before .before .before .before in
     strings-put _ _ (c22 .pre) (c12 .before .piece .ensures) (c .before .before .before .piece2 .ensures)
-    (c17 .put .ensures) (c12 .put2 .ensures) (c7 .put3 .ensures) (c .before .before .put4 .ensures)
+    (c17 .put .ensures) (c12 .put-json .ensures) (c7 .put2 .ensures) (c .before .before .put-json2 .ensures)
 
 pub put-strings-spec : {M : Type 1} → statement M
 put-strings-spec =

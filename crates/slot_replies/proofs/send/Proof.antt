@@ -15,14 +15,14 @@ slice-aggregate-put-events c =
     let c7 = c6 .before in
     let a = c7 .before .before .before .before .before .args in
     sym (length-take-le _ _
-    (lines-few (a .table .now) (a .ks .now) _ (c6 .held-len .result) (c7 .escaped-len .result)
+    (lines-few (a .table .now) (a .ks .now) _ (c6 .held-len .result) (c7 .string-len .result)
     (c .before .before .before .before .fit-lines .ensures)))
 
 returns : tie.Need-returns
 returns c =
     let c5 = c .before .before .before .before .before in
     let c10 = c5 .before .before .before .before .before in
-    lines-refused _ _ _ _ (c10 .pre) (c5 .escaped-len .ensures) (c .before .before .before .before .held-len .ensures)
+    lines-refused _ _ _ _ (c10 .pre) (c10 .good .1 .1 .1 .0 .0) (c5 .string-len .ensures) (c .before .before .before .before .held-len .ensures)
     (c .before .before .fit-lines .ensures) (c .before .fit-row .ensures) (c .if1 .taken)
 
 returns-2 : tie.Need-returns-2
@@ -30,7 +30,7 @@ returns-2 c =
     let c5 = c .before .before .before .before .before in
     let c10 = c5 .before .before .before .before .before in
     let c15 = c10 .before .before .before .before .before in
-    lines-sent _ _ _ _ (c15 .pre) (c10 .escaped-len .ensures) (c5 .before .before .before .before .held-len .ensures)
+    lines-sent _ _ _ _ (c15 .pre) (c15 .good .1 .1 .1 .0 .0) (c10 .string-len .ensures) (c5 .before .before .before .before .held-len .ensures)
     (c5 .before .before .fit-lines .ensures) (c5 .before .fit-row .ensures) (c5 .if1 .left)
     (c .before .before .put-events .ensures)
 
