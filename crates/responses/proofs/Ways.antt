@@ -2,7 +2,7 @@
 use mathlib.Core.Path.{_≡_, refl, sym, ap, _∙_}
 use mathlib.Core.Bool.{Bool, true, false, cond, false≢true}
 use mathlib.Core.List.{List, [], _∷_, _++_, append-nil}
-use Prim.Native.Nat.{ℕ, _+_, _-_, _≤_, _<_}
+use Prim.Native.Nat.{ℕ, _+_, _-_, _≤_, _<_, _^_}
 use native.Mathlib.Omega.{arith}
 use borrow.Author.Tests.{lt-ltb, le-ltb, ltb-true, ltb-false, leb-true, leb-false}
 use lib.Dec.{eqb, leb, ltb}
@@ -10,7 +10,7 @@ use lib.ListN.{length, take, drop, length-append}
 use lib.Seq.{take-append-seam}
 use Rattle.wire.specs.Limits.{hexLength}
 use Rattle.wire.specs.Put.{Puts}
-use Rattle.wire.specs.Escape.{letterOf, escOne, escape}
+use Rattle.wire.specs.Escape.{letterOf, escOne, escape, jsonOne, jsonOf}
 use Rattle.wire.proofs.Laws.{puts-none, puts-then, puts-whole}
 use Rattle.json.specs.Tree.{Json, Items, Got, none, got, root}
 use Rattle.shape.specs.Shape.{Word, event, req, close, other, opened, idName}
@@ -30,7 +30,7 @@ use Rattle.message.specs.declared.Message.the-variants as message
 use Rattle.message.specs.declared.Named.{Named}
 use Rattle.message.specs.declared.Named.the-variants as names
 use Rattle.message.proofs.Taken.{filters-taken}
-use Rattle.event.specs.Lent.{said}
+use Rattle.event.specs.Lent.{said, lengthOf}
 use Rattle.event.specs.Answer.{writtenNumber}
 use Rattle.event.specs.declared.Written.{Written}
 use Rattle.event.specs.declared.Written.the-variants as sent
@@ -51,7 +51,7 @@ use Rattle.query.specs.declared.Listing.{Listing}
 use Rattle.query.specs.declared.Listing.the-variants as listing
 use Rattle.query.proofs.Tables.{answer-means}
 use Rattle.query.proofs.ReadFilters.{read-listing}
-use Rattle.reply.specs.Replies.{Reply, eose, closed, replyText, reasonOf}
+use Rattle.reply.specs.Replies.{Reply, eose, closed, replyText, reasonOf, stringJson}
 use Rattle.reply.specs.Lent.{shortRow}
 use Rattle.program.specs.Program.{refusal, eventsOf, requestReplies, repliesTo, tableAfter, written}
 use Rattle.program.specs.Respond.{response, respondRow, responded, respondedOut, respondedTable}
@@ -67,7 +67,7 @@ use Rattle.slot_replies.proofs.Lines.{lines-size}
 use Rattle.responses.specs.Inner.{verdictText, okText, namedFor, namingText, ended, eoseLine, answerText, AllHeld}
 use Rattle.responses.specs.Inner.{Said}
 use Rattle.responses.specs.Refused.{refusedText, refusedRow, refusedReply, refusedOut}
-use Rattle.responses.proofs.Lines.{ok-length, eose-length, naming-is}
+use Rattle.responses.proofs.Lines.{ok-length, eose-length, naming-is, cut-room}
 
 -- ---- what is answered
 said-short : (t out : List ℕ) → length out < length t → Said t out (sent.Refused 13) out
@@ -146,7 +146,7 @@ named-hex m p = early (isEarly (messageRow m))
     early false e = tree (root m) e
 
 verdict-most : (a : Offered) → length (verdictText a) ≤ 41
-unfolding verdictText quoted escape escOne letterOf
+unfolding verdictText stringJson quoted jsonOf jsonOne escape escOne letterOf
 verdict-most offered.Ephemeral = omega arith
 verdict-most offered.Duplicate = omega arith
 verdict-most offered.Older = omega arith
@@ -245,9 +245,12 @@ module _ (b m : List ℕ) (s : Span) (ks : List ℕ) (held : AllHeld b ks) (out 
   pub events-short : x ≡ left.Short → Said text out (sent.Refused 13) out
   events-short e = said-short text out (omega (arith, text-length, size, left-short (length out) (linesSize b (decode id) ks) a e))
 
-  module _ {l n : ℕ} {f : Bool} (e : x ≡ left.Room l) (en : n ≡ length (escape (decode id))) (room : Room (12 + n) l f) where
-    eose-is : 12 + n ≡ length (eoseLine (said m s))
-    eose-is = omega (arith, en, ap (λ w. length (escape (decode w))) ei, eose-length (said m s))
+  module _ {l n : ℕ} {f : Bool} (few : l < 2 ^ 64) (e : x ≡ left.Room l) (en : n ≡ lengthOf (jsonOf (escape (decode id)))) (cut : Room (12 + n) l f) where
+    room : Room (12 + length (jsonOf (escape (decode id)))) l f
+    room = cut-room 12 (length (jsonOf (escape (decode id)))) n l (omega arith) few en cut
+
+    eose-is : 12 + length (jsonOf (escape (decode id))) ≡ length (eoseLine (said m s))
+    eose-is = omega (arith, ap (λ w. length (jsonOf (escape (decode w)))) ei, eose-length (said m s))
 
     pub eose-short : f ≡ false → Said text out (sent.Refused 13) out
     eose-short q =

@@ -1,8 +1,8 @@
 -- An arm for each row.
 use borrow.Author.Needs.{needs}
-use Rattle.wire.specs.Escape.{letterOf, escOne, escape}
+use Rattle.wire.specs.Escape.{letterOf, escOne, escape, jsonOne, jsonOf}
 use Rattle.text.specs.Event.{quoted}
-use Rattle.reply.specs.Replies.{reasonOf}
+use Rattle.reply.specs.Replies.{reasonOf, stringJson}
 use Rattle.responses.proofs.Lines.{reason-put, rest-put, reason-none}
 use Rattle.responses.proofs.put_reason.Statement.{statement}
 use Rattle.responses.proofs.put_reason.Tie as tie
@@ -11,7 +11,7 @@ returns-13 : tie.Need-returns-13
 returns-13 c = rest-put _ (search (reason-none, needs)) (c .before .before .put13 .ensures)
 
 pub put-reason-spec : {M : Type 1} → statement M
-unfolding quoted escape escOne letterOf reasonOf
+unfolding stringJson quoted jsonOf jsonOne escape escOne letterOf reasonOf
 put-reason-spec =
     tie.close
     (tie.spec (λ c. search needs) (λ c κs. search needs) (λ c. search needs) (λ c κs. search needs) (λ c. search needs)

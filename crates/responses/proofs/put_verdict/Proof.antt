@@ -1,7 +1,8 @@
 -- An arm for each answer.
 use borrow.Author.Needs.{needs}
-use Rattle.wire.specs.Escape.{letterOf, escOne, escape}
+use Rattle.wire.specs.Escape.{letterOf, escOne, escape, jsonOne, jsonOf}
 use Rattle.text.specs.Event.{quoted}
+use Rattle.reply.specs.Replies.{stringJson}
 use Rattle.responses.proofs.Lines.{verdict-put, false-put}
 use Rattle.responses.specs.Inner.{verdictText}
 use Rattle.responses.proofs.put_verdict.Statement.{statement}
@@ -15,7 +16,7 @@ returns-5 c =
     false-put _ (c10 .a .given .1) (c6 .put5 .ensures) (c2 .put-reason .ensures)
 
 pub put-verdict-spec : {M : Type 1} → statement M
-unfolding verdictText quoted escape escOne letterOf
+unfolding verdictText stringJson quoted jsonOf jsonOne escape escOne letterOf
 put-verdict-spec =
     tie.close
     (tie.spec (λ c. search needs) (λ c. search needs) (λ c κs. search needs) (λ c. search needs) (λ c. search needs)
