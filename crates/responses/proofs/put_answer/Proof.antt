@@ -15,7 +15,7 @@ returns c =
     let c14 = c12 .before .before in
     let c15 = c14 .before in
     let c20 = c15 .before .before .before .before .before in
-    let a = c20 .args in answer-put (a .table .now) (a .m .now) (a .sub) (a .ks .now) (c20 .pre) (a .out .now) (c15 .piece .ensures) (c14 .events-left .ensures) ? (c12 .room .given .1) (c10 .string-len .ensures) (c9 .has-room .ensures) (c8 .if1 .taken) (c6 .put-events .ensures) (c2 .put-eose .ensures)
+    let a = c20 .args in answer-put (a .table .now) (a .m .now) (a .sub) (a .ks .now) (c20 .pre) (a .out .now) (c15 .piece .ensures) (c14 .events-left .ensures) (c10 .before .known-told .given .0 .1) (c12 .room .given .1) (c10 .string-len .ensures) (c9 .has-room .ensures) (c8 .if1 .taken) (c6 .put-events .ensures) (c2 .put-eose .ensures)
 
 returns-2 : tie.Need-returns-2
 returns-2 c =
@@ -25,7 +25,7 @@ returns-2 c =
     let c6 = c4 .before .before in
     let c7 = c6 .before in
     let c12 = c7 .before .before .before .before .before in
-    let a = c12 .args in eose-short (a .table .now) (a .m .now) (a .sub) (a .ks .now) (c12 .pre) (a .out .now) (c7 .piece .ensures) (c6 .events-left .ensures) ? (c4 .room .given .1) (c2 .string-len .ensures) (c1 .has-room .ensures) (c .if1 .left)
+    let a = c12 .args in eose-short (a .table .now) (a .m .now) (a .sub) (a .ks .now) (c12 .pre) (a .out .now) (c7 .piece .ensures) (c6 .events-left .ensures) (c2 .before .known-told .given .0 .1) (c4 .room .given .1) (c2 .string-len .ensures) (c1 .has-room .ensures) (c .if1 .left)
 
 returns-3 : tie.Need-returns-3
 returns-3 c =
