@@ -1,13 +1,13 @@
 -- Worked replies, by computation: the bytes of each kind of reply, and what some refused messages are answered.
 use mathlib.Core.Path.{_≡_, refl, _∙_}
-use mathlib.Core.Bool.{true, false}
+use mathlib.Core.Bool.{true, false, not, _||_}
 use mathlib.Core.List.{List, [], _∷_, _++_}
-use Prim.Native.Nat.{ℕ, _≤_}
+use Prim.Native.Nat.{ℕ, _/_, _%_, _≤_}
 use native.Mathlib.Omega.{arith}
 use lib.IntN.{negsuc}
 use lib.Dec.{eqb}
 use lib.ListN.{replicate}
-use Rattle.wire.specs.Bytes.{sameBytes, isHex}
+use Rattle.wire.specs.Bytes.{sameBytes, isHex, hexDigit, those}
 use Rattle.wire.specs.Escape.{letterOf, escOne, escape, jsonOne, jsonOf}
 use Rattle.numeral.specs.Decimal.{digitsIn, digits, decimal}
 use Rattle.text.specs.Event.{Event, quoted, membersText, tagText, tagsText}
@@ -103,6 +103,34 @@ pub hex-refused :
     × ((b : List ℕ) → repliesTo b (ascii "[\"REQ\",\"\",{\"#e\":[\"x\"]}]") ≡ notice (reasonOf 7) ∷ [])
 unfolding inClass run past oneAt tokenAt wordAt literalAt digitsAt intAt fracAt expAt numberAt hexAt escapedAt charAt charsUpTo charsAt stringAt scalarAt itemsAt treeAt isUtf8 utf8From leadOf charOf charsFrom charBytes charsBytes decode isRefused spell.any refuses sameBytes points characterCount spelledAt refusedIn anyItem countItems nameAt noNameTwice isFilter wordOf allItems row6 row7 row8 filterCounts wrongSubscription treeRow messageRow readOf namedOf repliesTo refusal spell.shortOf spell.unicodeOf spell.isPair spell.fourAt spell.four spell.hexVal spell.utf8Of filterMember isCondition wrongFilter filterNumber filterHex wrongList wrongHex wrongTime wrongSmall wholeOf wholeAnswer isWithin isNatural allDigits isDigit valueFrom naturalOf negativeOf isHexOf isHex spell.all
 hex-refused = ((λ b. refl), (λ b. refl), (λ b. refl), (λ b. refl), (λ b. refl), (λ b. refl), (λ b. refl), (λ b. refl))
+
+-- ---- 02, Wish 3: control characters
+-- the row of a REQ whose subscription id is spelled so
+abbrev idRow : List ℕ → ℕ
+idRow id = messageRow (ascii "[\"REQ\",\"" ++ (id ++ ascii "\",{}]"))
+
+-- one raw byte below 80 in it: those below 20, the quote and the backslash give row 3, and no byte gives another row
+pub raw-ids :
+    (those (λ b. eqb (idRow (b ∷ [])) 3) 128
+    ≡ 0x00 ∷ 0x01 ∷ 0x02 ∷ 0x03 ∷ 0x04 ∷ 0x05 ∷ 0x06 ∷ 0x07 ∷ 0x08 ∷ 0x09 ∷ 0x0a ∷ 0x0b ∷ 0x0c ∷ 0x0d ∷ 0x0e ∷ 0x0f ∷ 0x10 ∷ 0x11 ∷ 0x12 ∷ 0x13 ∷ 0x14 ∷ 0x15 ∷ 0x16 ∷
+    0x17 ∷ 0x18 ∷ 0x19 ∷ 0x1a ∷ 0x1b ∷ 0x1c ∷ 0x1d ∷ 0x1e ∷ 0x1f ∷ 0x22 ∷ 0x5c ∷ [])
+    × (those (λ b. not (eqb (idRow (b ∷ [])) 3 || eqb (idRow (b ∷ [])) 0)) 128 ≡ [])
+unfolding inClass run past oneAt tokenAt wordAt literalAt digitsAt intAt fracAt expAt numberAt hexAt escapedAt charAt charsUpTo charsAt stringAt scalarAt itemsAt treeAt isUtf8 utf8From leadOf charOf charsFrom charBytes charsBytes decode isRefused spell.any refuses sameBytes points characterCount spelledAt refusedIn anyItem countItems nameAt noNameTwice isFilter wordOf allItems row6 row7 row8 filterCounts wrongSubscription treeRow messageRow spell.shortOf spell.unicodeOf spell.isPair spell.fourAt spell.four spell.hexVal spell.utf8Of filterMember isCondition wrongFilter filterNumber filterHex wrongList wrongHex wrongTime wrongSmall wholeOf wholeAnswer isWithin isNatural allDigits isDigit valueFrom naturalOf negativeOf isHexOf isHex spell.all
+raw-ids = (refl, refl)
+
+-- \u00 and two digits of any character below U+0020 give none
+pub spelled-ids : those (λ b. not (eqb (idRow (ascii "\\u00" ++ (hexDigit (b / 16) ∷ hexDigit (b % 16) ∷ []))) 0)) 32 ≡ []
+unfolding inClass run past oneAt tokenAt wordAt literalAt digitsAt intAt fracAt expAt numberAt hexAt escapedAt charAt charsUpTo charsAt stringAt scalarAt itemsAt treeAt isUtf8 utf8From leadOf charOf charsFrom charBytes charsBytes decode isRefused spell.any refuses sameBytes points characterCount spelledAt refusedIn anyItem countItems nameAt noNameTwice isFilter wordOf allItems row6 row7 row8 filterCounts wrongSubscription treeRow messageRow spell.shortOf spell.unicodeOf spell.isPair spell.fourAt spell.four spell.hexVal spell.utf8Of filterMember isCondition wrongFilter filterNumber filterHex wrongList wrongHex wrongTime wrongSmall wholeOf wholeAnswer isWithin isNatural allDigits isDigit valueFrom naturalOf negativeOf isHexOf isHex spell.all
+spelled-ids = refl
+
+-- ids come back as characters; a digit in upper case; a control character in a name, and beside an unpaired surrogate
+pub control-replies :
+    ((b : List ℕ) → repliesTo b (ascii "[\"REQ\",\"\\u0000\\u001F\\u000a\\u007f\"]") ≡ closed (0x00 ∷ 0x1f ∷ 0x0a ∷ 0x7f ∷ []) (reasonOf 8) ∷ [])
+    × ((b : List ℕ) → repliesTo b (ascii "{\"\\u0001\":1}") ≡ notice (reasonOf 5) ∷ [])
+    × ((b : List ℕ) → repliesTo b (ascii "[\"REQ\",\"\\u0001\\ud800\",{}]") ≡ notice (reasonOf 4) ∷ [])
+    × ((b : List ℕ) → repliesTo b (0x01 ∷ ascii "[\"REQ\",\"s\",{}]") ≡ notice (reasonOf 3) ∷ [])
+unfolding inClass run past oneAt tokenAt wordAt literalAt digitsAt intAt fracAt expAt numberAt hexAt escapedAt charAt charsUpTo charsAt stringAt scalarAt itemsAt treeAt isUtf8 utf8From leadOf charOf charsFrom charBytes charsBytes decode isRefused spell.any refuses sameBytes points characterCount spelledAt refusedIn anyItem countItems nameAt noNameTwice isFilter wordOf allItems row6 row7 row8 filterCounts wrongSubscription treeRow messageRow readOf namedOf repliesTo refusal spell.shortOf spell.unicodeOf spell.isPair spell.fourAt spell.four spell.hexVal spell.utf8Of filterMember isCondition wrongFilter filterNumber filterHex wrongList wrongHex wrongTime wrongSmall wholeOf wholeAnswer isWithin isNatural allDigits isDigit valueFrom naturalOf negativeOf isHexOf isHex spell.all
+control-replies = ((λ b. refl), (λ b. refl), (λ b. refl), (λ b. refl))
 
 -- 0D stays in the line; empty lines are messages
 pub lines-cut : (lines (ascii "a\r\nb") ≡ ascii "a\r" ∷ ascii "b" ∷ []) × (lines (ascii "\n\n") ≡ [] ∷ [] ∷ [])

@@ -9,7 +9,7 @@ run-requires : tie.Need-run-requires
 run-requires c κs =
     let c6 = c .before .before .before .before .before .before in (
       is-fresh (c6 .before .before .format .ensures .1) (c6 .before .before .before .before .zeros .ensures),
-      (omega (arith, c6 .line-zeros .ensures), omega (arith, c .before .before .before .before .large-buffer2 .ensures)),
+      (omega (arith, c6 .line-zeros .ensures), omega (arith, c .before .before .before .before .output-zeros .ensures)),
     )
 
 pub main-spec : {M : Type 1} → statement M
