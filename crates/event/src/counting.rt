@@ -8,8 +8,8 @@ ghost use Rattle.wire.specs.Escape.{escape};
 ghost use Rattle.spell.specs.Spell.{decode};
 ghost use Rattle.text.specs.Event.{tagsText};
 ghost use Rattle.event.specs.Lent.{lentTagsAt};
-ghost use Rattle.event.specs.Inner.{tagDepth, stringDepth, inForm, Counts, Does, stringText, stringsText, oneTagText};
-ghost use Rattle.event.specs.Inner.{allTagsText};
+ghost use Rattle.event.specs.Inner.{tagDepth, stringDepth, inForm, Counts, Does, stringText, stringsText};
+ghost use Rattle.event.specs.Inner.{oneTagText, allTagsText};
 ghost use Rattle.event.specs.Lent.{mostLength, lengthOf, textOf};
 use crate::Reached;
 use crate::writing;
@@ -112,8 +112,8 @@ pub(crate) fn count_strings(n: usize, b: &[u8], first: usize, json: bool) -> Rea
 
 // The count after one tag.
 pub(crate) fn count_tag(n: usize, b: &[u8], v: usize, json: bool) -> Reached
-    ensures { λ r. ⌜ Does (Counts json) (treeAt (now (b .entry)) tagDepth v) (oneTagText (now (b .entry))) n (r .at) (r .next)
-        ⌝ }
+    ensures { λ r. ⌜ Does (Counts json) (treeAt (now (b .entry)) tagDepth v) (oneTagText (now (b .entry))) n (r .at)
+        (r .next) ⌝ }
 {
     match json::begin(b, v) {
         json::Start::Many(first, named) => {

@@ -1,7 +1,7 @@
 -- RFC 8259's ABNF, sections 2 to 7, rule by rule, with 01's limit of brackets and braces open at once. A rule holds of
 -- two places in a text: what stands from the first up to the second matches it. Which bytes a terminal takes is json's
--- inClass, and isUnescaped for unescaped, functions both, and so is the byte at a place; all else here is a rule, with no
--- order of trial and no fuel.
+-- inClass, and isUnescaped for unescaped, functions both, and so is the byte at a place; all else here is a rule, with
+-- no order of trial and no fuel.
 use Prim.Native.Nat.{ℕ, suc, _+_, _<_}
 use mathlib.Core.Path.{_≡_}
 use mathlib.Core.Logic.{_⊎_}

@@ -44,11 +44,13 @@ objectText i e s =
     ++ (digits (e .kind)
     ++ (ascii ",\"tags\":"
     ++ (tagsJson (e .tags)
-    ++ (ascii ",\"content\":" ++ (stringJson (e .content) ++ (ascii ",\"sig\":" ++ (stringJson s ++ ascii "}")))))))))))))
+    ++ (ascii ",\"content\":"
+    ++ (stringJson (e .content) ++ (ascii ",\"sig\":" ++ (stringJson s ++ ascii "}")))))))))))))
 
 unfoldable pub replyText : Reply → Bytes
 replyText (ok i accepted reason) =
-    ascii "[\"OK\"," ++ (stringJson i ++ (ascii "," ++ (truth accepted ++ (ascii "," ++ (stringJson reason ++ ascii "]")))))
+    ascii "[\"OK\"," ++ (stringJson i ++
+    (ascii "," ++ (truth accepted ++ (ascii "," ++ (stringJson reason ++ ascii "]")))))
 replyText (event s i e sig) = ascii "[\"EVENT\"," ++ (stringJson s ++ (ascii "," ++ (objectText i e sig ++ ascii "]")))
 replyText (eose s) = ascii "[\"EOSE\"," ++ (stringJson s ++ ascii "]")
 replyText (closed s reason) = ascii "[\"CLOSED\"," ++ (stringJson s ++ (ascii "," ++ (stringJson reason ++ ascii "]")))

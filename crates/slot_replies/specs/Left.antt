@@ -15,7 +15,8 @@ use Rattle.slot_replies.specs.declared.Left.the-variants.{Room, Short}
 -- escaped, both as they stand in a reply
 unfoldable pub linesSize : (b sub : Bytes) (ks : List ℕ) → ℕ
 linesSize b sub [] = 0
-linesSize b sub (k ∷ ks) = length (jsonOf (textIn (slotAt b k))) + length (jsonOf (escape sub)) + 267 + linesSize b sub ks
+linesSize b sub (k ∷ ks) =
+    length (jsonOf (textIn (slotAt b k))) + length (jsonOf (escape sub)) + 267 + linesSize b sub ks
 
 -- what n bytes leave of a room
 unfoldable pub leftIn : (room n : ℕ) → Left

@@ -1,5 +1,5 @@
-// EVENT replies of held slots, written into lent bytes. The text of a slot is copied, its control characters spelled out,
-// and never decoded. Every row is tested before the first byte is written.
+// EVENT replies of held slots, written into lent bytes. The text of a slot is copied, its control characters spelled
+// out, and never decoded. Every row is tested before the first byte is written.
 ghost use mathlib.Core.Path.{_≡_};
 ghost use mathlib.Core.Bool.{true};
 ghost use Prim.Native.Nat.{_+_, _≤_};

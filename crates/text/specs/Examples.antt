@@ -28,8 +28,8 @@ stand-for : map escapedByte (34 ∷ 92 ∷ 98 ∷ 102 ∷ 110 ∷ 114 ∷ 116 �
 unfolding escapedByte
 stand-for = refl
 
--- the string of ,"\\\"n"] at 1 is \"n and ends before the bracket; "\/", "\u0041", "\u0001" and a raw 09 are no spellings
--- of the text; / and 7F stand as they are, and so do 00 and 1F; an end is no 00
+-- the string of ,"\\\"n"] at 1 is \"n and ends before the bracket; "\/", "\u0041", "\u0001" and a raw 09 are no
+-- spellings of the text; / and 7F stand as they are, and so do 00 and 1F; an end is no 00
 strings :
     (stringAt (ascii ",\"\\\\\\\"n\"]") 1 ≡ got (ascii "\\\"n") 8)
     × (stringAt (ascii "\"\\/\"") 0 ≡ none)

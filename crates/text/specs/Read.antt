@@ -1,7 +1,7 @@
 -- 01, "A text read back alone". A reader `xAt` of the text s at a place: `got x n` if x stands there and the text goes
--- on at n. Past the end of a text stands 0, which is none of the fixed bytes that are looked for at a place; a string is
--- read from the bytes that there are. That these readers do what 01's
--- sentence says is proved: proofs/RoundTrip, `accepted`, `too-large`, `wrong-shape`.
+-- on at n. Past the end of a text stands 0, which is none of the fixed bytes that are looked for at a place; a string
+-- is read from the bytes that there are. That these readers do what 01's sentence says is proved: proofs/RoundTrip,
+-- `accepted`, `too-large`, `wrong-shape`.
 use mathlib.Core.Bool.{Bool, true, false, cond, _&&_}
 use mathlib.Core.List.{List, [], _∷_, _++_}
 use mathlib.Core.Path.{_≡_}
