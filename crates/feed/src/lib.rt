@@ -12,7 +12,7 @@ use event::Written;
 use program::Turned;
 
 // A byte more than a message may have tells that the line is too long.
-const MOST_LINE: usize = wire::MOST_MESSAGE + 1;
+pub const MOST_LINE: usize = wire::MOST_MESSAGE + 1;
 
 // Whether none of the 32 bytes at i ends a line. All are looked at, with no way out of the loop, so that it is compiled
 // to vector code.
