@@ -110,7 +110,7 @@ late-word m h e = go (late-shaped m (not-early (messageRow m) h)) e
 pub overlong : Overlong
 unfolding messageRow reasonOf
 overlong b m h =
-    let e : messageRow m ≡ 1 = rw (lt-ltb 8192 (length m) h) in
+    let e : messageRow m ≡ 1 = rw (lt-ltb mostMessage (length m) h) in
     let (p, q) = early-row b m (omega arith) (omega arith) in
     (p ∙ ap (λ r. notice (reasonOf r) ∷ []) e, q)
 
