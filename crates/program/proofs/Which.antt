@@ -8,6 +8,7 @@ use Prim.Native.Nat.{ℕ, zero, suc, _≤_, _<_}
 use native.Mathlib.Omega.{arith}
 use borrow.Author.Tests.{eqb-false, ne-eqb, le-leb, lt-leb, lt-ltb, not-false}
 use lib.ListN.{length}
+use Rattle.wire.specs.Limits.{mostMessage}
 use Rattle.json.specs.Tree.{Json, Items, nil, item, Got, none, got, root}
 use Rattle.spell.specs.Spell.{isHexOf}
 use Rattle.rows.specs.Strings.{part}
