@@ -12,6 +12,7 @@ from sha256 import sha256
 
 LINE = re.compile(rb"(-|([0-9a-f]{2})+)( [0-9]+(,[0-9]+)*)?")
 LENGTH = re.compile(rb"0|[1-9][0-9]{0,3}")
+DIGEST_BYTES = 8192  # the buffer of digest_cases
 
 
 def digest_answer(line):
@@ -23,7 +24,7 @@ def digest_answer(line):
     lengths = pieces.split(b",") if pieces else []
     if not all(LENGTH.fullmatch(n) for n in lengths):
         return b"bad line"
-    if len(message) > 8192 or sum(int(n) for n in lengths) > len(message):
+    if len(message) > DIGEST_BYTES or sum(int(n) for n in lengths) > len(message):
         return b"bad line"
     return sha256(message).encode()
 

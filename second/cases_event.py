@@ -4,7 +4,7 @@ import random
 from functools import cache
 
 from cases_message import A, EVENT_FAULTS, GOOD, event, event_with, many, req
-from rows import text_of
+from rows import MESSAGE_BYTES, text_of
 from sha256 import sha256
 from spell import BELOW, CONTROLS, SAMPLE, WIDE, damaged, escaped, hexes, joined, plain, raw, space, spell, u_escapes, words
 
@@ -100,11 +100,33 @@ def text_borders():
             yield row, text(fields)
     yield 9, offer(made(content="x" * (room + 1)), id="0" * 64)
     yield 10, offer(made(content="x" * room), id="0" * 64)
-    yield 9, offer(made(content="x" * 7000))
+    most = MESSAGE_BYTES - len(offer(made()))
+    for size in (4017, 7000, 8191, 8192, 8193, 12000, 16000, most - 1, most, most + 1, most + 2):
+        for name in ("content", "tags"):
+            # In the text and in the message alike a tag of one string has four characters around it.
+            fields = made(content="x" * size) if name == "content" else made(tags=[["x" * (size - 4)]])
+            row = 9 if size <= most else 1
+            yield row, offer(fields)
+            yield row, offer(fields, id="0" * 64)
     rng = random.Random(3)
     yield 0, offer(made(content="x" * 1200), lambda s: escaped(rng, s) if len(s) > 128 else plain(s))
     yield 0, offer(made(content="😀" * 600), lambda s: escaped(rng, s) if len(s) > 128 else plain(s))
+    # Spelled with \u, a text that is short enough has up to six times its bytes in a message.
+    long_escaped = lambda s: escaped(rng, s) if len(s) > 128 else plain(s)
+    for c, count in (("x", 2600), ("é", 2008), ("\n", 2008), ('"', 2008), ("€", 1338), ("😀", 1004), ("\x01", 2600)):
+        each = len(text_of(made(content=c))) - BASE_TEXT
+        full = each * (count + 1) > room
+        yield 0, offer(made(content=c * count), long_escaped)
+        yield 10, offer(made(content=c * count), long_escaped, "0" * 64)
+        yield 9 * full, offer(made(content=c * (count + 1)), long_escaped)
+    yield 0, offer(made(tags=[["é" * 245] * 8], content="x" * 21), long_escaped)
+    for strings in (14, 15, 16):
+        # 64 tags, each string one character that is spelled with six.
+        fields = made(tags=[["x"] * strings] * 64)
+        yield 9 * (len(text_of(fields)) > 4096), offer(fields, lambda s: escaped(rng, s) if s == "x" else plain(s))
     yield 9, text(made(content="x" * 8000))
+    for size in (8192, 8193, MESSAGE_BYTES - 1, MESSAGE_BYTES, MESSAGE_BYTES + 1):
+        yield 9, text(made(content="x" * (size - BASE_TEXT)))
     yield 9, "T " + "x" * 4097
     yield 5, "T " + "x" * 4096
     yield 9, "T " + " " * 4097
@@ -123,10 +145,11 @@ def text_borders():
             yield 9 * extra, offer(made(content=c * 600 + "x" * (room - 600 + extra)))
         yield 9 * extra, text(made(tags=[["\x0b" * (room - 4 + extra)]]))
         yield 9 * extra, offer(made(tags=[["\x0b" * 600 + "\n" * 1000 + "x" * (room - 2604 + extra)]]))
-    most = (8192 - len(offer(made()))) // 6
     for c in "\x00\x1f":
-        yield 0, offer(made(content=c * most))
-        yield 1, offer(made(content=c * (most + 1)))
+        yield 0, offer(made(content=c * (most // 6)))
+        yield 1, offer(made(content=c * (most // 6 + 1)))
+        # 4,016 of them fill a text, and no message has room for so many.
+        yield 1, offer(made(content=c * room))
 
 
 def wrong_ids():
@@ -162,8 +185,11 @@ def wrong_ids():
 def other_messages():
     """Rows 1 to 8 of an offer, and messages that are no EVENT."""
     good = offer(made())
-    yield 1, good + " " * (8193 - len(good))
-    yield 0, good + " " * (8192 - len(good))
+    for size in (8192, 8193, MESSAGE_BYTES - 1, MESSAGE_BYTES):
+        yield 0, good + " " * (size - len(good))
+        yield 0, " " * (size - len(good)) + good
+    yield 1, good + " " * (MESSAGE_BYTES + 1 - len(good))
+    yield 1, " " * (MESSAGE_BYTES + 1 - len(good)) + good
     for row, name, value in EVENT_FAULTS:
         yield row, event({**spelled_fields(made(), plain), name: value}.items())
         yield row, event({**spelled_fields(made(content="x" * 4017), plain, A), name: value}.items())
@@ -185,7 +211,15 @@ def other_messages():
         yield (5 if line == "true" else 3), line
     yield 2, '["CLOSE","\udcff"]'
     yield 2, "T\udcff"
-    yield 1, "x" * 8193
+    yield 3, "x" * MESSAGE_BYTES
+    yield 1, "x" * (MESSAGE_BYTES + 1)
+    # Counts far over their bounds, in messages that are long enough for them.
+    yield 8, event({**spelled_fields(made(), plain), "tags": many('["t"]', 2600)}.items())
+    yield 8, event({**spelled_fields(made(), plain), "tags": "[%s]" % many('""', 5000)}.items())
+    yield 5, event({**spelled_fields(made(), plain), "tags": "[" + '["t"],' * 2600 + "1]"}.items())
+    yield 6, event({**spelled_fields(made(), plain), "created_at": "9" * 16000}.items())
+    yield 6, event({**spelled_fields(made(), plain), "kind": "-" + "1" * 16000}.items())
+    yield 7, event({**spelled_fields(made(), plain), "sig": plain("b" * 15900)}.items())
 
 
 def near_texts():
@@ -314,7 +348,7 @@ def labelled():
         yield 0, offer(fields)
         yield 0, text(fields)
         line = respelled(rng, fields)
-        if len(raw(line)) <= 8192:
+        if len(raw(line)) <= MESSAGE_BYTES:
             yield 0, line
     for part in (text_borders, wrong_ids, other_messages):
         yield from part()

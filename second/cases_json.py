@@ -3,6 +3,7 @@
 import itertools
 import random
 
+from rows import MESSAGE_BYTES
 from spell import BELOW, SAMPLE, WIDE, damaged, joined, raw, space, spell, u_escape, u_escapes, words
 
 BYTES = [bytes([b]) for b in range(256) if b != 10]
@@ -82,8 +83,14 @@ def depths():
     yield "[" + ",".join(["[[[[[[[]]]]]]]"] * 40 + ["[[[[[[[[]]]]]]]]"]) + "]"
     yield "[" + "[]," * 300 + "[]]"
     yield "[" * 4000 + "]" * 4000
-    yield "[" * 8192
-    yield '{"a":' * 1000 + "1" + "}" * 1000
+    yield "[" * MESSAGE_BYTES
+    yield "[" * (MESSAGE_BYTES // 2) + "]" * (MESSAGE_BYTES // 2)
+    for deep in (1000, 2700):
+        yield '{"a":' * deep + "1" + "}" * deep
+    # Many siblings, the last of them too deep.
+    for deep in (7, 8):
+        yield "[" + "[]," * 5400 + "[" * deep + "]" * deep + "]"
+        yield "[" + '{"a":[]},' * 1800 + '{"a":' * deep + "1" + "}" * deep + "]"
 
 
 def utf8_runs():
@@ -109,19 +116,30 @@ def utf8_runs():
 
 
 def long_lines():
-    """Both sides of 8,192 bytes, and row 1 beside rows 2 to 4."""
-    for extra in (0, 1):
-        yield b'"' + b"x" * (8190 + extra) + b'"'
-        yield b"1" * (8192 + extra)
-        yield b"[]" + b" " * (8190 + extra)
-        yield b"\xff" * (8192 + extra)
-        yield b"[" * (8192 + extra)
-        yield b'"\\ud800' + b"x" * (8184 + extra) + b'"'
-        yield b'"' + b"x" * (8187 + extra) + "€".encode() + b'"'
-        yield b'"' + b"x" * (8190 + extra) + "€".encode()[:1]
-        yield b"\xc3" * (8192 + extra)
-        yield b"0." + b"0" * (8190 + extra)
-    yield b'"' + b"\\u0041" * 1365 + b'"'
+    """Both sides of the most bytes that a message has, and row 1 beside rows 2 to 4; 8,193 bytes, which once were too many."""
+    for size in (8193, MESSAGE_BYTES - 1, MESSAGE_BYTES, MESSAGE_BYTES + 1):
+        yield b'"' + b"x" * (size - 2) + b'"'
+        yield b"1" * size
+        yield b"[]" + b" " * (size - 2)
+        yield b"\xff" * size
+        yield b"[" * size
+        yield b'"\\ud800' + b"x" * (size - 8) + b'"'
+        yield b'"' + b"x" * (size - 8) + b'\\udc00"'
+        yield b'"' + b"x" * (size - 5) + "€".encode() + b'"'
+        yield b'"' + b"x" * (size - 2) + "€".encode()[:1]
+        yield b"\xc3" * size
+        yield b"0." + b"0" * (size - 2)
+        yield b" " * (size - 1) + b"1"
+        yield b" " * (size - 1) + b"\x80"
+    # The last byte decides: all that stands before it is read.
+    for last in (b"", b"]", b",", b"\xff", b"\x00", b" "):
+        yield b"[" + b"0," * (MESSAGE_BYTES // 2 - 1) + b"0" + last
+    yield b'"' + b"\\u0041" * ((MESSAGE_BYTES - 2) // 6) + b'"'
+    yield b'"' + b"\\ud83d\\ude00" * ((MESSAGE_BYTES - 2) // 12) + b'"'
+    yield b'"' + b"\\ud83d\\ude00" * ((MESSAGE_BYTES - 2) // 12 - 1) + b'\\ud83d"'
+    yield b"-" + b"9" * 16000 + b"." + b"9" * 100 + b"e+" + b"9" * 100
+    yield b"1e" + b"0" * 16000
+    yield b"-" + b"0" * 16000
     yield b"x" * 20000
     for size in (65535, 65536, 65537):
         yield b"[]" + b" " * (size - 2)
@@ -158,10 +176,11 @@ def controls():
                 yield raw('["' + "x" * size + end + c)
         yield raw('["CLOSE","s"]' + c)
         yield raw('["CLOSE","s' + c)
-    # A message of nothing else, on both sides of 8,192 bytes.
+    # A message of nothing else, on both sides of the most bytes.
+    most, rest = divmod(MESSAGE_BYTES - 2, 6)
     for extra in (0, 1):
-        yield raw('"%s%s"' % ("\\u0001" * 1365, "x" * extra))
-        yield b'"' + bytes(8190 + extra) + b'"'
+        yield raw('"%s%s"' % ("\\u0001" * most, "x" * (rest + extra)))
+        yield b'"' + bytes(MESSAGE_BYTES - 2 + extra) + b'"'
 
 
 def random_value(rng, depth, sample):

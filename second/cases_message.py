@@ -3,7 +3,7 @@
 import random
 from itertools import product
 
-from rows import LETTERS
+from rows import LETTERS, MESSAGE_BYTES
 from spell import BELOW, SAMPLE, WIDE, damaged, escaped, hexes, joined, plain, raw, space, spell, u_escapes, words
 
 A = "a" * 64
@@ -206,14 +206,19 @@ def numbers():
             yield 6, number_line(name, spelled)
         for spelled in NOT_JSON:
             yield 3, number_line(name, spelled)
-        for spelled in LONG:
+        for spelled in LONG + ["9" * 16000, "-" + "1" * 15999 + "0"]:
             yield 6, number_line(name, spelled)
         yield 3, number_line(name, "0" * 300)
         yield 3, number_line(name, "-0" + "0" * 300 + "1")
     yield 6, req('{"kinds":[1,2,65536]}')
     yield 6, req('{"kinds":[-0,1]}')
     yield 0, req('{"kinds":[0,65535,0,0]}')
-    yield 6, number_line("limit", "9" * 7000)
+    for digits in (7000, MESSAGE_BYTES - len(number_line("limit", ""))):
+        yield 6, number_line("limit", "9" * digits)
+    yield 1, number_line("limit", "9" * (digits + 1))
+    yield 3, number_line("limit", "0" * digits)
+    yield 6, number_line("limit", "0." + "0" * (digits - 2))
+    yield 6, number_line("limit", "0e" + "0" * (digits - 2))
 
 
 # Hex.
@@ -351,6 +356,37 @@ def counts():
         yield 8, req("{}", sub='"%s"' % sub)
     yield 0, '["CLOSE","\\u0000"]'
     yield 4, '["CLOSE","\\ud83d"]'
+
+
+def large_counts():
+    """Counts far over their bounds, as many as a message holds; rows 4 to 7 look at the last of so many."""
+    for row, last in ((8, '["t"]'), (8, "[]"), (4, '["\\udc00"]'), (5, '["t",1]'), (5, "{}")):
+        yield row, event_with(tags="[" + '["t"],' * 2600 + last + "]")
+    for row, last in ((8, '""'), (4, '"\\udc00"'), (5, "1"), (5, "{}")):
+        yield row, event_with(tags="[[" + '"",' * 5300 + last + "]]")
+    yield 8, event_with(tags=many(many('""', 16), 300))
+    yield 8, event_with(tags=many("[]", 5000))
+    yield 4, event_with(tags=many('["\\ud800"]', 1300))
+    for name, member in LISTS.items():
+        count = (MESSAGE_BYTES - 100) // (len(member) + 1)
+        yield 8, req(filter_with(name, many(member, count)))
+        faults = {4: '"\\ud800"', 5: "{}"}
+        if name == "kinds":
+            faults = {4: '"\\ud800"', 5: '"1"', 6: "-0"}
+        elif name not in ("#E", "#t"):
+            faults[7] = plain(A[1:])
+        for row, last in faults.items():
+            yield row, req(filter_with(name, "[" + (member + ",") * (count - 1) + last + "]"))
+    for last, row in (("{}", 8), ('{"limit":-0}', 6), ('{"ids":[""]}', 7), ('{"x":1}', 5), ("[]", 5), ('{"#a":["\\ud800"]}', 4)):
+        yield row, req(*["{}"] * 5400, last)
+    for character, count in (("a", 16000), ("é", 8000), ("😀", 4000), ("\\u0061", 2700), ("\\ud83d\\ude00", 1350)):
+        yield 8, '["CLOSE","%s"]' % (character * count)
+        yield 8, req("{}", sub='"%s"' % (character * count))
+        yield 4, '["CLOSE","%s\\udfff"]' % (character * count)
+    every = members(("#" + letter, many(LISTS.get("#" + letter, '"v"'), 16)) for letter in LETTERS)
+    yield 8, req(every)
+    yield 7, req(every[:-1] + ',"ids":["x"]}')
+    yield 5, req(every[:-1] + ',"#a":["v"]}')
 
 
 def past_bounds():
@@ -546,19 +582,47 @@ def controls():
 
 def long_lines():
     base = event_with(content='"%s"')
-    for size in (8191, 8192, 8193):
-        row = 1 if size > 8192 else 0
+    for size in (8191, 8192, 8193, MESSAGE_BYTES - 1, MESSAGE_BYTES, MESSAGE_BYTES + 1):
+        row = 1 if size > MESSAGE_BYTES else 0
         yield row, base % ("x" * (size - len(base) + 2))
         yield row, '["CLOSE","s"]' + " " * (size - 13)
         yield row, " " * (size - 14) + '["REQ","s",{}]'
         yield row, '["REQ","s",{"#x":["%s"]}]' % ("é" * 4000 + "y" * (size - 8023))
-    for text in ["x" * 8193, '["CLOSE","\udcff"]' + " " * 8180, '["CLOSE",1]' + " " * 8182, "[" * 8193]:
-        yield 1, text
+    # Row 1 goes before rows 2 to 8; with one byte less it is theirs.
+    beside = {2: '["CLOSE","\udcff"]', 3: "[", 4: '["CLOSE","\\ud800"]', 5: '["CLOSE",1]', 6: number_line("limit", "-0")}
+    beside.update({7: hex_line("ids", '""'), 8: '["CLOSE",""]'})
+    for row, text in beside.items():
+        rest = " " * (MESSAGE_BYTES - len(raw(text)))
+        padded = rest + text if row % 2 else text + rest
+        yield row, padded
+        yield 1, padded + " "
+    for byte in ("x", "[", "\udcff", '"', "0", " "):
+        yield 1, byte * (MESSAGE_BYTES + 1)
     for size in (65535, 65536, 65537):
         yield 1, '["CLOSE","s"]' + " " * (size - 13)
-    yield 5, '["CLOSE",1]' + " " * 8181
-    yield 0, event_with(content='"' + "\\u0041" * 1200 + '"')
-    yield 0, event_with(content='"' + "\\ud83d\\ude00" * 600 + '"', tags='[["%s"]]' % ("€" * 100))
+    for count in (600, 1300):
+        yield 0, event_with(content='"' + "\\u0041" * (2 * count) + '"')
+        yield 0, event_with(content='"' + "\\ud83d\\ude00" * count + '"', tags='[["%s"]]' % ("€" * 100))
+
+
+def full_messages():
+    """Messages that have as much as the bounds allow, and as many bytes as a message has, or one more."""
+    sixteen = many(plain(A), 16)
+    fields = {"ids": sixteen, "authors": sixteen, "#e": sixteen, "kinds": many("65535", 16), "since": str(-TIME), "until": str(TIME)}
+    fields.update({"limit": "65535", "#t": many(plain("x" * 10), 16), "#D": many(plain("é€😀"), 16), "#z": many('"\\u0041\\n"', 16)})
+    whole = members(fields.items())
+    two = req(whole, whole)
+    four = req(whole, whole, whole, members(list(fields.items())[:3] + list(fields.items())[4:7]))
+    strings = event_with(tags=many(many(plain("t" * 12), 16), 64))
+    escapes = event_with(tags=many(many('"\\u0074"', 16), 64), content='"%s"' % ("\\u000A" * 900))
+    for text in (two, four, strings, escapes):
+        rest = MESSAGE_BYTES - len(raw(text))
+        yield 0, text
+        yield 0, text[:-1] + " " * rest + "]"
+        yield 1, text[:-1] + " " * (rest + 1) + "]"
+    yield 8, req(whole, whole, "{}", "{}", "{}")
+    yield 8, event_with(tags=many(many(plain("t" * 11), 16), 65))
+    yield 8, event_with(tags="[" + many(plain("t" * 11), 17) + "," + many(many(plain("t" * 11), 16), 63)[1:])
 
 
 # Random messages: good ones, then with a fault in their structure, then with damaged bytes.
@@ -661,8 +725,8 @@ def random_lines(rng, count=460, sample=SAMPLE):
 
 
 def labelled():
-    for part in (shapes, event_fields, filter_fields, numbers, hex_strings, hex_conditions, counts, past_bounds, pairs,
-                 long_lines, controls):
+    for part in (shapes, event_fields, filter_fields, numbers, hex_strings, hex_conditions, counts, large_counts, past_bounds,
+                 pairs, long_lines, full_messages, controls):
         yield from part()
     for c in SAMPLE:
         yield 0, '["CLOSE",%s]' % escaped(random.Random(1), c)

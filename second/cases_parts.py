@@ -5,7 +5,7 @@ import random
 import cases_message
 from cases_event import KINDS, MAX_TIME, TIMES, good_events, id_of, made, text_borders
 from cases_message import A, GOOD, SUB_FAULTS, event_with, many, req
-from rows import text_of
+from rows import MESSAGE_BYTES, text_of
 from sha256 import sha256
 from spell import BELOW, CONTROLS, SAMPLE, damaged, escaped, hexes, plain, raw, spell, u_escapes, verbatim
 
@@ -575,6 +575,17 @@ def messages():
             for names in (order, order[::-1]):
                 inner = ",".join('"%s":%s' % (n.replace("id", "\\u0069d"), fields[n]) for n in names)
                 yield None, message(raw('["EVENT",{%s}]' % inner))
+    # As many bytes as a message has, or one more, with the parts behind them.
+    for row, text in ((0, event_with()), (0, req('{"limit":1,"ids":["%s"]}' % A)), (0, '["CLOSE","s"]'), (6, event_with(kind="-0")),
+            (7, req('{"authors":[""]}')), (8, '["CLOSE",""]'), (5, "{}"), (4, '["CLOSE","\\ud800"]')):
+        for extra in (0, 1):
+            space = b"\n" * (MESSAGE_BYTES - len(text) + extra)
+            rows = (1, 1) if extra else (4 if row == 4 else 0, row)
+            yield rows, message(space + raw(text))
+    for size in (8193, 16000):
+        yield (0, 0), message(raw(event_with(content='"%s"' % ("x" * size)).replace('"id"', " " * 40 + '"id"')))
+        yield (0, 8), message(raw(req("{}", sub='"%s"' % ("x" * size))))
+        yield (0, 6), message(raw(event_with(created_at="9" * size)))
 
 
 # Order, class, texts, fields, digests.

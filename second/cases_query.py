@@ -3,12 +3,13 @@
 import random
 from itertools import combinations, permutations, product
 
-from cases_event import MAX_TIME, id_of, made
+import old
+from cases_event import MAX_TIME, id_of, made, offer
 from cases_message import A, members, req
 from cases_table import B, FIRST, Lent, fresh, in_capitals, size_of, turned
-from rows import LETTERS
+from rows import LETTERS, MESSAGE_BYTES
 from spell import BELOW, CONTROLS, escaped, hexes, plain, raw, spell, u_escapes, verbatim, words
-from table import HEADER, SLOT
+from table import HEADER, MOST, SLOT
 
 NONE = 65535  # no slot has this number
 LISTS, BOUNDS = ("ids", "authors", "kinds"), ("since", "until", "limit")
@@ -439,6 +440,132 @@ def large_table():
     yield from asked.flush()
 
 
+# 02, Wish 6: messages of up to 16,384 bytes, tables of up to 1,024 slots.
+
+
+def long_messages():
+    """REQs and EVENTs on both sides of the most bytes of a message; as many members and filters as the bounds allow."""
+    yield from filled(8, EVENTS)
+    asked = Asked()
+    everything = req_of([Filter()])
+    for size in (8192, 8193, MESSAGE_BYTES - 1, MESSAGE_BYTES):
+        asked.req(listing(NEWEST_FIRST), [], text=everything.ljust(size))
+    yield from asked.flush()
+    asked.req(b"1", [], text=everything.ljust(MESSAGE_BYTES + 1))
+    asked.req(b"1", [], text=everything.rjust(MESSAGE_BYTES + 1))
+    asked.req(listing(NEWEST_FIRST), [], text=everything.rjust(MESSAGE_BYTES))
+    yield from asked.flush()
+    # The last member of the last list of the last filter fits.
+    lists = {"ids": strings(*[A] * 16), "authors": strings(*["c" * 64] * 16), "#p": strings(*[A] * 16), "#e": strings(*[A] * 16)}
+    never = [{**lists, "kinds": "[%s]" % ",".join(["9"] * 16)} for _ in range(3)]
+    for last, slots in (({"ids": strings(*[A] * 15, IDS[5])}, [5]), ({"#e": strings(*[A] * 15, H)}, [0]), ({"ids": strings(*[A] * 16)}, []),
+                        ({"kinds": "[%s]" % ",".join(["7"] * 15 + ["1"])}, newest_first([0, 1])), ({"limit": "1"}, NEWEST_FIRST[:1])):
+        filters = filters_of(*never, last)
+        asked.both(listing(slots), filters)
+        text = req_of(filters)
+        asked.req(listing(slots), [], text=text[:-1].ljust(MESSAGE_BYTES - 1) + "]")
+        yield from asked.flush()
+    for count in (16, 17):
+        asked.req(listing([]) if count == 16 else b"8", filters_of({"#g": strings(*["x" * 900] * count)}))
+    long_escaped = lambda s: escaped(random.Random(12), s) if len(s) > 128 else plain(s)
+    asked.both(listing([]), filters_of({"#g": "[%s]" % long_escaped("é€" * 1300)}))
+    yield from asked.flush()
+    # An EVENT and a REQ of which each is as long as a message may be, or a byte longer.
+    value = "x" * 2600
+    event = asked.message(offer(made(A, 3, 1, [["t", value]]), long_escaped).ljust(MESSAGE_BYTES + 1))[0]
+    fits = asked.message(req_of(filters_of({"#t": strings(value)})).rjust(MESSAGE_BYTES))
+    other_letter = asked.message(req_of(filters_of({"#T": "[%s]" % long_escaped(value)})).ljust(MESSAGE_BYTES + 1))[0]
+    for size, row in ((MESSAGE_BYTES - 1, None), (MESSAGE_BYTES, None), (MESSAGE_BYTES + 1, b"1")):
+        asked.lines.append((row or b"matches", line(b"W", event, size, *fits)))
+        asked.lines.append((row or b"differs", line(b"W", event, MESSAGE_BYTES, other_letter, size)))
+        asked.lines.append((row or b"differs", line(b"W", event, size, other_letter, MESSAGE_BYTES)))
+    yield from asked.flush()
+
+
+def large_event(n):
+    """What slot n of a table of the most slots holds: tiles, most of them of one time; one of its own kind."""
+    time = 5 if n % 8 else n - 512
+    kind = 31000 if n == 700 else 30000 + n % 2
+    return made((A, B)[n % 3 == 0], time, kind, [["d", "tile-%04d" % n], ["g", "%d" % (n % 100)], ["e", "%064x" % (n % 256)]])
+
+
+def most_slots():
+    """A table of the most slots: the answer's length against the row's, limits, and the order over all slots."""
+    rng = random.Random(14)
+    events = [large_event(n) for n in range(MOST)]
+    ids = [id_of(fields) for fields in events]
+    order = sorted(range(MOST), key=lambda k: (-int(events[k]["created_at"]), ids[k]))
+    yield from filled(MOST, events, 9)
+    asked = Asked()
+    for size in (0, 64, 255, 256, MOST - 1):
+        asked.both(b"13", [Filter()], size)
+    for size in (MOST, MOST + 1, MOST + 16):
+        asked.both(listing(order), [Filter()], size)
+    for fill in (0, order[-1], order[0]):
+        asked.req(b"0 %d" % MOST, [Filter()], MOST, fill)
+    for limit in (0, 1, 63, 64, 65, 255, 256, 257, MOST - 2, MOST - 1, MOST, MOST + 1, 65535):
+        count = min(limit, MOST)
+        asked.parts(listing(order[:limit]), [Filter(limit=str(limit))], count)
+        asked.req(listing(order[:limit]), [Filter(limit=str(limit))], MOST)
+        if count:
+            asked.both(b"13", [Filter(limit=str(limit))], count - 1)
+    # One tile, in slots of one, two and more bytes.
+    for n in (0, 1, 63, 64, 255, 256, 257, 511, 512, 700, MOST - 2, MOST - 1):
+        asked.both(listing([n]), filters_of({"#d": strings("tile-%04d" % n)}), 1)
+        asked.both(listing([n]), filters_of({"ids": strings(A, ids[n])}), 1)
+        asked.req(listing([n]), filters_of({"ids": strings(ids[n]), "#d": strings("x", "tile-%04d" % n), "kinds": "[%s]" % events[n]["kind"]}), 8)
+        asked.both(listing([]), filters_of({"#d": strings("tile-%04d" % n, "tile-%05d" % n), "until": "-1000"}), 0)
+        asked.req(listing([]), filters_of({"ids": strings(other(ids[n], 63))}), 0)
+    asked.both(listing([700]), filters_of({"kinds": "[31000]"}), 1)
+    asked.both(listing([]), filters_of({"kinds": "[31001]"}), 1)
+    asked.both(b"13", filters_of({"#d": strings("tile-0255", "tile-0256")}), 1)
+    pair = [k for k in order if k in (255, 256)]
+    asked.both(listing(pair), filters_of({"#d": strings("tile-0256", "tile-0255")}), 2)
+    yield from asked.flush()
+    # Equal times, by id; a hundredth, a half.
+    fives = [k for k in order if events[k]["created_at"] == "5"]
+    for limit in (1, 2, 255, 256, 257, len(fives) - 1, len(fives), MOST):
+        asked.both(listing(fives[:limit]), filters_of({"since": "5", "until": "5", "limit": str(limit)}), MOST)
+    for name, value, test in (("#g", strings("7"), lambda n: n % 100 == 7), ("kinds", "[30001]", lambda n: n % 2 and n != 700),
+                              ("authors", strings(B), lambda n: n % 3 == 0), ("#e", strings("%064x" % 255), lambda n: n % 256 == 255)):
+        found = [k for k in order if test(k)]
+        asked.both(listing(found), filters_of({name: value}), len(found))
+        asked.both(b"13", filters_of({name: value}), len(found) - 1)
+        asked.both(listing(found[:9]), filters_of({name: value, "limit": "9"}), 9)
+    yield from asked.flush()
+    # Unions of filters, each cut to its own limit.
+    for count in (2, 3, 4, 4, 4, 4) * 4:
+        chosen, union = [], set()
+        for _ in range(count):
+            g, limit = str(rng.randrange(100)), rng.choice([0, 1, 5, 11, 100, 600, MOST - 1, MOST])
+            time = rng.choice([-512, -8, 0, 5, 6, 400])
+            fields, found = rng.choice([
+                ({"#g": strings(g)}, [k for k in order if str(k % 100) == g]),
+                ({"since": str(time)}, [k for k in order if int(events[k]["created_at"]) >= time]),
+                ({"until": str(time)}, [k for k in order if int(events[k]["created_at"]) <= time]),
+                ({"authors": strings(B)}, [k for k in order if k % 3 == 0]),
+                ({}, order),
+            ])
+            chosen.append(Filter(fields, limit=str(limit)))
+            union |= set(found[:limit])
+        want = listing([k for k in order if k in union])
+        (asked.req if rng.randrange(2) else asked.parts)(want, chosen, MOST)
+        (asked.req if rng.randrange(2) else asked.parts)(b"13" if union else b"0 0", chosen, max(len(union) - 1, 0))
+    asked.both(listing(order), [Filter(limit=str(MOST))] * 4, MOST)
+    yield from asked.flush()
+    asked.both(listing(order[:3]), [Filter(limit="3")], 3)
+    asked.both(b"13", [Filter()], MOST - 1)
+    lines = asked.lines
+    yield asked.lent.set()
+    last = HEADER + (MOST - 1) * SLOT
+    for at, bits in ((0, 1), (1, 4), (4, 1), (5, 1), (last + 96, 1), (last + 112, 255), (last + SLOT - 1, 1), (HEADER + 256 * SLOT + 104, 64)):
+        yield b"unsound", line(b"X", at, bits)
+        for _, one in lines:
+            yield b"11", one
+        yield b"sound", line(b"X", at, bits)
+    yield from lines
+
+
 def unsound_tables():
     """11 goes after the filters' rows and before 13."""
     held = [made(A, 3, 1), made(A, 4, 30000, [["d", "a"]])]
@@ -705,8 +832,9 @@ def tables(rng, count, few, ways):
 
 def labelled():
     parts = (conditions, pairs, letters, fitting_tags, spellings, unions, equal_times, rows_of_numbers, large_table)
-    for part in parts + (unsound_tables, hostile_filters, hostile_events, control_conditions, generated):
+    for part in parts + (unsound_tables, hostile_filters, hostile_events, control_conditions, generated, long_messages, most_slots):
         yield from part()
+    yield from old.labelled("query")
 
 
 def lines():

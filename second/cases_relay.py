@@ -7,7 +7,9 @@ import random
 
 from cases_event import MAX_TIME, made, offer, spelled_fields
 from cases_table import in_capitals
-from cases_message import A, EVENT_FAULTS, FILTER_FAULTS, SUB_FAULTS, broken, event, random_lines, random_message, req, written
+from cases_message import A, EVENT_FAULTS, FILTER_FAULTS, SUB_FAULTS, broken, event, full_messages, many, random_lines
+from cases_message import random_message, req, written
+from rows import MESSAGE_BYTES
 from sha256 import sha256
 from spell import BELOW, CONTROLS, SAMPLE, WIDE, damaged, hexes, plain, raw, spell, u_escapes, words
 
@@ -26,7 +28,7 @@ REASONS = {
     12: "error: no room",
 }
 DUPLICATE, OLDER = "duplicate: already have this event", "duplicate: have a newer version"
-CUTS = (0, 0, 0, 1, 2, 7, 100, 8192, 8193)
+CUTS = (0, 0, 0, 1, 2, 7, 100, MESSAGE_BYTES, MESSAGE_BYTES + 1)
 
 
 def notice(row):
@@ -96,22 +98,86 @@ def ends():
 
 
 def long_lines():
-    """8,192 bytes are a message; one more, or a million, is one reply."""
+    """As many bytes as a message has; one more, or a million, is one reply."""
     close, ask = raw('["CLOSE","s"]'), raw(req("{}"))
     for cut in CUTS:
-        yield "", cut, [b"P" + close, b"R %d" % (8192 - len(close)), b"L"]
-        yield notice(1), cut, [b"P" + close, b"R %d" % (8193 - len(close)), b"L"]
-        yield eose(), cut, [b"R %d" % (8192 - len(ask)), b"P" + ask]
-        yield notice(1), cut, [b"R %d" % (8193 - len(ask)), b"P" + ask]
-        yield notice(1) + eose(), cut, [b"R 8193", fed(""), b"P" + ask]
-        # what follows the 8,192nd byte is no message of its own
-        yield notice(1) * 2, cut, [b"R 8192", fed(req("{}")), b"R 8193", b"P" + ask]
-    for size in (8191, 8192, 8193, 8194, 16000, 16384, 16386, 65535, 65536, 1000000):
-        row = 3 if size <= 8192 else 1
-        for cut in (0, 1, 1000) if size < 65536 else (0, 8192):
+        for size in (8191, 8192, 8193, MESSAGE_BYTES - 1, MESSAGE_BYTES):
+            yield "", cut, [b"P" + close, b"R %d" % (size - len(close)), b"L"]
+            yield eose(), cut, [b"R %d" % (size - len(ask)), b"P" + ask]
+        over = MESSAGE_BYTES + 1
+        yield notice(1), cut, [b"P" + close, b"R %d" % (over - len(close)), b"L"]
+        yield notice(1), cut, [b"R %d" % (over - len(ask)), b"P" + ask]
+        yield notice(1) + eose(), cut, [b"R %d" % over, fed(""), b"P" + ask]
+        # what follows the last byte that a message can have is no message of its own
+        yield notice(1) * 2, cut, [b"R %d" % MESSAGE_BYTES, fed(req("{}")), b"R %d" % over, b"P" + ask]
+    sizes = (8191, 8192, 8193, 16000, MESSAGE_BYTES - 1, MESSAGE_BYTES, MESSAGE_BYTES + 1, MESSAGE_BYTES + 2, 32768, 65535, 65536)
+    for size in sizes + (1000000,):
+        row = 3 if size <= MESSAGE_BYTES else 1
+        for cut in (0, 1, 1000) if size < 65536 else (0, MESSAGE_BYTES):
             yield notice(row) + eose(), cut, [b"RA%d" % size, fed(""), fed(req("{}"))]
             yield eose() + notice(row), cut, [fed(req("{}")), b"RA%d" % size]
             yield notice(row), cut, [b"R\x00%d" % size, fed("")]
+
+
+def cut_lines():
+    """A line cut just before, at and behind the last byte that a message can have, with 0A in a piece of its own or not."""
+    ask = raw(req("{}"))
+    for size in (MESSAGE_BYTES - 1, MESSAGE_BYTES, MESSAGE_BYTES + 1, MESSAGE_BYTES + 2):
+        say = eose() if size <= MESSAGE_BYTES else notice(1)
+        for at in (0, 1, 8192, 8193, MESSAGE_BYTES - 2, MESSAGE_BYTES - 1, MESSAGE_BYTES, MESSAGE_BYTES + 1):
+            if len(ask) + at > size:
+                # The end of the REQ stands behind the cut, or is cut.
+                head = size - len(ask)
+                first = min(at, head)
+                inside = max(at - head, 0)
+                pieces = [b"R %d" % first, b"P" + ask[:inside], b"R %d" % (head - first), b"P" + ask[inside:]]
+            else:
+                pieces = [b"P" + ask, b"R %d" % at, b"R %d" % (size - len(ask) - at)]
+            yield say + eose(), 0, pieces + [b"L", b"L" + ask]
+            yield say, 0, pieces
+    # Lines one behind the other, of which every second one is too long by one byte.
+    pieces, say = [], ""
+    for turn in range(8):
+        pieces += [b"R %d" % (MESSAGE_BYTES - len(ask) + turn % 2), b"L" + ask]
+        say += notice(1) if turn % 2 else eose()
+    for cut in (0, 1, 4096, MESSAGE_BYTES - 1, MESSAGE_BYTES, MESSAGE_BYTES + 1, MESSAGE_BYTES + 2, 65536):
+        yield say, cut, pieces
+
+
+def long_messages():
+    """Messages that have more than 8,192 bytes: rows, verdicts and answers."""
+    escapes = lambda s: '"%s"' % "".join("\\u%04X" % ord(c) for c in s) if len(s) > 128 else plain(s)
+    first, second = [tile(1, time, "x" * 2600) for time in (0, 1)]
+    tagged = made(kind=1, tags=[["t", "é" * 1900]])
+    yield run(
+        [
+            (taken(id_in(first)), offer(first, escapes)),
+            (taken(id_in(first), DUPLICATE), offer(first)),
+            (sent(first) + eose(), req("{}")),
+            (taken(id_in(second)), offer(second, escapes)),
+            (taken(id_in(first), OLDER), offer(first, escapes)),
+            (taken(id_in(tagged)), offer(tagged, escapes)),
+            (sent(tagged) + eose(), req('{"#t":[%s]}' % escapes("é" * 1900))),
+            (eose(), req('{"#t":[%s]}' % escapes("é" * 1899 + "e"))),
+            (sent(second) + eose(), req('{"since":1}' + " " * 16000)),
+            (refused(B, 10), offer(first, escapes, B)),
+            (closed("s", 8), req(*["{}"] * 5400)),
+            (closed("s", 6), req(*["{}"] * 5400, '{"limit":-0}')),
+            (closed("s", 8), req('{"kinds":%s}' % many("1", 8000))),
+            (closed("s", 6), req('{"kinds":[%s]}' % ("9" * 16000))),
+            (notice(8), req("{}", sub=plain("s" * 16000))),
+            (notice(5), req('{"x":%s}' % plain("x" * 16000))),
+            (notice(3), "[" * 9 + " " * 16000 + "]" * 9),
+            (notice(1), req("{}") + " " * MESSAGE_BYTES),
+            (sent(second) + sent(tagged) + eose(), req("{}")),
+        ]
+    )
+    for size in (4016, 4017, 8000, 12000, 16000):
+        one = made(content="x" * size)
+        yield run([(taken(id_in(one)) if size == 4016 else refused(id_in(one), 9), offer(one)), (refused(B, 10 if size == 4016 else 9), offer(one, id=B))])
+    for number, (row, text) in enumerate(full_messages()):
+        if '"REQ"' in text:
+            yield run([({0: eose(), 1: notice(1), 8: closed("s", 8)}[row], text)], (0, 1, 7, 4096)[number % 4])
 
 
 # Each row of the table of numbers, in each of its forms.
@@ -215,7 +281,7 @@ def verdicts():
 
 # 02, Wish 3: control characters.
 
-LONGEST = (8192 - len(offer(made()))) // 6  # so many of them, spelled, a content has in a message
+LONGEST = (MESSAGE_BYTES - len(offer(made()))) // 6  # so many of them, spelled, a content has in a message
 
 
 def controls():
@@ -281,7 +347,7 @@ def control_replies():
     sub = plain("\x1f" * 64)
     full = [tile(n, n, CONTROLS[n] * (LONGEST - 20)) for n in range(8)]
     answers = [sent(fields, sub[1:-1]) for fields in reversed(full)]
-    for cut in (0, 100, 8193):
+    for cut in (0, 100, MESSAGE_BYTES + 1):
         yield run(
             [(taken(id_in(fields)), offer(fields)) for fields in full]
             + [("".join(answers[:limit]) + eose(sub[1:-1]), req('{"limit":%d}' % limit, sub=sub)) for limit in (8, 1, 7)],
@@ -354,7 +420,7 @@ def random_runs(rng, count, few=FEW_TAGS, sample=SAMPLE):
 
 
 def runs():
-    for part in (ends, long_lines, rows, verdicts, controls, control_replies):
+    for part in (ends, long_lines, cut_lines, long_messages, rows, verdicts, controls, control_replies):
         yield from part()
     yield from random_runs(random.Random(21), 500)
     yield from random_runs(random.Random(23), 40, FEW_TAGS + CONTROL_TAGS, WIDE)
@@ -387,7 +453,10 @@ def control_lines():
 def relay_lines():
     """The stored input of the program relay itself: 01's four lines, then one long run, whose last line has no 0A."""
     rng = random.Random(22)
-    out = [raw(text) for text in FOUR] + [b"x" * size for size in (8192, 8193, 16000, 1000000)]
+    sizes = (8192, 8193, MESSAGE_BYTES - 1, MESSAGE_BYTES, MESSAGE_BYTES + 1, 1000000)
+    out = [raw(text) for text in FOUR] + [b"x" * size for size in sizes]
+    for size in sizes[:-1]:
+        out += [raw(req("{}")).ljust(size), raw('["CLOSE","s"]').rjust(size)]
     for _, _, given in list(random_runs(rng, 40)) + list(random_runs(random.Random(24), 6, FEW_TAGS + CONTROL_TAGS, WIDE)):
         out += [line[1:] for line in given]
     return out + [raw(text) for text in control_lines()] + [raw(req("{}"))]

@@ -3,11 +3,12 @@
 import random
 from itertools import combinations, permutations
 
+import old
 from cases_event import KINDS, MAX_TIME, STARRED, id_of, made, offer, spelled_fields
 from cases_message import A, EVENT_FAULTS, event, event_with, req
-from rows import EVENT, read_text, spelled, text_of
-from spell import BELOW, CONTROLS, SAMPLE, WIDE, hexes, plain, raw, spell, verbatim, words
-from table import HEADER, SLOT, Program, event_of, held
+from rows import EVENT, MESSAGE_BYTES, read_text, spelled, text_of
+from spell import BELOW, CONTROLS, SAMPLE, WIDE, escaped, hexes, plain, raw, spell, verbatim, words
+from table import HEADER, MOST, SLOT, Program, event_of, held
 
 FIRST, SECOND, B = "b" * 128, "c" * 128, "b" * 64
 NAMES = ["id", "pubkey", "created_at", "kind", "tags", "content", "sig"]
@@ -105,22 +106,25 @@ def both(want, one):
 
 
 def formats():
-    for capacity in (0, 1, 2, 3, 8, 63, 64, 65, 66, 255, 256, 257, 65536, 2**32, 2**32 + 1, 10**17):
+    near = [128, 255, 256, 257, 1000, MOST - 1, MOST, MOST + 1, MOST + 2]
+    for capacity in (0, 1, 2, 3, 8, 63, 64, 65, 66, *near, 2**16, 2**16 + 1, 2**32, 2**32 + 1, 10**17):
         sizes = {0, 1, 15, 16, 17, 4223, 4224, size_of(64) - 1, size_of(64), size_of(64) + 100}
-        if capacity <= 64:
-            sizes |= {size_of(capacity) + by for by in (-1, 0, 1, 9)} & set(range(size_of(64) + 150))
+        if capacity <= MOST:
+            sizes |= {size_of(capacity) + by for by in (-1, 0, 1, 9)} - {size_of(0) - 1}
+        else:
+            sizes |= {size_of(MOST), size_of(MOST) + 150}
         for size in sorted(sizes):
             if capacity > 66 and 17 < size < size_of(64):
                 continue
             yield None, line(b"L", size, 170)
-            wrong = 14 if not 1 <= capacity <= 64 else 13 if size < size_of(capacity) else 0
+            wrong = 14 if not 1 <= capacity <= MOST else 13 if size < size_of(capacity) else 0
             yield b"%d " % wrong, line(b"F", capacity)
             yield (b"unsound" if wrong else b"sound"), line(b"S")
             if size < 10000:
                 yield b"11 " if wrong else b"14 ", line(b"H", 0)
     # A formatted table formatted anew, smaller and larger.
     yield None, line(b"L", size_of(8), 0)
-    for capacity, row in ((8, 0), (2, 0), (8, 0), (9, 13), (0, 14), (1, 0), (65, 14)):
+    for capacity, row in ((8, 0), (2, 0), (8, 0), (9, 13), (0, 14), (1, 0), (65, 13), (MOST, 13), (MOST + 1, 14)):
         yield b"%d " % row, line(b"F", capacity)
         yield b"sound", line(b"S")
     for size in (0, 3, 4, 8, 12, 15, 16, 100, size_of(1) - 1, size_of(1)):
@@ -276,7 +280,7 @@ def full_tables():
             yield OLDER, tiles[0].message()
             for slot in (0, size - 1):
                 yield b"0 ", line(b"H", slot)
-            for slot in (size, size + 1, 64, 2**32, 10**17):
+            for slot in (size, size + 1, 64, MOST, 2**32, 10**17):
                 yield b"14 ", line(b"H", slot)
             # One byte of the last slot, or behind it; the last key made the first one.
             last = HEADER + (size - 1) * SLOT
@@ -319,8 +323,8 @@ def refusals():
     messages += [(9, offer(made(content="x" * 4017))), (9, offer(made(content="x" * 4017), id=A))]
     wanted += [(row, lent.add(raw(text)), len(raw(text))) for row, text in messages]
     taken, large = [lent.event(made(content="x" * size)) for size in (4016, 4017)]
-    long = lent.add(raw(offer(made()) + " " * 8192))
-    wanted += [(1, long, 8193), (0, long, 8192)]
+    long = lent.add(raw(offer(made()) + " " * MESSAGE_BYTES))
+    wanted += [(1, long, MESSAGE_BYTES + 1), (0, long, MESSAGE_BYTES)]
     yield lent.set()
     for state in ("sound", "full", "unsound", "unformatted"):
         yield from fresh(1)
@@ -339,7 +343,10 @@ def refusals():
             want = b"11 refused" if bad else None
             yield from both(want, one)
             yield want, one.parts()
-        yield None, line(b"M", long, 8192)
+        for size in (8191, 8192, 8193, MESSAGE_BYTES - 1, MESSAGE_BYTES):
+            want = b"11 refused" if bad else OLDER if state == "full" else FULL
+            yield want, line(b"M", long, size)
+            yield want, line(b"J", long, size)
         if bad:
             yield b"11 refused", taken.parts()
         # Parts that break a row, each of them in an event that is good but for it.
@@ -501,6 +508,232 @@ def slot_changes():
         yield None, line(b"H", 1)
 
 
+# 02, Wish 6: messages of up to 16,384 bytes, tables of up to 1,024 slots.
+
+
+def long_offers():
+    """Messages that have more than 8,192 bytes, whose texts have up to 4,096 or more; as parts they are the same events."""
+    rng = random.Random(14)
+    long_escaped = lambda s: escaped(rng, s) if len(s) > 128 else plain(s)
+    for c, most in (("x", 2600), ("é", 2008), ("\n", 2008), ("€", 1338), ("\x00", 2600)):
+        lent = Lent()
+        full = len(text_of(made(content=c * (most + 1)))) > 4096
+        first, newer, more = [lent.event(made(kind=0, created_at=time, content=c * count), string=long_escaped)
+                              for time, count in ((0, most), (1, most), (2, most + 1))]
+        again = lent.event(first.fields, SECOND, string=verbatim)
+        yield lent.set()
+        assert all(8192 < one.place[1] <= MESSAGE_BYTES for one in (first, newer, more))
+        yield from fresh(1)
+        yield from both(STORED, first)
+        yield DUPLICATE, first.parts()
+        yield DUPLICATE, again.parts()
+        yield b"0 ", line(b"H", 0)
+        yield STORED, newer.parts()
+        yield OLDER, first.message()
+        yield from both(b"9 refused" if full else STORED, more)
+        yield (b"9 refused" if full else DUPLICATE), more.parts()
+    # What is too long for a message can be offered as parts, and is then too long for a text.
+    lent = Lent()
+    sizes = (4017, 8000, 16000, MESSAGE_BYTES - len(offer(made())), MESSAGE_BYTES - len(offer(made())) + 1)
+    ones = [lent.event(made(content="x" * size)) for size in sizes]
+    yield lent.set()
+    for one in ones:
+        yield from both(b"9 refused" if one.place[1] <= MESSAGE_BYTES else b"1 refused", one)
+        yield b"9 refused", one.parts()
+
+
+def set_number(at, old, new):
+    """The lines that make of a number of the header another, with the number after each."""
+    for i in range(4):
+        bits = (old ^ new) >> 8 * i & 255
+        if bits:
+            old ^= bits << 8 * i
+            yield old, line(b"X", at + i, bits)
+
+
+def large_headers():
+    """Capacities on both sides of the most, in buffers that have the slots or lack a byte of them."""
+    capacity = MOST
+    yield from fresh(MOST, 150, 0)
+    for other in (MOST - 1, MOST, MOST + 1, 1000, 257, 256, 255, 128, 66, 65, 64, 63, 1, 0, 2048, 65536 + 1, 2**31, MOST):
+        for now, step in set_number(0, capacity, other):
+            yield (b"sound" if 1 <= now <= MOST else b"unsound"), step
+        capacity = other
+    for other in (65, 66, 128, 256, 257, 1000, MOST - 1, MOST):
+        for by in (-1, 0, 1):
+            yield None, line(b"L", size_of(other) + by, 0)
+            yield b"0", line(b"F", 64)
+            for now, step in set_number(0, 64, other):
+                yield (b"sound" if now and size_of(now) <= size_of(other) + by else b"unsound"), step
+        # One slot counted that holds nothing; as many as there are, and one more.
+        count = 0
+        for wrong in (1, other, other + 1):
+            for now, step in set_number(4, count, wrong):
+                yield (b"unsound" if now else b"sound"), step
+            count = wrong
+
+
+SLOTS = (0, 63, 64, 255, 256, 511, MOST - 2, MOST - 1)  # of the large table, each the slot of a tile
+
+
+def large_event(n):
+    """What slot n of the large table holds: every kind of event, and in some slots a tile."""
+    if n in SLOTS or n % 4 == 0:
+        return tile(n)
+    return [
+        dict(kind=1, created_at=n, content=str(n)),
+        dict(kind=10000 + n, created_at=-n, tags=[["d", "x"]]),
+        dict(kind=30001 + n % 8, pubkey=B, created_at=7, tags=[["e", "x"], ["d", "\n%d" % n]], content="é\x01"),
+    ][n % 4 - 1]
+
+
+def lent_in_turn(offers):
+    """Lent bytes, as many as it takes, and the lines of what stands in them: (how an event is lent, its line's maker)."""
+    lent, pending = Lent(), []
+    for lend, lines_of in offers:
+        if len(lent.bytes) > 60000:
+            yield lent.set()
+            for one, after in pending:
+                yield from after(one)
+            lent, pending = Lent(), []
+        pending.append((lend(lent), lines_of))
+    yield lent.set()
+    for one, after in pending:
+        yield from after(one)
+
+
+def filling(n):
+    """Slot n filled, with what is asked at some counts."""
+
+    def lines_of(one):
+        yield STORED, one.parts() if n % 2 else one.message()
+        if n + 1 in (64, 65, 256, 257, MOST - 1):
+            yield b"sound", line(b"S")
+            yield DUPLICATE, one.judged()
+            for slot, want in ((n, b"0 "), (n + 1, b"14 ")):
+                yield want, line(b"H", slot)
+        if n + 1 == MOST - 2:
+            # Two later slots: a byte of either, and the byte behind the table.
+            for slot in (MOST - 2, MOST - 1):
+                for i in (0, 112, SLOT - 1):
+                    yield from turned(b"unsound", HEADER + slot * SLOT + i, 128)
+            yield from turned(b"sound", size_of(MOST), 128)
+
+    return lambda lent: lent.event(made(**large_event(n))), lines_of
+
+
+def large_verdicts():
+    """On the full table: duplicate, older, stored over a slot, 12."""
+
+    def asked(want, fields, sig=FIRST, stored=False, id=None):
+        def lines_of(one):
+            yield want, one.judged()
+            yield want, one.message()
+            yield (DUPLICATE if stored else want), one.parts()
+
+        return lambda lent: lent.event(fields, sig, id=id), lines_of
+
+    for n in SLOTS:
+        held_one = made(**large_event(n))
+        yield asked(DUPLICATE, held_one, SECOND)
+        yield asked(OLDER, {**held_one, "created_at": "4"})
+        yield asked(STORED, {**held_one, "created_at": "6"}, stored=True)
+        yield asked(OLDER, held_one)
+    for n in (1, 2, 3, 1018, 1019, 1021):
+        yield asked(DUPLICATE, made(**large_event(n)), SECOND)
+    for n in (1018, 1019):
+        yield asked(OLDER, {**made(**large_event(n)), "created_at": "-7200"})
+        yield asked(STORED, {**made(**large_event(n)), "created_at": "7200"}, stored=True)
+    for fields in (made(kind=1), made(**tile(9999)), made(kind=10000), made(pubkey=B, kind=10000 + 2), made(kind=65535)):
+        yield asked(FULL, fields)
+    yield asked(EPHEMERAL, made(kind=20000))
+    yield asked(b"10 refused", made(kind=1), id="0" * 64)
+
+
+def becoming(slot, at, old, new):
+    """Bytes at a place of a slot made others, one at a time, and turned back; with the last one the table is unsound."""
+    steps = [line(b"X", HEADER + slot * SLOT + at + i, a ^ b) for i, (a, b) in enumerate(zip(old, new)) if a != b]
+    for step in steps[:-1]:
+        yield None, step
+    yield b"unsound", steps[-1]
+    for step in steps[:0:-1]:
+        yield None, step
+    yield b"sound", steps[0]
+
+
+def ids_near(slot, identity, others):
+    """The id of a slot made that of each other slot, a byte at a time; with the last one, which is turned back, it is held twice."""
+    for other in others:
+        steps = [(i, a ^ b) for i, (a, b) in enumerate(zip(identity, other)) if a != b]
+        for i, bits in steps[:-1]:
+            yield b"sound", line(b"X", HEADER + slot * SLOT + i, bits)
+        i, bits = steps[-1]
+        yield from turned(b"unsound", HEADER + slot * SLOT + i, bits)
+        identity = other[:i] + identity[i:]
+
+
+def tile_digits(slot, other):
+    """The place of a tile's name in its slot, the name, and another tile's."""
+    name, wanted = b"tile-%04d" % slot, b"tile-%04d" % other
+    return slot_of(tile(slot), A).index(name), name, wanted
+
+
+def large_damage():
+    """On the full table: header numbers; an id or a key held twice; a byte of the last slot, and behind it."""
+    last = MOST - 1
+    for at, other in ((0, MOST - 1), (0, MOST + 1), (0, 2 * MOST), (0, 64), (4, MOST - 1), (4, MOST + 1), (4, 64), (4, 0)):
+        steps = [step for _, step in set_number(at, MOST, other)]
+        for step in steps + steps[:0:-1]:
+            yield b"unsound", step
+        yield b"sound", steps[0]
+    # Keys and ids: the last slot's made those of another slot.
+    for other in (0, 511, MOST - 2):
+        yield from becoming(last, *tile_digits(last, other))
+    first, *others = [bytes.fromhex(id_of({**made(**large_event(n)), "created_at": "6"})) for n in (last, 0, 511, MOST - 2)]
+    yield from ids_near(last, first, others)
+    for want, at in ((b"unsound", 112), (b"unsound", SLOT - 1), (b"sound", SLOT), (b"sound", 95)):
+        yield from turned(want, HEADER + last * SLOT + at, 1)
+    for slot in SLOTS:
+        yield b"0 ", line(b"H", slot)
+    for slot in (MOST, MOST + 1, 2 * MOST, 65536):
+        yield b"14 ", line(b"H", slot)
+    yield b"sound", line(b"S")
+
+
+def large_table():
+    """One table of the most slots, filled once. At the end it is formatted smaller: the slots behind are not looked at."""
+    yield from fresh(MOST, 150)
+    yield from lent_in_turn([filling(n) for n in range(MOST)])
+    yield b"sound", line(b"S")
+    yield from lent_in_turn(large_verdicts())
+    yield from large_damage()
+    yield b"0 0 ", line(b"F", 65)
+    yield b"sound", line(b"S")
+    for now, step in set_number(0, 65, MOST):
+        yield b"unsound", step
+    yield b"0 0 ", line(b"F", MOST)
+    yield b"sound", line(b"S")
+
+
+def mid_tables():
+    """Tables of more than 64 slots, full: an id and a key held twice in slots on both sides of slot 64."""
+    for capacity in (65, 128):
+        yield from fresh(capacity)
+        yield from lent_in_turn([
+            (lambda lent, n=n: lent.event(made(**tile(n))), lambda one: iter([(STORED, one.message())])) for n in range(capacity)])
+        yield b"sound", line(b"S")
+        regular = Lent()
+        one = regular.event(made(kind=1))
+        yield regular.set()
+        yield from both(FULL, one)
+        for slot, other in ((64, 63), (63, 64), (capacity - 1, 0), (0, capacity - 1)):
+            yield from becoming(slot, *tile_digits(slot, other))
+        ids = [bytes.fromhex(id_of(made(**tile(n)))) for n in range(capacity)]
+        yield from ids_near(64, ids[64], [ids[63], ids[0]])
+        yield from ids_near(0, ids[0], [ids[capacity - 2]])
+        yield from both(FULL, one)
+
+
 # 02, Wish 3: control characters.
 
 
@@ -594,7 +827,7 @@ def control_slots():
         yield from turned(b"unsound", second + 106, size ^ (size + by))
     for at in range(size - 5, size + 2):
         yield from turned(b"sound" if at < size - 2 else b"unsound", second + 112 + at, 1)
-    # 4,016 of them fill a text.
+    # 4,016 of them fill a text; spelled, no message has room for so many.
     yield from fresh(1)
     yield b"9 refused", large.parts()
     yield b"1 refused", again.message()
@@ -755,9 +988,11 @@ def large_lists(rng):
 
 
 def labelled():
-    for part in (formats, classes, keys, ties, signatures, full_tables, refusals):
+    for part in (formats, classes, keys, ties, signatures, full_tables, refusals, long_offers):
         yield from part()
-    for part in (each_byte, header_numbers, slot_changes, orders, one_event, control_keys, control_slots):
+    for part in (each_byte, header_numbers, large_headers, slot_changes, orders, one_event, control_keys, control_slots):
+        yield from part()
+    for part in (mid_tables, large_table):
         yield from part()
     for first, second in exchanges():
         yield from first
@@ -765,6 +1000,7 @@ def labelled():
     yield from random_lists(random.Random(10))
     yield from large_lists(random.Random(11))
     yield from control_lists(random.Random(13))
+    yield from old.labelled("table")
 
 
 def lines():

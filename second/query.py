@@ -80,7 +80,7 @@ def match_answer(faults, event, filters):
     return ["matches" if matches_some(filters, event) else "differs"]
 
 
-NUMBERS = 80  # of the row that query_cases lends, or its beginning
+NUMBERS = table.MOST + 16  # of the row that query_cases lends, or its beginning
 
 
 class Program(table.Program):
@@ -135,10 +135,10 @@ class Program(table.Program):
         if letter == b"L":
             return self.fill(*numbers)
         if letter == b"F":
-            return self.become(table.formatted(self.table(), *numbers))
+            return self.written(*table.formatted(self.table(), *numbers))
         if letter == b"X":
             return self.turn_over(*numbers)
-        words = self.become(table.offer(self.table(), self.message(*numbers)))
+        words = self.written(*table.offer(self.table(), self.message(*numbers)))
         return [words[0].split(" ")[0], int.from_bytes(self.room[4:8], "little")]
 
     def call(self, letter, numbers):

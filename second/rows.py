@@ -9,7 +9,7 @@ import re
 from json_text import HELD, UNESCAPED, NotJson, NotUtf8, allowed, characters, parse, strings
 from sha256 import sha256
 
-MESSAGE_BYTES = 8192  # row 1
+MESSAGE_BYTES = 16384  # row 1 (02, Wish 6)
 TEXT_BYTES = 4096  # row 9
 
 # Shape: the JSON type of each field; [x] is a list of x. The order is that of the canonical spelling.

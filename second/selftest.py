@@ -9,6 +9,7 @@ import random
 import re
 import struct
 import sys
+from bisect import bisect_left
 from functools import cache
 
 import cases_digest
@@ -18,13 +19,14 @@ import cases_parts
 import cases_query
 import cases_relay
 import cases_table
+import old
 import query
 import relay
 from answer import ANSWERS, lines
 from cases import stdin
 from json_text import NotUtf8, characters
 from parts import body_faults, lowest
-from rows import EVENT, IN_REPLIES, spelled_record, text_of
+from rows import EVENT, IN_REPLIES, MESSAGE_BYTES, spelled_record, text_of
 from sha256 import sha256
 from spell import BELOW, damaged, raw, u_escapes
 from table import Event, Program, held, parts_event
@@ -108,7 +110,7 @@ def strings_of(value):
 
 def library_row(line):
     """Rows 1 to 4 by Python's own libraries."""
-    if len(line) > 8192:
+    if len(line) > MESSAGE_BYTES:
         return 1
     try:
         text = line.decode()
@@ -388,9 +390,13 @@ def same_field(buffer, at, width, number, answer):
 
 def kept(valid):
     """01's demand 3: the pairs of id and text that stay of valid events, and how many slots they need."""
-    ephemeral = [e for e in valid if 20000 <= e.kind <= 29999]
-    alone = [e for e in valid if e.key is None and e not in ephemeral]
-    newest = [min((e for e in valid if e.key == key), key=Event.age) for key in {e.key for e in valid if e.key}]
+    alone, of_key = [], {}
+    for e in valid:
+        if e.key:
+            of_key.setdefault(e.key, []).append(e)
+        elif not 20000 <= e.kind <= 29999:
+            alone.append(e)
+    newest = [min(events, key=Event.age) for events in of_key.values()]
     pairs = {(e.id, e.text) for e in alone + newest}
     return pairs, len(pairs)
 
@@ -465,16 +471,22 @@ def library_matches(wanted, identity, event):
     return all(second_strings[name] & set(wanted[name]) for name in wanted if name[0] == "#")
 
 
+@cache
+def library_event(slot):
+    """The event of a slot, read by json, and its age."""
+    event = held_value(slot[112 : 112 + int.from_bytes(slot[106:108], "little")])
+    return event, (-event[2], slot[:32].hex())
+
+
 def library_answer(table, filters):
     """A slot is listed if for some filter it is among the newest matches up to the limit: fewer are newer than the limit."""
     count = int.from_bytes(table[4:8], "little")
-    slots = [table[16 + 4208 * k : 16 + 4208 * (k + 1)] for k in range(count)]
-    events = [held_value(slot[112 : 112 + int.from_bytes(slot[106:108], "little")]) for slot in slots]
-    ages = [(-event[2], slot[:32].hex()) for slot, event in zip(slots, events)]
+    events, ages = zip(*[library_event(bytes(table[16 + 4208 * k : 16 + 4208 * (k + 1)])) for k in range(count)] or [((), ())])
     out = set()
     for wanted in filters:
         found = [k for k in range(count) if library_matches(wanted, ages[k][1], events[k])]
-        out |= {k for k in found if sum(ages[i] < ages[k] for i in found) < wanted.get("limit", count)}
+        in_order = sorted(ages[k] for k in found)
+        out |= {k for k in found if bisect_left(in_order, ages[k]) < wanted.get("limit", count)}
     return sorted(out, key=lambda k: ages[k])
 
 
@@ -498,6 +510,19 @@ def test_query():
             same("met %r" % line[:200], answer, b"matches" if fits else b"differs")
 
 
+def test_capacity():
+    """02, Wish 6: "Raise capacity from 64 to 1,024"; 14 is tested before 13."""
+    for capacity, row in ((0, b"14"), (1, b"13"), (64, b"13"), (65, b"13"), (1024, b"13"), (1025, b"14")):
+        same("capacity %d" % capacity, Program().answer(b"F %d" % capacity).split(b" ")[0], row)
+
+
+def test_old():
+    """Tables of 64 slots, as they were answered when those were the most."""
+    for name, program in (("table", Program()), ("query", query.Program())):
+        for want, line in old.labelled(name):
+            same("old %s %r" % (name, line[:100]), program.answer(line), want)
+
+
 # From 01 and its readings: lines, and the whole output. {e} stands for a made event's object, {id} for its id.
 NOTICE = '["NOTICE","invalid: %s"]\n'
 RELAY = [
@@ -508,8 +533,11 @@ RELAY = [
     ('["CLOSE","s"]\r\n\r\n', NOTICE % "not JSON"),
     ('\0\n["CLOSE","\udcff"]', NOTICE % "not JSON" + NOTICE % "not UTF-8"),
     ("[" * 9 + "]" * 9, NOTICE % "not JSON"),
-    ("x" * 8193 + "\n[]", NOTICE % "message too long" + NOTICE % "wrong shape"),
-    ("x" * 8192 + "\n", NOTICE % "not JSON"),
+    ("x" * 16385 + "\n[]", NOTICE % "message too long" + NOTICE % "wrong shape"),
+    ("x" * 16384 + "\n", NOTICE % "not JSON"),
+    ("[]" + " " * 16382, NOTICE % "wrong shape"),
+    ("[]" + " " * 16383, NOTICE % "message too long"),
+    ("x" * 8193, NOTICE % "not JSON"),
     ("x" * 200000, NOTICE % "message too long"),
     ('["REQ","a\\/\\u0062\\n",{}]', '["EOSE","a/b\\n"]\n'),
     ('["REQ","s"]', '["CLOSED","s","invalid: count or length"]\n'),
@@ -543,7 +571,7 @@ def test_relay():
 
 if __name__ == "__main__":
     tests = (test_digest, test_utf8, test_json, test_messages, test_events, test_controls, test_parts, test_lent_strings)
-    for test in tests + (test_table, test_query, test_relay, test_replies):
+    for test in tests + (test_table, test_query, test_capacity, test_old, test_relay, test_replies):
         test()
     print("selftest: %d differences" % len(failures))
     sys.exit(1 if failures else 0)

@@ -10,6 +10,7 @@ import sys
 from cases_message import random_lines
 from cases_relay import CONTROL_TAGS, FEW_TAGS, LONGEST, random_fields, random_text
 from relay import output
+from rows import MESSAGE_BYTES
 from spell import CONTROLS, WIDE
 
 RUN = 1000
@@ -25,7 +26,7 @@ def one_run(rng, strays):
         fields["content"] = rng.choice(CONTROLS) * (LONGEST + 10 - rng.randrange(rng.choice([100, LONGEST])))
     pool = [random_text(rng, events, strays, WIDE).replace(b"\n", b" ") for _ in range(400)]
     lines = [rng.choice(pool) for _ in range(RUN)]
-    lines[rng.randrange(RUN)] = b" " * rng.choice([8191, 8192, 8193, 20000])
+    lines[rng.randrange(RUN)] = b" " * rng.choice([8193, MESSAGE_BYTES - 1, MESSAGE_BYTES, MESSAGE_BYTES + 1, 40000])
     return b"\n".join(lines) + rng.choice([b"\n", b""])
 
 

@@ -12,10 +12,11 @@ from parts import LINE_BYTES, body_faults, class_answer, d_place, hex_part, lowe
 from rows import EVENT, TEXT_BYTES, offered, read_message, read_text, spelled, text_of
 from sha256 import sha256
 
-HEADER, SLOT, MOST = 16, 4208, 64
+HEADER, SLOT, MOST = 16, 4208, 1024  # MOST: 02, Wish 6
 LENT = 65536  # the lent bytes of table_cases
 ROOM = HEADER + MOST * SLOT + 256  # its room
 BEHIND = 64  # so many bytes behind the table are printed too
+ZEROS = bytes(MOST * SLOT)
 
 
 class Event(NamedTuple):
@@ -130,18 +131,18 @@ def held(table):
     keys = [e.key for e in events if e.key]
     if len({e.id for e in events}) < count or len(set(keys)) < len(keys):
         return None
-    return None if table[HEADER + count * SLOT : HEADER + capacity * SLOT].strip(b"\0") else events
+    later = table[HEADER + count * SLOT : HEADER + capacity * SLOT]
+    return events if ZEROS.startswith(later) else None
 
 
 def formatted(table, capacity):
-    """The row, and the table afterwards. 14 is tested before 13."""
+    """The row, and what is written: places with their bytes. 14 is tested before 13."""
     if not 1 <= capacity <= MOST:
-        return 14, table
-    end = HEADER + capacity * SLOT
-    if len(table) < end:
-        return 13, table
+        return 14, {}
+    if len(table) < HEADER + capacity * SLOT:
+        return 13, {}
     header = b"".join(n.to_bytes(4, "little") for n in (capacity, 0, SLOT, HEADER))
-    return 0, header + bytes(capacity * SLOT) + table[end:]
+    return 0, {0: header + bytes(capacity * SLOT)}
 
 
 def verdict(events, capacity, event):
@@ -159,19 +160,17 @@ def verdict(events, capacity, event):
 
 
 def offer(table, event):
-    """The answer in words, and the table afterwards, for an Event or the row that refuses one."""
+    """The answer in words, and what is written, for an Event or the row that refuses one."""
     if isinstance(event, int):
-        return ["%d refused" % event], table
+        return "%d refused" % event, {}
     events = held(table)
     if events is None:
-        return ["11 refused"], table
+        return "11 refused", {}
     answer, place = verdict(events, numbers_of(table)[0], event)
     if place is None:
-        return [answer], table
+        return answer, {}
     count = max(len(events), place + 1)
-    at = HEADER + place * SLOT
-    after = table[:4] + count.to_bytes(4, "little") + table[8:at] + event.slot() + table[at + SLOT :]
-    return [answer], after
+    return answer, {4: count.to_bytes(4, "little"), HEADER + place * SLOT: event.slot()}
 
 
 def shown(table, slot):
@@ -189,29 +188,29 @@ def print_of(data):
 
 
 class Program:
-    """table_cases: a line changes its room, and is answered."""
+    """table_cases: a line changes its room, and is answered. Of the room only what an answer shows is kept here."""
 
     def __init__(self):
-        self.lent, self.room, self.size = bytes(LENT), bytes(ROOM), 0
+        self.lent, self.room, self.size = bytes(LENT), bytearray(BEHIND), 0
 
     def table(self):
-        return self.room[: self.size]
+        return memoryview(self.room)[: self.size]
 
     def fill(self, size, byte):
         assert size + BEHIND <= ROOM
-        self.room, self.size = bytes([byte]) * ROOM, size
+        self.room, self.size = bytearray([byte]) * (size + BEHIND), size
 
     def turn_over(self, at, bits):
-        self.room = self.room[:at] + bytes([self.room[at] ^ bits]) + self.room[at + 1 :]
+        self.room[at] ^= bits
         return self.sound()
 
     def sound(self):
         return ["unsound" if held(self.table()) is None else "sound"]
 
-    def become(self, answer_and_table):
-        answer, table = answer_and_table
-        self.room = table + self.room[self.size :]
-        return answer if isinstance(answer, list) else [answer]
+    def written(self, answer, places):
+        for at, data in places.items():
+            self.room[at : at + len(data)] = data
+        return [answer]
 
     def message(self, at, length):
         return message_event(self.lent[at : at + length])
@@ -219,10 +218,10 @@ class Program:
     def call(self, letter, numbers):
         calls = {
             b"L": lambda size, byte: self.fill(size, byte),
-            b"F": lambda capacity: self.become(formatted(self.table(), capacity)),
-            b"M": lambda at, length: self.become(offer(self.table(), self.message(at, length))),
-            b"J": lambda at, length: offer(self.table(), self.message(at, length))[0],
-            b"P": lambda *parts: self.become(offer(self.table(), parts_event(self.lent, *parts))),
+            b"F": lambda capacity: self.written(*formatted(self.table(), capacity)),
+            b"M": lambda at, length: self.written(*offer(self.table(), self.message(at, length))),
+            b"J": lambda at, length: [offer(self.table(), self.message(at, length))[0]],
+            b"P": lambda *parts: self.written(*offer(self.table(), parts_event(self.lent, *parts))),
             b"S": self.sound,
             b"H": lambda slot: shown(self.table(), slot),
             b"X": self.turn_over,
@@ -241,5 +240,5 @@ class Program:
             numbers = [number(field) for field in fields]
             assert all(abs(n) < 10**18 for n in numbers)
             out = self.call(letter, numbers)
-        out = out + [int.from_bytes(self.room[4:8], "little"), print_of(self.room[: self.size + BEHIND])]
+        out = out + [int.from_bytes(self.room[4:8], "little"), print_of(self.room)]
         return " ".join(map(str, out)).encode()

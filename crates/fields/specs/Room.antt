@@ -1,11 +1,12 @@
 -- A room for a table and lent bytes beside it, and what a line does with them, by its first letter.
 use mathlib.Core.Bool.{cond}
 use mathlib.Core.List.{List}
-use Prim.Native.Nat.{ℕ, _%_}
+use Prim.Native.Nat.{ℕ, _+_, _*_, _%_}
 use lib.Bits.{bitXor}
 use lib.Dec.{eqb}
 use lib.ListN.{length, getD, set, replicate}
 use Rattle.wire.specs.Bytes.{part}
+use Rattle.wire.specs.Limits.{mostSlots}
 use Rattle.wire.specs.Put.{put}
 use Rattle.fields.specs.Number.{countField}
 
@@ -13,9 +14,13 @@ use Rattle.fields.specs.Number.{countField}
 unfoldable pub firstByte : List ℕ → ℕ
 firstByte l = getD l 0 0
 
--- before the first line: zeros, as many as a table of 64 slots has bytes, and 256 more
+-- as many bytes as a table of the most slots has, and 256 more
+abbrev pub roomLength : ℕ
+roomLength = 16 + mostSlots * 4208 + 256
+
+-- before the first line: zeros
 abbrev pub emptyRoom : List ℕ
-emptyRoom = replicate 269584 0
+emptyRoom = replicate roomLength 0
 
 -- L len fill: the table has `len` bytes from here on
 unfoldable pub lengthAfter : List ℕ → ℕ → ℕ

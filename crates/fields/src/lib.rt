@@ -9,7 +9,7 @@ ghost use Rattle.wire.specs.Put.{Puts};
 ghost use Rattle.numeral.specs.Decimal.{digits, decimal};
 ghost use Rattle.fields.specs.Line.{spaceIn, restOfLine, fieldsFrom, fieldOf, gapOf};
 ghost use Rattle.fields.specs.Number.{grownBy, naturalField, complementOf, integerOf, isAbsent, countField};
-ghost use Rattle.fields.specs.Room.{filled, firstByte, emptyRoom, turnedOver, lengthAfter, lentAfter, roomAfter};
+ghost use Rattle.fields.specs.Room.{filled, firstByte, roomLength, emptyRoom, turnedOver, lengthAfter, lentAfter, roomAfter};
 ghost use Rattle.fields.specs.Parts.{spanFields, bodyFields, eventFields, listedOf, boundOf, filterFields};
 use message::Body;
 use message::Bound;
@@ -280,12 +280,15 @@ pub fn letter(line: &[u8]) -> u8
     line[0]
 }
 
+// As many bytes as a table of the most slots has, and 256 more.
+pub const ROOM: usize = 16 + wire::MOST_SLOTS * 4208 + 256;
+
 // The room before the first line: zeros.
-pub fn empty_room() -> [u8; 269584]
+pub fn empty_room() -> [u8; ROOM]
     ensures { λ r. ⌜ r ≡ emptyRoom ⌝ }
-    ensures { λ r. ⌜ 269584 ≡ length r ⌝ }
+    ensures { λ r. ⌜ roomLength ≡ length r ⌝ }
 {
-    [0; 269584]
+    [0; ROOM]
 }
 
 // Bits of a byte turned over, where there is one.

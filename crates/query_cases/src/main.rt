@@ -1,5 +1,5 @@
 // Filters asked of events, one call a line: of the events of a table, or of an event that is lent. The table stands in
-// one room that is as large as 64 slots and some bytes more; beside it lie lent bytes: messages, and the parts of
+// one room that is as large as 1,024 slots and some bytes more; beside it lie lent bytes: messages, and the parts of
 // events and filters. A line is a letter and decimal numbers with single spaces between, `x` for an absent one. Of any
 // other line nothing is claimed.
 //
@@ -27,6 +27,9 @@ use message::Message;
 use query::Listing;
 use query::Matched;
 use table::Offered;
+
+// The numbers of the row: as many as a table has slots at most, and 16 more.
+const ROW: usize = wire::MOST_SLOTS + 16;
 
 // The four filters that begin at the line's start.
 fn filters(line: &[u8]) -> [FilterParts; 4] {
@@ -127,7 +130,7 @@ fn put_list(
     n: usize,
 ) -> usize {
     let fill = fields::short(line, 1);
-    let mut row = [fill; 80];
+    let mut row = [fill; ROW];
     let x = list(table, m, fs, n, &mut row, fields::count(line, 2));
     put_listing(out, x, &row, fill)
 }

@@ -11,6 +11,7 @@
 ghost use mathlib.Core.Path.{_≡_};
 ghost use Prim.Native.Nat.{_≤_};
 ghost use lib.ListN.{length};
+ghost use Rattle.program.specs.Feed.{mostLine};
 use event::Written;
 use libc::STDOUT_FILENO;
 use numeral::Whole;
@@ -217,10 +218,11 @@ fn no_slots() -> [u8; 33680]
     [0; 33680]
 }
 
-fn no_line() -> [u8; 8193]
-    ensures { λ r. ⌜ 8193 ≡ length r ⌝ }
+// A byte more than a message may have.
+fn no_line() -> [u8; feed::MOST_LINE]
+    ensures { λ r. ⌜ mostLine ≡ length r ⌝ }
 {
-    [0; 8193]
+    [0; feed::MOST_LINE]
 }
 
 // 8 * 24,827 + 428 bytes: no answer is longer.

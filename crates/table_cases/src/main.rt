@@ -1,4 +1,4 @@
-// The calls on a table, one a line, over one room that is as large as 64 slots and some bytes more. Beside it lie lent
+// The calls on a table, one a line, over one room that is as large as 1,024 slots and some bytes more. Beside it lie lent
 // bytes: messages, and the parts of events. A line is a letter and decimal numbers with single spaces between. Of any
 // other line nothing is claimed.
 //

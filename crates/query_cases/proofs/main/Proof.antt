@@ -3,11 +3,12 @@ use mathlib.Core.Path.{_≡_}
 use borrow.Author.Needs.{needs}
 use native.Mathlib.Omega.{arith}
 use lib.ListN.{length}
+use Rattle.fields.specs.Room.{roomLength}
 use Rattle.query_cases.proofs.main.Statement.{statement}
 use Rattle.query_cases.proofs.main.Tie as tie
 
 abbrev Inv-loop : tie.InvT-loop
-Inv-loop line₀ chunk₀ lent₀ room₀ n₀ l₀ refusal line chunk lent room n l = (length line ≡ 65536) × (length chunk ≡ 65536) × (length lent ≡ 65536) × (length room ≡ 269584)
+Inv-loop line₀ chunk₀ lent₀ room₀ n₀ l₀ refusal line chunk lent room n l = (length line ≡ 65536) × (length chunk ≡ 65536) × (length lent ≡ 65536) × (length room ≡ roomLength)
 
 pub main-spec : {M : Type 1} → statement M
 main-spec =
