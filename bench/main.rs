@@ -484,11 +484,17 @@ fn event() {
     println!("stack of id: {used} bytes");
 }
 
+// Tables of the most slots beside small ones.
+fn large() {
+    table::large();
+    query::large();
+}
+
 // All, or those named.
 fn main() {
     let named: Vec<String> = std::env::args().skip(1).collect();
     println!("{:<54} {:>12} {:>12} {:>7}", "", "proved, ns", "plain, ns", "ratio");
-    let all: [(&str, fn()); 8] = [
+    let all: [(&str, fn()); 9] = [
         ("digest", digest),
         ("text_row", text_row),
         ("message_row", message_row),
@@ -497,6 +503,7 @@ fn main() {
         ("back", back),
         ("table", table::run),
         ("query", query::run),
+        ("large", large),
     ];
     for (name, run) in all {
         if named.is_empty() || named.iter().any(|n| n == name) {
