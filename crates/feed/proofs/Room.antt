@@ -13,8 +13,7 @@ use Rattle.message.specs.Read.{readOf}
 use Rattle.message.specs.declared.Message.{Message}
 use Rattle.message.specs.declared.Message.the-variants as message
 use Rattle.table.specs.Layout.{capacityOf}
-use Rattle.table.specs.Offer.{Offering, offeredOf, answer, isStored, storedIn, next}
-use Rattle.table.proofs.Stored.{stored-capacity}
+use Rattle.table.proofs.Faithful.{next-capacity}
 use Rattle.program.specs.Program.{tableIn, tableAfter}
 use Rattle.program.specs.Respond.{response, respondRow}
 use Rattle.program.specs.Feed.{isEnd, kept, lastLine, saidLast, before, turnRow, turnState, turnTable}
@@ -49,20 +48,12 @@ unfolding finishRow finishText saidLast
 finish-fits b line n out h = rw (le-ltb (length out) _ (last-fits b out h (take n (kept line))))
 
 -- ---- the table
-next-slots : (b : List ℕ) (o : Offering) → capacityOf (next b o) ≡ capacityOf b
-unfolding next
-next-slots b o = go (isStored (answer b o))
-  where
-    go : (t : Bool) → capacityOf (cond t (storedIn b (offeredOf o)) b) ≡ capacityOf b
-    go true = stored-capacity b (offeredOf o)
-    go false = refl
-
 table-slots : (b m : List ℕ) → capacityOf (tableAfter b m) ≡ capacityOf b
 unfolding tableAfter
 table-slots b m = go (readOf m)
   where
     go : (x : Message) → capacityOf (tableIn b m x) ≡ capacityOf b
-    go (message.Event p) = next-slots b _
+    go (message.Event p) = next-capacity b _
     go (message.Req r) = refl
     go (message.Close p) = refl
     go (message.Refused r) = refl

@@ -10,6 +10,7 @@ use borrow.Author.Tests.{eqb-true, eq-eqb, ne-eqb, ltb-true, ltb-false, le-ltb}
 use lib.Dec.{ltb}
 use lib.ListN.{length, take, drop, length-take, take-append-drop}
 use lib.Seq.{take-all, take-append-le, take-append-add, take-take, sets-eq, take-at}
+use Rattle.wire.specs.Limits.{mostMessage}
 use Rattle.wire.specs.Put.{put}
 use Rattle.wire.proofs.Laws.{length-put}
 use Rattle.law.specs.Lists.{any}
@@ -36,14 +37,14 @@ at-most n k = go (ltb k n) refl
     go false e = inl (ltb-false k n e)
 
 pub kept-same : KeptSame
-kept-same b m = ⊎-elim short long (at-most (length m) 8192)
+kept-same b m = ⊎-elim short long (at-most (length m) mostMessage)
   where
-    short : length m ≤ 8192 → (repliesTo b (kept m) ≡ repliesTo b m) × (tableAfter b (kept m) ≡ tableAfter b m)
+    short : length m ≤ mostMessage → (repliesTo b (kept m) ≡ repliesTo b m) × (tableAfter b (kept m) ≡ tableAfter b m)
     short h = let e : kept m ≡ m = take-all mostLine m (omega arith) in (ap (repliesTo b) e, ap (tableAfter b) e)
 
-    long : 8192 < length m → (repliesTo b (kept m) ≡ repliesTo b m) × (tableAfter b (kept m) ≡ tableAfter b m)
+    long : mostMessage < length m → (repliesTo b (kept m) ≡ repliesTo b m) × (tableAfter b (kept m) ≡ tableAfter b m)
     long h =
-        let k : 8192 < length (kept m) = omega (arith, length-take mostLine m) in
+        let k : mostMessage < length (kept m) = omega (arith, length-take mostLine m) in
         let (p, q) = overlong b m h in
         let (r, s) = overlong b (kept m) k in
         (r ∙ sym p, s ∙ sym q)

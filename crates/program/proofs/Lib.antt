@@ -3,7 +3,7 @@
 -- sound, and demand 3 holds of it. Offered: an offer's answer as a number. Worked: replies by computation. Respond,
 -- Streamed: one message answered at once, or a reply at a time. Feed: the program as a state that bytes are fed to.
 -- Sizes, Enough: how long replies are, and an output that is never too short. Members, Spelled, Ordered, Sendable: each
--- event within the limits has a valid message, if that is short enough.
+-- event within the limits has a valid message, if that is short enough. Same: what small tables and short messages get.
 pub mod Starred
 pub mod Example
 pub mod Lines
@@ -22,3 +22,4 @@ pub mod Members
 pub mod Spelled
 pub mod Ordered
 pub mod Sendable
+pub mod Same

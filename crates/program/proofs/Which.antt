@@ -8,6 +8,7 @@ use Prim.Native.Nat.{ℕ, zero, suc, _≤_, _<_}
 use native.Mathlib.Omega.{arith}
 use borrow.Author.Tests.{eqb-false, ne-eqb, le-leb, lt-leb, lt-ltb, not-false}
 use lib.ListN.{length}
+use Rattle.wire.specs.Limits.{mostMessage}
 use Rattle.json.specs.Tree.{Json, Items, nil, item, Got, none, got, root}
 use Rattle.spell.specs.Spell.{isHexOf}
 use Rattle.rows.specs.Strings.{part}
@@ -110,7 +111,7 @@ late-word m h e = go (late-shaped m (not-early (messageRow m) h)) e
 pub overlong : Overlong
 unfolding messageRow reasonOf
 overlong b m h =
-    let e : messageRow m ≡ 1 = rw (lt-ltb 8192 (length m) h) in
+    let e : messageRow m ≡ 1 = rw (lt-ltb mostMessage (length m) h) in
     let (p, q) = early-row b m (omega arith) (omega arith) in
     (p ∙ ap (λ r. notice (reasonOf r) ∷ []) e, q)
 

@@ -71,9 +71,12 @@ unfoldable pub eventsOf : (b sub : Bytes) (ks : List ℕ) → List Reply
 eventsOf b sub [] = []
 eventsOf b sub (k ∷ ks) = eventReplies sub (slotAt b k) (readText (textIn (slotAt b k))) ++ eventsOf b sub ks
 
+abbrev pub requestRepliesIf : (isSound : Bool) (b m sub : Bytes) (v : ℕ) → List Reply
+requestRepliesIf isSound b m sub v =
+    cond isSound (eventsOf b sub (answerList b (filtersMeant m v)) ++ (eose sub ∷ [])) (refusal m 11 ∷ [])
+
 unfoldable pub requestReplies : (b m sub : Bytes) (v : ℕ) → List Reply
-requestReplies b m sub v =
-    cond (sound b) (eventsOf b sub (answerList b (filtersMeant m v)) ++ (eose sub ∷ [])) (refusal m 11 ∷ [])
+requestReplies b m sub v = requestRepliesIf (sound b) b m sub v
 
 -- ---- one message m to the table b: the replies, and the table afterwards
 abbrev pub repliesIn : (b m : Bytes) (x : Message) → List Reply

@@ -88,10 +88,13 @@ noneFits room (l ∷ ls) = ltb room (length l)
 abbrev pub allHeld : Bytes → List ℕ → Bool
 allHeld b ks = all (λ k. ltb k (countOf b)) ks
 
-unfoldable pub eventsRow : (b : Bytes) (ks : List ℕ) (m : Bytes) (s : Span) (out : Bytes) → Row
-eventsRow b ks m s out =
-    orElse (eoseRow m s) (cond (sound b)
+abbrev pub eventsRowIf : (isSound : Bool) (b : Bytes) (ks : List ℕ) (m : Bytes) (s : Span) (out : Bytes) → Row
+eventsRowIf isSound b ks m s out =
+    orElse (eoseRow m s) (cond isSound
     (cond (noneFits (length out) (slotLines b (said m s) ks)) 13 (cond (allHeld b ks) 0 14)) 11)
+
+unfoldable pub eventsRow : (b : Bytes) (ks : List ℕ) (m : Bytes) (s : Span) (out : Bytes) → Row
+eventsRow b ks m s out = eventsRowIf (sound b) b ks m s out
 
 -- how many bytes, and of how many slots
 unfoldable pub sentEvents : (b : Bytes) (ks : List ℕ) (m : Bytes) (s : Span) (out : Bytes) → Sent

@@ -18,15 +18,16 @@ use Rattle.message.specs.Inner.{lowestBy}
 use Rattle.event.specs.Lent.{said, eventOf}
 use Rattle.event.specs.Answer.{orElse, isLarge}
 use Rattle.table.specs.Sound.{sound}
+use Rattle.table.proofs.StillSound.{same-sound}
 use Rattle.query.specs.Match.{matchesSome}
 use Rattle.query.specs.declared.Matched.the-variants.{Matches, Differs}
 use Rattle.query.specs.declared.Matched.the-variants as matching
 use Rattle.query.specs.Answer.{meant, filtersRow, answerTo, matchedRow, matched, matchNumber, matchValue}
-use Rattle.query.specs.Answer.{listingRow, listed, listedRow, listingNumber, listedCount}
+use Rattle.query.specs.Answer.{listingRowIf, listingRow, listed, listedRow, listingNumber, listedCount}
 use Rattle.query.specs.declared.Listing.the-variants.{Count, Refused}
 use Rattle.query.specs.Claims.{RowHolds, of-filter, miscounted, MatchedHolds, of-event, of-filters, too-large}
 use Rattle.query.specs.Claims.{MatchedRowIs, MatchedMeans, ListingHolds, of-lent, not-sound, too-short}
-use Rattle.query.specs.Claims.{ListingRowIs, ListingIs, ListingMeans}
+use Rattle.query.specs.Claims.{ListingRowIs, ListingIs, ListingMeans, SameListing}
 use Rattle.wire.specs.Lowest.{Lowest}
 use Rattle.wire.proofs.Cases.{bool, clash}
 use Rattle.query.proofs.Lent.{filters-row-is}
@@ -182,6 +183,11 @@ module _ (b m : List ℕ) (fs : List FilterParts) (n : ℕ) (row : List ℕ) whe
     as-long = ⊎-elim (λ e. ap length (taken e) ∙ (let h = long-enough e in simp (length-append, length-drop) (omega arith))) (λ ne. ap length (left ne)) zero-or;
     refused = λ ne. (left ne, ap listedCount (is-refused ne));
   }
+
+-- one test of soundness, which says the same of a table of at most 64 slots
+pub same-listing : SameListing
+unfolding listingRow
+same-listing b m fs n row h = ap (λ s. listingRowIf s b m fs n row) (same-sound b h)
 
 pub listing-row-is : ListingRowIs
 listing-row-is b m fs n row = listing-row b m fs n row

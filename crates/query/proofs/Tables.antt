@@ -11,7 +11,7 @@ use borrow.Author.Tests.{not-true}
 use lib.Dec.{T, leb}
 use lib.IntN.{ℤ, pos}
 use lib.ListN.{length, getD, drop}
-use Rattle.wire.specs.Limits.{mostText}
+use Rattle.wire.specs.Limits.{mostText, mostSlots}
 use Rattle.text.specs.Event.{Event}
 use Rattle.text.specs.Read.{Read, tooLarge, wrongShape, read, readText}
 use Rattle.text.proofs.Pieces.{both}
@@ -26,7 +26,7 @@ use Rattle.law.proofs.Order.{strict-times, strict-bytes, newer-means, laws}
 use Rattle.table.proofs.Cells.{length-cells}
 use Rattle.table.specs.Layout.{slotSize, headerSize, countOf, slotAt, heldSlots, idIn, textIn, lengthIn}
 use Rattle.table.specs.Events.{signedEvents, timeOfText, inSlot, view}
-use Rattle.table.specs.Sound.{sound, hasHeader, capacityFits, slotsFit, countFits, othersAsAbove, slotsSound, slotSound}
+use Rattle.table.specs.Sound.{sound, soundUpTo, hasHeader, capacityFits, slotsFit, countFits, othersAsAbove, slotsSound, slotSound}
 use Rattle.table.specs.Sound.{noIdTwice, noKeyTwice, laterZero, noneTwice, isRead, textReads}
 use Rattle.table.proofs.Lists.{is-true}
 use Rattle.table.proofs.Shown.{slot-entry, slot-sound-at}
@@ -118,9 +118,9 @@ module _ {A : Type 0} where
 
 module _ (b : List ℕ) (ok : sound b ≡ true) where
   after-header : (slotsSound b && (noIdTwice b && (noKeyTwice b && laterZero b))) ≡ true
-  unfolding sound
+  unfolding sound soundUpTo
   after-header =
-      both (othersAsAbove b) _ (both (countFits b) _ (both (slotsFit b) _ (both (capacityFits b) _ (both (hasHeader b) _ ok .1) .1) .1) .1) .1
+      both (othersAsAbove b) _ (both (countFits b) _ (both (slotsFit b) _ (both (capacityFits mostSlots b) _ (both (hasHeader b) _ ok .1) .1) .1) .1) .1
 
   -- "no id .. held twice"
   ids-differ : (j k : ℕ) → j < countOf b → k < countOf b → j ≢ k → idAt b j ≢ idAt b k

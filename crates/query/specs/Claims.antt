@@ -31,14 +31,14 @@ use Rattle.law.specs.Lists.{_∈_, different, Pairwise, Once}
 use Rattle.law.specs.Event.{earlier, lower}
 use Rattle.table.specs.Layout.{tableSize, capacityOf, countOf, slotAt, idIn, textIn}
 use Rattle.table.specs.Events.{timeOfText}
-use Rattle.table.specs.Sound.{sound}
+use Rattle.table.specs.Sound.{soundUpTo, sound}
 use Rattle.query.specs.Filter.{Condition, Filter, filterOf}
 use Rattle.query.specs.Match.{isMember, sameNumber, kindListed, sinceHolds, untilHolds, conditionHolds, matches}
 use Rattle.query.specs.Match.{matchesSome}
 use Rattle.query.specs.Answer.{keep, numbersFrom, picked, union, newerSlot, matchesSlot, answerList}
 use Rattle.query.specs.Answer.{filterPartsAt, filtersMeant, meant, lowestOf, filtersRow, answerTo, matchedRow}
-use Rattle.query.specs.Answer.{matched, matchNumber, matchValue, listingRow, listed, listedRow, listingNumber}
-use Rattle.query.specs.Answer.{listedCount}
+use Rattle.query.specs.Answer.{matched, matchNumber, matchValue, listingRowIf, listingRow, listed, listedRow}
+use Rattle.query.specs.Answer.{listingNumber, listedCount}
 use Rattle.wire.specs.Bytes.{Bytes, isHex}
 use Rattle.wire.specs.Limits.{hexLength}
 use Rattle.spell.specs.Spell.{all}
@@ -359,6 +359,12 @@ pub record ListingIs (b m : List ℕ) (fs : List FilterParts) (n : ℕ) (row : L
 
 abbrev pub ListingMeans : Type 0
 ListingMeans = (b m : List ℕ) (fs : List FilterParts) (n : ℕ) (row : List ℕ) → ListingIs b m fs n row
+
+-- 02, Wish 6: "an old table is still sound" (table/Claims, `StillSound`), and the answers of a table of at most 64
+-- slots stay: the list and its count are told from this row, and from nothing that has the number
+abbrev pub SameListing : Type 0
+SameListing = (b m : List ℕ) (fs : List FilterParts) (n : ℕ) (row : List ℕ) → capacityOf b ≤ 64 →
+    listingRow b m fs n row ≡ listingRowIf (soundUpTo 64 b) b m fs n row
 
 -- of the filters of an accepted REQ, lent as parts: 11, 13, or the answer to the filters of its text
 abbrev pub ReadListing : Type 0

@@ -124,10 +124,10 @@ fn zeros() -> [u8; 33680]
 }
 
 // As many as what is kept of a line.
-fn line_zeros() -> [u8; 8193]
-    ensures { λ r. ⌜ 8193 ≡ length r ⌝ }
+fn line_zeros() -> [u8; feed::MOST_LINE]
+    ensures { λ r. ⌜ mostLine ≡ length r ⌝ }
 {
-    [0; 8193]
+    [0; feed::MOST_LINE]
 }
 
 // An output that is never too short: 24,827 bytes for each of 8 slots, and 428.

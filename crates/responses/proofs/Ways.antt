@@ -8,7 +8,7 @@ use borrow.Author.Tests.{lt-ltb, le-ltb, ltb-true, ltb-false, leb-true, leb-fals
 use lib.Dec.{eqb, leb, ltb}
 use lib.ListN.{length, take, drop, length-append}
 use lib.Seq.{take-append-seam}
-use Rattle.wire.specs.Limits.{hexLength}
+use Rattle.wire.specs.Limits.{hexLength, mostSlots}
 use Rattle.wire.specs.Put.{Puts}
 use Rattle.wire.specs.Escape.{letterOf, escOne, escape, jsonOne, jsonOf}
 use Rattle.wire.proofs.Laws.{puts-none, puts-then, puts-whole}
@@ -265,7 +265,7 @@ module _ (b m : List ℕ) (s : Span) (ks : List ℕ) (held : AllHeld b ks) (out 
 
 -- ---- a REQ
 -- its filters, as values, are tested and lent; x is what is answered of them
-module _ (b m : List ℕ) (q : ReqParts) (e : readOf m ≡ message.Req q) {fs : Filters} (ef : fs ≡ parts.filtersAt m (q .filters)) (row : List ℕ) (wide : length row ≡ 64)
+module _ (b m : List ℕ) (q : ReqParts) (e : readOf m ≡ message.Req q) {fs : Filters} (ef : fs ≡ parts.filtersAt m (q .filters)) (row : List ℕ) (wide : length row ≡ mostSlots)
     {x : Listing} (a : x ≡ listed b m (fs .parts) (fs .n) row) where
   abbrev sub : List ℕ
   sub = said m (q .subscription)
@@ -273,7 +273,7 @@ module _ (b m : List ℕ) (q : ReqParts) (e : readOf m ≡ message.Req q) {fs : 
   abbrev ks : List ℕ
   ks = answerList b (filtersMeant m (q .filters))
 
-  few : sound b ≡ true → length ks ≤ 64
+  few : sound b ≡ true → length ks ≤ mostSlots
   few s = omega (arith, answer-means b (filtersMeant m (q .filters)) .short, clauses b s .count, clauses b s .high)
 
   lent : (answerTo b m (fs .parts) (fs .n) ≡ ks) × (listingRow b m (fs .parts) (fs .n) row ≡ cond (sound b) (cond (ltb (length row) (length ks)) 13 0) 11)
@@ -301,7 +301,7 @@ module _ (b m : List ℕ) (q : ReqParts) (e : readOf m ≡ message.Req q) {fs : 
         go true s = (s, let y = sound-told s in cc)
         go false s = absurd (let y = unsound-told s in let w : _≡_ {A = ℕ} 0 1 = cc in omega arith)
 
-    pub row-room : k ≤ 64
+    pub row-room : k ≤ mostSlots
     row-room = let (s, n) = told in omega (arith, few s)
 
     module _ {row′ : List ℕ} (y : row′ ≡ listedRow b m (fs .parts) (fs .n) row) where

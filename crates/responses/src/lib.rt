@@ -261,7 +261,7 @@ fn respond_request(table: &[u8], m: &[u8], q: ReqParts, out: &mut [u8]) -> Writt
     let fs = message::filters_at(m, q.filters);
     let parts = fs.parts;
     let n = fs.n;
-    let mut row = [0u16; 64];
+    let mut row = [0u16; wire::MOST_SLOTS];
     match matching::answer(table, m, parts, n, &mut row) {
         Listing::Count(k) => put_answer(table, m, sub, &row[..k], out),
         Listing::Refused(k) => respond_refused(m, Named::Subscription(sub), k, out),

@@ -28,5 +28,9 @@ row3 s = not (isText s)
 unfoldable pub row4 : Bytes → Bool
 row4 s = onRoot (refusedIn s) (root s)
 
+-- row 1, where the text is told to be too long, then the others
+abbrev pub textRowIf : (isLong : Bool) (s : Bytes) → Row
+textRowIf isLong s = cond isLong 1 (cond (row2 s) 2 (cond (row3 s) 3 (cond (row4 s) 4 0)))
+
 unfoldable pub textRow : Bytes → Row
-textRow s = cond (row1 s) 1 (cond (row2 s) 2 (cond (row3 s) 3 (cond (row4 s) 4 0)))
+textRow s = textRowIf (row1 s) s

@@ -140,5 +140,9 @@ abbrev pub rootRow : Bytes → Got Json → Row
 rootRow s none = 3
 rootRow s (got t n) = treeRow s t
 
+-- row 1, where the message is told to be too long, then the others
+abbrev pub messageRowIf : (isLong : Bool) (s : Bytes) → Row
+messageRowIf isLong s = cond isLong 1 (cond (row2 s) 2 (cond (row3 s) 3 (rootRow s (root s))))
+
 unfoldable pub messageRow : Bytes → Row
-messageRow s = cond (row1 s) 1 (cond (row2 s) 2 (cond (row3 s) 3 (rootRow s (root s))))
+messageRow s = messageRowIf (row1 s) s

@@ -14,7 +14,7 @@ use Rattle.text.specs.Event.{all}
 use Rattle.text.proofs.Pieces.{both}
 use Rattle.table.specs.Layout.{headerSize, slotSize, tableSize, capacityOf, countOf, slotSizeOf, firstSlotOf}
 use Rattle.table.specs.Sound.{isZero, hasHeader, capacityFits, slotsFit, countFits, othersAsAbove, slotSound}
-use Rattle.table.specs.Sound.{slotsSound, noIdTwice, noKeyTwice, laterZero, noneTwice, sound}
+use Rattle.table.specs.Sound.{slotsSound, noIdTwice, noKeyTwice, laterZero, noneTwice, soundUpTo, sound}
 use Rattle.slots.specs.Slots.{clash, slotsFrom, headerSound}
 use Rattle.slots.proofs.Keys.{apart-is}
 
@@ -29,11 +29,11 @@ module _ (b : List ℕ) where
     unfolding headerSound hasHeader capacityFits capacityOf
     no-slot h = sym (rw (le-leb headerSize (length b) l, ← a, lt-leb 1 n h))
 
-    pub too-many : 1 ≤ n → 64 < n → false ≡ headerSound b
+    pub too-many : 1 ≤ n → mostSlots < n → false ≡ headerSound b
     unfolding headerSound hasHeader capacityFits capacityOf
     too-many g h = sym (rw (le-leb headerSize (length b) l, ← a, le-leb 1 n g, lt-leb n mostSlots h))
 
-    module _ (g : 1 ≤ n) (h : n ≤ 64) where
+    module _ (g : 1 ≤ n) (h : n ≤ mostSlots) where
       pub cut-off : length b < 16 + n * 4208 → false ≡ headerSound b
       unfolding headerSound hasHeader capacityFits slotsFit capacityOf
       cut-off k = sym (rw (le-leb headerSize (length b) l, ← a, le-leb 1 n g, le-leb n mostSlots h, lt-leb (tableSize n) (length b) k))
@@ -67,9 +67,9 @@ grouped false b c d e r = refl
 
 module _ (b : List ℕ) where
   by-header : sound b ≡ (headerSound b && (slotsSound b && (noIdTwice b && (noKeyTwice b && laterZero b))))
-  unfolding sound headerSound
+  unfolding sound soundUpTo headerSound
   by-header =
-      grouped (hasHeader b) (capacityFits b) (slotsFit b) (countFits b) (othersAsAbove b)
+      grouped (hasHeader b) (capacityFits mostSlots b) (slotsFit b) (countFits b) (othersAsAbove b)
       (slotsSound b && (noIdTwice b && (noKeyTwice b && laterZero b)))
 
   module _ {x : Bool} (h : x ≡ headerSound b) where
@@ -80,11 +80,11 @@ module _ (b : List ℕ) where
       after-header : sound b ≡ (slotsSound b && (noIdTwice b && (noKeyTwice b && laterZero b)))
       after-header = by-header ∙ ap (_&& (slotsSound b && (noIdTwice b && (noKeyTwice b && laterZero b)))) (sym h ∙ e)
 
-      pub few : {n c : ℕ} → n ≡ fieldAt b 0 4 → c ≡ fieldAt b 4 4 → (c ≤ n) × (n ≤ 64) × (16 + n * 4208 ≤ length b)
+      pub few : {n c : ℕ} → n ≡ fieldAt b 0 4 → c ≡ fieldAt b 4 4 → (c ≤ n) × (n ≤ mostSlots) × (16 + n * 4208 ≤ length b)
       unfolding headerSound capacityFits slotsFit countFits capacityOf countOf
       few p q =
           let a = both (hasHeader b) _ (sym h ∙ e) .1 in
-          let d = both (capacityFits b) _ a in
+          let d = both (capacityFits mostSlots b) _ a in
           let f = both (slotsFit b) _ (d .1) in
           let g = both (countFits b) _ (f .1) in
           let i = both (leb 1 (capacityOf b)) (leb (capacityOf b) mostSlots) (d .0) in

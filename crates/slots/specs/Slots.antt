@@ -5,7 +5,7 @@ use mathlib.Core.List.{List}
 use Prim.Native.Nat.{ℕ}
 use lib.Dec.{eqb}
 use lib.ListN.{drop}
-use Rattle.wire.specs.Limits.{hexLength}
+use Rattle.wire.specs.Limits.{hexLength, mostSlots}
 use Rattle.wire.specs.Bytes.{Bytes, Place, sameBytes, part}
 use Rattle.wire.specs.Field.{unsigned}
 use Rattle.text.specs.Kinds.{classOf}
@@ -68,4 +68,4 @@ slotsFrom b k n = cells slotSize n (drop (slotPlace k) b)
 
 -- the clauses of "Sound: .." on the header
 unfoldable pub headerSound : Bytes → Bool
-headerSound b = hasHeader b && (capacityFits b && (slotsFit b && (countFits b && othersAsAbove b)))
+headerSound b = hasHeader b && (capacityFits mostSlots b && (slotsFit b && (countFits b && othersAsAbove b)))

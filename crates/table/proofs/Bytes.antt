@@ -21,13 +21,13 @@ use Rattle.table.proofs.Cells.{drop-sets}
 use Rattle.table.specs.Layout.{headerSize, slotSize, tableSize, slotPlace, countPlace, capacityOf, countOf}
 use Rattle.table.specs.Layout.{slotSizeOf, firstSlotOf}
 use Rattle.table.specs.Sound.{hasHeader, capacityFits, slotsFit, countFits, othersAsAbove, slotsSound, noIdTwice}
-use Rattle.table.specs.Sound.{noKeyTwice, laterZero, sound}
+use Rattle.table.specs.Sound.{noKeyTwice, laterZero, soundUpTo, sound}
 
--- ---- soundness, clause by clause
-pub record Clauses (b : List ℕ) : Type 0 where
+-- ---- soundness, clause by clause, of tables of up to `most` slots
+pub record ClausesUpTo (most : ℕ) (b : List ℕ) : Type 0 where
   pub header : headerSize ≤ length b
   pub low : 1 ≤ capacityOf b
-  pub high : capacityOf b ≤ mostSlots
+  pub high : capacityOf b ≤ most
   pub fit : tableSize (capacityOf b) ≤ length b
   pub count : countOf b ≤ capacityOf b
   pub size : slotSizeOf b ≡ slotSize
@@ -37,30 +37,30 @@ pub record Clauses (b : List ℕ) : Type 0 where
   pub keys : noKeyTwice b ≡ true
   pub later : laterZero b ≡ true
 
-module _ (b : List ℕ) where
-  pub clauses : sound b ≡ true → Clauses b
-  unfolding sound hasHeader capacityFits slotsFit countFits othersAsAbove
-  clauses e =
+module _ (most : ℕ) (b : List ℕ) where
+  pub clauses-up-to : soundUpTo most b ≡ true → ClausesUpTo most b
+  unfolding soundUpTo hasHeader capacityFits slotsFit countFits othersAsAbove
+  clauses-up-to e =
       let from₈ : Bool = noKeyTwice b && laterZero b in
       let from₇ : Bool = noIdTwice b && from₈ in
       let from₆ : Bool = slotsSound b && from₇ in
       let from₅ : Bool = othersAsAbove b && from₆ in
       let from₄ : Bool = countFits b && from₅ in
       let from₃ : Bool = slotsFit b && from₄ in
-      let c₁ = both (hasHeader b) (capacityFits b && from₃) e in
-      let c₂ = both (capacityFits b) from₃ (c₁ .1) in
+      let c₁ = both (hasHeader b) (capacityFits most b && from₃) e in
+      let c₂ = both (capacityFits most b) from₃ (c₁ .1) in
       let c₃ = both (slotsFit b) from₄ (c₂ .1) in
       let c₄ = both (countFits b) from₅ (c₃ .1) in
       let c₅ = both (othersAsAbove b) from₆ (c₄ .1) in
       let c₆ = both (slotsSound b) from₇ (c₅ .1) in
       let c₇ = both (noIdTwice b) from₈ (c₆ .1) in
       let c₈ = both (noKeyTwice b) (laterZero b) (c₇ .1) in
-      let n = both (leb 1 (capacityOf b)) (leb (capacityOf b) mostSlots) (c₂ .0) in
+      let n = both (leb 1 (capacityOf b)) (leb (capacityOf b) most) (c₂ .0) in
       let o = both (eqb (slotSizeOf b) slotSize) (eqb (firstSlotOf b) headerSize) (c₅ .0) in
       record {
         header = leb-true headerSize (length b) (c₁ .0);
         low = leb-true 1 (capacityOf b) (n .0);
-        high = leb-true (capacityOf b) mostSlots (n .1);
+        high = leb-true (capacityOf b) most (n .1);
         fit = leb-true (tableSize (capacityOf b)) (length b) (c₃ .0);
         count = leb-true (countOf b) (capacityOf b) (c₄ .0);
         size = eqb-true (slotSizeOf b) slotSize (o .0);
@@ -71,12 +71,12 @@ module _ (b : List ℕ) where
         later = c₈ .1;
       }
 
-  pub is-sound : Clauses b → sound b ≡ true
-  unfolding sound hasHeader capacityFits slotsFit countFits othersAsAbove
-  is-sound c = rw (
+  pub is-sound-up-to : ClausesUpTo most b → soundUpTo most b ≡ true
+  unfolding soundUpTo hasHeader capacityFits slotsFit countFits othersAsAbove
+  is-sound-up-to c = rw (
     le-leb headerSize (length b) (c .header),
     le-leb 1 (capacityOf b) (c .low),
-    le-leb (capacityOf b) mostSlots (c .high),
+    le-leb (capacityOf b) most (c .high),
     le-leb (tableSize (capacityOf b)) (length b) (c .fit),
     le-leb (countOf b) (capacityOf b) (c .count),
     eq-eqb (slotSizeOf b) slotSize (c .size),
@@ -86,6 +86,18 @@ module _ (b : List ℕ) where
     c .keys,
     c .later,
   )
+
+abbrev pub Clauses : List ℕ → Type 0
+Clauses b = ClausesUpTo mostSlots b
+
+module _ (b : List ℕ) where
+  pub clauses : sound b ≡ true → Clauses b
+  unfolding sound
+  clauses e = clauses-up-to mostSlots b e
+
+  pub is-sound : Clauses b → sound b ≡ true
+  unfolding sound
+  is-sound c = is-sound-up-to mostSlots b c
 
 -- ---- a byte that a put leaves
 pub byte-put : (d : List ℕ) (at : ℕ) (s : List ℕ) (i : ℕ) → (i < at) ⊎ (at + length s ≤ i) → getD (put d at s) i 0 ≡ getD d i 0

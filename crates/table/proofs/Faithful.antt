@@ -146,7 +146,7 @@ module _ (b : List ℕ) (o : Offering) where
     leaves = after-store b (offeredOf o) sound-parts fits has-slot
 
     -- the law keeps a table distinct
-    stays-sound : sound (storedIn b (offeredOf o)) ≡ true
+    pub stays-sound : sound (storedIn b (offeredOf o)) ≡ true
     stays-sound =
         let c = sound-parts in
         stored-sound b (offeredOf o) c fits leaves (slot-sound (offeredOf o) fits lasts)
@@ -165,6 +165,23 @@ module _ (b : List ℕ) (o : Offering) where
     }
 
 -- ---- the theorems
+-- a table keeps its slots, and a sound one is sound after every offer
+pub next-capacity : (b : List ℕ) (o : Offering) → capacityOf (next b o) ≡ capacityOf b
+unfolding next
+next-capacity b o = go (isStored (answer b o))
+  where
+    go : (t : Bool) → capacityOf (cond t (storedIn b (offeredOf o)) b) ≡ capacityOf b
+    go true = stored-capacity b (offeredOf o)
+    go false = refl
+
+pub next-sound : (b : List ℕ) (o : Offering) → sound b ≡ true → sound (next b o) ≡ true
+unfolding next
+next-sound b o ok = go (isStored (answer b o)) refl
+  where
+    go : (t : Bool) → isStored (answer b o) ≡ t → sound (cond t (storedIn b (offeredOf o)) b) ≡ true
+    go true e = stays-sound b o (stores-if b o e)
+    go false e = ok
+
 module _ (b : List ℕ) (o : Offering) (g : Good b) where
   good : Good (next b o)
   unfolding next
@@ -175,12 +192,7 @@ module _ (b : List ℕ) (o : Offering) (g : Good b) where
       go false e = g
 
   keeps : capacityOf (next b o) ≡ capacityOf b
-  unfolding next
-  keeps = go (isStored (answer b o))
-    where
-      go : (t : Bool) → capacityOf (cond t (storedIn b (offeredOf o)) b) ≡ capacityOf b
-      go true = stored-capacity b (offeredOf o)
-      go false = refl
+  keeps = next-capacity b o
 
   says : verdictOf (answer b o) ≡ verdict signedEvents (capacityOf b) (view b) (judge o)
   unfolding verdict

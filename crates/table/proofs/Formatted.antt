@@ -18,7 +18,7 @@ use Rattle.table.specs.Layout.{headerSize, slotSize, tableSize, capacity
 use Rattle.table.specs.Layout.{headerBytes, laterSlots}
 use Rattle.table.specs.Events.{view}
 use Rattle.table.specs.Sound.{isCapacity, hasHeader, capacityFits, slotsFit, countFits, othersAsAbove, slotsSound}
-use Rattle.table.specs.Sound.{noneTwice, noIdTwice, noKeyTwice, laterZero, sound}
+use Rattle.table.specs.Sound.{noneTwice, noIdTwice, noKeyTwice, laterZero, soundUpTo, sound}
 use Rattle.table.specs.Format.{formatRow, formatted}
 use Rattle.table.specs.Demand3.{Fresh}
 use Rattle.table.specs.Claims.{FormattedFresh, FormatRows}
@@ -26,14 +26,14 @@ use Rattle.table.proofs.Fields.{piece, field, after-field, zeros-zero}
 
 -- rows 14 and 13 let the capacity and the buffer pass
 pub record Passed (N : ℕ) (b : List ℕ) : Type 0 where
-  pub capacity : isCapacity N ≡ true
+  pub capacity : isCapacity mostSlots N ≡ true
   pub room : tableSize N ≤ length b
 
 pub passed : (N : ℕ) (b : List ℕ) → formatRow N b ≡ 0 → Passed N b
 unfolding formatRow
-passed N b r = go (isCapacity N) refl (ltb (length b) (tableSize N)) refl r
+passed N b r = go (isCapacity mostSlots N) refl (ltb (length b) (tableSize N)) refl r
   where
-    go : (c : Bool) → isCapacity N ≡ c → (t : Bool) → ltb (length b) (tableSize N) ≡ t → _≡_ {A = ℕ} (cond c (cond t 13 0) 14) 0 → Passed N b
+    go : (c : Bool) → isCapacity mostSlots N ≡ c → (t : Bool) → ltb (length b) (tableSize N) ≡ t → _≡_ {A = ℕ} (cond c (cond t 13 0) 14) 0 → Passed N b
     go true e false f r = record { capacity = e; room = ltb-false (length b) (tableSize N) f }
     go true e true f r = absurd (omega arith)
     go false e t f r = absurd (omega arith)
@@ -47,7 +47,7 @@ format-rows N b = record {
   stays = λ n. rw (ne-eqb (formatRow N b) 0 n);
 }
   where
-    out : (N < 1) ⊎ (mostSlots < N) → isCapacity N ≡ false
+    out : (N < 1) ⊎ (mostSlots < N) → isCapacity mostSlots N ≡ false
     out (inl h) = rw (lt-leb 1 N h)
     out (inr h) = rw (le-leb 1 N (omega arith), lt-leb N mostSlots h)
 
@@ -107,7 +107,7 @@ module _ (N : ℕ) (b : List ℕ) (r : formatRow N b ≡ 0) where
   formatted-view = rw formatted-count
 
   pub formatted-sound : sound (formatted N b) ≡ true
-  unfolding sound hasHeader capacityFits slotsFit countFits othersAsAbove slotsSound noIdTwice noKeyTwice noneTwice laterZero all
+  unfolding sound soundUpTo hasHeader capacityFits slotsFit countFits othersAsAbove slotsSound noIdTwice noKeyTwice noneTwice laterZero all
   formatted-sound =
       let m = passed N b r .room in
       rw (

@@ -5,7 +5,7 @@
 -- Unread, Shown: what stands behind the last slot, and what is shown. Hex, Valid: what holds of a valid offer. Refused,
 -- Again: a spelling that decodes to a string within the limits is not refused. Strings, Arrays, Tellable, Fair: the
 -- parts of what is held, and that parts judged to be it are just those. Rows: the rows of an offer in their order.
--- Texts: what the law takes from a text. Clauses: soundness clause by clause. DPlaces: where d stands. SoundBytes: a
+-- Texts: what the law takes from a text. Clauses: soundness clause by clause. StillSound: tables of at most 64 slots. DPlaces: where d stands. SoundBytes: a
 -- held slot byte for byte. WrongRelays: relays that demand 3 shuts out.
 pub mod Cells
 pub mod Fields
@@ -32,6 +32,7 @@ pub mod Arrays
 pub mod Tellable
 pub mod SoundBytes
 pub mod Clauses
+pub mod StillSound
 pub mod Fair
 pub mod Demand3
 pub mod WrongRelays

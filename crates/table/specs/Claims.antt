@@ -1,5 +1,5 @@
 -- What is claimed of a table beside demand 3 (specs/Demand3). Quotes are from 01. Proofs: Formatted, Rows, Faithful,
--- Unread, Texts, Clauses, SoundBytes, DPlaces, Shown, Tellable, Fair.
+-- Unread, Texts, Clauses, StillSound, SoundBytes, DPlaces, Shown, Tellable, Fair.
 use mathlib.Core.Path.{_≡_}
 use mathlib.Core.Bool.{true, false}
 use mathlib.Core.Logic.{_↔_, _⊎_, _≢_}
@@ -31,10 +31,10 @@ use Rattle.table.specs.Layout.{slotSizeOf, firstSlotOf, slotAt, isByte, 
 use Rattle.table.specs.Layout.{textPlace, textIn, noSpan, dPlace, slotBytes}
 use Rattle.table.specs.Events.{SignedEvent, Signature, classOfText, timeOfText, tableEvents, signedEvents, inSlot}
 use Rattle.table.specs.Events.{ofHeld, view}
-use Rattle.table.specs.Sound.{slotSound, sound}
+use Rattle.table.specs.Sound.{slotSound, soundUpTo, sound}
 use Rattle.table.specs.Offer.{Offering, asMessage, asParts, isEvent, messageOfferRow, offeringRow, isValid}
-use Rattle.table.specs.Offer.{isStored, judge, offeredBy, answer, offeredOf, slotFor, next}
-use Rattle.table.specs.Format.{formatRow, formatted, shownRow, shown}
+use Rattle.table.specs.Offer.{isStored, judge, offeredBy, answerIf, answer, offeredOf, slotFor, next}
+use Rattle.table.specs.Format.{formatRow, formatted, shownRowIf, shownRow, shown}
 use Rattle.table.specs.Demand3.{relay, Fresh, Tells, AsParts}
 use Rattle.table.specs.declared.Offered.the-variants.{Refused}
 
@@ -141,8 +141,8 @@ pub record Holds (s : List ℕ) (e : Event) : Type 0 where
 pub record SoundClauses (b : List ℕ) : Type 0 where
   -- "the buffer has at least 16 bytes"
   pub header : 16 ≤ length b
-  -- "N is 1 to 64"
-  pub capacity : (1 ≤ capacityOf b) × (capacityOf b ≤ 64)
+  -- "N is 1 to 64"; 02, Wish 6: 1,024
+  pub capacity : (1 ≤ capacityOf b) × (capacityOf b ≤ 1024)
   -- "and its slots fit the buffer"
   pub fit : 16 + capacityOf b * 4208 ≤ length b
   -- "C is at most N"
@@ -166,6 +166,25 @@ pub record SoundClauses (b : List ℕ) : Type 0 where
 abbrev pub SoundExactly : Type 0
 SoundExactly = (b : List ℕ) → (sound b ≡ true) ↔ SoundClauses b
 
+-- ---- tables of at most 64 slots
+-- 02, Wish 6: "an old table is still sound", one that was sound when N was "1 to 64"; and of tables of at most 64 slots
+-- no other is
+abbrev pub StillSound : Type 0
+StillSound = (b : List ℕ) → (soundUpTo 64 b ≡ true) ↔ ((sound b ≡ true) × (capacityOf b ≤ 64))
+
+-- and its answers stay, also those of a table that is not sound. What an offer leaves is told from its answer (`next`);
+-- of a table that was sound it was sound too, so all this holds of the next offer
+pub record SameOffer (b : List ℕ) (o : Offering) : Type 0 where
+  pub answered : answer b o ≡ answerIf (soundUpTo 64 b) b o
+  pub left : soundUpTo 64 b ≡ true → soundUpTo 64 (next b o) ≡ true
+
+abbrev pub SameOffers : Type 0
+SameOffers = (b : List ℕ) (o : Offering) → capacityOf b ≤ 64 → SameOffer b o
+
+abbrev pub SameShown : Type 0
+SameShown = (b : List ℕ) (k : ℕ) → capacityOf b ≤ 64 → shownRow b k ≡ shownRowIf (soundUpTo 64 b) b k
+
+-- ---- held slots
 -- a held slot is, byte for byte, what an event within the limits writes
 abbrev pub SlotWritten : Type 0
 SlotWritten =

@@ -7,6 +7,7 @@ use mathlib.Core.List.{List, [], _∷_}
 use Prim.Native.Nat.{ℕ, _+_}
 use lib.IntN.{ℤ, pos, negsuc}
 use lib.ListN.{length, replicate}
+use Rattle.wire.specs.Limits.{mostSlots}
 use Rattle.wire.specs.Bytes.{sameBytes, isHex}
 use Rattle.wire.specs.Escape.{letterOf, escOne, escape}
 use Rattle.numeral.specs.Decimal.{digitsIn, digits, decimal}
@@ -95,19 +96,23 @@ unfolding verdict sameBytes letterOf escOne escape digitsIn digits decimal quote
     isHex
 ties = (refl, refl, refl)
 
--- ---- the bounds of formatting: "capacity outside 1..64"; "formatting tests 14 before 13"; one slot is 4,224 bytes
--- with the header, 64 are 269,328
-capacities : (isCapacity 0 ≡ false) × (isCapacity 1 ≡ true) × (isCapacity 64 ≡ true) × (isCapacity 65 ≡ false)
+-- ---- the bounds of formatting: "capacity outside 1..64" (02, Wish 6: 1,024); "formatting tests 14 before 13"; one
+-- slot is 4,224 bytes with the header, 1,024 are 4,309,008
+capacities :
+    (isCapacity mostSlots 0 ≡ false)
+    × (isCapacity mostSlots 1 ≡ true)
+    × (isCapacity mostSlots 1024 ≡ true)
+    × (isCapacity mostSlots 1025 ≡ false)
 capacities = (refl, refl, refl, refl)
 
-refused-first : (formatRow 0 [] ≡ 14) × (formatRow 65 [] ≡ 14) × (formatRow 64 [] ≡ 13)
+refused-first : (formatRow 0 [] ≡ 14) × (formatRow 1025 [] ≡ 14) × (formatRow 1024 [] ≡ 13)
 unfolding formatRow
 refused-first = (refl, refl, refl)
 
 enough : (b : List ℕ) →
     (length b ≡ 4223 → formatRow 1 b ≡ 13)
     × (length b ≡ 4224 → formatRow 1 b ≡ 0)
-    × (length b ≡ 269327 → formatRow 64 b ≡ 13)
-    × (length b ≡ 269328 → formatRow 64 b ≡ 0)
+    × (length b ≡ 4309007 → formatRow 1024 b ≡ 13)
+    × (length b ≡ 4309008 → formatRow 1024 b ≡ 0)
 unfolding formatRow
 enough b = (λ l. rw l, λ l. rw l, λ l. rw l, λ l. rw l)

@@ -89,9 +89,12 @@ offeredBy r noRoom = Refused 12
 unfoldable pub verdictOn : Bytes → Offering → Verdict
 verdictOn b o = verdict signedEvents (capacityOf b) (view b) (judge o)
 
--- rows 1 to 10, then 11, then the verdict
+-- rows 1 to 10, then 11, where the table is told not to be sound, then the verdict
+abbrev pub answerIf : (isSound : Bool) (b : Bytes) (o : Offering) → Offered
+answerIf isSound b o = cond (isValid o && not isSound) (Refused 11) (offeredBy (offeringRow o) (verdictOn b o))
+
 unfoldable pub answer : Bytes → Offering → Offered
-answer b o = cond (isValid o && not (sound b)) (Refused 11) (offeredBy (offeringRow o) (verdictOn b o))
+answer b o = answerIf (sound b) b o
 
 -- the number of 01
 abbrev pub offerNumber : Offered → ℕ

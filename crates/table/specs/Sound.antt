@@ -1,7 +1,8 @@
 -- 01, "The table": "Sound: the buffer has at least 16 bytes, N is 1 to 64 and its slots fit the buffer, C is at most N,
 -- the other header numbers as above, held texts are serialisations of events that agree with their slot fields, no
 -- ephemeral kind, no id or key held twice, zeros where said. Ids are not hashed again." A definition for each clause,
--- in this order.
+-- in this order. 02, Wish 6, has N up to 1,024. The most that N may be is an argument, so that what was sound with 64
+-- can be spoken of.
 use mathlib.Core.Bool.{Bool, true, false, not, _&&_}
 use mathlib.Core.List.{List, [], _∷_}
 use Prim.Native.Nat.{ℕ}
@@ -23,12 +24,12 @@ use Rattle.wire.specs.Bytes.{Bytes}
 unfoldable pub hasHeader : Bytes → Bool
 hasHeader b = leb headerSize (length b)
 
--- "N is 1 to 64"
-abbrev pub isCapacity : ℕ → Bool
-isCapacity N = leb 1 N && leb N mostSlots
+-- "N is 1 to 64", or to any other `most`
+abbrev pub isCapacity : (most N : ℕ) → Bool
+isCapacity most N = leb 1 N && leb N most
 
-unfoldable pub capacityFits : Bytes → Bool
-capacityFits b = isCapacity (capacityOf b)
+unfoldable pub capacityFits : ℕ → Bytes → Bool
+capacityFits most b = isCapacity most (capacityOf b)
 
 -- "and its slots fit the buffer"
 unfoldable pub slotsFit : Bytes → Bool
@@ -101,8 +102,12 @@ noKeyTwice b = noneTwice (hasKey signedEvents) (view b)
 unfoldable pub laterZero : Bytes → Bool
 laterZero b = isZero (laterSlots b)
 
-unfoldable pub sound : Bytes → Bool
-sound b =
+unfoldable pub soundUpTo : ℕ → Bytes → Bool
+soundUpTo most b =
     hasHeader b
-    && (capacityFits b && (slotsFit b &&
+    && (capacityFits most b && (slotsFit b &&
     (countFits b && (othersAsAbove b && (slotsSound b && (noIdTwice b && (noKeyTwice b && laterZero b)))))))
+
+-- 02, Wish 6: "Raise capacity from 64 to 1,024"
+unfoldable pub sound : Bytes → Bool
+sound b = soundUpTo mostSlots b

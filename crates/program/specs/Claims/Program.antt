@@ -6,12 +6,14 @@ use mathlib.Core.Logic.{_↔_, _⊎_, _≢_}
 use mathlib.Core.Option.{some}
 use mathlib.Core.List.{List, [], _∷_, _++_, map}
 use Prim.Native.Nat.{ℕ, _≤_, _<_}
+use lib.Dec.{ltb}
 use lib.ListN.{length}
 use Rattle.wire.specs.Limits.{hexLength, mostMessage, mostText}
 use Rattle.json.specs.Tree.{Json, Items, nil, Got, none, got, root}
 use Rattle.spell.specs.Spell.{isHexOf}
 use Rattle.shape.specs.Shape.{Word, event, req, close, other, Opened, opened, idName}
-use Rattle.shape.specs.Rows.{messageRow, wrongSubscription}
+use Rattle.rows.specs.Rows.{textRowIf, textRow}
+use Rattle.shape.specs.Rows.{messageRowIf, messageRow, wrongSubscription}
 use Rattle.digest.specs.Digest.{digest}
 use Rattle.text.specs.Event.{Event, serialise, isFit, all}
 use Rattle.text.specs.Read.{read, readText}
@@ -31,7 +33,7 @@ use Rattle.law.specs.Table.{Offer, IdPremise, Settled}
 use Rattle.law.specs.Signature as signature
 use Rattle.law.specs.Demand3.{judged, runOn, NoneLacksOn}
 use Rattle.table.specs.Events.{Signature, tableEvents, ofHeld, view}
-use Rattle.table.specs.Sound.{sound}
+use Rattle.table.specs.Sound.{soundUpTo, sound}
 use Rattle.table.specs.Demand3.{relay}
 use Rattle.table.specs.Offer as offers
 use Rattle.table.specs.Offer.{Offering, asMessage, answer, next}
@@ -41,7 +43,7 @@ use Rattle.query.specs.Answer.{answerList, filtersMeant}
 use Rattle.wire.specs.Ascii.{ascii}
 use Rattle.reply.specs.Replies as replies
 use Rattle.reply.specs.Replies.{Reply, ok, eose, closed, notice, objectText, replyText, reasonOf}
-use Rattle.program.specs.Program.{isAccepted, verdictReason}
+use Rattle.program.specs.Program.{isAccepted, verdictReason, requestRepliesIf, requestReplies}
 use Rattle.program.specs.Program.{repliesTo, tableAfter, lines, written, outputFrom, freshTable, output}
 use Rattle.wire.specs.Bytes.{Bytes}
 use Rattle.reply.specs.Claims.{Plain}
@@ -194,6 +196,19 @@ abbrev pub Overlong : Type 0
 Overlong =
     (b m : List ℕ) → mostMessage < length m → (repliesTo b m ≡ notice (ascii "invalid: message too long") ∷ []) ×
     (tableAfter b m ≡ b)
+
+-- ---- what 02's Wish 6 leaves as it was
+-- "message length from 8,192 to 16,384": a message of at most 8,192 bytes has the rows that it had. What is read of it is
+-- told from them, and from nothing that has the number
+abbrev pub SameRows : Type 0
+SameRows = (m : List ℕ) → length m ≤ 8192 →
+    (textRow m ≡ textRowIf (ltb 8192 (length m)) m) × (messageRow m ≡ messageRowIf (ltb 8192 (length m)) m)
+
+-- "an old table is still sound": over a table of at most 64 slots a REQ gets the replies that it got. Those to an EVENT
+-- are told from the answer to its offer (table/Claims, `SameOffers`)
+abbrev pub SameRequest : Type 0
+SameRequest = (b m sub : List ℕ) (v : ℕ) → capacityOf b ≤ 64 →
+    requestReplies b m sub v ≡ requestRepliesIf (soundUpTo 64 b) b m sub v
 
 -- ---- the program
 -- "over a fresh table of 8 slots"

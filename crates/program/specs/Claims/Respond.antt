@@ -16,7 +16,7 @@ use Rattle.event.specs.Lent.{said}
 use Rattle.event.specs.Answer.{hexOf}
 use Rattle.law.specs.Lists.{_∈_, any}
 use Rattle.table.specs.Layout.{capacityOf, countOf, slotAt, idIn, sigIn, textIn}
-use Rattle.table.specs.Sound.{sound}
+use Rattle.table.specs.Sound.{soundUpTo, sound}
 use Rattle.query.specs.Answer.{answerList, filtersMeant}
 use Rattle.wire.specs.Lowest.{Lowest}
 use Rattle.reply.specs.Replies.{event, eose, replyText}
@@ -25,8 +25,8 @@ use Rattle.program.specs.Program.{repliesTo, tableAfter, replyLine, outp
 use Rattle.reply.specs.Claims.{PartsHold, WritesOr}
 use Rattle.program.specs.Respond.{response, respondRow, responded, respondedOut, respondedTable, slotText}
 use Rattle.program.specs.Respond.{slotLine, slotEventRow, slotEvent, slotEventOut, joined, fitting, slotLines}
-use Rattle.program.specs.Respond.{fittingText, eventsRow, sentEvents, sentEventsOut, sentNumber, sentBytes}
-use Rattle.program.specs.Respond.{sentSlots}
+use Rattle.program.specs.Respond.{fittingText, eventsRowIf, eventsRow, sentEvents, sentEventsOut, sentNumber}
+use Rattle.program.specs.Respond.{sentBytes, sentSlots}
 use Rattle.program.specs.Feed.{State, start, kept, isEnd, afterBytes, saidBy, saidLast, feedState, before, usedOf}
 use Rattle.program.specs.Feed.{turnText, turnState, turnRow, turned, turnTable, turnLine, turnOut, turnedNumber}
 use Rattle.program.specs.Feed.{turnedUsed, turnedLine, turnedBytes, mostLine}
@@ -106,6 +106,11 @@ pub data EventsHold (b ks m : List ℕ) (s : Span) (out : List ℕ) : ℕ → Ty
 
 abbrev pub EventsRowIs : Type 0
 EventsRowIs = (b ks m : List ℕ) (s : Span) (out : List ℕ) → Lowest (EventsHold b ks m s out) (eventsRow b ks m s out)
+
+-- 02, Wish 6: over a table of at most 64 slots that row stays, and with it what is written
+abbrev pub SameEvents : Type 0
+SameEvents = (b ks m : List ℕ) (s : Span) (out : List ℕ) → capacityOf b ≤ 64 →
+    eventsRow b ks m s out ≡ eventsRowIf (soundUpTo 64 b) b ks m s out
 
 pub record SentIs (b ks m : List ℕ) (s : Span) (out : List ℕ) : Type 0 where
   pub number : sentNumber (sentEvents b ks m s out) ≡ eventsRow b ks m s out

@@ -4,6 +4,7 @@ use Prim.Native.Nat.{ℕ, _+_, _-_, _*_, _≤_, _<_}
 use native.Mathlib.Omega.{arith}
 use lib.ListN.{length}
 use borrow.Author.Needs.{needs}
+use Rattle.wire.specs.Limits.{mostSlots, mostFilters}
 use Rattle.table.specs.Layout.{countOf}
 use Rattle.matching.specs.Inner.Order.{told, toldRow}
 use Rattle.matching.proofs.answers.Asked.{Asked, asked-more, taken-is, as-told, few-filters, each-passed}
@@ -12,7 +13,7 @@ use Rattle.matching.proofs.answers.answered.Statement.{statement}
 use Rattle.matching.proofs.answers.answered.Tie as tie
 
 abbrev Inv-loop : tie.InvT-loop
-Inv-loop table m n row fs c hits₀ j₀ hits j = (j ≤ n) × (length hits ≡ 256) × Asked table m fs hits j × (n ≤ 4)
+Inv-loop table m n row fs c hits₀ j₀ hits j = (j ≤ n) × (length hits ≡ mostSlots * mostFilters) × Asked table m fs hits j × (n ≤ 4)
 
 abbrev μ-loop : tie.MeasureT-loop
 μ-loop table m n row fs c hits₀ j₀ hits j = n - j

@@ -4,6 +4,7 @@ use Prim.Native.Nat.{ℕ, _-_, _≤_, _<_}
 use native.Mathlib.Omega.{arith}
 use borrow.Author.Needs.{needs}
 use lib.ListN.{length, getD}
+use Rattle.wire.specs.Limits.{mostSlots}
 use Rattle.table.specs.Layout.{slotAt}
 use Rattle.slots.specs.Marks.{idMark, keyMark}
 use Rattle.slots.proofs.Marks.{set-more}
@@ -12,7 +13,7 @@ use Rattle.slots.proofs.twice.mark.Tie as tie
 
 abbrev Inv-loop : tie.InvT-loop
 Inv-loop table c ids₀ keys₀ k₀ ids keys k =
-    (k ≤ c) × (length ids ≡ 64) × (length keys ≡ 64)
+    (k ≤ c) × (length ids ≡ mostSlots) × (length keys ≡ mostSlots)
     × ((j : ℕ) → j < k → getD ids j 0 ≡ idMark (slotAt table j))
     × ((j : ℕ) → j < k → getD keys j 0 ≡ keyMark (slotAt table j))
 
