@@ -1,4 +1,5 @@
-/* Each call of the header once, from C99 and from C++: that it links, and that it answers what the header says. */
+/* Each call of the header once, from C99 and from C++: that it links, and that it answers what the header says; and a table moved to a larger
+ * one. */
 #include <stdio.h>
 #include <string.h>
 
@@ -18,6 +19,7 @@ static const char req[] = "[\"REQ\",\"s\",{\"kinds\":[30078],\"limit\":1}]";
 static uint8_t table[PLAVDROSA_TABLE_SIZE(2)];
 static uint8_t out[PLAVDROSA_OUTPUT_SIZE(2)];
 static uint8_t line[PLAVDROSA_LINE_SIZE];
+static uint8_t larger[PLAVDROSA_TABLE_SIZE(PLAVDROSA_MAX_CAPACITY)];
 static uint64_t e[PLAVDROSA_EVENT_NUMBERS];
 static uint64_t r[PLAVDROSA_MESSAGE_NUMBERS];
 static uint64_t o[PLAVDROSA_MESSAGE_NUMBERS];
@@ -92,7 +94,7 @@ static void tables(void) {
     size_t place = 0, n = 0;
     uint16_t slots[PLAVDROSA_MAX_CAPACITY];
     EXPECT(plavdrosa_sound(table, sizeof table), PLAVDROSA_BAD_TABLE);
-    EXPECT(plavdrosa_format(table, sizeof table, 65), PLAVDROSA_NO_SLOT);
+    EXPECT(plavdrosa_format(table, sizeof table, PLAVDROSA_MAX_CAPACITY + 1), PLAVDROSA_NO_SLOT);
     EXPECT(plavdrosa_format(table, sizeof table, 3), PLAVDROSA_SHORT_OUTPUT);
     EXPECT(plavdrosa_format(table, sizeof table, 2), PLAVDROSA_DONE);
     EXPECT(plavdrosa_sound(table, sizeof table), PLAVDROSA_DONE);
@@ -133,10 +135,70 @@ static void replies(void) {
     EXPECT(is(n, "[\"NOTICE\",\"invalid: not JSON\"]\n"), 1);
 }
 
+/* The longest message and one of a byte more, filled with spaces: tested, and as lines. */
+static void lengths(void) {
+    static uint8_t message[PLAVDROSA_MAX_MESSAGE + 1];
+    size_t kept = 0, used = 0, n = 0;
+    memset(message, ' ', sizeof message);
+    memcpy(message, "[\"CLOSE\",\"s\"]", 13);
+    EXPECT(plavdrosa_message_row(message, sizeof message - 1), PLAVDROSA_DONE);
+    EXPECT(plavdrosa_message_row(message, sizeof message), PLAVDROSA_TOO_LONG);
+    EXPECT(plavdrosa_turn(table, sizeof table, line, sizeof line - 1, &kept, message, 1, out, sizeof out, &used, &n), PLAVDROSA_SHORT_OUTPUT);
+    EXPECT(plavdrosa_turn(table, sizeof table, line, sizeof line, &kept, message, sizeof message - 1, out, sizeof out, &used, &n), PLAVDROSA_DONE);
+    EXPECT(plavdrosa_finish(table, sizeof table, line, sizeof line, kept, out, sizeof out, &n), PLAVDROSA_DONE);
+    EXPECT(kept == PLAVDROSA_MAX_MESSAGE && n == 0, 1);
+    EXPECT(plavdrosa_turn(table, sizeof table, line, sizeof line, &kept, BYTES(" "), out, sizeof out, &used, &n), PLAVDROSA_DONE);
+    EXPECT(plavdrosa_finish(table, sizeof table, line, sizeof line, kept, out, sizeof out, &n), PLAVDROSA_DONE);
+    EXPECT(is(n, "[\"NOTICE\",\"invalid: message too long\"]\n"), 1);
+}
+
+/* Offers the event of a slot to the larger table, as parts: its text, and behind it its EVENT, which has id and signature in hex. */
+static uint8_t moved(size_t slot) {
+    static uint8_t bytes[PLAVDROSA_MAX_TEXT + PLAVDROSA_OUTPUT_SIZE(1)];
+    uint64_t t[PLAVDROSA_TEXT_NUMBERS], p[PLAVDROSA_EVENT_NUMBERS];
+    size_t place = 0, len = 0, n = 0;
+    uint8_t row = plavdrosa_show(table, sizeof table, slot, &place, &len);
+    if (row != PLAVDROSA_DONE)
+        return row;
+    memcpy(bytes, table + place, len);
+    EXPECT(plavdrosa_read_text(bytes, len, t, PLAVDROSA_TEXT_NUMBERS), PLAVDROSA_DONE);
+    EXPECT(plavdrosa_slot_event(table, sizeof table, slot, BYTES("s"), 0, 1, bytes + len, sizeof bytes - len, &n), PLAVDROSA_DONE);
+    p[0] = PLAVDROSA_EVENT;
+    p[PLAVDROSA_EVENT_ID] = len + strlen("[\"EVENT\",\"s\",{\"id\":\"");
+    p[PLAVDROSA_EVENT_ID_LEN] = 64;
+    p[PLAVDROSA_EVENT_PUBKEY] = 4;
+    p[PLAVDROSA_EVENT_PUBKEY_LEN] = 64;
+    p[PLAVDROSA_EVENT_CREATED_AT] = t[PLAVDROSA_TEXT_CREATED_AT];
+    p[PLAVDROSA_EVENT_KIND] = t[PLAVDROSA_TEXT_KIND];
+    p[PLAVDROSA_EVENT_TAGS] = t[PLAVDROSA_TEXT_TAGS];
+    p[PLAVDROSA_EVENT_CONTENT] = t[PLAVDROSA_TEXT_CONTENT];
+    p[PLAVDROSA_EVENT_CONTENT_LEN] = t[PLAVDROSA_TEXT_CONTENT_LEN];
+    p[PLAVDROSA_EVENT_SIG] = len + n - strlen("\"}]") - 128;
+    p[PLAVDROSA_EVENT_SIG_LEN] = 128;
+    return plavdrosa_offer_parts(larger, sizeof larger, bytes, len + n, p, PLAVDROSA_EVENT_NUMBERS);
+}
+
+/* The table moves to one of the most slots: each held slot from the first on, and ends there as it was. */
+static void move(void) {
+    size_t slot = 0;
+    uint8_t row;
+    EXPECT(plavdrosa_format(larger, sizeof larger, PLAVDROSA_MAX_CAPACITY + 1), PLAVDROSA_NO_SLOT);
+    EXPECT(plavdrosa_format(larger, sizeof larger - 1, PLAVDROSA_MAX_CAPACITY), PLAVDROSA_SHORT_OUTPUT);
+    EXPECT(plavdrosa_format(larger, sizeof larger, PLAVDROSA_MAX_CAPACITY), PLAVDROSA_DONE);
+    while ((row = moved(slot)) == PLAVDROSA_STORED)
+        slot++;
+    EXPECT(row, PLAVDROSA_NO_SLOT);
+    EXPECT(slot, 1);
+    EXPECT(memcmp(larger + 16, table + 16, sizeof table - 16), 0);
+    EXPECT(plavdrosa_sound(larger, sizeof larger), PLAVDROSA_DONE);
+}
+
 int main(void) {
     texts();
     pieces();
     tables();
     replies();
+    lengths();
+    move();
     return wrong;
 }

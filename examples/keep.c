@@ -1,10 +1,11 @@
 /* The line relay over a table that is kept in a file: keep FILE [SLOTS].
  *
- * A file that is not there is begun, with SLOTS slots (8 if not said). One that is there must hold a sound table, or the relay does not start: it
- * says "error: bad table" and exits with 11.
+ * A file that is not there is begun, with SLOTS slots (8 if not said). One that is there keeps the slots it has, whatever SLOTS says, and must hold
+ * a sound table, or the relay does not start: it says "error: bad table" and exits with 11.
  *
  * A line that changes the table has it written to FILE.new, forced to the disk and renamed to FILE before it is answered. So FILE is at every
- * moment a whole table, whenever the relay is killed, and holds every event whose OK a client has seen. Two relays must not share a file. */
+ * moment a whole table, whenever the relay is killed, and holds every event whose OK a client has seen. The whole table is written each time, 4.3 MB
+ * if it has the most slots. Two relays must not share a file. */
 #define _POSIX_C_SOURCE 200809L
 
 #include <errno.h>

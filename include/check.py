@@ -1,7 +1,8 @@
 #!/usr/bin/env python3
-"""Tells whether plavdrosa.h and the exported calls of crates capi and capi_relay agree: names, and the width and the kind of each argument.
+"""Tells whether plavdrosa.h and the exported calls of crates capi and capi_relay agree: names, and the width and the kind of each argument;
+and whether the limits of the header are those of crate wire.
 
-Prints what differs and exits 1, or prints how many calls agree and exits 0.
+Prints what differs and exits 1, or prints how many calls and limits agree and exits 0.
 """
 import pathlib
 import re
@@ -10,6 +11,7 @@ import sys
 ROOT = pathlib.Path(__file__).resolve().parent.parent
 HEADER = ROOT / "include" / "plavdrosa.h"
 CRATES = ("capi", "capi_relay")
+WIRE = ROOT / "crates" / "wire" / "src" / "lib.rt"
 
 # a number of Rattle, and that of C
 NUMBERS = {
@@ -24,8 +26,17 @@ NUMBERS = {
     "usize": "size_t",
 }
 
+# a limit of the header, and the constant of crate wire
+LIMITS = {
+    "PLAVDROSA_MAX_MESSAGE": "MOST_MESSAGE",
+    "PLAVDROSA_MAX_TEXT": "MOST_TEXT",
+    "PLAVDROSA_MAX_CAPACITY": "MOST_SLOTS",
+}
+
 EXPORT = re.compile(r'#\[no_mangle\]\s*pub extern "C" fn (\w+)\s*\((.*?)\)\s*(?:->\s*([^{}]*?))?\s*(?=requires\b|ensures\b|\{)', re.S)
 PROTOTYPE = re.compile(r"^(\w[\w ]*?)\s+(\w+)\s*\(([^()]*)\)\s*;", re.M)
+DEFINE = re.compile(r"^#define (\w+) (\d+)$", re.M)
+CONSTANT = re.compile(r"^pub const (\w+): usize = (\d+);$", re.M)
 
 
 def number(name):
@@ -90,6 +101,15 @@ def shown(call):
     return f"{answer} ({', '.join(f'{kind} {name}' for name, kind in row)})"
 
 
+def wrong_limits(header, wire):
+    """The limits that the header has otherwise than crate wire, or that one of them lacks."""
+    defined, constants = dict(DEFINE.findall(header)), dict(CONSTANT.findall(wire))
+    for name, constant in LIMITS.items():
+        here, there = defined.get(name), constants.get(constant)
+        if here is None or here != there:
+            yield f"{name}: {here} in plavdrosa.h, {constant} of crate wire is {there}"
+
+
 def main():
     wrong = []
     code = {}
@@ -99,7 +119,8 @@ def main():
                 if name in code:
                     wrong.append(f"{name}: exported twice")
                 code[name] = call
-    header = prototypes(HEADER.read_text(encoding="utf-8"))
+    declared = HEADER.read_text(encoding="utf-8")
+    header = prototypes(declared)
     for name in sorted(code.keys() | header.keys()):
         if name not in header:
             wrong.append(f"{name}: not in plavdrosa.h")
@@ -109,11 +130,12 @@ def main():
             wrong.append(f"{name}: exported as {shown(code[name])}\n    declared as {shown(header[name])}")
     if not code:
         wrong.append("no call is exported")
+    wrong += wrong_limits(declared, WIRE.read_text(encoding="utf-8"))
     for line in wrong:
         print(line)
     if wrong:
         return 1
-    print(f"{len(code)} calls agree")
+    print(f"{len(code)} calls and {len(LIMITS)} limits agree")
     return 0
 
 

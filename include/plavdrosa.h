@@ -36,23 +36,24 @@ extern "C" {
 /* ---- Sizes. */
 
 /* The most bytes of a message, without what ends its line. */
-#define PLAVDROSA_MAX_MESSAGE 8192
+#define PLAVDROSA_MAX_MESSAGE 16384
 
 /* The most bytes of an event's serialised text. */
 #define PLAVDROSA_MAX_TEXT 4096
 
 /* The most slots of a table. */
-#define PLAVDROSA_MAX_CAPACITY 64
+#define PLAVDROSA_MAX_CAPACITY 1024
 
-/* The bytes of a table of n slots, 1 to 64. */
+/* The bytes of a table of n slots, 1 to PLAVDROSA_MAX_CAPACITY. The largest has 4.3 MB, for static memory or the heap. */
 #define PLAVDROSA_TABLE_SIZE(n) ((size_t)16 + (size_t)(n) * 4208)
 
 /* An output of so many bytes is never too short for plavdrosa_respond, plavdrosa_turn and plavdrosa_finish over a table of n slots: an EVENT with
- * its 0A has at most 24,827 bytes, where each byte of a text's strings is a control character that takes six, and any other reply 428. */
+ * its 0A has at most 24,827 bytes, where each byte of a text's strings is a control character that takes six, and any other reply 428. For
+ * the largest table these are 25 MB: a caller that has less lends less, and answers a REQ by pieces (plavdrosa_list, plavdrosa_events). */
 #define PLAVDROSA_OUTPUT_SIZE(n) ((size_t)(n) * 24827 + 428)
 
 /* The least bytes of the line buffer of plavdrosa_turn: one more than a message has tells that a line is too long. */
-#define PLAVDROSA_LINE_SIZE 8193
+#define PLAVDROSA_LINE_SIZE (PLAVDROSA_MAX_MESSAGE + 1)
 
 /* The bytes of an id and of a digest. */
 #define PLAVDROSA_ID_SIZE 32
@@ -66,7 +67,7 @@ extern "C" {
  * plavdrosa_format tests 14 before 13. */
 enum plavdrosa_row {
     PLAVDROSA_DONE = 0,
-    PLAVDROSA_TOO_LONG = 1,         /* message over 8,192 bytes; "invalid: message too long" */
+    PLAVDROSA_TOO_LONG = 1,         /* message over PLAVDROSA_MAX_MESSAGE bytes; "invalid: message too long" */
     PLAVDROSA_NOT_UTF8 = 2,         /* "invalid: not UTF-8" */
     PLAVDROSA_NOT_JSON = 3,         /* no JSON, or more than 8 brackets and braces open at once; "invalid: not JSON" */
     PLAVDROSA_BAD_STRING = 4,       /* an unpaired surrogate; "invalid: string not allowed" */
@@ -74,12 +75,12 @@ enum plavdrosa_row {
     PLAVDROSA_BAD_NUMBER = 6,       /* "invalid: number" */
     PLAVDROSA_BAD_HEX = 7,          /* an id, pubkey, sig or member of ids, authors, #e or #p; "invalid: hex" */
     PLAVDROSA_BAD_COUNT = 8,        /* a count out of bounds; "invalid: count or length" */
-    PLAVDROSA_EVENT_TOO_LARGE = 9,  /* serialised text over 4,096 bytes; "invalid: event too large" */
+    PLAVDROSA_EVENT_TOO_LARGE = 9,  /* serialised text over PLAVDROSA_MAX_TEXT bytes; "invalid: event too large" */
     PLAVDROSA_WRONG_ID = 10,        /* id is not the SHA-256 of the text; "invalid: id does not match" */
     PLAVDROSA_BAD_TABLE = 11,       /* table not sound; "error: bad table" */
     PLAVDROSA_NO_ROOM = 12,         /* new slot needed, all in use; "error: no room" */
     PLAVDROSA_SHORT_OUTPUT = 13,    /* lent output, or a buffer to be formatted, too short; no reply */
-    PLAVDROSA_NO_SLOT = 14          /* capacity outside 1 to 64, or slot not held; no reply */
+    PLAVDROSA_NO_SLOT = 14          /* capacity outside 1 to PLAVDROSA_MAX_CAPACITY, or slot not held; no reply */
 };
 
 /* What an offer is answered where nothing refuses it. */
@@ -342,7 +343,7 @@ uint8_t plavdrosa_class(uint16_t kind);
 
 /** Format a buffer as a table without events.
  *
- *  Returns: 14 if the capacity is not 1 to 64, 13 if the buffer has fewer than PLAVDROSA_TABLE_SIZE(capacity) bytes, or 0.
+ *  Returns: 14 if the capacity is not 1 to PLAVDROSA_MAX_CAPACITY, 13 if the buffer has fewer than PLAVDROSA_TABLE_SIZE(capacity) bytes, or 0.
  *  Out:     table:    the table; bytes behind its last slot stay. As found on a refusal.
  *  In:      capacity: how many slots it gets.
  */
@@ -409,7 +410,8 @@ uint8_t plavdrosa_match(const uint8_t *bytes, size_t bytes_len, const uint64_t *
  *  In:      table:   the table.
  *           message: what the filters' parts are places of.
  *           request: the numbers of a REQ, as plavdrosa_read writes them; a number past the row's end is 0.
- *  Out:     row:     the slots' numbers, each once; as found on a refusal. PLAVDROSA_MAX_CAPACITY are always enough.
+ *  Out:     row:     the slots' numbers, each once; as found on a refusal. As many as the table has slots are always enough, so
+ *                    PLAVDROSA_MAX_CAPACITY for any table.
  *           count:   how many they are; as found on a refusal.
  */
 uint8_t plavdrosa_list(const uint8_t *table, size_t table_len, const uint8_t *message, size_t message_len, const uint64_t *request,

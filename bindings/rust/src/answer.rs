@@ -15,7 +15,7 @@ use core::fmt;
 #[derive(Clone, Copy, Debug, PartialEq, Eq, PartialOrd, Ord, Hash)]
 #[repr(u8)]
 pub enum Refusal {
-    /// A message over 8,192 bytes.
+    /// A message over [`MAX_MESSAGE`](crate::MAX_MESSAGE) bytes.
     TooLong = 1,
     /// Not UTF-8.
     NotUtf8 = 2,
@@ -31,7 +31,7 @@ pub enum Refusal {
     BadHex = 7,
     /// A count or a length out of bounds.
     BadCount = 8,
-    /// A serialised text over 4,096 bytes.
+    /// A serialised text over [`MAX_TEXT`](crate::MAX_TEXT) bytes.
     EventTooLarge = 9,
     /// The id is not the SHA-256 of the text.
     WrongId = 10,
@@ -41,7 +41,7 @@ pub enum Refusal {
     NoRoom = 12,
     /// The lent output, or the buffer to be formatted, is too short.
     ShortOutput = 13,
-    /// A capacity outside 1 to 64, or a slot that is not held.
+    /// A capacity outside 1 to [`MAX_CAPACITY`](crate::MAX_CAPACITY), or a slot that is not held.
     NoSlot = 14,
 }
 

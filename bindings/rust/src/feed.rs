@@ -3,10 +3,13 @@
 #![forbid(unsafe_code)]
 
 use crate::answer::done;
-use crate::{Refusal, Table, ffi};
+use crate::{MAX_MESSAGE, Refusal, Table, ffi};
+
+// A byte more than a message may have tells that the line is too long.
+const LINE_SIZE: usize = MAX_MESSAGE + 1;
 
 /// The line so far of an input that comes in pieces, as from a socket or a pipe. However the input is cut, the replies are the same. A line that
-/// is too long gives one reply, and never more than 8,193 bytes are kept of it.
+/// is too long gives one reply, and never more than [`MAX_MESSAGE`]` + 1` bytes are kept of it. So many stand in the value itself, 16 KB.
 ///
 /// ```
 /// use plavdrosa::{Feed, Table, output_size, table_size};
@@ -27,7 +30,7 @@ use crate::{Refusal, Table, ffi};
 /// ```
 #[derive(Clone, Debug)]
 pub struct Feed {
-    line: [u8; 8193],
+    line: [u8; LINE_SIZE],
     kept: usize,
 }
 
@@ -45,7 +48,7 @@ impl Feed {
     /// ```
     pub const fn new() -> Feed {
         Feed {
-            line: [0; 8193],
+            line: [0; LINE_SIZE],
             kept: 0,
         }
     }

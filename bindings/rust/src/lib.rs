@@ -72,7 +72,7 @@ pub use table::Table;
 /// assert_eq!(message_row(&[b' '; MAX_MESSAGE + 1]), Err(Refusal::TooLong));
 /// assert_eq!(message_row(&[b' '; MAX_MESSAGE]), Err(Refusal::NotJson));
 /// ```
-pub const MAX_MESSAGE: usize = 8192;
+pub const MAX_MESSAGE: usize = 16384;
 
 /// The most bytes of an event's serialised text.
 ///
@@ -88,22 +88,30 @@ pub const MAX_TEXT: usize = 4096;
 /// use plavdrosa::{MAX_CAPACITY, Refusal, Table};
 /// assert_eq!(Table::format(&mut [], MAX_CAPACITY + 1).err(), Some(Refusal::NoSlot));
 /// ```
-pub const MAX_CAPACITY: usize = 64;
+pub const MAX_CAPACITY: usize = 1024;
 
-/// The bytes of a table of `n` slots, 1 to 64.
+/// The bytes of a table of `n` slots, 1 to [`MAX_CAPACITY`]. A table of many slots belongs on the heap or in a `static`.
 ///
 /// ```
-/// assert_eq!(plavdrosa::table_size(8), 33_680);
+/// use plavdrosa::{MAX_CAPACITY, Table, table_size};
+/// assert_eq!(table_size(8), 33_680);
+/// let mut buffer = vec![0; table_size(MAX_CAPACITY)];
+/// assert_eq!(buffer.len(), 4_309_008);
+/// assert!(Table::format(&mut buffer, MAX_CAPACITY)?.is_empty());
+/// # Ok::<(), plavdrosa::Refusal>(())
 /// ```
 pub const fn table_size(n: usize) -> usize {
     16 + n * 4208
 }
 
 /// So many bytes of output are never too short for an answer over a table of `n` slots. An EVENT takes at most 24,827 of them with its line's end:
-/// each byte of a string may be a control character, which a reply spells with six.
+/// each byte of a string may be a control character, which a reply spells with six. Whoever has less memory than a large table's answer may take
+/// lends less, and writes a REQ's answer by pieces: [`Table::list`], then [`Table::events`] until all are sent, then an EOSE by [`reply`].
 ///
 /// ```
-/// assert_eq!(plavdrosa::output_size(8), 199_044);
+/// use plavdrosa::{MAX_CAPACITY, output_size};
+/// assert_eq!(output_size(8), 199_044);
+/// assert_eq!(output_size(MAX_CAPACITY), 25_423_276);
 /// ```
 pub const fn output_size(n: usize) -> usize {
     n * 24827 + 428

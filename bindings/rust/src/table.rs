@@ -24,8 +24,8 @@ pub struct Table<'a> {
 }
 
 impl<'a> Table<'a> {
-    /// Formats a buffer as a table without events. Refused by 14 if the capacity is not 1 to 64, and by 13 if the buffer has fewer than
-    /// [`table_size`]`(capacity)` bytes; it stays as it was then. Bytes behind the last slot stay in any case.
+    /// Formats a buffer as a table without events. Refused by 14 if the capacity is not 1 to [`MAX_CAPACITY`](crate::MAX_CAPACITY), and by 13 if
+    /// the buffer has fewer than [`table_size`]`(capacity)` bytes; it stays as it was then. Bytes behind the last slot stay in any case.
     ///
     /// ```
     /// use plavdrosa::{Refusal, Table, table_size};
@@ -41,7 +41,8 @@ impl<'a> Table<'a> {
         })
     }
 
-    /// Takes a buffer that holds a table, as one read from a file. Refused by 11 if it is not sound.
+    /// Takes a buffer that holds a table, as one read from a file. Refused by 11 if it is not sound. Tables that an earlier build wrote, of at most
+    /// 64 slots, are.
     ///
     /// ```
     /// use plavdrosa::{Refusal, Table, sample, table_size};
@@ -173,15 +174,15 @@ impl<'a> Table<'a> {
         Ok(&self.bytes[place..place + len])
     }
 
-    /// Lists the slots that a REQ is answered with, newest first, each once. A row of 64 numbers is always enough; one too short for the answer
-    /// is refused by 13.
+    /// Lists the slots that a REQ is answered with, newest first, each once. A row of as many numbers as the table has slots is always enough, so
+    /// one of [`MAX_CAPACITY`](crate::MAX_CAPACITY) for any table; one too short for the answer is refused by 13.
     ///
     /// ```
-    /// use plavdrosa::{MAX_CAPACITY, Message, Table, read, sample, table_size};
+    /// use plavdrosa::{Message, Table, read, sample, table_size};
     /// let mut buffer = [0; table_size(2)];
     /// let mut table = Table::format(&mut buffer, 2)?;
     /// table.offer(sample::EVENT)?;
-    /// let mut row = [0; MAX_CAPACITY];
+    /// let mut row = [0; 2];
     /// let message = br#"["REQ","s",{"kinds":[30078]}]"#;
     /// let Message::Req(parts) = read(message)? else { panic!() };
     /// assert_eq!(table.list(message, &parts, &mut row)?, [0]);

@@ -79,6 +79,7 @@ fn sizes_are_the_headers() {
     defined(&format!("MAX_MESSAGE {MAX_MESSAGE}"));
     defined(&format!("MAX_TEXT {MAX_TEXT}"));
     defined(&format!("MAX_CAPACITY {MAX_CAPACITY}"));
+    defined("LINE_SIZE (PLAVDROSA_MAX_MESSAGE + 1)");
     defined(&format!("DIGEST_STATE_SIZE {}", Digest::STATE_SIZE));
     let slot = table_size(1) - table_size(0);
     defined(&format!(

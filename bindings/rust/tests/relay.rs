@@ -1,8 +1,8 @@
 //! The library against the stored input and output of the program `relay`, and at its borders.
 
 use plavdrosa::{
-    Body, EventParts, Feed, MAX_TEXT, Message, Refusal, Span, Table, Verdict, digest, output_size, read, read_text,
-    refused, relay, sample, table_size,
+    Body, EventParts, Feed, MAX_CAPACITY, MAX_MESSAGE, MAX_TEXT, Message, Refusal, ReplyParts, ReqParts, Span, Table,
+    Verdict, digest, output_size, read, read_text, refused, relay, reply, sample, table_size, text_row,
 };
 
 const STDIN: &[u8] = include_bytes!(concat!(env!("CARGO_MANIFEST_DIR"), "/../../crates/relay/stdin"));
@@ -19,26 +19,68 @@ fn relay_writes_what_the_program_writes() {
 
 #[test]
 fn pieces_of_any_size_give_the_same_replies() {
-    for size in [1, 7, 8193, 100_000] {
+    for size in [1, 7, MAX_MESSAGE + 1, 100_000] {
         let mut buffer = vec![0; table_size(8)];
-        let mut out = vec![0; output_size(8)];
         let mut table = Table::format(&mut buffer, 8).unwrap();
-        let mut feed = Feed::new();
-        let mut replies = Vec::new();
-        let mut add = |line: &[u8]| {
-            replies.extend_from_slice(line);
-            replies.push(b'\n');
-        };
-        for mut piece in STDIN.chunks(size) {
-            while !piece.is_empty() {
-                let used = feed.turn(&mut table, piece, &mut out, &mut add).unwrap();
-                assert!(used > 0);
-                piece = &piece[used..];
-            }
-        }
-        feed.finish(&mut table, &mut out, &mut add).unwrap();
-        assert!(replies == STDOUT, "pieces of {size} bytes");
+        assert!(fed(&mut table, STDIN, size) == STDOUT, "pieces of {size} bytes");
     }
+}
+
+#[test]
+fn a_message_has_at_most_16384_bytes() {
+    assert_eq!(MAX_MESSAGE, 16_384);
+    let long = |message: &[u8], len: usize| {
+        let mut long = message.to_vec();
+        long.resize(len, b' ');
+        long
+    };
+    let close = br#"["CLOSE","s"]"#;
+    assert!(read(&long(close, 16_384)).is_ok());
+    assert_eq!(read(&long(close, 16_385)), Err(Refusal::TooLong));
+    assert!(text_row(&long(b"[]", 16_384)).is_ok());
+    assert_eq!(text_row(&long(b"[]", 16_385)), Err(Refusal::TooLong));
+
+    let mut buffer = vec![0; table_size(1)];
+    let mut table = Table::format(&mut buffer, 1).unwrap();
+    assert_eq!(table.offer(&long(sample::EVENT, 16_385)), Err(Refusal::TooLong));
+    assert_eq!(table.offer(&long(sample::EVENT, 16_384)), Ok(Verdict::Stored));
+
+    // as lines: both lengths, a line that goes on, and a last one without its end
+    let ask = br#"["REQ","s",{"kinds":[1]}]"#;
+    let lines = [
+        long(ask, 16_384),
+        long(ask, 16_385),
+        vec![b'['; 50_000],
+        long(ask, 8_193),
+        long(ask, 16_384),
+    ];
+    let (eose, notice) = ("[\"EOSE\",\"s\"]\n", "[\"NOTICE\",\"invalid: message too long\"]\n");
+    let replies = [eose, notice, notice, eose, eose].concat();
+    for size in [1, 8_192, 8_193, 16_384, 16_385, 100_000] {
+        let written = fed(&mut table, &lines.join(&b'\n'), size);
+        assert_eq!(written, replies.as_bytes(), "pieces of {size} bytes");
+    }
+}
+
+#[test]
+fn a_text_has_at_most_4096_bytes_however_long_the_message() {
+    let mut buffer = vec![0; table_size(2)];
+    let mut table = Table::format(&mut buffer, 2).unwrap();
+    let fits = MAX_TEXT - "[0,\"\",0,1,[],\"\"]".len() - 64;
+    // as many control characters as a message has room for
+    let most = (MAX_MESSAGE - event_saying(0, "").len()) / 6;
+    assert!(most < fits);
+    for content in ["\\u0001".repeat(most), "x".repeat(fits)] {
+        assert_eq!(table.offer(&event_saying(0, &content)), Ok(Verdict::Stored));
+    }
+    let unnamed = |content: &str| message_of(&"0".repeat(64), 0, 1, "[]", content);
+    for n in [fits + 1, 16_000] {
+        assert_eq!(table.offer(&unnamed(&"x".repeat(n))), Err(Refusal::EventTooLarge));
+    }
+    assert_eq!(
+        table.offer(&unnamed(&"\\u0001".repeat(most + 1))),
+        Err(Refusal::TooLong)
+    );
 }
 
 #[test]
@@ -97,31 +139,100 @@ fn every_verdict_has_its_text_in_a_reply() {
 }
 
 #[test]
-fn full_tables_of_every_capacity_are_listed_whole() {
-    let Ok(Message::Req(request)) = read(br#"["REQ","s",{}]"#) else {
-        panic!()
-    };
-    for capacity in [1, 64] {
-        let mut buffer = vec![0; table_size(capacity)];
-        let mut table = Table::format(&mut buffer, capacity).unwrap();
-        let mut time = 0;
-        while table.len() < capacity {
-            assert_eq!(table.offer(&event(time)), Ok(Verdict::Stored));
-            time += 1;
-        }
-        assert_eq!(table.offer(&event(time)), Err(Refusal::NoRoom));
-        let mut row = [0; 64];
-        let newest_first: Vec<u16> = (0..capacity as u16).rev().collect();
-        assert_eq!(
-            table.list(br#"["REQ","s",{}]"#, &request, &mut row).unwrap(),
-            newest_first
-        );
-        let mut short = vec![0; capacity - 1];
-        assert_eq!(
-            table.list(br#"["REQ","s",{}]"#, &request, &mut short),
-            Err(Refusal::ShortOutput)
-        );
+fn a_table_has_1_to_1024_slots() {
+    assert_eq!(MAX_CAPACITY, 1024);
+    let size = table_size(1024);
+    let mut buffer = vec![7; table_size(1025)];
+    for capacity in [0, 1025, usize::MAX] {
+        assert_eq!(Table::format(&mut buffer, capacity).err(), Some(Refusal::NoSlot));
     }
+    assert_eq!(
+        Table::format(&mut buffer[..size - 1], 1024).err(),
+        Some(Refusal::ShortOutput)
+    );
+    assert!(buffer.iter().all(|&byte| byte == 7));
+    let table = Table::format(&mut buffer, 1024).unwrap();
+    assert_eq!(
+        (table.capacity(), table.len(), table.bytes().len()),
+        (1024, 0, 4_309_008)
+    );
+    assert!(buffer[size..].iter().all(|&byte| byte == 7));
+    assert!(Table::open(&mut buffer).is_ok());
+    // the header says 1,025, and there are so many
+    buffer[size..].fill(0);
+    buffer[0] = 1;
+    assert_eq!(Table::open(&mut buffer).err(), Some(Refusal::BadTable));
+}
+
+#[test]
+fn full_tables_of_every_capacity_answer() {
+    let request = asked(ALL);
+    for capacity in [1, 63, 64, 65, 900, 1023, 1024] {
+        let mut buffer = vec![0; table_size(capacity)];
+        let mut table = filled(&mut buffer, capacity);
+        let newest_first: Vec<u16> = (0..capacity as u16).rev().collect();
+        let mut row = vec![0; capacity];
+        assert_eq!(table.list(ALL, &request, &mut row).unwrap(), newest_first);
+        assert_eq!(table.list(ALL, &request, &mut row[1..]), Err(Refusal::ShortOutput));
+
+        let last = capacity - 1;
+        let later = capacity as i64;
+        assert_eq!(table.offer(&tile(last, last as i64)), Ok(Verdict::Duplicate));
+        assert_eq!(table.offer(&tile(capacity, later)), Err(Refusal::NoRoom));
+        assert_eq!(table.offer(&event(later)), Err(Refusal::NoRoom));
+        assert_eq!(table.offer(&tile(0, later)), Ok(Verdict::Stored));
+        assert_eq!(table.offer(&tile(0, 0)), Ok(Verdict::Older));
+        assert_eq!(table.list(ALL, &request, &mut row).unwrap()[0], 0);
+        assert!(table.show(last).is_ok());
+        assert_eq!(table.show(capacity), Err(Refusal::NoSlot));
+    }
+}
+
+#[test]
+fn a_table_of_an_earlier_build_goes_on() {
+    // 01's bytes, of 64 slots that hold as many tiles
+    let mut old = [64u32, 64, 4208, 16].map(u32::to_le_bytes).concat();
+    for number in 0..64 {
+        old.extend(slot_of(number));
+    }
+    assert_eq!(old.len(), 269_328);
+    let mut buffer = vec![0; old.len()];
+    assert!(filled(&mut buffer, 64).bytes() == old);
+
+    let mut table = Table::open(&mut old).unwrap();
+    assert_eq!((table.capacity(), table.len()), (64, 64));
+    assert_eq!(table.offer(&tile(17, 17)), Ok(Verdict::Duplicate));
+    assert_eq!(table.offer(&tile(17, -1)), Ok(Verdict::Older));
+    assert_eq!(table.offer(&tile(64, 64)), Err(Refusal::NoRoom));
+    assert_eq!(table.offer(&tile(17, 64)), Ok(Verdict::Stored));
+    let mut row = [0; 64];
+    let listed = table.list(ALL, &asked(ALL), &mut row).unwrap();
+    assert_eq!((listed.len(), &listed[..3]), (64, &[17, 63, 62][..]));
+}
+
+#[test]
+fn a_long_answer_is_written_by_pieces() {
+    let mut buffer = vec![0; table_size(MAX_CAPACITY)];
+    let mut table = filled(&mut buffer, MAX_CAPACITY);
+    let mut large = vec![0; output_size(MAX_CAPACITY)];
+    let whole = table.respond(ALL, &mut large, |_| ()).unwrap();
+
+    let mut out = vec![0; output_size(1)];
+    assert_eq!(table.respond(ALL, &mut out, |_| panic!()), Err(Refusal::ShortOutput));
+    let request = asked(ALL);
+    let subscription = request.subscription;
+    let mut row = vec![0; table.capacity()];
+    let mut left = table.list(ALL, &request, &mut row).unwrap();
+    let mut pieces = Vec::new();
+    while !left.is_empty() {
+        let (lines, sent) = table.events(left, ALL, subscription, &mut out).unwrap();
+        pieces.extend_from_slice(lines);
+        left = &left[sent..];
+    }
+    let eose = reply(ALL, &ReplyParts::Eose { subscription }, &mut out).unwrap();
+    pieces.extend_from_slice(eose);
+    pieces.push(b'\n');
+    assert!(pieces == whole);
 }
 
 #[test]
@@ -211,6 +322,9 @@ fn the_longest_event_takes_what_output_size_counts() {
     let mut out = vec![0; output_size(1)];
     let mut table = Table::format(&mut buffer, 1).unwrap();
     assert_eq!(table.offer_parts(&bytes, &parts), Ok(Verdict::Stored));
+    // held, it is offered again as parts, though no message has room for it
+    let (bytes, parts) = held(&table, 0);
+    assert_eq!(table.offer_parts(&bytes, &parts), Ok(Verdict::Duplicate));
     let subscription = "\\u0001".repeat(64);
     let request = format!("[\"REQ\",\"{subscription}\",{{}}]");
     let mut replies = Vec::new();
@@ -223,6 +337,24 @@ fn the_longest_event_takes_what_output_size_counts() {
 
 #[test]
 fn a_table_moves_to_a_larger_one() {
+    let mut small = vec![0; table_size(64)];
+    let mut large = vec![0; table_size(MAX_CAPACITY)];
+    let from = filled(&mut small, 64);
+    let mut to = Table::format(&mut large, MAX_CAPACITY).unwrap();
+    for slot in 0..from.len() {
+        let (bytes, parts) = held(&from, slot);
+        assert_eq!(to.offer_parts(&bytes, &parts), Ok(Verdict::Stored));
+    }
+    // each slot is the same, in its old place
+    let end = table_size(64);
+    assert_eq!(to.len(), 64);
+    assert!(to.bytes()[16..end] == from.bytes()[16..]);
+    assert!(to.bytes()[end..].iter().all(|&byte| byte == 0));
+    assert_eq!(to.offer(&tile(64, 64)), Ok(Verdict::Stored));
+}
+
+#[test]
+fn a_table_moves_by_messages() {
     let mut small = vec![0; table_size(3)];
     let mut large = vec![0; table_size(4)];
     let mut from = Table::format(&mut small, 3).unwrap();
@@ -242,6 +374,67 @@ fn a_table_moves_to_a_larger_one() {
     assert_eq!(to.show(0), from.show(2));
 }
 
+const ALL: &[u8] = br#"["REQ","s",{}]"#;
+
+// The parts of a REQ.
+fn asked(message: &[u8]) -> ReqParts {
+    let Ok(Message::Req(request)) = read(message) else {
+        panic!()
+    };
+    request
+}
+
+// What is written over a table for an input that comes in pieces of a size.
+fn fed(table: &mut Table<'_>, input: &[u8], size: usize) -> Vec<u8> {
+    let mut out = vec![0; output_size(table.capacity())];
+    let mut feed = Feed::new();
+    let mut replies = Vec::new();
+    let mut add = |line: &[u8]| {
+        replies.extend_from_slice(line);
+        replies.push(b'\n');
+    };
+    for mut piece in input.chunks(size) {
+        while !piece.is_empty() {
+            let used = feed.turn(table, piece, &mut out, &mut add).unwrap();
+            assert!(used > 0 && feed.kept() <= MAX_MESSAGE + 1);
+            piece = &piece[used..];
+        }
+    }
+    feed.finish(table, &mut out, &mut add).unwrap();
+    replies
+}
+
+// A table full of tiles, each later than the one before.
+fn filled(buffer: &mut [u8], capacity: usize) -> Table<'_> {
+    let mut table = Table::format(buffer, capacity).unwrap();
+    for number in 0..capacity {
+        assert_eq!(table.offer(&tile(number, number as i64)), Ok(Verdict::Stored));
+    }
+    table
+}
+
+// A held event as parts: its text, and behind it its EVENT, which has id and signature in hex.
+fn held(table: &Table<'_>, slot: usize) -> (Vec<u8>, EventParts) {
+    let text = table.show(slot).unwrap();
+    let mut out = vec![0; output_size(1)];
+    let event = table
+        .slot_event(slot, b"s", Span { start: 0, len: 1 }, &mut out)
+        .unwrap();
+    let bytes = [text, event].concat();
+    let parts = EventParts {
+        id: Span {
+            start: text.len() + r#"["EVENT","s",{"id":""#.len(),
+            len: 64,
+        },
+        body: body_of(text),
+        sig: Span {
+            start: bytes.len() - r#""}]"#.len() - 128,
+            len: 128,
+        },
+    };
+    (bytes, parts)
+}
+
 // A regular event of a time, with its id.
 fn event(time: i64) -> Vec<u8> {
     event_saying(time, "x")
@@ -249,19 +442,47 @@ fn event(time: i64) -> Vec<u8> {
 
 // The same with a content, as spelled.
 fn event_saying(time: i64, content: &str) -> Vec<u8> {
-    let message = |id: &str| {
-        let key = "b".repeat(64);
-        let sig = "0".repeat(128);
-        format!(
-            r#"["EVENT",{{"id":"{id}","pubkey":"{key}","created_at":{time},"kind":1,"tags":[],"content":"{content}","sig":"{sig}"}}]"#
-        )
-    };
-    let unnamed = message(&"0".repeat(64));
-    let Ok(Message::Event(parts)) = read(unnamed.as_bytes()) else {
+    named(time, 1, "[]", content)
+}
+
+// A version of the tile with a number.
+fn tile(number: usize, time: i64) -> Vec<u8> {
+    named(time, 30078, &format!(r#"[["d","tile-{number}"]]"#), "x")
+}
+
+// The slot of the tile with a number and this time, by 01.
+fn slot_of(number: usize) -> Vec<u8> {
+    let d = format!("tile-{number}");
+    let text = format!(r#"[0,"{KEY}",{number},30078,[["d","{d}"]],"x"]"#);
+    let mut slot = digest(text.as_bytes()).unwrap().to_vec();
+    slot.extend([0; 64]);
+    slot.extend((number as i64).to_le_bytes());
+    for field in [30078, text.len(), text.find(&d).unwrap(), d.len()] {
+        slot.extend((field as u16).to_le_bytes());
+    }
+    slot.extend(text.as_bytes());
+    slot.resize(4208, 0);
+    slot
+}
+
+// An EVENT with its id; tags and content as spelled.
+fn named(time: i64, kind: u16, tags: &str, content: &str) -> Vec<u8> {
+    let unnamed = message_of(&"0".repeat(64), time, kind, tags, content);
+    let Ok(Message::Event(parts)) = read(&unnamed) else {
         panic!()
     };
-    let id = plavdrosa::id(unnamed.as_bytes(), &parts.body).unwrap();
-    message(&hex(&id)).into_bytes()
+    let id = plavdrosa::id(&unnamed, &parts.body).unwrap();
+    message_of(&hex(&id), time, kind, tags, content)
+}
+
+const KEY: &str = "bbbbbbbbbbbbbbbbbbbbbbbbbbbbbbbbbbbbbbbbbbbbbbbbbbbbbbbbbbbbbbbb";
+
+fn message_of(id: &str, time: i64, kind: u16, tags: &str, content: &str) -> Vec<u8> {
+    let sig = "0".repeat(128);
+    format!(
+        r#"["EVENT",{{"id":"{id}","pubkey":"{KEY}","created_at":{time},"kind":{kind},"tags":{tags},"content":"{content}","sig":"{sig}"}}]"#
+    )
+    .into_bytes()
 }
 
 fn hex(bytes: &[u8]) -> String {

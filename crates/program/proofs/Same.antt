@@ -14,11 +14,14 @@ use Rattle.table.specs.Layout.{capacityOf}
 use Rattle.table.proofs.StillSound.{same-sound}
 use Rattle.program.specs.Program.{requestRepliesIf, requestReplies}
 use Rattle.program.specs.Respond.{eventsRowIf, eventsRow}
-use Rattle.program.specs.Claims.Program.{SameRows, SameRequest}
+use Rattle.program.specs.Claims.Program.{SameRows, MessageBorder, SameRequest}
 use Rattle.program.specs.Claims.Respond.{SameEvents}
 
 same-long : (m : List ℕ) → length m ≤ 8192 → row1 m ≡ ltb 8192 (length m)
 same-long m h = le-ltb mostMessage (length m) (omega (arith, h)) ∙ sym (le-ltb 8192 (length m) h)
+
+pub message-border : MessageBorder
+message-border m = (λ l. rw l, λ l. rw l)
 
 pub same-rows : SameRows
 unfolding textRow messageRow

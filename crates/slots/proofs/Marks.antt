@@ -1,13 +1,14 @@
 -- Marks: stored one after another, and that slots whose marks differ have neither one id nor one key.
 use mathlib.Core.Path.{_≡_, refl, sym, ap, ap₂, _∙_}
 use mathlib.Core.Bool.{Bool, true, false, _||_}
+use mathlib.Core.Logic.{_⊎_, inl, inr, ⊎-elim}
 use mathlib.Core.List.{List}
-use Prim.Native.Nat.{ℕ, _+_, _-_, _<_}
+use Prim.Native.Nat.{ℕ, _+_, _-_, _≤_, _<_}
 use native.Mathlib.Omega.{arith}
 use native.Mathlib.Decide.{decLt}
 use lib.Bits.{bitXor}
 use lib.Dec.{eqb}
-use lib.ListN.{length, getD, set}
+use lib.ListN.{length, getD, set, length-set}
 use lib.Seq.{getD-set-same, getD-set-other}
 use borrow.Author.Tests.{eqb-true, eqb-false}
 use Rattle.wire.specs.Bytes.{sameBytes}
@@ -19,7 +20,7 @@ use Rattle.law.specs.Lists.{any}
 use Rattle.event.proofs.Decoded.{or-neither}
 use Rattle.table.specs.Layout.{slotAt, kindIn, idIn}
 use Rattle.slots.specs.Slots.{hasKeyIn, pubkeyBytes, dBytesIn, sameIdIn, sameKeyIn, clash, slotsFrom}
-use Rattle.slots.specs.Marks.{idMark, lastOf, keyMark, Marked, Unlike}
+use Rattle.slots.specs.Marks.{idMark, wordFrom, endMark, keyMark, Marked, Unlike, bucketCount, bucketOf, Noted}
 use Rattle.slots.proofs.Bytes.{is-false}
 use Rattle.slots.proofs.Walk.{any-none}
 
@@ -51,7 +52,7 @@ unlike-more {ids} {keys} {i} {j} h u e =
 
 -- ---- the mark of a slot whose kind is x, with a key and without
 module _ (s : List ℕ) {x : ℕ} (k : x ≡ kindIn s) where
-  pub mark-keyed : {l m : ℕ} → hasKeyIn (classOf x) ≡ true → l ≡ lastOf (dBytesIn s) → m ≡ lastOf (pubkeyBytes s) → bitXor (bitXor l m) x ≡ keyMark s
+  pub mark-keyed : {l m : ℕ} → hasKeyIn (classOf x) ≡ true → l ≡ endMark (dBytesIn s) → m ≡ wordFrom 4 (pubkeyBytes s) → bitXor (bitXor l m) x ≡ keyMark s
   unfolding keyMark
   mark-keyed h p q =
       let g : hasKeyIn (classOf (kindIn s)) ≡ true = ap (λ z. hasKeyIn (classOf z)) (sym k) ∙ h in
@@ -105,3 +106,59 @@ pub none-alike : {b : List ℕ} {c : ℕ} {ids keys : List ℕ} (i : ℕ) → Ma
 none-alike {b} {c} {ids} {keys} i m h u =
     sym (any-none b c (clash (slotAt b i)) (c - (i + 1)) (i + 1) refl
     (λ j p q. clash-none (slotAt b i) (slotAt b j) (sym (ids-differ m i j h q (u .ids-differ j (omega arith) q))) (sym (keys-differ m i j h q (u .keys-differ j (omega arith) q)))))
+
+-- ---- marks that fall into buckets
+-- a bucket that one has fallen into stays so
+stays : (l : List ℕ) (k j : ℕ) → j < length l → getD l k 0 ≡ 1 → getD (set l j 1) k 0 ≡ 1
+stays l k j h e = go (eqb k j) refl
+  where
+    go : (t : Bool) → eqb k j ≡ t → getD (set l j 1) k 0 ≡ 1
+    go true z = rw (eqb-true k j z) (getD-set-same l j 1 0 h)
+    go false z = getD-set-other l j k 1 0 (eqb-false k j z) ∙ e
+
+pub bucket-small : (m : ℕ) → bucketOf m < bucketCount
+unfolding bucketOf
+bucket-small m = omega arith
+
+module _ {ids keys : List ℕ} {c : ℕ} where
+  pub none-noted : {seen : List ℕ} → length seen ≡ bucketCount → Noted ids keys c c seen
+  none-noted l = record { seen-long = l; ids-noted = λ j p q. absurd (omega arith); keys-noted = λ j p q. absurd (omega arith) }
+
+  -- slot i is the next
+  module _ {i : ℕ} {seen : List ℕ} (n : Noted ids keys (i + 1) c seen) where
+    pub noted-more : Noted ids keys i c (set (set seen (bucketOf (getD ids i 0)) 1) (bucketOf (getD keys i 0)) 1)
+    noted-more = record {
+      seen-long = simp length-set (n .seen-long);
+      ids-noted = λ j p q. ⊎-elim (λ e. rw e (stays noted (bucketOf (getD ids i 0)) (bucketOf (getD keys i 0)) second (getD-set-same seen (bucketOf (getD ids i 0)) 1 0 first))) (λ l. both-stay (bucketOf (getD ids j 0)) (n .ids-noted j l q)) (at-or j p);
+      keys-noted = λ j p q. ⊎-elim (λ e. rw e (getD-set-same noted (bucketOf (getD keys i 0)) 1 0 second)) (λ l. both-stay (bucketOf (getD keys j 0)) (n .keys-noted j l q)) (at-or j p);
+    }
+      where
+        noted : List ℕ
+        noted = set seen (bucketOf (getD ids i 0)) 1
+
+        first : bucketOf (getD ids i 0) < length seen
+        first = omega (arith, bucket-small (getD ids i 0), n .seen-long)
+
+        second : bucketOf (getD keys i 0) < length (set seen (bucketOf (getD ids i 0)) 1)
+        second = simp length-set (omega (arith, bucket-small (getD keys i 0), n .seen-long))
+
+        both-stay : (k : ℕ) → getD seen k 0 ≡ 1 → getD (set (set seen (bucketOf (getD ids i 0)) 1) (bucketOf (getD keys i 0)) 1) k 0 ≡ 1
+        both-stay k e =
+            stays (set seen (bucketOf (getD ids i 0)) 1) k (bucketOf (getD keys i 0)) second (stays seen k (bucketOf (getD ids i 0)) first e)
+
+        at-or : (j : ℕ) → i ≤ j → (j ≡ i) ⊎ (i + 1 ≤ j)
+        at-or j p = go (decLt i j)
+          where
+            go : Dec (i < j) → (j ≡ i) ⊎ (i + 1 ≤ j)
+            go (yes l) = inr (omega arith)
+            go (no l) = inl (omega arith)
+
+    -- none fell into its buckets, so no later mark is its own
+    pub unmet : getD seen (bucketOf (getD ids i 0)) 0 ≡ 0 → getD seen (bucketOf (getD keys i 0)) 0 ≡ 0 → Unlike ids keys i c
+    unmet d e = record {
+      ids-differ = λ j p q z. differ _ _ z d (n .ids-noted j (omega arith) q);
+      keys-differ = λ j p q z. differ _ _ z e (n .keys-noted j (omega arith) q);
+    }
+      where
+        differ : (a b : ℕ) → a ≡ b → getD seen (bucketOf a) 0 ≡ 0 → getD seen (bucketOf b) 0 ≡ 1 → ⊥
+        differ a b z d e = let x : _≡_ {A = ℕ} 0 1 = sym d ∙ ap (λ m. getD seen (bucketOf m) 0) z ∙ e in omega (arith, x)

@@ -3,6 +3,7 @@ use mathlib.Core.Path.{_≡_, refl, sym, ap, ap₂, _∙_}
 use mathlib.Core.Bool.{Bool, true, false, not, _&&_, _||_}
 use mathlib.Core.List.{List, [], _∷_}
 use Prim.Native.Nat.{ℕ, zero, suc, _+_, _-_, _*_, _≤_, _<_}
+use native.Mathlib.Nat.{sub-zero}
 use native.Mathlib.Omega.{arith}
 use lib.ListN.{drop}
 use lib.Seq.{drop-drop}
@@ -69,3 +70,18 @@ pub any-none : (b : List ℕ) (c : ℕ) (p : List ℕ → Bool) (n k : ℕ) → 
 any-none b c p zero k e h = any-end b k c p refl (omega arith)
 any-none b c p (suc n) k e h =
     any-more b k c p refl (omega arith) (h k (omega arith) (omega arith)) ∙ any-none b c p n (k + 1) (omega arith) (λ j a q. h j (omega arith) q)
+
+-- two entries alike from k on are two of the whole
+pub none-whole : (b : List ℕ) (c : ℕ) (r : List ℕ → List ℕ → Bool) (k : ℕ) → k ≤ c → noneTwice r (slotsFrom b k (c - k)) ≡ false → noneTwice r (slotsFrom b 0 c) ≡ false
+unfolding noneTwice
+none-whole b c r zero h e = ap (λ n. noneTwice r (slotsFrom b 0 n)) (sym (sub-zero c)) ∙ e
+none-whole b c r (suc k) h e = none-whole b c r k (omega arith) (ap (noneTwice r) (from-more b k c (omega arith)) ∙ later)
+  where
+    and-false : (t : Bool) → (t && false) ≡ false
+    and-false true = refl
+    and-false false = refl
+
+    later : noneTwice r (slotAt b k ∷ slotsFrom b (k + 1) (c - (k + 1))) ≡ false
+    later =
+        let z : suc k ≡ k + 1 = omega arith in
+        ap (not (any (r (slotAt b k)) (slotsFrom b (k + 1) (c - (k + 1)))) &&_) (rw z at e) ∙ and-false (not (any (r (slotAt b k)) (slotsFrom b (k + 1) (c - (k + 1)))))

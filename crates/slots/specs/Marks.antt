@@ -3,7 +3,7 @@
 use mathlib.Core.Path.{_≡_}
 use mathlib.Core.Bool.{cond}
 use mathlib.Core.List.{List}
-use Prim.Native.Nat.{ℕ, _-_, _<_}
+use Prim.Native.Nat.{ℕ, _-_, _*_, _/_, _%_, _≤_, _<_}
 use lib.Bits.{bitXor}
 use lib.ListN.{length, getD}
 use Rattle.wire.specs.Limits.{mostSlots}
@@ -17,15 +17,23 @@ use Rattle.wire.specs.Bytes.{Bytes}
 unfoldable pub idMark : Bytes → ℕ
 idMark s = fieldAt (idIn s) 0 4
 
--- the last four of the bytes d, or all of fewer
-unfoldable pub lastOf : Bytes → ℕ
-lastOf d = fieldAt d (length d - 4) 4
+-- four of the bytes d, from k before their end on, or from the first on if there are fewer
+unfoldable pub wordFrom : ℕ → Bytes → ℕ
+wordFrom k d = fieldAt d (length d - k) 4
+
+-- of the last sixteen, each four times an odd number, the upper halves of the products
+unfoldable pub endMark : Bytes → ℕ
+endMark d =
+    bitXor (bitXor (wordFrom 4 d * 2654435761) (wordFrom 8 d * 2246822519))
+    (bitXor (wordFrom 12 d * 3266489917) (wordFrom 16 d * 668265263))
+    / 4294967296
 
 -- of a slot with a key: the last bytes of d and of the pubkey, and the kind; of any other its id's, which tells it from
 -- the others
 unfoldable pub keyMark : Bytes → ℕ
 keyMark s =
-    cond (hasKeyIn (classOf (kindIn s))) (bitXor (bitXor (lastOf (dBytesIn s)) (lastOf (pubkeyBytes s))) (kindIn s))
+    cond (hasKeyIn (classOf (kindIn s)))
+    (bitXor (bitXor (endMark (dBytesIn s)) (wordFrom 4 (pubkeyBytes s))) (kindIn s))
     (idMark s)
 
 -- the rows hold the marks of slots 0 to c-1 of the table b
@@ -34,6 +42,19 @@ pub record Marked (b : List ℕ) (c : ℕ) (ids keys : List ℕ) : Type 0 where
   pub keys-long : length keys ≡ mostSlots
   pub ids-are : (k : ℕ) → k < c → getD ids k 0 ≡ idMark (slotAt b k)
   pub keys-are : (k : ℕ) → k < c → getD keys k 0 ≡ keyMark (slotAt b k)
+
+-- marks fall into buckets, so that one that meets no other is told at once
+abbrev pub bucketCount : ℕ
+bucketCount = 4096
+
+unfoldable pub bucketOf : ℕ → ℕ
+bucketOf mark = mark % bucketCount
+
+-- the marks of slots i to c - 1 have fallen into their buckets
+pub record Noted (ids keys : List ℕ) (i c : ℕ) (seen : List ℕ) : Type 0 where
+  pub seen-long : length seen ≡ bucketCount
+  pub ids-noted : (j : ℕ) → i ≤ j → j < c → getD seen (bucketOf (getD ids j 0)) 0 ≡ 1
+  pub keys-noted : (j : ℕ) → i ≤ j → j < c → getD seen (bucketOf (getD keys j 0)) 0 ≡ 1
 
 -- no mark of slots i + 1 to n - 1 equals that of slot i
 pub record Unlike (ids keys : List ℕ) (i n : ℕ) : Type 0 where

@@ -2,14 +2,15 @@
 ghost use mathlib.Core.Path.{_≡_};
 ghost use mathlib.Core.Bool.{false};
 ghost use Prim.Native.Nat.{_+_, _-_, _≤_, _<_};
-ghost use lib.ListN.{length};
+ghost use lib.ListN.{length, getD, set};
 ghost use Rattle.wire.specs.Limits.{mostSlots};
 ghost use Rattle.text.specs.Kinds.{classOf};
 ghost use Rattle.law.specs.Lists.{any};
 ghost use Rattle.table.specs.Layout.{slotAt};
 ghost use Rattle.table.specs.Sound.{noneTwice};
 ghost use Rattle.slots.specs.Slots.{hasKeyIn, sameIdIn, sameKeyIn, clash, slotsFrom};
-ghost use Rattle.slots.specs.Marks.{idMark, lastOf, keyMark, Marked, Unlike};
+ghost use Rattle.slots.specs.Marks.{idMark, wordFrom, endMark, keyMark, Marked, Unlike};
+ghost use Rattle.slots.specs.Marks.{bucketCount, bucketOf, Noted};
 use crate::ID_PLACE;
 use crate::ID_SIZE;
 use crate::KIND_PLACE;
@@ -38,14 +39,26 @@ fn id_mark(s: &[u8]) -> u32
     wire::le_at(wire::piece(s, ID_PLACE, ID_SIZE), 0, 4) as u32
 }
 
-// The last four bytes as a number.
-fn last(d: &[u8]) -> u32
-    ensures { λ r. ⌜ r ≡ lastOf (now (d .entry)) ⌝ }
+// The four bytes that begin k before the end, as a number; the first ones of fewer than k.
+fn word(d: &[u8], k: usize) -> u32
+    ensures { λ r. ⌜ r ≡ wordFrom k (now (d .entry)) ⌝ }
 {
-    if d.len() < 4 {
+    if d.len() < k {
         return wire::le_at(d, 0, 4) as u32;
     }
-    wire::le_at(d, d.len() - 4, 4) as u32
+    wire::le_at(d, d.len() - k, 4) as u32
+}
+
+// A number of the last sixteen bytes. Each word is multiplied by an odd number, so that all its bits tell in the upper
+// half of the product: d of one floor and of another may end alike.
+fn end_mark(d: &[u8]) -> u32
+    ensures { λ r. ⌜ r ≡ endMark (now (d .entry)) ⌝ }
+{
+    let a = word(d, 4) as u64 * 2654435761;
+    let b = word(d, 8) as u64 * 2246822519;
+    let c = word(d, 12) as u64 * 3266489917;
+    let e = word(d, 16) as u64 * 668265263;
+    (((a ^ b) ^ (c ^ e)) / 4294967296) as u32
 }
 
 // A number that slots with one key have alike. A slot without a key has its id's, which tells it from the others.
@@ -54,8 +67,11 @@ fn key_mark(s: &[u8]) -> u32
 {
     let kind = wire::le_at(s, KIND_PLACE, 2);
     if keyed(kind as u16) {
-        return (last(held::d_of(s))
-            ^ last(wire::piece(held::text_of(s), PUBKEY_PLACE, wire::HEX_LENGTH)))
+        return (end_mark(held::d_of(s))
+            ^ word(
+                wire::piece(held::text_of(s), PUBKEY_PLACE, wire::HEX_LENGTH),
+                4,
+            ))
             ^ kind as u32;
     }
     id_mark(s)
@@ -135,20 +151,72 @@ fn again(table: &[u8], c: usize, ids: &[u32], keys: &[u32], i: usize) -> bool
     false
 }
 
-// Whether slots 0 to c-1 have no id and no key twice.
+// Marks fall into so many buckets.
+const BUCKETS: usize = 4096;
+
+fn bucket(mark: u32) -> usize
+    ensures { λ r. ⌜ (r ≡ bucketOf mark) ⌝ }
+    ensures { λ r. ⌜ r < bucketCount ⌝ }
+{
+    mark as usize % BUCKETS
+}
+
+// Whether one of two marks falls into a bucket that one has fallen into.
+fn met(seen: &[u8], id: u32, key: u32) -> bool
+    requires { ⌜ length (now seen) ≡ bucketCount ⌝ }
+    ensures { λ r. ⌜ (r ≡ false → (getD (now (seen .entry)) (bucketOf id) 0 ≡ 0) ×
+        (getD (now (seen .entry)) (bucketOf key) 0 ≡ 0)) ⌝ }
+{
+    let i = bucket(id);
+    let k = bucket(key);
+    if seen[i] != 0 {
+        return true;
+    }
+    seen[k] != 0
+}
+
+// Two marks fall into their buckets.
+fn note(seen: &mut [u8], id: u32, key: u32)
+    requires { ⌜ length (now seen) ≡ bucketCount ⌝ }
+    ensures { λ _. ⌜ now (seen .exit) ≡ set (set (now (seen .entry)) (bucketOf id) 1) (bucketOf key) 1 ⌝ }
+{
+    let i = bucket(id);
+    let k = bucket(key);
+    seen[i] = 1;
+    seen[k] = 1;
+}
+
+// Whether a later held slot has the id or the key of slot i: all later ones have fallen into their buckets, and where
+// none fell into those of slot i there is none.
+fn repeated(table: &[u8], c: usize, ids: &[u32], keys: &[u32], seen: &[u8], i: usize) -> bool
+    requires { ⌜ Marked (now table) c (now ids) (now keys) ⌝ }
+    requires { ⌜ (c ≤ mostSlots) × (i < c) ⌝ }
+    requires { ⌜ Noted (now ids) (now keys) (i + 1) c (now seen) ⌝ }
+    ensures { λ r. ⌜ r ≡ any (clash (slotAt (now (table .entry)) i))
+        (slotsFrom (now (table .entry)) (i + 1) (c - (i + 1))) ⌝ }
+{
+    if !met(seen, ids[i], keys[i]) {
+        return false;
+    }
+    again(table, c, ids, keys, i)
+}
+
+// Whether slots 0 to c-1 have no id and no key twice. From the last slot down, each is looked for among the later ones.
 pub(crate) fn apart(table: &[u8], c: usize) -> bool
     requires { ⌜ c ≤ mostSlots ⌝ }
     ensures { λ r. ⌜ r ≡ noneTwice clash (slotsFrom (now (table .entry)) 0 c) ⌝ }
 {
     let mut ids = [0u32; wire::MOST_SLOTS];
     let mut keys = [0u32; wire::MOST_SLOTS];
+    let mut seen = [0u8; BUCKETS];
     mark(table, c, &mut ids, &mut keys);
-    let mut i = 0;
-    while i < c {
-        if again(table, c, &ids, &keys, i) {
+    let mut i = c;
+    while 0 < i {
+        i -= 1;
+        if repeated(table, c, &ids, &keys, &seen, i) {
             return false;
         }
-        i += 1;
+        note(&mut seen, ids[i], keys[i]);
     }
     true
 }

@@ -12,7 +12,7 @@ use Rattle.wire.specs.Limits.{hexLength, mostMessage, mostText}
 use Rattle.json.specs.Tree.{Json, Items, nil, Got, none, got, root}
 use Rattle.spell.specs.Spell.{isHexOf}
 use Rattle.shape.specs.Shape.{Word, event, req, close, other, Opened, opened, idName}
-use Rattle.rows.specs.Rows.{textRowIf, textRow}
+use Rattle.rows.specs.Rows.{row1, textRowIf, textRow}
 use Rattle.shape.specs.Rows.{messageRowIf, messageRow, wrongSubscription}
 use Rattle.digest.specs.Digest.{digest}
 use Rattle.text.specs.Event.{Event, serialise, isFit, all}
@@ -203,6 +203,10 @@ Overlong =
 abbrev pub SameRows : Type 0
 SameRows = (m : List ℕ) → length m ≤ 8192 →
     (textRow m ≡ textRowIf (ltb 8192 (length m)) m) × (messageRow m ≡ messageRowIf (ltb 8192 (length m)) m)
+
+-- the number itself, on both sides
+abbrev pub MessageBorder : Type 0
+MessageBorder = (m : List ℕ) → (length m ≡ 16384 → row1 m ≡ false) × (length m ≡ 16385 → row1 m ≡ true)
 
 -- "an old table is still sound": over a table of at most 64 slots a REQ gets the replies that it got. Those to an EVENT
 -- are told from the answer to its offer (table/Claims, `SameOffers`)

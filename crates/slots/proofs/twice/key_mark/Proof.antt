@@ -4,7 +4,7 @@ use borrow.Author.Needs.{needs}
 use Rattle.wire.specs.Bytes.{part}
 use Rattle.table.specs.Layout.{kindIn}
 use Rattle.slots.specs.Slots.{pubkeyBytes}
-use Rattle.slots.specs.Marks.{lastOf}
+use Rattle.slots.specs.Marks.{wordFrom, endMark}
 use Rattle.slots.proofs.Marks.{mark-keyed, mark-plain}
 use Rattle.slots.proofs.twice.key_mark.Statement.{statement}
 use Rattle.slots.proofs.twice.key_mark.Tie as tie
@@ -14,8 +14,8 @@ unfolding kindIn pubkeyBytes
 returns c =
     let d = c .before .before .before in
     let k = d .before .before .before in
-    mark-keyed _ (k .before .le-at .ensures .is) (sym (k .keyed .ensures) ∙ d .before .before .if1 .taken) (d .last .ensures ∙ ap lastOf (d .before .d-of .ensures))
-    (c .last2 .ensures ∙ ap lastOf (c .before .piece .ensures ∙ ap (λ t. part t 4 64) (c .before .before .text-of .ensures)))
+    mark-keyed _ (k .before .le-at .ensures .is) (sym (k .keyed .ensures) ∙ d .before .before .if1 .taken) (d .end-mark .ensures ∙ ap endMark (d .before .d-of .ensures))
+    (c .word .ensures ∙ ap (wordFrom 4) (c .before .piece .ensures ∙ ap (λ t. part t 4 64) (c .before .before .text-of .ensures)))
 
 returns-2 : tie.Need-returns-2
 unfolding kindIn
