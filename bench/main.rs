@@ -11,6 +11,7 @@ mod query;
 mod stack;
 mod table;
 
+use plain_json::MOST;
 use plain_message::{Body, Message};
 use std::hint::black_box;
 use std::time::Instant;
@@ -231,8 +232,10 @@ fn text_row() {
         );
         row(&format!("rows 1 to 4, {name}, {} bytes", text.len()), proved, plain);
     };
-    for (name, make) in messages::KINDS {
-        timed(name, &make(8192));
+    for size in [8192, MOST] {
+        for (name, make) in messages::KINDS {
+            timed(name, &make(size));
+        }
     }
     for size in [1024, 2048, 4096, 8192] {
         timed("an EVENT with tags", &messages::event(size));
@@ -251,7 +254,7 @@ pub fn lines(cases: &[u8]) -> impl Iterator<Item = &[u8]> {
     cases.split(|&b| b == b'\n')
 }
 
-fn client_messages() -> [(&'static str, Vec<u8>); 7] {
+fn client_messages() -> [(&'static str, Vec<u8>); 11] {
     [
         ("an EVENT with tags", messages::event(1024)),
         ("an EVENT with tags", messages::event(5000)),
@@ -260,6 +263,10 @@ fn client_messages() -> [(&'static str, Vec<u8>); 7] {
         ("a REQ of four filters", messages::req(2048)),
         ("a REQ with #e and #p", messages::referring()),
         ("a CLOSE", b"[\"CLOSE\",\"tablet 4\"]".to_vec()),
+        ("an EVENT with 64 tags", messages::tagged(MOST)),
+        ("an EVENT with long content", messages::content(MOST)),
+        ("an EVENT spelled in escapes", messages::spelled(MOST)),
+        ("a REQ with full lists", messages::wide_req(MOST)),
     ]
 }
 
@@ -484,11 +491,17 @@ fn event() {
     println!("stack of id: {used} bytes");
 }
 
+// Tables of the most slots beside small ones.
+fn large() {
+    table::large();
+    query::large();
+}
+
 // All, or those named.
 fn main() {
     let named: Vec<String> = std::env::args().skip(1).collect();
     println!("{:<54} {:>12} {:>12} {:>7}", "", "proved, ns", "plain, ns", "ratio");
-    let all: [(&str, fn()); 8] = [
+    let all: [(&str, fn()); 9] = [
         ("digest", digest),
         ("text_row", text_row),
         ("message_row", message_row),
@@ -497,6 +510,7 @@ fn main() {
         ("back", back),
         ("table", table::run),
         ("query", query::run),
+        ("large", large),
     ];
     for (name, run) in all {
         if named.is_empty() || named.iter().any(|n| n == name) {

@@ -39,14 +39,28 @@ pub fn escapes(size: usize) -> Vec<u8> {
     string(size, "\\n\\u00e9\\\"\\ud83d\\ude00\\t")
 }
 
-// An EVENT as clients send it.
-pub fn event(size: usize) -> Vec<u8> {
+// What stands before and behind the tags of an EVENT.
+fn around_tags() -> (String, String) {
     let hex = "0123456789abcdef".repeat(4);
     let open = format!(
         "[\"EVENT\",{{\"id\":\"{hex}\",\"pubkey\":\"{hex}\",\"created_at\":1700000000,\"kind\":30078,\"tags\":["
     );
     let close = format!("],\"content\":\"the shelf by the door has moved\\n\",\"sig\":\"{hex}{hex}\"}}]");
+    (open, close)
+}
+
+// An EVENT as clients send it. From some 5,800 bytes on it has more tags than row 8 allows.
+pub fn event(size: usize) -> Vec<u8> {
+    let (open, close) = around_tags();
     filled(size, &open, "[\"e\",\"5c83da77af1dec6d7289834998ad7aafbd9e2191396d75ec3cc27f5a77226f36\",\"wss://r\"]", &close)
+}
+
+// An EVENT with as many tags as there may be, each of one length.
+pub fn tagged(size: usize) -> Vec<u8> {
+    let (open, close) = around_tags();
+    let room = (size - open.len() - close.len() + 1) / 64 - "[\"t\",\"\"],".len();
+    let tag = format!("[\"t\",\"{}\"]", &"a tile of floor 3, read by cart 17 ".repeat(size / 35)[..room]);
+    (open + &vec![tag; 64].join(",") + &close).into_bytes()
 }
 
 // A REQ of four filters with full lists.
@@ -66,15 +80,35 @@ pub fn referring() -> Vec<u8> {
     format!("[\"REQ\",\"tablet 4\",{filter},{filter},{filter}]").into_bytes()
 }
 
+// A REQ of four filters that each have as many ids, authors and members of #e and #p as fit.
+pub fn wide_req(size: usize) -> Vec<u8> {
+    let hex = "0123456789abcdef".repeat(4);
+    let of = |n: usize| {
+        let list = vec![format!("\"{hex}\""); n].join(",");
+        let filter = format!("{{\"ids\":[{list}],\"authors\":[{list}],\"kinds\":[1,30078],\"since\":-7200,\"limit\":10,\"#e\":[{list}],\"#p\":[{list}]}}");
+        format!("[\"REQ\",\"tablet 4\",{filter},{filter},{filter},{filter}]").into_bytes()
+    };
+    (1..=16).map(of).take_while(|m| m.len() <= size).last().unwrap()
+}
+
 // An EVENT that is mostly content.
 pub fn content(size: usize) -> Vec<u8> {
+    content_of(size, "a tile of floor 3, read by cart 17 ")
+}
+
+// The same with each letter spelled as an escape, so that the text has a sixth of the bytes.
+pub fn spelled(size: usize) -> Vec<u8> {
+    content_of(size, "\\u0061")
+}
+
+fn content_of(size: usize, piece: &str) -> Vec<u8> {
     let hex = "0123456789abcdef".repeat(4);
     let open = format!(
         "[\"EVENT\",{{\"id\":\"{hex}\",\"pubkey\":\"{hex}\",\"created_at\":-7200,\"kind\":1,\"tags\":[],\"content\":\""
     );
     let close = format!("\",\"sig\":\"{hex}{hex}\"}}]");
     let room = size - open.len() - close.len();
-    (open + &"a tile of floor 3, read by cart 17 ".repeat(room / 35) + &close).into_bytes()
+    (open + &piece.repeat(room / piece.len()) + &close).into_bytes()
 }
 
 // An EVENT whose text has so many bytes: these tags, and content of `piece` filled up with `x`.

@@ -1,9 +1,9 @@
 // Matching in plain Rust: lent filters tested, an event matched against them, and a REQ answered from a table, which is tested for soundness first.
 use crate::plain_event;
 use crate::plain_message::{self, Event, Filter};
-use crate::plain_table::{self, number, slot, word, TEXT};
+use crate::plain_table::{self, number, slot, word, MOST_SLOTS, TEXT};
 use std::borrow::Cow;
-use std::cmp::Reverse;
+use std::cmp::{Ordering, Reverse};
 
 // A filter with its members decoded.
 struct Known<'a> {
@@ -119,39 +119,55 @@ pub fn list(b: &[u8], m: &[u8], fs: &[Filter], row: &mut [u16]) -> Result<usize,
     answer(b, m, fs, row, true)
 }
 
+// What slots are ordered by, newest first: the time, the first bytes of the id, and the whole id where these are alike.
+struct Age {
+    first: (Reverse<i64>, u64),
+    slot: u16,
+}
+
+fn age(b: &[u8], k: usize) -> Age {
+    let s = slot(b, k);
+    Age { first: (Reverse(word(&s[96..]) as i64), word(s).swap_bytes()), slot: k as u16 }
+}
+
+fn order(b: &[u8]) -> impl Fn(&Age, &Age) -> Ordering + '_ {
+    move |x, y| x.first.cmp(&y.first).then_with(|| slot(b, x.slot as usize)[..32].cmp(&slot(b, y.slot as usize)[..32]))
+}
+
 // The same of filters that passed their rows; soundness is tested if that is asked for.
 pub fn answer(b: &[u8], m: &[u8], fs: &[Filter], row: &mut [u16], test: bool) -> Result<usize, u8> {
     if test && !plain_table::sound(b) {
         return Err(11);
     }
     let held = number(b, 4, 4);
-    let age = |&k: &u16| -> (Reverse<i64>, &[u8]) {
-        let s = slot(b, k as usize);
-        (Reverse(word(&s[96..]) as i64), &s[..32])
-    };
-    let mut picked = [false; 64];
+    let mut picked = [false; MOST_SLOTS];
     for f in fs {
         let f = known(m, f);
-        let mut list: Vec<u16> = (0..held as u16)
-            .filter(|&k| {
-                let s = slot(b, k as usize);
-                let text = &s[TEXT..TEXT + number(s, 106, 2)];
-                f.matches(&s[..32], word(&s[96..]) as i64, number(s, 104, 2) as i64, text)
-            })
-            .collect();
+        let matches = (0..held).filter(|&k| {
+            let s = slot(b, k);
+            let text = &s[TEXT..TEXT + number(s, 106, 2)];
+            f.matches(&s[..32], word(&s[96..]) as i64, number(s, 104, 2) as i64, text)
+        });
+        if held <= f.limit {
+            matches.for_each(|k| picked[k] = true);
+            continue;
+        }
+        let mut list: Vec<Age> = matches.map(|k| age(b, k)).collect();
         if f.limit < list.len() {
-            list.sort_by(|j, k| age(j).cmp(&age(k)));
+            list.select_nth_unstable_by(f.limit, order(b));
             list.truncate(f.limit);
         }
-        for k in list {
-            picked[k as usize] = true;
+        for a in list {
+            picked[a.slot as usize] = true;
         }
     }
-    let mut all: Vec<u16> = (0..held as u16).filter(|&k| picked[k as usize]).collect();
+    let mut all: Vec<Age> = (0..held).filter(|&k| picked[k]).map(|k| age(b, k)).collect();
     if row.len() < all.len() {
         return Err(13);
     }
-    all.sort_by(|j, k| age(j).cmp(&age(k)));
-    row[..all.len()].copy_from_slice(&all);
+    all.sort_unstable_by(order(b));
+    for (to, a) in row.iter_mut().zip(&all) {
+        *to = a.slot;
+    }
     Ok(all.len())
 }

@@ -9,11 +9,15 @@ mod plain_query;
 mod plain_sha256;
 mod plain_table;
 
+use plain_json::MOST;
 use plain_message::{Message, Span};
-use plain_table::{number, slot, word, HEADER, SLOT, TEXT};
+use plain_table::{number, slot, word, TEXT};
 use std::fs::File;
 use std::io::{Read, Write};
 use std::os::fd::FromRawFd;
+
+// The program's table.
+const SLOTS: usize = 8;
 
 const REASONS: [&str; 13] = [
     "",
@@ -152,7 +156,7 @@ fn respond(table: &mut [u8], m: &[u8], out: &mut Vec<u8>, test: bool) {
             row => refusal(out, m, &parts, row),
         },
         Message::Req { subscription, filters, count } => {
-            let mut slots = [0; 64];
+            let mut slots = [0; SLOTS];
             match plain_query::answer(table, m, &filters[..*count], &mut slots, test) {
                 Ok(n) => {
                     let sub = span(m, *subscription);
@@ -170,17 +174,19 @@ fn respond(table: &mut [u8], m: &[u8], out: &mut Vec<u8>, test: bool) {
     }
 }
 
-// Replies are written from so many bytes on; those to one message have at most so many: the EVENTs of 8 slots and an EOSE.
+// Replies are written from so many bytes on; those to one message have at most so many: the EVENTs of all slots and an EOSE. Of a line so many
+// bytes are kept: one more than a message may have.
 const PIECE: usize = 65536;
-const REPLIES: usize = 8 * 24827 + 428;
+const REPLIES: usize = SLOTS * 24827 + 428;
+const LINE: usize = MOST + 1;
 
 fn main() {
     let test = std::env::args().nth(1).as_deref() != Some("untested");
     let (mut input, mut output) = unsafe { (File::from_raw_fd(0), File::from_raw_fd(1)) };
-    let mut table = vec![0u8; HEADER + 8 * SLOT];
-    plain_table::format(&mut table, 8);
+    let mut table = vec![0u8; plain_table::size(SLOTS)];
+    plain_table::format(&mut table, SLOTS);
     let mut chunk = vec![0u8; 65536];
-    let (mut line, mut out) = (Vec::with_capacity(8193), Vec::with_capacity(PIECE + REPLIES));
+    let (mut line, mut out) = (Vec::with_capacity(LINE), Vec::with_capacity(PIECE + REPLIES));
     loop {
         let n = input.read(&mut chunk).unwrap_or(0);
         if n == 0 {
@@ -191,7 +197,7 @@ fn main() {
             if line.is_empty() {
                 respond(&mut table, &rest[..end], &mut out, test);
             } else {
-                line.extend_from_slice(&rest[..end.min(8193 - line.len())]);
+                line.extend_from_slice(&rest[..end.min(LINE - line.len())]);
                 respond(&mut table, &line, &mut out, test);
                 line.clear();
             }
@@ -201,7 +207,7 @@ fn main() {
                 out.clear();
             }
         }
-        line.extend_from_slice(&rest[..rest.len().min(8193 - line.len())]);
+        line.extend_from_slice(&rest[..rest.len().min(LINE - line.len())]);
         output.write_all(&out).unwrap();
         out.clear();
     }

@@ -1,12 +1,17 @@
 // A table in plain Rust, with the same layout: soundness by one pass over the slots, offers as a message and as parts, a slot shown.
-// Ids and keys are told apart by eight bytes of each in a row of numbers, and compared whole where those meet.
-use crate::plain_event::{self, Text};
+// Ids and keys are told apart by marks of eight bytes in a hash table, and compared whole where marks meet.
+use crate::plain_event::{self, Text, MOST_TEXT};
 use crate::plain_message::{self, Event, Span};
 use crate::plain_sha256;
 
+pub const MOST_SLOTS: usize = 1024;
 pub const HEADER: usize = 16;
-pub const SLOT: usize = 4208;
 pub const TEXT: usize = 112;
+pub const SLOT: usize = TEXT + MOST_TEXT;
+
+pub fn size(capacity: usize) -> usize {
+    HEADER + capacity * SLOT
+}
 
 pub fn number(b: &[u8], at: usize, len: usize) -> usize {
     b[at..at + len].iter().rev().fold(0, |n, &x| n << 8 | x as usize)
@@ -17,15 +22,14 @@ pub fn word(b: &[u8]) -> u64 {
 }
 
 pub fn format(b: &mut [u8], capacity: usize) -> u8 {
-    if !(1..=64).contains(&capacity) {
+    if !(1..=MOST_SLOTS).contains(&capacity) {
         return 14;
     }
-    let size = HEADER + capacity * SLOT;
-    if b.len() < size {
+    if b.len() < size(capacity) {
         return 13;
     }
-    b[..size].fill(0);
-    b[0] = capacity as u8;
+    b[..size(capacity)].fill(0);
+    b[..4].copy_from_slice(&(capacity as u32).to_le_bytes());
     b[8..12].copy_from_slice(&(SLOT as u32).to_le_bytes());
     b[12] = HEADER as u8;
     0
@@ -49,7 +53,7 @@ fn class(kind: usize) -> Class {
 }
 
 pub fn slot(b: &[u8], k: usize) -> &[u8] {
-    &b[HEADER + k * SLOT..HEADER + (k + 1) * SLOT]
+    &b[size(k)..size(k + 1)]
 }
 
 fn all_zero(s: &[u8]) -> bool {
@@ -59,7 +63,7 @@ fn all_zero(s: &[u8]) -> bool {
 // The fields of a slot agree with its text; "zero after its end".
 fn slot_sound(s: &[u8]) -> bool {
     let len = number(s, 106, 2);
-    if 4096 < len {
+    if MOST_TEXT < len {
         return false;
     }
     let Ok(p) = plain_event::read_text(&s[TEXT..TEXT + len]) else { return false };
@@ -73,34 +77,56 @@ fn slot_sound(s: &[u8]) -> bool {
         && all_zero(&s[TEXT + len..])
 }
 
-// Kind, pubkey and d of a slot that has a key.
-fn key(s: &[u8]) -> Option<(usize, &[u8], &[u8])> {
+// Kind, d and pubkey of a slot that has a key.
+type Key<'a> = (usize, &'a [u8], &'a [u8]);
+
+fn key(s: &[u8]) -> Option<Key<'_>> {
     let kind = number(s, 104, 2);
     if !matches!(class(kind), Class::Replaceable | Class::Addressable) {
         return None;
     }
     let d = TEXT + number(s, 108, 2);
-    Some((kind, &s[TEXT + 4..TEXT + 68], &s[d..d + number(s, 110, 2)]))
+    Some((kind, &s[d..d + number(s, 110, 2)], &s[TEXT + 4..TEXT + 68]))
 }
 
-// Equal for equal keys; that of a slot without a key is its id's.
-fn key_mark(s: &[u8]) -> u64 {
-    match key(s) {
-        None => word(s),
-        Some((kind, pubkey, d)) => {
-            let mut mark = kind as u64 ^ word(pubkey);
-            for part in d.rchunks(8) {
-                let mut last = [0; 8];
-                last[..part.len()].copy_from_slice(part);
-                mark = (mark ^ u64::from_le_bytes(last)).wrapping_mul(0x9e37_79b9_7f4a_7c15).rotate_left(29);
-            }
-            mark
-        }
+const MIX: u64 = 0x9e37_79b9_7f4a_7c15;
+
+// Equal for equal keys.
+fn key_mark((kind, d, pubkey): Key) -> u64 {
+    let mix = |mark: u64, part: u64| (mark ^ part).wrapping_mul(MIX).rotate_left(29);
+    let parts = d.chunks_exact(8);
+    let rest = parts.remainder().iter().fold(d.len() as u64, |n, &b| n << 8 | b as u64);
+    mix(parts.fold(kind as u64 ^ word(pubkey), |mark, part| mix(mark, word(part))), rest)
+}
+
+// Slots by their marks, in an open table of at least twice as many places.
+struct Marks {
+    marks: Vec<u64>,
+    // the slot's number and one, or 0
+    places: Vec<u16>,
+    shift: u32,
+}
+
+impl Marks {
+    fn new(slots: usize) -> Self {
+        let n = (2 * slots).next_power_of_two().max(2);
+        Marks { marks: vec![0; slots], places: vec![0; n], shift: 64 - n.trailing_zeros() }
     }
-}
 
-fn meets(marks: &[u64], mark: u64) -> bool {
-    marks.iter().fold(false, |a, &m| a | (m == mark))
+    // Slot k goes in; whether one before it has its mark and is the same.
+    fn again(&mut self, k: usize, mark: u64, same: impl Fn(usize) -> bool) -> bool {
+        let mut at = (mark.wrapping_mul(MIX) >> self.shift) as usize;
+        while self.places[at] != 0 {
+            let j = self.places[at] as usize - 1;
+            if self.marks[j] == mark && same(j) {
+                return true;
+            }
+            at = (at + 1) & (self.places.len() - 1);
+        }
+        self.marks[k] = mark;
+        self.places[at] = k as u16 + 1;
+        false
+    }
 }
 
 pub fn sound(b: &[u8]) -> bool {
@@ -108,25 +134,20 @@ pub fn sound(b: &[u8]) -> bool {
         return false;
     }
     let (n, c) = (number(b, 0, 4), number(b, 4, 4));
-    if !(1..=64).contains(&n) || b.len() < HEADER + n * SLOT || n < c || number(b, 8, 4) != SLOT || number(b, 12, 4) != HEADER {
+    if !(1..=MOST_SLOTS).contains(&n) || b.len() < size(n) || n < c || number(b, 8, 4) != SLOT || number(b, 12, 4) != HEADER {
         return false;
     }
-    let (mut ids, mut keys) = ([0u64; 64], [0u64; 64]);
+    let (mut ids, mut keys) = (Marks::new(c), Marks::new(c));
     for k in 0..c {
         let s = slot(b, k);
-        if !slot_sound(s) {
+        if !slot_sound(s) || ids.again(k, word(s), |j| slot(b, j)[..32] == s[..32]) {
             return false;
         }
-        ids[k] = word(s);
-        keys[k] = key_mark(s);
-        if meets(&ids[..k], ids[k]) && (0..k).any(|j| slot(b, j)[..32] == s[..32]) {
-            return false;
-        }
-        if meets(&keys[..k], keys[k]) && key(s).is_some() && (0..k).any(|j| key(slot(b, j)) == key(s)) {
+        if key(s).is_some_and(|of_s| keys.again(k, key_mark(of_s), |j| key(slot(b, j)) == Some(of_s))) {
             return false;
         }
     }
-    all_zero(&b[HEADER + c * SLOT..HEADER + n * SLOT])
+    all_zero(&b[size(c)..size(n)])
 }
 
 // 0 stored, 100 ephemeral, 101 duplicate, 102 older, or the row. Soundness is tested if that is asked for.
@@ -192,7 +213,7 @@ fn verdict(b: &mut [u8], new: &[u8; SLOT]) -> u8 {
         return 12;
     }
     let k = at.unwrap_or(c);
-    b[HEADER + k * SLOT..HEADER + (k + 1) * SLOT].copy_from_slice(new);
+    b[size(k)..size(k + 1)].copy_from_slice(new);
     if k == c {
         b[4..8].copy_from_slice(&(c as u32 + 1).to_le_bytes());
     }
@@ -222,5 +243,5 @@ pub fn show(b: &[u8], k: usize) -> Result<(usize, usize), u8> {
     if number(b, 4, 4) <= k {
         return Err(14);
     }
-    Ok((HEADER + k * SLOT + TEXT, number(slot(b, k), 106, 2)))
+    Ok((size(k) + TEXT, number(slot(b, k), 106, 2)))
 }

@@ -1,8 +1,10 @@
-// Matching and the answer of a REQ beside plain Rust: answered alike on every table and filter here, then times and stack.
+// Matching and the answer of a REQ beside plain Rust: answered alike on every table and filter here, then times and stack. `run` has tables of 64
+// slots; `large` has some of the same REQs on tables of 64 slots and of the most.
 use crate::plain_message::{self, Event, Filter, Message};
 use crate::plain_query;
-use crate::table::{full, message_with, table_by, tile, PUBKEY, SMALL};
-use crate::{lines, plain_table, proved_read, race, row, stack, Numbers, EVENT_CASES, MESSAGE_CASES};
+use crate::plain_table::{self, MOST_SLOTS};
+use crate::table::{full, message_with, table_by, tile, FEW, PUBKEY, SIZES, SMALL};
+use crate::{lines, proved_read, race, row, stack, Numbers, EVENT_CASES, MESSAGE_CASES};
 use std::hint::black_box;
 
 extern "C" {
@@ -107,22 +109,22 @@ fn filter_of(n: &[u64]) -> Option<Filter> {
 fn alike(tables: &[Vec<u8>], reqs: &[Req]) {
     for r in reqs {
         for t in tables {
-            for room in [0, 1, 63, 64] {
+            for room in [0, 1, FEW - 1, FEW] {
                 list_alike(t, r, room).ok();
             }
         }
         moved(r, |r| {
-            list_alike(&tables[1], r, 64).ok();
+            list_alike(&tables[1], r, FEW).ok();
         });
         let mut wrong = tables[1].clone();
         wrong[4] ^= 1;
-        assert_eq!(list_alike(&wrong, r, 64), Err(11));
+        assert_eq!(list_alike(&wrong, r, FEW), Err(11));
     }
     let cases = || lines(MESSAGE_CASES).chain(lines(EVENT_CASES));
     let others: Vec<Req> = cases().filter_map(|m| req_of(m.to_vec())).collect();
     for r in &others {
         for t in tables {
-            list_alike(t, r, 64).ok();
+            list_alike(t, r, FEW).ok();
         }
     }
     for m in cases() {
@@ -137,8 +139,12 @@ fn alike(tables: &[Vec<u8>], reqs: &[Req]) {
 
 // ---- Times.
 fn timed(name: &str, t: &[u8], r: &Req) {
-    let n = list_alike(t, r, 64).unwrap();
-    let (mut p, mut q) = ([0u16; 64], [0u16; 64]);
+    let n = list_alike(t, r, FEW).unwrap();
+    raced(&format!("{name}, {n} slots"), t, r, FEW);
+}
+
+fn raced(name: &str, t: &[u8], r: &Req, room: usize) {
+    let (mut p, mut q) = (vec![0u16; room], vec![0u16; room]);
     let (proved, plain) = race(
         || {
             black_box(list(black_box(t), black_box(&r.text), &r.numbers, &mut p)).ok();
@@ -149,17 +155,21 @@ fn timed(name: &str, t: &[u8], r: &Req) {
             black_box(&mut q);
         },
     );
-    row(&format!("REQ, {name}, {n} slots"), proved, plain);
+    row(&format!("REQ, {name}"), proved, plain);
 }
 
 // Tiles of one pubkey and kind, each with an `e` tag of its own and one that all have; later slots are newer, or not.
 fn tiles(held: usize, content: &str) -> Vec<u8> {
-    table_by(held, |k| event(k, content))
+    table_by(FEW, held, |k| event(k, content))
 }
 
 fn event(k: usize, content: &str) -> Vec<u8> {
+    event_at((k * 37 % FEW) as i64, k, content)
+}
+
+fn event_at(time: i64, k: usize, content: &str) -> Vec<u8> {
     let tags = format!("[\"d\",\"{}\"],[\"e\",\"{}\"],[\"t\",\"floor 3\"]", tile(k), hex(k));
-    message_with(PUBKEY, 1700000000 + (k * 37 % 64) as i64, 30000, &tags, content)
+    message_with(PUBKEY, 1700000000 + time, 30000, &tags, content)
 }
 
 fn hex(k: usize) -> String {
@@ -178,9 +188,9 @@ fn many(n: usize, of: impl Fn(usize) -> String) -> String {
 pub fn run() {
     let ascii = &full("a tile of floor 3, read by cart 17 ")[..3850];
     let empty = tiles(0, SMALL);
-    let half = tiles(32, SMALL);
-    let all = tiles(64, SMALL);
-    let large = tiles(64, ascii);
+    let half = tiles(FEW / 2, SMALL);
+    let all = tiles(FEW, SMALL);
+    let large = tiles(FEW, ascii);
     let id = id_of(&event(1, SMALL));
     let all_of_it = format!("{{\"authors\":[\"{PUBKEY}\"],\"kinds\":[30000],\"since\":0,\"#t\":[\"floor 3\"]}}");
     let sixteen = format!(
@@ -228,7 +238,7 @@ pub fn run() {
     }
     for (name, r) in [("four filters", &reqs[9]), ("two filters of 16 members", &reqs[12])] {
         let used = stack::used(|| {
-            black_box(list(black_box(&large), &r.text, &r.numbers, &mut [0; 64])).ok();
+            black_box(list(black_box(&large), &r.text, &r.numbers, &mut [0; FEW])).ok();
         });
         println!("stack of a REQ's answer, {name}: {used} bytes");
     }
@@ -240,4 +250,70 @@ pub fn run() {
     });
     println!("stack of matching: {used} bytes");
     assert!(plain_table::sound(&large));
+}
+
+// ---- Tables of 64 slots and of the most.
+
+// The time of tile k, of n.
+const ORDERS: [(&str, fn(usize, usize) -> usize); 3] = [("rising", |k, _| k), ("falling", |k, n| n - k), ("no order", |k, n| k * 37 % n)];
+
+fn large_reqs(first: &[u8]) -> [(&'static str, Req); 6] {
+    [
+        ("{}", req("{}")),
+        ("a tile", req(&format!("{{\"#d\":[\"{}\"]}}", tile(1)))),
+        ("an id", req(&format!("{{\"ids\":[\"{}\"]}}", id_of(first)))),
+        ("a kind", req("{\"kinds\":[30000]}")),
+        ("limit 10", req("{\"limit\":10}")),
+        ("four filters", req(&format!("{{\"limit\":5}},{{\"authors\":[\"{PUBKEY}\"],\"limit\":900}},{{\"until\":1700000031}},{{\"#d\":[\"{}\"]}}", tile(1)))),
+    ]
+}
+
+fn large_alike(t: &[u8], capacity: usize, reqs: &[(&str, Req)]) {
+    for (_, r) in reqs {
+        for room in [0, 1, capacity / 2 - 1, capacity / 2, capacity - 1, capacity] {
+            list_alike(t, r, room).ok();
+        }
+    }
+    let mut wrong = t.to_vec();
+    wrong[4] ^= 1;
+    assert_eq!(list_alike(&wrong, &reqs[0].1, capacity), Err(11));
+}
+
+pub fn large() {
+    let ascii = &full("a tile of floor 3, read by cart 17 ")[..3850];
+    for n in SIZES {
+        for (order, time) in ORDERS {
+            let made = |k: usize, content: &str| event_at(time(k, n) as i64, k, content);
+            let reqs = large_reqs(&made(1, SMALL));
+            for (name, held) in [("empty", 0), ("half full", n / 2), ("full", n)] {
+                if held == 0 && order != "rising" {
+                    continue;
+                }
+                let t = table_by(n, held, |k| made(k, SMALL));
+                large_alike(&t, n, &reqs);
+                for (what, r) in &reqs[..4] {
+                    raced(&format!("{n} slots, {name}, {order}, {what}"), &t, r, n);
+                }
+            }
+            if order == "no order" {
+                let t = table_by(n, n, |k| made(k, SMALL));
+                for (what, r) in &reqs[4..] {
+                    raced(&format!("{n} slots, full, {order}, {what}"), &t, r, n);
+                }
+                let t = table_by(n, n, |k| made(k, ascii));
+                for (what, r) in &reqs[..2] {
+                    raced(&format!("{n} slots, full texts, {order}, {what}"), &t, r, n);
+                }
+            }
+        }
+        // one time: the ids tell
+        let t = table_by(n, n, |k| event_at(0, k, SMALL));
+        let reqs = large_reqs(&event_at(0, 1, SMALL));
+        large_alike(&t, n, &reqs);
+        raced(&format!("{n} slots, full, one time, {{}}"), &t, &reqs[0].1, n);
+    }
+    let t = table_by(MOST_SLOTS, MOST_SLOTS, |k| event(k, SMALL));
+    for r in lines(MESSAGE_CASES).chain(lines(EVENT_CASES)).filter_map(|m| req_of(m.to_vec())) {
+        list_alike(&t, &r, MOST_SLOTS).ok();
+    }
 }
