@@ -1,5 +1,5 @@
 // That every call keeps to its stack over a full table of 1,024 slots and with messages of 16,384 bytes (02, Wish 6): no contract can say it, so
-// examples/check may run this in the gate. Prints what each call takes at most, over the inputs here, and exits with 1 where one takes more than it may.
+// examples/check runs this in the gate. Prints what each call takes at most, over the inputs here, and exits with 1 where one takes more than it may.
 // Those of the digest have a bound of their own, in digest_stack.rs.
 mod stack;
 
