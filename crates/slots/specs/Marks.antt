@@ -45,7 +45,7 @@ pub record Marked (b : List ℕ) (c : ℕ) (ids keys : List ℕ) : Type 0 where
 
 -- marks fall into buckets, so that one that meets no other is told at once
 abbrev pub bucketCount : ℕ
-bucketCount = 4096
+bucketCount = 8192
 
 unfoldable pub bucketOf : ℕ → ℕ
 bucketOf mark = mark % bucketCount

@@ -152,7 +152,7 @@ fn again(table: &[u8], c: usize, ids: &[u32], keys: &[u32], i: usize) -> bool
 }
 
 // Marks fall into so many buckets.
-const BUCKETS: usize = 4096;
+const BUCKETS: usize = 8192;
 
 fn bucket(mark: u32) -> usize
     ensures { λ r. ⌜ (r ≡ bucketOf mark) ⌝ }
