@@ -20,7 +20,7 @@ use Rattle.law.specs.Lists.{any}
 use Rattle.event.proofs.Decoded.{or-neither}
 use Rattle.table.specs.Layout.{slotAt, kindIn, idIn}
 use Rattle.slots.specs.Slots.{hasKeyIn, pubkeyBytes, dBytesIn, sameIdIn, sameKeyIn, clash, slotsFrom}
-use Rattle.slots.specs.Marks.{idMark, wordFrom, endMark, keyMark, Marked, Unlike, bucketCount, bucketOf, Noted}
+use Rattle.slots.specs.Marks.{idMark, keyNumber, keyMark, Marked, Unlike, bucketCount, bucketOf, Noted}
 use Rattle.slots.proofs.Bytes.{is-false}
 use Rattle.slots.proofs.Walk.{any-none}
 
@@ -52,11 +52,11 @@ unlike-more {ids} {keys} {i} {j} h u e =
 
 -- ---- the mark of a slot whose kind is x, with a key and without
 module _ (s : List ℕ) {x : ℕ} (k : x ≡ kindIn s) where
-  pub mark-keyed : {l m : ℕ} → hasKeyIn (classOf x) ≡ true → l ≡ endMark (dBytesIn s) → m ≡ wordFrom 4 (pubkeyBytes s) → bitXor (bitXor l m) x ≡ keyMark s
+  pub mark-keyed : {l : ℕ} → hasKeyIn (classOf x) ≡ true → l ≡ keyNumber (dBytesIn s) (pubkeyBytes s) → bitXor l x ≡ keyMark s
   unfolding keyMark
-  mark-keyed h p q =
+  mark-keyed h p =
       let g : hasKeyIn (classOf (kindIn s)) ≡ true = ap (λ z. hasKeyIn (classOf z)) (sym k) ∙ h in
-      rw g (ap₂ bitXor (ap₂ bitXor p q) k)
+      rw g (ap₂ bitXor p k)
 
   pub mark-plain : {l : ℕ} → hasKeyIn (classOf x) ≡ false → l ≡ idMark s → l ≡ keyMark s
   unfolding keyMark
@@ -80,7 +80,7 @@ module _ {b : List ℕ} {c : ℕ} {ids keys : List ℕ} (m : Marked b c ids keys
   unfolding sameIdIn idMark
   ids-differ n =
       sym (is-false (sameBytes (idIn (slotAt b j)) (idIn (slotAt b i)))
-      (λ e. n (m .ids-are i h ∙ ap (λ l. fieldAt l 0 4) (sym (same-equal (idIn (slotAt b j)) (idIn (slotAt b i)) e)) ∙ sym (m .ids-are j k))))
+      (λ e. n (m .ids-are i h ∙ ap (λ l. fieldAt l 0 2) (sym (same-equal (idIn (slotAt b j)) (idIn (slotAt b i)) e)) ∙ sym (m .ids-are j k))))
 
   pub keys-differ : (getD keys i 0 ≡ getD keys j 0 → ⊥) → false ≡ sameKeyIn (slotAt b i) (slotAt b j)
   keys-differ n =

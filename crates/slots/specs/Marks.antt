@@ -1,4 +1,4 @@
--- Numbers of four bytes that slots with one id, or with one key, have alike: slots whose marks differ need not be
+-- Numbers of two bytes that slots with one id, or with one key, have alike: slots whose marks differ need not be
 -- compared.
 use mathlib.Core.Path.{_≡_}
 use mathlib.Core.Bool.{cond}
@@ -15,25 +15,26 @@ use Rattle.wire.specs.Bytes.{Bytes}
 
 -- the id's first bytes
 unfoldable pub idMark : Bytes → ℕ
-idMark s = fieldAt (idIn s) 0 4
+idMark s = fieldAt (idIn s) 0 2
 
 -- four of the bytes d, from k before their end on, or from the first on if there are fewer
 unfoldable pub wordFrom : ℕ → Bytes → ℕ
 wordFrom k d = fieldAt d (length d - k) 4
 
--- of the last sixteen, each four times an odd number, the upper halves of the products
-unfoldable pub endMark : Bytes → ℕ
-endMark d =
-    bitXor (bitXor (wordFrom 4 d * 2654435761) (wordFrom 8 d * 2246822519))
-    (bitXor (wordFrom 12 d * 3266489917) (wordFrom 16 d * 668265263))
-    / 4294967296
+-- of the last sixteen bytes of d and the last four of a pubkey, each four times an odd number, bits 20 to 35
+unfoldable pub keyNumber : Bytes → Bytes → ℕ
+keyNumber d pubkey =
+    bitXor (bitXor (bitXor (wordFrom 4 d * 2654435761) (wordFrom 8 d * 2246822519))
+    (bitXor (wordFrom 12 d * 3266489917) (wordFrom 16 d * 668265263)))
+    (wordFrom 4 pubkey * 374761393)
+    / 1048576 % 65536
 
 -- of a slot with a key: the last bytes of d and of the pubkey, and the kind; of any other its id's, which tells it from
 -- the others
 unfoldable pub keyMark : Bytes → ℕ
 keyMark s =
     cond (hasKeyIn (classOf (kindIn s)))
-    (bitXor (bitXor (endMark (dBytesIn s)) (wordFrom 4 (pubkeyBytes s))) (kindIn s))
+    (bitXor (keyNumber (dBytesIn s) (pubkeyBytes s)) (kindIn s))
     (idMark s)
 
 -- the rows hold the marks of slots 0 to c-1 of the table b
@@ -45,7 +46,7 @@ pub record Marked (b : List ℕ) (c : ℕ) (ids keys : List ℕ) : Type 0 where
 
 -- marks fall into buckets, so that one that meets no other is told at once
 abbrev pub bucketCount : ℕ
-bucketCount = 8192
+bucketCount = 2048
 
 unfoldable pub bucketOf : ℕ → ℕ
 bucketOf mark = mark % bucketCount

@@ -9,7 +9,7 @@ ghost use Rattle.law.specs.Lists.{any};
 ghost use Rattle.table.specs.Layout.{slotAt};
 ghost use Rattle.table.specs.Sound.{noneTwice};
 ghost use Rattle.slots.specs.Slots.{hasKeyIn, sameIdIn, sameKeyIn, clash, slotsFrom};
-ghost use Rattle.slots.specs.Marks.{idMark, wordFrom, endMark, keyMark, Marked, Unlike};
+ghost use Rattle.slots.specs.Marks.{idMark, wordFrom, keyNumber, keyMark, Marked, Unlike};
 ghost use Rattle.slots.specs.Marks.{bucketCount, bucketOf, Noted};
 use crate::ID_PLACE;
 use crate::ID_SIZE;
@@ -33,10 +33,10 @@ pub(crate) fn keyed(kind: u16) -> bool
 }
 
 // A number that slots with one id have alike.
-fn id_mark(s: &[u8]) -> u32
+fn id_mark(s: &[u8]) -> u16
     ensures { λ r. ⌜ r ≡ idMark (now (s .entry)) ⌝ }
 {
-    wire::le_at(wire::piece(s, ID_PLACE, ID_SIZE), 0, 4) as u32
+    wire::le_at(wire::piece(s, ID_PLACE, ID_SIZE), 0, 2) as u16
 }
 
 // The four bytes that begin k before the end, as a number; the first ones of fewer than k.
@@ -49,36 +49,33 @@ fn word(d: &[u8], k: usize) -> u32
     wire::le_at(d, d.len() - k, 4) as u32
 }
 
-// A number of the last sixteen bytes. Each word is multiplied by an odd number, so that all its bits tell in the upper
-// half of the product: d of one floor and of another may end alike.
-fn end_mark(d: &[u8]) -> u32
-    ensures { λ r. ⌜ r ≡ endMark (now (d .entry)) ⌝ }
+// A number of the last sixteen bytes of d and the last four of a pubkey. Each word is multiplied by an odd number, and
+// of the products bits 20 to 35 are taken, where all bits of a word tell: d of one floor and of another may end alike.
+fn key_number(d: &[u8], pubkey: &[u8]) -> u16
+    ensures { λ r. ⌜ r ≡ keyNumber (now (d .entry)) (now (pubkey .entry)) ⌝ }
 {
     let a = word(d, 4) as u64 * 2654435761;
     let b = word(d, 8) as u64 * 2246822519;
     let c = word(d, 12) as u64 * 3266489917;
     let e = word(d, 16) as u64 * 668265263;
-    (((a ^ b) ^ (c ^ e)) / 4294967296) as u32
+    let g = word(pubkey, 4) as u64 * 374761393;
+    ((((a ^ b) ^ (c ^ e)) ^ g) / 1048576 % 65536) as u16
 }
 
 // A number that slots with one key have alike. A slot without a key has its id's, which tells it from the others.
-fn key_mark(s: &[u8]) -> u32
+fn key_mark(s: &[u8]) -> u16
     ensures { λ r. ⌜ r ≡ keyMark (now (s .entry)) ⌝ }
 {
-    let kind = wire::le_at(s, KIND_PLACE, 2);
-    if keyed(kind as u16) {
-        return (end_mark(held::d_of(s))
-            ^ word(
-                wire::piece(held::text_of(s), PUBKEY_PLACE, wire::HEX_LENGTH),
-                4,
-            ))
-            ^ kind as u32;
+    let kind = wire::le_at(s, KIND_PLACE, 2) as u16;
+    if keyed(kind) {
+        let pubkey = wire::piece(held::text_of(s), PUBKEY_PLACE, wire::HEX_LENGTH);
+        return key_number(held::d_of(s), pubkey) ^ kind;
     }
     id_mark(s)
 }
 
 // The marks of slots 0 to c-1.
-fn mark(table: &[u8], c: usize, ids: &mut [u32], keys: &mut [u32])
+fn mark(table: &[u8], c: usize, ids: &mut [u16], keys: &mut [u16])
     requires { ⌜ (c ≤ mostSlots) × (length (now ids) ≡ mostSlots) × (length (now keys) ≡ mostSlots) ⌝ }
     ensures { λ _. ⌜ Marked (now (table .entry)) c (now (ids .exit)) (now (keys .exit)) ⌝ }
 {
@@ -90,7 +87,7 @@ fn mark(table: &[u8], c: usize, ids: &mut [u32], keys: &mut [u32])
     }
 }
 
-fn same_id_at(table: &[u8], c: usize, ids: &[u32], keys: &[u32], i: usize, j: usize) -> bool
+fn same_id_at(table: &[u8], c: usize, ids: &[u16], keys: &[u16], i: usize, j: usize) -> bool
     requires { ⌜ Marked (now table) c (now ids) (now keys) ⌝ }
     requires { ⌜ (c ≤ mostSlots) × (i < c) × (j < c) ⌝ }
     ensures { λ r. ⌜ r ≡ sameIdIn (slotAt (now (table .entry)) i) (slotAt (now (table .entry)) j) ⌝ }
@@ -101,7 +98,7 @@ fn same_id_at(table: &[u8], c: usize, ids: &[u32], keys: &[u32], i: usize, j: us
     same_id(slot(table, i), slot(table, j))
 }
 
-fn same_key_at(table: &[u8], c: usize, ids: &[u32], keys: &[u32], i: usize, j: usize) -> bool
+fn same_key_at(table: &[u8], c: usize, ids: &[u16], keys: &[u16], i: usize, j: usize) -> bool
     requires { ⌜ Marked (now table) c (now ids) (now keys) ⌝ }
     requires { ⌜ (c ≤ mostSlots) × (i < c) × (j < c) ⌝ }
     ensures { λ r. ⌜ r ≡ sameKeyIn (slotAt (now (table .entry)) i) (slotAt (now (table .entry)) j) ⌝ }
@@ -113,7 +110,7 @@ fn same_key_at(table: &[u8], c: usize, ids: &[u32], keys: &[u32], i: usize, j: u
 }
 
 // Whether a later slot has a mark of slot i. No way out of the loop, so that the compiler takes many marks at a time.
-fn maybe(ids: &[u32], keys: &[u32], c: usize, i: usize) -> bool
+fn maybe(ids: &[u16], keys: &[u16], c: usize, i: usize) -> bool
     requires { ⌜ (length (now ids) ≡ mostSlots) × (length (now keys) ≡ mostSlots) × (c ≤ mostSlots) × (i < c) ⌝ }
     ensures { λ r. ⌜ (r ≡ false → Unlike (now (ids .entry)) (now (keys .entry)) i c) ⌝ }
 {
@@ -129,7 +126,7 @@ fn maybe(ids: &[u32], keys: &[u32], c: usize, i: usize) -> bool
 }
 
 // Whether a later held slot has the id or the key of slot i: looked at only where a mark hits.
-fn again(table: &[u8], c: usize, ids: &[u32], keys: &[u32], i: usize) -> bool
+fn again(table: &[u8], c: usize, ids: &[u16], keys: &[u16], i: usize) -> bool
     requires { ⌜ Marked (now table) c (now ids) (now keys) ⌝ }
     requires { ⌜ (c ≤ mostSlots) × (i < c) ⌝ }
     ensures { λ r. ⌜ r ≡ any (clash (slotAt (now (table .entry)) i))
@@ -152,9 +149,9 @@ fn again(table: &[u8], c: usize, ids: &[u32], keys: &[u32], i: usize) -> bool
 }
 
 // Marks fall into so many buckets.
-const BUCKETS: usize = 8192;
+const BUCKETS: usize = 2048;
 
-fn bucket(mark: u32) -> usize
+fn bucket(mark: u16) -> usize
     ensures { λ r. ⌜ (r ≡ bucketOf mark) ⌝ }
     ensures { λ r. ⌜ r < bucketCount ⌝ }
 {
@@ -162,7 +159,7 @@ fn bucket(mark: u32) -> usize
 }
 
 // Whether one of two marks falls into a bucket that one has fallen into.
-fn met(seen: &[u8], id: u32, key: u32) -> bool
+fn met(seen: &[u8], id: u16, key: u16) -> bool
     requires { ⌜ length (now seen) ≡ bucketCount ⌝ }
     ensures { λ r. ⌜ (r ≡ false → (getD (now (seen .entry)) (bucketOf id) 0 ≡ 0) ×
         (getD (now (seen .entry)) (bucketOf key) 0 ≡ 0)) ⌝ }
@@ -176,7 +173,7 @@ fn met(seen: &[u8], id: u32, key: u32) -> bool
 }
 
 // Two marks fall into their buckets.
-fn note(seen: &mut [u8], id: u32, key: u32)
+fn note(seen: &mut [u8], id: u16, key: u16)
     requires { ⌜ length (now seen) ≡ bucketCount ⌝ }
     ensures { λ _. ⌜ now (seen .exit) ≡ set (set (now (seen .entry)) (bucketOf id) 1) (bucketOf key) 1 ⌝ }
 {
@@ -188,7 +185,7 @@ fn note(seen: &mut [u8], id: u32, key: u32)
 
 // Whether a later held slot has the id or the key of slot i: all later ones have fallen into their buckets, and where
 // none fell into those of slot i there is none.
-fn repeated(table: &[u8], c: usize, ids: &[u32], keys: &[u32], seen: &[u8], i: usize) -> bool
+fn repeated(table: &[u8], c: usize, ids: &[u16], keys: &[u16], seen: &[u8], i: usize) -> bool
     requires { ⌜ Marked (now table) c (now ids) (now keys) ⌝ }
     requires { ⌜ (c ≤ mostSlots) × (i < c) ⌝ }
     requires { ⌜ Noted (now ids) (now keys) (i + 1) c (now seen) ⌝ }
@@ -206,8 +203,8 @@ pub(crate) fn apart(table: &[u8], c: usize) -> bool
     requires { ⌜ c ≤ mostSlots ⌝ }
     ensures { λ r. ⌜ r ≡ noneTwice clash (slotsFrom (now (table .entry)) 0 c) ⌝ }
 {
-    let mut ids = [0u32; wire::MOST_SLOTS];
-    let mut keys = [0u32; wire::MOST_SLOTS];
+    let mut ids = [0u16; wire::MOST_SLOTS];
+    let mut keys = [0u16; wire::MOST_SLOTS];
     let mut seen = [0u8; BUCKETS];
     mark(table, c, &mut ids, &mut keys);
     let mut i = c;
