@@ -609,7 +609,8 @@ def full_messages():
     """Messages that have as much as the bounds allow, and as many bytes as a message has, or one more."""
     sixteen = many(plain(A), 16)
     fields = {"ids": sixteen, "authors": sixteen, "#e": sixteen, "kinds": many("65535", 16), "since": str(-TIME), "until": str(TIME)}
-    fields.update({"limit": "65535", "#t": many(plain("x" * 10), 16), "#D": many(plain("é€😀"), 16), "#z": many('"\\u0041\\n"', 16)})
+    fields.update({"limit": "65535", "#t": many(plain("x" * 10), 16), "#D": many(plain("é€😀"), 16)})
+    fields["#z"] = many('"\\u0041\\n"', 16)
     whole = members(fields.items())
     two = req(whole, whole)
     four = req(whole, whole, whole, members(list(fields.items())[:3] + list(fields.items())[4:7]))

@@ -458,8 +458,9 @@ def long_messages():
     # The last member of the last list of the last filter fits.
     lists = {"ids": strings(*[A] * 16), "authors": strings(*["c" * 64] * 16), "#p": strings(*[A] * 16), "#e": strings(*[A] * 16)}
     never = [{**lists, "kinds": "[%s]" % ",".join(["9"] * 16)} for _ in range(3)]
-    for last, slots in (({"ids": strings(*[A] * 15, IDS[5])}, [5]), ({"#e": strings(*[A] * 15, H)}, [0]), ({"ids": strings(*[A] * 16)}, []),
-                        ({"kinds": "[%s]" % ",".join(["7"] * 15 + ["1"])}, newest_first([0, 1])), ({"limit": "1"}, NEWEST_FIRST[:1])):
+    kinds = "[%s]" % ",".join(["7"] * 15 + ["1"])
+    lasts = [({"ids": strings(*[A] * 15, IDS[5])}, [5]), ({"#e": strings(*[A] * 15, H)}, [0]), ({"ids": strings(*[A] * 16)}, [])]
+    for last, slots in lasts + [({"kinds": kinds}, newest_first([0, 1])), ({"limit": "1"}, NEWEST_FIRST[:1])]:
         filters = filters_of(*never, last)
         asked.both(listing(slots), filters)
         text = req_of(filters)
@@ -513,7 +514,8 @@ def most_slots():
     for n in (0, 1, 63, 64, 255, 256, 257, 511, 512, 700, MOST - 2, MOST - 1):
         asked.both(listing([n]), filters_of({"#d": strings("tile-%04d" % n)}), 1)
         asked.both(listing([n]), filters_of({"ids": strings(A, ids[n])}), 1)
-        asked.req(listing([n]), filters_of({"ids": strings(ids[n]), "#d": strings("x", "tile-%04d" % n), "kinds": "[%s]" % events[n]["kind"]}), 8)
+        more = {"ids": strings(ids[n]), "#d": strings("x", "tile-%04d" % n), "kinds": "[%s]" % events[n]["kind"]}
+        asked.req(listing([n]), filters_of(more), 8)
         asked.both(listing([]), filters_of({"#d": strings("tile-%04d" % n, "tile-%05d" % n), "until": "-1000"}), 0)
         asked.req(listing([]), filters_of({"ids": strings(other(ids[n], 63))}), 0)
     asked.both(listing([700]), filters_of({"kinds": "[31000]"}), 1)
@@ -558,7 +560,8 @@ def most_slots():
     lines = asked.lines
     yield asked.lent.set()
     last = HEADER + (MOST - 1) * SLOT
-    for at, bits in ((0, 1), (1, 4), (4, 1), (5, 1), (last + 96, 1), (last + 112, 255), (last + SLOT - 1, 1), (HEADER + 256 * SLOT + 104, 64)):
+    spots = [(0, 1), (1, 4), (4, 1), (5, 1), (last + 96, 1), (last + 112, 255), (last + SLOT - 1, 1)]
+    for at, bits in spots + [(HEADER + 256 * SLOT + 104, 64)]:
         yield b"unsound", line(b"X", at, bits)
         for _, one in lines:
             yield b"11", one

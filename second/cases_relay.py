@@ -174,7 +174,8 @@ def long_messages():
     )
     for size in (4016, 4017, 8000, 12000, 16000):
         one = made(content="x" * size)
-        yield run([(taken(id_in(one)) if size == 4016 else refused(id_in(one), 9), offer(one)), (refused(B, 10 if size == 4016 else 9), offer(one, id=B))])
+        said = (taken(id_in(one)), refused(B, 10)) if size == 4016 else (refused(id_in(one), 9), refused(B, 9))
+        yield run(zip(said, (offer(one), offer(one, id=B))))
     for number, (row, text) in enumerate(full_messages()):
         if '"REQ"' in text:
             yield run([({0: eose(), 1: notice(1), 8: closed("s", 8)}[row], text)], (0, 1, 7, 4096)[number % 4])

@@ -588,7 +588,7 @@ def large_event(n):
 
 
 def lent_in_turn(offers):
-    """Lent bytes, as many as it takes, and the lines of what stands in them: (how an event is lent, its line's maker)."""
+    """Many events lent, as many at a time as fit: of each how it is lent, and its lines once it is."""
     lent, pending = Lent(), []
     for lend, lines_of in offers:
         if len(lent.bytes) > 60000:
