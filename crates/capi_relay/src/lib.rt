@@ -6,6 +6,7 @@ ghost use Rattle.text.specs.Kinds.{classOf};
 ghost use Rattle.program.specs.Respond.{responded, respondRow, respondedOut, respondedTable, slotEvent, slotEventRow};
 ghost use Rattle.program.specs.Respond.{slotEventOut, sentEvents, eventsRow, sentEventsOut};
 ghost use Rattle.program.specs.Feed.{turned, turnRow, turnTable, turnLine, turnOut};
+ghost use Rattle.feed.specs.Turn.{lookedAt};
 ghost use Rattle.feed.specs.Finish.{feedFinished, finishRow, finishTable, finishOut};
 ghost use Rattle.responses.specs.Refused.{refusedReply, refusedRow, refusedOut};
 ghost use Rattle.capi.specs.Calls.{lengthOr};
@@ -53,8 +54,8 @@ pub extern "C" fn plavdrosa_respond(
     told(x, written)
 }
 
-// A piece of the input fed up to its first line's end, and with it: 13 or 0. The first `kept` bytes of `line` are the
-// line so far.
+// A piece of the input fed up to its first line's end, and with it; where the first `kept` bytes of `line` are the line
+// so far and more of it come, up to its end, which the next call takes: 13 or 0.
 #[no_mangle]
 pub extern "C" fn plavdrosa_turn(
     table: &mut [u8],
@@ -65,20 +66,21 @@ pub extern "C" fn plavdrosa_turn(
     used: &mut usize,
     written: &mut usize,
 ) -> u8
-    ensures { λ r. ⌜ r ≡ turnRow (now (table .entry)) (now (line .entry)) (now (kept .entry)) (now (piece .entry))
-        (now (out .entry)) ⌝ }
+    ensures { λ r. ⌜ r ≡ turnRow (now (table .entry)) (now (line .entry)) (now (kept .entry))
+        (lookedAt (now (kept .entry)) (now (piece .entry))) (now (out .entry)) ⌝ }
     ensures { λ _. ⌜ now (table .exit) ≡ turnTable (now (table .entry)) (now (line .entry)) (now (kept .entry))
-        (now (piece .entry)) (now (out .entry)) ⌝ }
+        (lookedAt (now (kept .entry)) (now (piece .entry))) (now (out .entry)) ⌝ }
     ensures { λ _. ⌜ now (line .exit) ≡ turnLine (now (table .entry)) (now (line .entry)) (now (kept .entry))
-        (now (piece .entry)) (now (out .entry)) ⌝ }
+        (lookedAt (now (kept .entry)) (now (piece .entry))) (now (out .entry)) ⌝ }
     ensures { λ _. ⌜ now (kept .exit) ≡ keptOr (turned (now (table .entry)) (now (line .entry)) (now (kept .entry))
-        (now (piece .entry)) (now (out .entry))) (now (kept .entry)) ⌝ }
+        (lookedAt (now (kept .entry)) (now (piece .entry))) (now (out .entry))) (now (kept .entry)) ⌝ }
     ensures { λ _. ⌜ now (out .exit) ≡ turnOut (now (table .entry)) (now (line .entry)) (now (kept .entry))
-        (now (piece .entry)) (now (out .entry)) ⌝ }
+        (lookedAt (now (kept .entry)) (now (piece .entry))) (now (out .entry)) ⌝ }
     ensures { λ _. ⌜ now (used .exit) ≡ usedOr (turned (now (table .entry)) (now (line .entry)) (now (kept .entry))
-        (now (piece .entry)) (now (out .entry))) (now (used .entry)) ⌝ }
+        (lookedAt (now (kept .entry)) (now (piece .entry))) (now (out .entry))) (now (used .entry)) ⌝ }
     ensures { λ _. ⌜ now (written .exit) ≡ writtenOr (turned (now (table .entry)) (now (line .entry))
-        (now (kept .entry)) (now (piece .entry)) (now (out .entry))) (now (written .entry)) ⌝ }
+        (now (kept .entry)) (lookedAt (now (kept .entry)) (now (piece .entry))) (now (out .entry)))
+        (now (written .entry)) ⌝ }
 {
     let n = *kept;
     match feed::turn(table, line, n, piece, out) {

@@ -1,24 +1,24 @@
 -- Where a line ends in a piece, what is kept of a line in its buffer, and the state after a piece.
 use mathlib.Core.Path.{_≡_, refl, sym, ap, _∙_}
-use mathlib.Core.Bool.{Bool, true, false, not, _&&_, false≢true}
+use mathlib.Core.Bool.{Bool, true, false, cond, not, _&&_, false≢true}
 use mathlib.Core.List.{List, [], _∷_, _++_, append-assoc, append-nil}
 use Prim.Native.Nat.{ℕ, zero, suc, _+_, _-_, _≤_, _<_, min}
 use native.Mathlib.Numerals.{add-one}
 use native.Mathlib.Nat.{add-suc, add-zero}
 use native.Mathlib.Omega.{arith}
 use native.Mathlib.Decide.{decLe}
-use borrow.Author.Tests.{eq-eqb, ne-eqb, eqb-true}
+use borrow.Author.Tests.{eq-eqb, ne-eqb, eqb-true, eqb-false}
 use lib.Dec.{eqb}
 use lib.ListN.{length, take, drop, getD, length-append, length-take, drop-of-length-le}
-use lib.Seq.{drop-cons, take-all, take-length, take-append-add, take-take, sets-eq, take-at}
+use lib.Seq.{drop-cons, take-all, take-length, take-append-add, take-take}
 use Rattle.wire.specs.Bytes.{part}
-use Rattle.wire.specs.Put.{put, Puts}
-use Rattle.wire.proofs.Laws.{length-put, put-over}
+use Rattle.wire.specs.Put.{Puts}
 use Rattle.law.specs.Lists.{any}
 use Rattle.program.specs.Program.{tableAfter}
 use Rattle.program.specs.Feed.{State, mostLine, kept, isEnd, afterByte, afterBytes, before, usedOf, turnState}
 use Rattle.program.proofs.Feed.{in-pieces, so-far}
-use Rattle.feed.specs.Inner.{NoEndFrom, EndFrom, grown, Keeps, Joins}
+use Rattle.feed.specs.Turn.{lookedAt}
+use Rattle.feed.specs.Inner.{NoEndFrom, EndFrom, grown, Keeps, InOnePlace}
 
 -- ---- a turn of the search for a line's end: x is the whole answer
 module _ (p : List ℕ) (x i : ℕ) where
@@ -149,27 +149,88 @@ module _ (line : List ℕ) (n : ℕ) (p : List ℕ) (wide : mostLine ≤ length 
       let w : Puts line many more r o = rw (i, e) at q in
       record { many = omega (arith, w .next, grown-length, fits-line); bytes = w .bytes }
 
-  -- the line stands at the start of its buffer
-  pub kept-there : {r : ℕ} {o : List ℕ} → Keeps line n p r o → (r ≤ length o) × (take r o ≡ grown line n p)
-  unfolding put
-  kept-there {r} {o} q =
-      let z : length o ≡ length line = ap length (q .bytes) ∙ length-put line many more in
-      let e : length (take many line ++ more) ≡ r = sym (q .many ∙ ap length grown-is) in (
-        omega (arith, q .many, grown-length, fits-line),
-        ap (take r) (q .bytes ∙ sets-eq more line many (omega (arith, fits-line))) ∙ take-at (take many line ++ more) _ r e ∙ sym grown-is,
-      )
-
--- the line so far is copied, and the piece comes behind it
-pub joins : (z line : List ℕ) (n : ℕ) {p o o′ : List ℕ} {k j r : ℕ} → mostLine ≤ length z → mostLine ≤ length line → k ≡ min n mostLine
-    → Puts z 0 (take k line) j o → Keeps o k p r o′ → Joins (grown line n p) r o′
+-- all of the line is in its buffer
+pub grown-whole : (line p : List ℕ) (n : ℕ) {k : ℕ} {m : List ℕ} → length p ≡ 0 → k ≡ min n mostLine → m ≡ part line 0 k → m ≡ grown line n p
 unfolding grown
-joins z line n {p} {o} {o′} {k} {j} {r} wz wl e q s =
-    let l : length (take k line) ≡ k = length-take k line ∙ omega arith in
-    let w : length o ≡ length z = ap length (q .bytes) ∙ length-put z 0 (take k line) in
-    let t : take k o ≡ take k line = ap (take k) (q .bytes ∙ put-over z (take k line) (omega arith)) ∙ take-at (take k line) _ k l in
-    let f : take k (kept o) ≡ take n (kept line) = take-take k mostLine o (omega arith) ∙ t ∙ ap (λ v. take v line) e ∙ sym (so-far n line) in
-    let (a, b) = kept-there o k p (omega arith) s in
-    record { inside = a; is-line = b ∙ ap (λ v. kept (v ++ p)) f }
+grown-whole line p n h e i =
+    i ∙ ap (λ v. take v line) e ∙ sym (so-far n line)
+    ∙ sym (ap (λ q. kept (take n (kept line) ++ q)) (none p h) ∙ ap kept (append-nil (take n (kept line))) ∙ take-all mostLine (take n (kept line)) (omega (arith, length-take n (kept line), length-take mostLine line)))
+  where
+    none : (l : List ℕ) → length l ≡ 0 → l ≡ []
+    none [] z = refl
+    none (x ∷ l) z = absurd (omega arith)
+
+-- ---- what a turn looks at
+module _ (p : List ℕ) where
+  -- what comes before the line's end begins the piece, and ends no line
+  pub before-taken : take (length (before p)) p ≡ before p
+  before-taken = go (decLe (length p) (length (before p)))
+    where
+      go : Dec (length p ≤ length (before p)) → take (length (before p)) p ≡ before p
+      go (yes h) = take-all (length (before p)) p h ∙ sym (whole p h .is-before)
+      go (no h) = within p (omega arith) .is-before
+
+  before-plain : any isEnd (before p) ≡ false
+  before-plain = go (decLe (length p) (length (before p)))
+    where
+      go : Dec (length p ≤ length (before p)) → any isEnd (before p) ≡ false
+      go (yes h) = ap (any isEnd) (whole p h .is-before) ∙ whole p h .ends
+      go (no h) = within p (omega arith) .plain
+
+  pub before-few : length (before p) ≤ length p
+  before-few = let e = ap length before-taken in omega (arith, e, length-take (length (before p)) p)
+
+  module _ (n : ℕ) where
+    -- as it is found
+    pub looked-all : n ≡ 0 → p ≡ lookedAt n p
+    unfolding lookedAt
+    looked-all e = rw (eq-eqb n 0 e)
+
+    pub looked-start : length (before p) ≡ 0 → p ≡ lookedAt n p
+    unfolding lookedAt
+    looked-start e = go (eqb n 0)
+      where
+        go : (s : Bool) → p ≡ cond s p (cond (eqb (length (before p)) 0) p (before p))
+        go true = refl
+        go false = rw (eq-eqb (length (before p)) 0 e)
+
+    pub looked-before : {e : ℕ} → (n ≡ 0 → ⊥) → e ≡ length (before p) → (e ≡ 0 → ⊥) → take e p ≡ lookedAt n p
+    unfolding lookedAt
+    looked-before {e} ne q nz = rw (ne-eqb n 0 ne, ne-eqb (length (before p)) 0 (λ z. nz (q ∙ z))) (ap (λ k. take k p) q ∙ before-taken)
+
+    pub looked-whole : InOnePlace n (lookedAt n p)
+    unfolding lookedAt
+    looked-whole ne = go (eqb n 0) (eqb (length (before p)) 0) refl refl
+      where
+        go : (s t : Bool) → eqb n 0 ≡ s → eqb (length (before p)) 0 ≡ t → let l = cond s p (cond t p (before p)) in any isEnd l ≡ true → length (before l) ≡ 0
+        go true t e f h = absurd (ne (eqb-true n 0 e))
+        go false true e f h = eqb-true (length (before p)) 0 f
+        go false false e f h = absurd (false≢true (sym before-plain ∙ h))
+
+    -- it begins the piece, and is none only of none
+    looked-begins : take (length (lookedAt n p)) p ≡ lookedAt n p
+    unfolding lookedAt
+    looked-begins = go (eqb n 0) (eqb (length (before p)) 0)
+      where
+        go : (s t : Bool) → let l = cond s p (cond t p (before p)) in take (length l) p ≡ l
+        go true t = take-length p
+        go false true = take-length p
+        go false false = before-taken
+
+    pub looked-few : length (lookedAt n p) ≤ length p
+    looked-few = let e = ap length looked-begins in omega (arith, e, length-take (length (lookedAt n p)) p)
+
+    pub looked-some : 1 ≤ length p → 1 ≤ length (lookedAt n p)
+    unfolding lookedAt
+    looked-some h = go (eqb n 0) (eqb (length (before p)) 0) refl
+      where
+        go : (s t : Bool) → eqb (length (before p)) 0 ≡ t → 1 ≤ length (cond s p (cond t p (before p)))
+        go true t f = h
+        go false true f = h
+        go false false f = let z = eqb-false (length (before p)) 0 f in omega (arith, z)
+
+    pub looked-taken : (u : ℕ) → u ≤ length (lookedAt n p) → take u (lookedAt n p) ≡ take u p
+    looked-taken u h = ap (take u) (sym looked-begins) ∙ take-take u (length (lookedAt n p)) p h
 
 -- ---- the state after a piece
 abbrev at : List ℕ → List ℕ → State

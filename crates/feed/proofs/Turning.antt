@@ -22,7 +22,7 @@ use Rattle.program.specs.declared.Turned.the-variants as turning
 use Rattle.program.proofs.Respond.{fits-if, responded-means}
 use Rattle.program.proofs.Feed.{kept-same, so-far, turn-means, turn-row-is}
 use Rattle.feed.specs.Finish.{finishText, finishRow, feedFinished, finishTable, finishOut, lastTable}
-use Rattle.feed.specs.Inner.{grown, Keeps, Answers}
+use Rattle.feed.specs.Inner.{grown, Keeps, InOnePlace, Answers}
 use Rattle.feed.proofs.Lines.{within, whole, state-unended, state-ended}
 
 -- ---- one message answered
@@ -116,6 +116,10 @@ module _ (b line : List ℕ) (n : ℕ) (piece out : List ℕ) where
     module _ {e : ℕ} (q : e ≡ length (before piece)) (h : e < length piece) where
       part-is : take e piece ≡ before piece
       part-is = ap (λ k. take k piece) q ∙ within piece (omega arith) .is-before
+
+      -- a line that the buffer has bytes of has no more of them here
+      pub part-empty : InOnePlace n piece → (n ≡ 0 → ⊥) → length (take e piece) ≡ 0
+      part-empty w ne = ap length part-is ∙ w ne (within piece (omega arith) .ends)
 
       abbrev message : List ℕ
       message = grown line n (take e piece)

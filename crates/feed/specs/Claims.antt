@@ -12,6 +12,7 @@ use Rattle.reply.specs.Claims.{WritesOr}
 use Rattle.program.specs.Program.{freshTable, output}
 use Rattle.program.specs.Feed.{mostLine, feedState, turnRow, turned, turnTable, turnLine, turnOut}
 use Rattle.program.specs.Claims.Respond.{enoughFor}
+use Rattle.feed.specs.Turn.{lookedAt}
 use Rattle.feed.specs.Finish.{finishText, finishRow, feedFinished, finishOut, finishTable, lastTable}
 
 -- ---- the end of the input
@@ -43,14 +44,19 @@ abbrev pub SlotsStay : Type 0
 SlotsStay = (b line : List ℕ) (n : ℕ) (piece out : List ℕ) → capacityOf (turnTable b line n piece out) ≡ capacityOf b
 
 -- ---- a run of calls of `turn`, from a table, a line buffer and a count: the input that was used up and what was
--- written, and the table, the line buffer and the count that the next call goes on with. Any piece may come, and any
--- output; a call that is refused changes nothing and is left out
+-- written, and the table, the line buffer and the count that the next call goes on with. Any piece may come, of which
+-- the call looks at a part (`lookedAt`), and any output; a call that is refused changes nothing and is left out
 pub data Turns (b line : List ℕ) (n : ℕ) : (input said b′ line′ : List ℕ) → ℕ → Type 0 where
   none : Turns b line n [] [] b line n
   more : {input said b′ line′ : List ℕ} {n′ : ℕ} → Turns b line n input said b′ line′ n′
-      → (piece out : List ℕ) {u k w : ℕ} → turned b′ line′ n′ piece out ≡ turning.Fed u k w
-      → Turns b line n (input ++ take u piece) (said ++ take w (turnOut b′ line′ n′ piece out))
-      (turnTable b′ line′ n′ piece out) (turnLine b′ line′ n′ piece out) k
+      → (piece out : List ℕ) {u k w : ℕ} → turned b′ line′ n′ (lookedAt n′ piece) out ≡ turning.Fed u k w
+      → Turns b line n (input ++ take u piece) (said ++ take w (turnOut b′ line′ n′ (lookedAt n′ piece) out))
+      (turnTable b′ line′ n′ (lookedAt n′ piece) out) (turnLine b′ line′ n′ (lookedAt n′ piece) out) k
+
+-- a call uses some of every piece that has bytes, so a caller that goes on with the rest comes to its end
+abbrev pub UsesSome : Type 0
+UsesSome = (b line : List ℕ) (n : ℕ) (piece out : List ℕ) (u k w : ℕ) → 1 ≤ length piece →
+    turned b line n (lookedAt n piece) out ≡ turning.Fed u k w → (1 ≤ u) × (u ≤ length piece)
 
 -- a run from a fresh table and no line so far, and then the end of the input, write what the program prints: "One
 -- program reads messages from standard input, one a line, over a fresh table of 8 slots"

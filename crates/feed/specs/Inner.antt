@@ -1,12 +1,14 @@
 -- What private functions hand on.
 use mathlib.Core.Path.{_≡_}
+use mathlib.Core.Bool.{true}
 use mathlib.Core.List.{List, _++_}
 use Prim.Native.Nat.{ℕ, _+_, _-_, _≤_, _<_, min}
 use lib.ListN.{length, take, drop, getD}
 use Rattle.wire.specs.Put.{put}
 use Rattle.event.specs.declared.Written.{Written}
 use Rattle.program.specs.Respond.{responded, respondedOut, respondedTable}
-use Rattle.program.specs.Feed.{mostLine, kept, before}
+use Rattle.law.specs.Lists.{any}
+use Rattle.program.specs.Feed.{mostLine, kept, isEnd, before}
 use Rattle.wire.specs.Bytes.{Bytes}
 
 -- ---- the search for a line's end
@@ -29,10 +31,9 @@ pub record Keeps (line : List ℕ) (n : ℕ) (p : List ℕ) (r : ℕ) (o : List 
   pub many : r ≡ length (grown line n p)
   pub bytes : o ≡ put line (min n mostLine) (take (mostLine - min n mostLine) p)
 
--- the first r bytes of o are the line l
-pub record Joins (l : List ℕ) (r : ℕ) (o : List ℕ) : Type 0 where
-  pub inside : r ≤ length o
-  pub is-line : take r o ≡ l
+-- a line that ends in the piece p stands in one place: in p, or in the buffer, where its first n bytes are
+abbrev pub InOnePlace : ℕ → Bytes → Type 0
+InOnePlace n p = (n ≡ 0 → ⊥) → any isEnd p ≡ true → length (before p) ≡ 0
 
 -- the message m was answered
 pub record Answers (b m out : List ℕ) (r : Written) (b′ o : List ℕ) : Type 0 where

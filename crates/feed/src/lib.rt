@@ -7,7 +7,8 @@ ghost use lib.ListN.{length};
 ghost use Rattle.event.specs.Answer.{writtenNumber};
 ghost use Rattle.program.specs.Feed.{mostLine, before, turned, turnRow, turnTable, turnLine, turnOut, turnedNumber};
 ghost use Rattle.feed.specs.Finish.{feedFinished, finishRow, finishTable, finishOut};
-ghost use Rattle.feed.specs.Inner.{NoEndFrom, EndFrom, grown, Keeps, Joins, Answers};
+ghost use Rattle.feed.specs.Turn.{lookedAt};
+ghost use Rattle.feed.specs.Inner.{NoEndFrom, EndFrom, grown, Keeps, InOnePlace, Answers};
 use event::Written;
 use program::Turned;
 
@@ -73,35 +74,38 @@ fn keep(line: &mut [u8], n: usize, part: &[u8]) -> usize
     wire::put(line, many, wire::piece(part, 0, MOST_LINE - many))
 }
 
-// The line so far and `part` behind it, into a buffer of their own.
-fn join(whole: &mut [u8], line: &[u8], n: usize, part: &[u8]) -> usize
-    requires { ⌜ mostLine ≤ length (now whole) ⌝ }
-    requires { ⌜ mostLine ≤ length (now line) ⌝ }
-    ensures { λ r. ⌜ Joins (grown (now (line .entry)) n (now (part .entry))) r (now (whole .exit)) ⌝ }
+// What a turn looks at of a piece: where the line so far has n bytes and the piece has more of the line, only these.
+// They come to stand behind it, so that the next turn, which begins at the line's end, finds the line in one place.
+fn looked_at(piece: &[u8], n: usize) -> &[u8]
+    ensures { λ r. ⌜ now r ≡ lookedAt n (now (piece .entry)) ⌝ }
 {
-    let many = so_far(n);
-    wire::put(whole, 0, &line[..many]);
-    keep(whole, many, part)
+    if n == 0 {
+        return piece;
+    }
+    let e = end_at(piece);
+    if e == 0 {
+        return piece;
+    }
+    &piece[..e]
 }
 
-// The line of which `part` is the end is answered. Where `part` is all of it, its bytes are lent on.
+// The line of which `part` is the end is answered where it stands: in `part`, or in the line buffer.
 fn answer_line(table: &mut [u8], line: &[u8], n: usize, part: &[u8], out: &mut [u8]) -> Written
     requires { ⌜ mostLine ≤ length (now line) ⌝ }
+    requires { ⌜ ((n ≡ 0 → ⊥) → length (now part) ≡ 0) ⌝ }
     ensures { λ r. ⌜ Answers (now (table .entry)) (grown (now (line .entry)) n (now (part .entry))) (now (out .entry)) r
         (now (table .exit)) (now (out .exit)) ⌝ }
 {
     if n == 0 {
         return responses::respond(table, part, out);
     }
-    let mut whole = [0u8; MOST_LINE];
-    let k = join(&mut whole, line, n, part);
-    responses::respond(table, &whole[..k], out)
+    let many = so_far(n);
+    responses::respond(table, wire::piece(line, 0, many), out)
 }
 
-// A piece of the input is fed up to its first line's end, and with it: the first n bytes of `line` are the line so far.
-// Row 13 for a line buffer of fewer than 8,193 bytes, or an output too short; table, line and output then stay as
-// found.
-pub fn turn(table: &mut [u8], line: &mut [u8], n: usize, piece: &[u8], out: &mut [u8]) -> Turned
+// One turn over what it looks at.
+fn turn_over(table: &mut [u8], line: &mut [u8], n: usize, piece: &[u8], out: &mut [u8]) -> Turned
+    requires { ⌜ InOnePlace n (now piece) ⌝ }
     ensures { λ r. ⌜ r ≡ turned (now (table .entry)) (now (line .entry)) n (now (piece .entry)) (now (out .entry)) ⌝ }
     ensures { λ r. ⌜ turnedNumber r ≡ turnRow (now (table .entry)) (now (line .entry)) n (now (piece .entry))
         (now (out .entry)) ⌝ }
@@ -127,6 +131,24 @@ pub fn turn(table: &mut [u8], line: &mut [u8], n: usize, piece: &[u8], out: &mut
         }
         Written::Refused(row) => Turned::Refused(row),
     }
+}
+
+// A piece of the input is fed up to its first line's end, and with it; where the first n bytes of `line` are the line so
+// far and more of it come, up to its end, which the next turn takes. Row 13 for a line buffer of fewer than 16,385
+// bytes, or an output too short; table, line and output then stay as found.
+pub fn turn(table: &mut [u8], line: &mut [u8], n: usize, piece: &[u8], out: &mut [u8]) -> Turned
+    ensures { λ r. ⌜ r ≡ turned (now (table .entry)) (now (line .entry)) n (lookedAt n (now (piece .entry)))
+        (now (out .entry)) ⌝ }
+    ensures { λ r. ⌜ turnedNumber r ≡ turnRow (now (table .entry)) (now (line .entry)) n
+        (lookedAt n (now (piece .entry))) (now (out .entry)) ⌝ }
+    ensures { λ _. ⌜ now (table .exit) ≡ turnTable (now (table .entry)) (now (line .entry)) n
+        (lookedAt n (now (piece .entry))) (now (out .entry)) ⌝ }
+    ensures { λ _. ⌜ now (line .exit) ≡ turnLine (now (table .entry)) (now (line .entry)) n
+        (lookedAt n (now (piece .entry))) (now (out .entry)) ⌝ }
+    ensures { λ _. ⌜ now (out .exit) ≡ turnOut (now (table .entry)) (now (line .entry)) n
+        (lookedAt n (now (piece .entry))) (now (out .entry)) ⌝ }
+{
+    turn_over(table, line, n, looked_at(piece, n), out)
 }
 
 // The end of the input: a last line without 0A is answered if it is not empty. Row 13 for an output too short; table

@@ -25,44 +25,50 @@ use Rattle.program.proofs.Feed.{turn-means, turn-row-is, turned-means}
 use Rattle.feed.specs.Finish.{finishText, feedFinished, finishRow, finishTable, finishOut}
 use Rattle.feed.proofs.Run.{finished-means}
 use Rattle.feed.proofs.Room.{turn-fits, slots-stay}
+use Rattle.feed.specs.Turn.{lookedAt}
+use Rattle.feed.proofs.Lines.{looked-few, looked-some}
 use Rattle.relay.specs.Inner.{Ready, Stands, waitingFrom}
 use Rattle.relay.specs.declared.Place.{Place}
 
--- the piece is what is left of the chunk, and the turn's output what is left of the output
+-- the piece is what is left of the chunk, of which the turn looks at a part, and the turn's output what is left of the
+-- output
 module _ (b line chunk out : List ℕ) (p : Place) (piece rest : List ℕ) where
+  abbrev seen : List ℕ
+  seen = lookedAt (p .n) piece
+
   abbrev Gives : Turned → (b′ line′ rest′ : List ℕ) → Type 0
   Gives r b′ line′ rest′ =
-      (r ≡ turned b line (p .n) piece rest)
-      × ((turnedNumber r ≡ turnRow b line (p .n) piece rest)
-      × ((b′ ≡ turnTable b line (p .n) piece rest) × ((line′ ≡ turnLine b line (p .n) piece rest) × (rest′ ≡ turnOut b line (p .n) piece rest))))
+      (r ≡ turned b line (p .n) seen rest)
+      × ((turnedNumber r ≡ turnRow b line (p .n) seen rest)
+      × ((b′ ≡ turnTable b line (p .n) seen rest) × ((line′ ≡ turnLine b line (p .n) seen rest) × (rest′ ≡ turnOut b line (p .n) seen rest))))
 
   abbrev Left : Type 0
   Left = (length piece ≡ length chunk - p .at) × (length rest ≡ length out - p .w)
 
   stays-ready : {r : Turned} {b′ line′ rest′ out′ : List ℕ} → Ready b line out → Gives r b′ line′ rest′ → length out′ ≡ length out → Ready b′ line′ out′
   stays-ready a (x, (y, (t, (l, o)))) e = record {
-    slots = ap capacityOf t ∙ slots-stay b line (p .n) piece rest ∙ a .slots;
-    wide = omega (arith, a .wide, ap length l, turned-means b line (p .n) piece rest .as-long .1);
+    slots = ap capacityOf t ∙ slots-stay b line (p .n) seen rest ∙ a .slots;
+    wide = omega (arith, a .wide, ap length l, turned-means b line (p .n) seen rest .as-long .1);
     enough = omega (arith, a .enough);
   }
 
   module _ {r : Turned} {b′ line′ rest′ : List ℕ} (a : Ready b line out) (s : Stands chunk out p) (h : p .at < length chunk) (l : Left) (t : Gives r b′ line′ rest′) where
     module _ {u k w : ℕ} (f : r ≡ turning.Fed u k w) where
-      passes : turnRow b line (p .n) piece rest ≡ 0
+      passes : turnRow b line (p .n) seen rest ≡ 0
       passes = sym (t .1 .0) ∙ ap turnedNumber f
 
-      used-is : u ≡ usedOf piece
-      used-is = sym (ap turnedUsed (sym (t .0) ∙ f)) ∙ turned-means b line (p .n) piece rest .used passes
+      used-is : u ≡ usedOf seen
+      used-is = sym (ap turnedUsed (sym (t .0) ∙ f)) ∙ turned-means b line (p .n) seen rest .used passes
 
-      bytes-are : w ≡ length (turnText b line (p .n) piece)
-      bytes-are = sym (ap turnedBytes (sym (t .0) ∙ f)) ∙ turned-means b line (p .n) piece rest .bytes passes
+      bytes-are : w ≡ length (turnText b line (p .n) seen)
+      bytes-are = sym (ap turnedBytes (sym (t .0) ∙ f)) ∙ turned-means b line (p .n) seen rest .bytes passes
 
       pub goes : (p .at + u ≤ length chunk) × (1 ≤ u) × (p .w + w ≤ length out)
       goes =
-          let some : 1 ≤ usedOf piece = turn-means b line (p .n) piece .progress (λ e. let z = ap length e in omega (arith, l .0)) in (
-            omega (arith, used-is, turn-means b line (p .n) piece .used, l .0),
+          let some : 1 ≤ usedOf seen = turn-means b line (p .n) seen .progress (λ e. let z = ap length e in omega (arith, looked-some piece (p .n) (omega (arith, l .0)), z)) in (
+            omega (arith, used-is, turn-means b line (p .n) seen .used, looked-few piece (p .n), l .0),
             omega (arith, used-is),
-            omega (arith, bytes-are, turn-row-is b line (p .n) piece rest .0 passes .1, l .1, s .waits),
+            omega (arith, bytes-are, turn-row-is b line (p .n) seen rest .0 passes .1, l .1, s .waits),
           )
 
       pub step-fed : {out′ : List ℕ} → length out′ ≡ length out → let q : Place = record { at = p .at + u; n = k; w = p .w + w } in
@@ -73,11 +79,11 @@ module _ (b line chunk out : List ℕ) (p : Place) (piece rest : List ℕ) where
 
     -- a refusal: something waits
     module _ {k : ℕ} (f : r ≡ turning.Refused k) where
-      is-fed : turnRow b line (p .n) piece rest ≡ 0 → ⊥
+      is-fed : turnRow b line (p .n) seen rest ≡ 0 → ⊥
       unfolding turned
       is-fed e =
-          let z : turned b line (p .n) piece rest ≡ turning.Fed (usedOf piece) (length (turnState b line (p .n) piece .line)) (length (turnText b line (p .n) piece)) =
-          rw (eq-eqb (turnRow b line (p .n) piece rest) 0 e) refl in
+          let z : turned b line (p .n) seen rest ≡ turning.Fed (usedOf seen) (length (turnState b line (p .n) seen .line)) (length (turnText b line (p .n) seen)) =
+          rw (eq-eqb (turnRow b line (p .n) seen rest) 0 e) refl in
           let x = t .0 in
           let y : _≡_ {A = ℕ} 0 1 = cc in
           omega arith
@@ -89,7 +95,7 @@ module _ (b line chunk out : List ℕ) (p : Place) (piece rest : List ℕ) where
           go (yes i) = i
           go (no i) =
               let room : enoughFor (capacityOf b) ≤ length rest = rw (a .slots) (omega (arith, a .enough, l .1)) in
-              absurd (is-fed (turn-fits b line (p .n) piece rest (a .wide) room))
+              absurd (is-fed (turn-fits b line (p .n) seen rest (a .wide) room))
 
       pub step-refused : {out′ : List ℕ} → length out′ ≡ length out → let q : Place = record { at = p .at; n = p .n; w = 0 } in
           Ready b′ line′ out′ × (Stands chunk out′ q × (waitingFrom chunk q < waitingFrom chunk p))
