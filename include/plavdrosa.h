@@ -215,7 +215,9 @@ uint8_t plavdrosa_respond(uint8_t *table, size_t table_len, const uint8_t *messa
 
 /** Feed a piece of the input up to its first line's end, and with it; answer the line that ends there.
  *
- *  A caller begins with 0 in kept, and calls again with the piece's rest until it is used up. An overlong line gives one reply.
+ *  Where the line so far has bytes and the piece has more of the line, only these are used up: they come behind it, and the next call, with the
+ *  piece's rest, begins at the line's end and answers it. A caller begins with 0 in kept, and calls again with the piece's rest until it is used
+ *  up; each call uses at least a byte. An overlong line gives one reply.
  *
  *  Returns: 0, or 13 if the line buffer has fewer than PLAVDROSA_LINE_SIZE bytes or the output has no room for the replies.
  *  In/Out:  table:   the table; as found on 13.

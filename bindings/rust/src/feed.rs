@@ -70,7 +70,9 @@ impl Feed {
     }
 
     /// Feeds a piece up to its first line's end, and with it; answers the line that ends there, with a call of `each` for every reply. Gives how
-    /// many bytes of the piece were used up: call again with the rest. Refused by 13, with nothing used up, if the output is too short.
+    /// many bytes of the piece were used up, at least one of a piece that has some: call again with the rest. Where a part of the line was fed
+    /// before and the piece has more of it, only these are used up, and the next call, which begins at the line's end, answers it. Refused by 13,
+    /// with nothing used up, if the output is too short.
     ///
     /// ```
     /// # use plavdrosa::{Feed, Table, output_size, table_size};
