@@ -99,7 +99,7 @@ pub fn same_key(s: &[u8], t: &[u8]) -> bool
     plain::same(held::d_of(t), held::d_of(s))
 }
 
-// 01: "Sound: the buffer has at least 16 bytes, N is 1 to 64 and its slots fit the buffer, ..".
+// 01: "Sound: the buffer has at least 16 bytes, N is 1 to 64 and its slots fit the buffer, .."; 02, Wish 6: to 1,024.
 pub fn sound(table: &[u8]) -> bool
     ensures { λ r. ⌜ r ≡ sound (now (table .entry)) ⌝ }
 {
