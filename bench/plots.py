@@ -23,6 +23,7 @@ TABLES = [
     ("Is the table sound?", "table-sound", "Is a table of 64 slots sound?", 1.2),
     ("An offer", "offers", "An offer to a table of 64 slots", 1.5),
     ("Table, filters, slots answered", "req-answer", "A REQ's answer", 1.2),
+    ("1,024 slots", "large", "Tables of 1,024 slots", 1.2),
     ("Lines", "program", "The program", 1.3),
 ]
 
