@@ -125,8 +125,9 @@ fn twice_alike(capacity: usize) {
         agreed(&u, true, "fewer slots");
     }
     for floors in [2, 8, capacity] {
-        agreed(&of_floors(capacity, floors), true, "d that end alike");
+        agreed(&of_floors(capacity, floors), true, "tiles of floors");
     }
+    agreed(&ending_alike(capacity), true, "d that end alike");
 }
 
 // ---- Events and tables.
@@ -167,6 +168,11 @@ fn table(capacity: usize, held: usize, kind: u32, content: &str) -> Vec<u8> {
 // A full table of tiles of several floors, which are numbered alike: their d differ in the floor.
 fn of_floors(capacity: usize, floors: usize) -> Vec<u8> {
     table_by(capacity, capacity, |k| message(1700000000, 30000, &format!("floor-{}/tile-{:04}", k % floors, k / floors), SMALL))
+}
+
+// A full table of tiles whose d begin with their number and end alike, for longer than a mark takes in.
+fn ending_alike(capacity: usize) -> Vec<u8> {
+    table_by(capacity, capacity, |k| message(1700000000, 30000, &format!("{k:04}/tile-of-the-new-wing"), SMALL))
 }
 
 // Soundness is not asked at each offer, but in the end.
@@ -331,6 +337,7 @@ pub fn large() {
             sound_timed(&format!("{slots}, {name}, full texts"), &table(n, held, 30000, &ascii));
         }
         sound_timed(&format!("{slots}, full, tiles of 8 floors"), &of_floors(n, 8));
+        sound_timed(&format!("{slots}, full, d that end alike"), &ending_alike(n));
         for (name, held) in [("empty", 0), ("half full", n / 2), ("full", n)] {
             versions_timed(&format!("{slots}, {name}"), &table(n, held, 30000, SMALL), n, held, SMALL);
         }
