@@ -21,13 +21,21 @@ idMark s = fieldAt (idIn s) 0 2
 unfoldable pub wordFrom : ℕ → Bytes → ℕ
 wordFrom k d = fieldAt d (length d - k) 4
 
--- of the last sixteen bytes of d and the last four of a pubkey, each four times an odd number, bits 20 to 35
+-- of the last sixteen bytes of d, and of the first, each four times an odd number
+unfoldable pub lastWords : Bytes → ℕ
+lastWords d =
+    bitXor (bitXor (wordFrom 4 d * 2654435761) (wordFrom 8 d * 2246822519))
+    (bitXor (wordFrom 12 d * 3266489917) (wordFrom 16 d * 668265263))
+
+unfoldable pub firstWords : Bytes → ℕ
+firstWords d =
+    bitXor (bitXor (fieldAt d 0 4 * 3432918353) (fieldAt d 4 4 * 461845907))
+    (bitXor (fieldAt d 8 4 * 2246822507) (fieldAt d 12 4 * 3266489909))
+
+-- of both and the last four bytes of a pubkey, bits 20 to 35
 unfoldable pub keyNumber : Bytes → Bytes → ℕ
 keyNumber d pubkey =
-    bitXor (bitXor (bitXor (wordFrom 4 d * 2654435761) (wordFrom 8 d * 2246822519))
-    (bitXor (wordFrom 12 d * 3266489917) (wordFrom 16 d * 668265263)))
-    (wordFrom 4 pubkey * 374761393)
-    / 1048576 % 65536
+    bitXor (bitXor (lastWords d) (firstWords d)) (wordFrom 4 pubkey * 374761393) / 1048576 % 65536
 
 -- of a slot with a key: the last bytes of d and of the pubkey, and the kind; of any other its id's, which tells it from
 -- the others

@@ -9,8 +9,9 @@ ghost use Rattle.law.specs.Lists.{any};
 ghost use Rattle.table.specs.Layout.{slotAt};
 ghost use Rattle.table.specs.Sound.{noneTwice};
 ghost use Rattle.slots.specs.Slots.{hasKeyIn, sameIdIn, sameKeyIn, clash, slotsFrom};
-ghost use Rattle.slots.specs.Marks.{idMark, wordFrom, keyNumber, keyMark, Marked, Unlike};
-ghost use Rattle.slots.specs.Marks.{bucketCount, bucketOf, Noted};
+ghost use Rattle.wire.specs.Field.{fieldAt};
+ghost use Rattle.slots.specs.Marks.{idMark, wordFrom, lastWords, firstWords, keyNumber, keyMark, Marked};
+ghost use Rattle.slots.specs.Marks.{Unlike, bucketCount, bucketOf, Noted};
 use crate::ID_PLACE;
 use crate::ID_SIZE;
 use crate::KIND_PLACE;
@@ -49,17 +50,44 @@ fn word(d: &[u8], k: usize) -> u32
     wire::le_at(d, d.len() - k, 4) as u32
 }
 
-// A number of the last sixteen bytes of d and the last four of a pubkey. Each word is multiplied by an odd number, and
-// of the products bits 20 to 35 are taken, where all bits of a word tell: d of one floor and of another may end alike.
-fn key_number(d: &[u8], pubkey: &[u8]) -> u16
-    ensures { λ r. ⌜ r ≡ keyNumber (now (d .entry)) (now (pubkey .entry)) ⌝ }
+// The four bytes at a place, as a number; 0 for those past the end.
+fn word_at(d: &[u8], at: usize) -> u32
+    ensures { λ r. ⌜ r ≡ fieldAt (now (d .entry)) at 4 ⌝ }
+{
+    wire::le_at(d, at, 4) as u32
+}
+
+// Sixteen bytes of d, the last and the first, as a number. Each word is multiplied by an odd number of its own, so that
+// it matters where it stands.
+fn last_words(d: &[u8]) -> u64
+    ensures { λ r. ⌜ r ≡ lastWords (now (d .entry)) ⌝ }
 {
     let a = word(d, 4) as u64 * 2654435761;
     let b = word(d, 8) as u64 * 2246822519;
     let c = word(d, 12) as u64 * 3266489917;
     let e = word(d, 16) as u64 * 668265263;
-    let g = word(pubkey, 4) as u64 * 374761393;
-    ((((a ^ b) ^ (c ^ e)) ^ g) / 1048576 % 65536) as u16
+    (a ^ b) ^ (c ^ e)
+}
+
+fn first_words(d: &[u8]) -> u64
+    ensures { λ r. ⌜ r ≡ firstWords (now (d .entry)) ⌝ }
+{
+    let a = word_at(d, 0) as u64 * 3432918353;
+    let b = word_at(d, 4) as u64 * 461845907;
+    let c = word_at(d, 8) as u64 * 2246822507;
+    let e = word_at(d, 12) as u64 * 3266489909;
+    (a ^ b) ^ (c ^ e)
+}
+
+// A number of both ends of d and the end of a pubkey: bits 20 to 35 of the products, where all bits of a word tell. d of
+// one wing may end alike, or begin alike.
+fn key_number(d: &[u8], pubkey: &[u8]) -> u16
+    ensures { λ r. ⌜ r ≡ keyNumber (now (d .entry)) (now (pubkey .entry)) ⌝ }
+{
+    let a = last_words(d);
+    let b = first_words(d);
+    let c = word(pubkey, 4) as u64 * 374761393;
+    (((a ^ b) ^ c) / 1048576 % 65536) as u16
 }
 
 // A number that slots with one key have alike. A slot without a key has its id's, which tells it from the others.

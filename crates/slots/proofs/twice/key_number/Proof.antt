@@ -7,13 +7,9 @@ use Rattle.slots.proofs.twice.key_number.Tie as tie
 
 returns : tie.Need-returns
 unfolding keyNumber
-returns c =
-    let b = c .before in
-    rw (b .before .before .before .word .ensures, b .before .before .word2 .ensures, b .before .word3 .ensures, b .word4 .ensures, c .word5 .ensures)
+returns c = rw (c .before .before .last-words .ensures, c .before .first-words .ensures, c .word .ensures)
 
 pub key-number-spec : {M : Type 1} → statement M
 key-number-spec =
     tie.close
-    (tie.spec (λ c κs. search needs) (λ c. search needs) (λ c. search needs) (λ c κs. search needs) (λ c. search needs)
-    (λ c. search needs) (λ c κs. search needs) (λ c. search needs) (λ c. search needs) (λ c κs. search needs)
-    (λ c. search needs) (λ c. search needs) (λ c κs. search needs) (λ c. search needs) (λ c. search needs) (λ c. omega arith) returns)
+    (tie.spec (λ c κs. search needs) (λ c κs. search needs) (λ c κs. search needs) (λ c. search needs) (λ c. search needs) (λ c. omega arith) returns)
