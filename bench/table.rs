@@ -128,6 +128,7 @@ fn twice_alike(capacity: usize) {
         agreed(&of_floors(capacity, floors), true, "tiles of floors");
     }
     agreed(&ending_alike(capacity), true, "d that end alike");
+    agreed(&alike_at_both_ends(capacity), true, "d that begin and end alike");
 }
 
 // ---- Events and tables.
@@ -170,9 +171,14 @@ fn of_floors(capacity: usize, floors: usize) -> Vec<u8> {
     table_by(capacity, capacity, |k| message(1700000000, 30000, &format!("floor-{}/tile-{:04}", k % floors, k / floors), SMALL))
 }
 
-// A full table of tiles whose d begin with their number and end alike, for longer than a mark takes in.
+// A full table of tiles whose d begin with their number and end alike.
 fn ending_alike(capacity: usize) -> Vec<u8> {
     table_by(capacity, capacity, |k| message(1700000000, 30000, &format!("{k:04}/tile-of-the-new-wing"), SMALL))
+}
+
+// And of tiles whose d begin and end alike, both for longer than a mark takes in: they are compared whole, each with each.
+fn alike_at_both_ends(capacity: usize) -> Vec<u8> {
+    table_by(capacity, capacity, |k| message(1700000000, 30000, &format!("corridor-of-the-north-wing/{k:04}/as-seen-by-cart-7"), SMALL))
 }
 
 // Soundness is not asked at each offer, but in the end.
@@ -338,6 +344,7 @@ pub fn large() {
         }
         sound_timed(&format!("{slots}, full, tiles of 8 floors"), &of_floors(n, 8));
         sound_timed(&format!("{slots}, full, d that end alike"), &ending_alike(n));
+        sound_timed(&format!("{slots}, full, d alike at both ends"), &alike_at_both_ends(n));
         for (name, held) in [("empty", 0), ("half full", n / 2), ("full", n)] {
             versions_timed(&format!("{slots}, {name}"), &table(n, held, 30000, SMALL), n, held, SMALL);
         }
