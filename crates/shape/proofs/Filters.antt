@@ -7,26 +7,29 @@ use Prim.Native.Nat.{ℕ, suc, _+_, _-_, _≤_, min}
 use native.Mathlib.Omega.{arith}
 use borrow.Author.Tests.{lt-ltb, le-ltb, ltb-true, ltb-false, le-leb, eqb-true, eqb-false, ne-eqb}
 use lib.Dec.{ltb, eqb}
-use Rattle.json.specs.Tree.{Json, word, num, str, arr, obj, Items, nil, item, onObject}
+use Rattle.json.specs.Tree.{Json, word, num, str, arr, obj, Items, nil, item, onObject, ofObject}
 use Rattle.json.specs.Grammar.{isBetween}
-use Rattle.wire.specs.Limits.{mostConditions}
+use Rattle.wire.specs.Limits.{mostConditions, hexLength}
 use Rattle.wire.specs.Bytes.{sameBytes}
 use Rattle.wire.proofs.Bytes.{same-equal}
 use Rattle.rows.specs.Strings.{refusedIn}
-use Rattle.shape.specs.Shape.{allItems, anyItem, countItems, nameAt, isLetter, isCondition, filterMember}
+use Rattle.shape.specs.Shape.{allItems, anyItem, countItems, nameAt, isString, isArrayOf, isLetter, isCondition}
+use Rattle.shape.specs.Shape.{filterMember}
 use Rattle.shape.specs.Shape.{noNameTwice, isFilter, eConditionName, pConditionName}
-use Rattle.shape.specs.Rows.{outside, filterNumber, wrongHexes, filterHex, wrongFilter, filterCounts}
-use Rattle.shape.specs.Inner.{UNKNOWN, LOWER, UPPER, LETTER_E, LETTER_P, FILTER, stringForm, stringFormRow}
-use Rattle.shape.specs.Inner.{numberRow, groupForm}
-use Rattle.shape.specs.Inner.{nameSlot, letterSlot, conditionSlot, filterSlot, filterForm, slotForm, marksAfter}
-use Rattle.shape.specs.Inner.{fresh, endRow, rowOf}
+use Rattle.shape.specs.Rows.{outside, wrongSmall, wrongHex, filterNumber, wrongHexes, filterHex, wrongFilter, wrongList}
+use Rattle.shape.specs.Rows.{filterCounts}
+use Rattle.shape.specs.Offsets.{valuePlaces, memberPlaces}
+use Rattle.shape.specs.Inner.{UNKNOWN, LOWER, UPPER, LETTER_E, LETTER_P, FILTER, TEXTS, stringForm, stringFault}
+use Rattle.shape.specs.Inner.{numberFault, groupForm, nameSlot, letterSlot, conditionSlot, filterSlot, filterForm}
+use Rattle.shape.specs.Inner.{memberForm, marksAfter, fresh, endFault, faultOf}
 use Rattle.shape.proofs.Names.{no, and-left, and-right, within-ends}
-use Rattle.shape.proofs.Low.{low, Lowest, said, begins}
+use Rattle.shape.proofs.Low.{placedAt, low, Lowest, said, begins}
 use Rattle.shape.proofs.Never.{never, never-after}
 use Rattle.shape.proofs.Leaves.{bounds-is, time, small}
 use Rattle.shape.proofs.Lists.{texts, hexes, smalls}
-use Rattle.shape.proofs.Objects.{twice, marked, noTwo, slotAt, object-after, any-same, twice-none}
-use Rattle.shape.proofs.Known.{filter-cases, filterBack, filter-back, condition-slot, same-slot}
+use Rattle.shape.proofs.Placed.{lists, own-time, own-small}
+use Rattle.shape.proofs.Objects.{twice, marked, noTwo, slotAt, bitAt, object-after, any-same, twice-none}
+use Rattle.shape.proofs.Known.{filter-cases, filterBack, filter-back, condition-slot, filter-bit, same-bit}
 
 -- ---- the slot of a condition
 letter-high : (b : ℕ) → isLetter b ≡ true → LOWER ≤ letterSlot b
@@ -58,37 +61,50 @@ other-name w b l e = go (sameBytes w (35 ∷ b ∷ [])) refl
     go true q = no (let i : isCondition w ≡ true = rw (same-equal w _ q) l in cc)
     go false q = refl
 
-condition-form : (n : ℕ) → LOWER ≤ n → (n ≡ LETTER_E → ⊥) × (n ≡ LETTER_P → ⊥) → filterForm n ≡ 11
+condition-form : (n : ℕ) → LOWER ≤ n → (n ≡ LETTER_E → ⊥) × (n ≡ LETTER_P → ⊥) → filterForm n ≡ TEXTS
 unfolding filterForm
 condition-form n h (e, p) = rw (ne-eqb n LETTER_E e, ne-eqb n LETTER_P p, le-leb LOWER n h)
 
 module _ (s : List ℕ) where
   -- ---- one member
+  -- the places of its numbers, of its hex
+  abbrev pub numberAt : (p v : ℕ) (t : Json) → List ℕ
+  numberAt p v t = cond (filterNumber s p t) (valuePlaces (wrongSmall s) v t) []
+
+  abbrev pub hexAt : (p v : ℕ) (t : Json) → List ℕ
+  hexAt p v t = cond (filterHex s p t) (valuePlaces (wrongHex hexLength s) v t) []
+
   -- row 7 does not look at the list of another letter
   free-list : (b : ℕ) (t : Json) → eqb b 101 ≡ false → eqb b 112 ≡ false
       → cond (sameBytes (35 ∷ b ∷ []) eConditionName) (wrongHexes s t) (cond (sameBytes (35 ∷ b ∷ []) pConditionName) (wrongHexes s t) false) ≡ false
   unfolding sameBytes
   free-list b t x y = rw (x, y)
 
-  condition : (p : ℕ) (t : Json) (b : ℕ) → nameAt s p ≡ 35 ∷ b ∷ [] → isLetter b ≡ true
-      → Lowest (rowOf s (slotForm FILTER (slotAt s FILTER p)) t) (refusedIn s t) (not (filterMember s p t)) (filterNumber s p t) (filterHex s p t) (wrongFilter s p t)
-  unfolding slotForm nameSlot filterForm filterSlot conditionSlot letterSlot filterMember filterNumber filterHex wrongFilter sameBytes isCondition
-  condition p t b e l = go (eqb b 101) refl (eqb b 112) refl
+  hex-list : (v : ℕ) (t : Json) → Lowest (faultOf s 12 v t) (refusedIn s t) (not (isArrayOf isString t)) [] (cond (wrongHexes s t) (valuePlaces (wrongHex hexLength s) v t) []) (wrongList t)
+  hex-list v t = said refl refl refl (lists (wrongHex hexLength s) v t) refl (hexes s v t)
+
+  condition : (p v : ℕ) (t : Json) (b : ℕ) → nameAt s p ≡ 35 ∷ b ∷ [] → isLetter b ≡ true
+      → Lowest (faultOf s (memberForm FILTER (slotAt s FILTER p)) v t) (refusedIn s t) (not (filterMember s p t)) (numberAt p v t) (hexAt p v t) (wrongFilter s p t)
+  unfolding memberForm nameSlot filterForm filterSlot conditionSlot letterSlot filterMember filterNumber filterHex wrongFilter sameBytes isCondition
+  condition p v t b e l = go (eqb b 101) refl (eqb b 112) refl
     where
       go : (x : Bool) → eqb b 101 ≡ x → (y : Bool) → eqb b 112 ≡ y
-          → Lowest (rowOf s (slotForm FILTER (slotAt s FILTER p)) t) (refusedIn s t) (not (filterMember s p t)) (filterNumber s p t) (filterHex s p t) (wrongFilter s p t)
-      go true x y q = rw (e, eqb-true b 101 x) (hexes s t)
-      go false x true q = rw (e, eqb-true b 112 q) (hexes s t)
+          → Lowest (faultOf s (memberForm FILTER (slotAt s FILTER p)) v t) (refusedIn s t) (not (filterMember s p t)) (numberAt p v t) (hexAt p v t) (wrongFilter s p t)
+      go true x y q = rw (e, eqb-true b 101 x) (hex-list v t)
+      go false x true q = rw (e, eqb-true b 112 q) (hex-list v t)
       go false x false q =
-          rw (e, condition-slot b, condition-form (letterSlot b) (letter-high b l) (letter-other b l x q), l) (said refl refl refl (sym (free-list b t x q)) refl (texts s t))
+          rw (e, condition-slot b, condition-form (letterSlot b) (letter-high b l) (letter-other b l x q), l)
+          (said refl refl refl (sym (ap (λ (w : Bool). cond w (valuePlaces (wrongHex hexLength s) v t) []) (free-list b t x q))) refl (texts s v t))
 
-  member : (p : ℕ) (t : Json) → Lowest (rowOf s (slotForm FILTER (slotAt s FILTER p)) t) (refusedIn s t) (not (filterMember s p t)) (filterNumber s p t) (filterHex s p t) (wrongFilter s p t)
-  unfolding slotForm nameSlot filterForm filterSlot conditionSlot filterMember filterNumber filterHex wrongFilter sameBytes isCondition
-  member p t =
+  member : (p v : ℕ) (t : Json) → Lowest (faultOf s (memberForm FILTER (slotAt s FILTER p)) v t) (refusedIn s t) (not (filterMember s p t)) (numberAt p v t) (hexAt p v t) (wrongFilter s p t)
+  unfolding memberForm nameSlot filterForm filterSlot conditionSlot filterMember filterNumber filterHex wrongFilter sameBytes isCondition
+  member p v t =
       filter-cases
-      (λ w. nameAt s p ≡ w → Lowest (rowOf s (slotForm FILTER (slotAt s FILTER p)) t) (refusedIn s t) (not (filterMember s p t)) (filterNumber s p t) (filterHex s p t) (wrongFilter s p t))
-      (λ e. rw e (hexes s t)) (λ e. rw e (hexes s t)) (λ e. rw e (smalls s t)) (λ e. rw e (time s t)) (λ e. rw e (time s t)) (λ e. rw e (small s t))
-      (λ b l e. condition p t b e l) (λ w a b c d f g h e. rw (e, a, b, c, d, f, g, h, other-name w 101 refl h, other-name w 112 refl h) (never s t)) (nameAt s p) refl
+      (λ w. nameAt s p ≡ w → Lowest (faultOf s (memberForm FILTER (slotAt s FILTER p)) v t) (refusedIn s t) (not (filterMember s p t)) (numberAt p v t) (hexAt p v t) (wrongFilter s p t))
+      (λ e. rw e (hex-list v t)) (λ e. rw e (hex-list v t)) (λ e. rw e (said refl refl (lists (wrongSmall s) v t) refl refl (smalls s v t)))
+      (λ e. rw e (said refl refl (own-time s (wrongSmall s) v t) refl refl (time s v t))) (λ e. rw e (said refl refl (own-time s (wrongSmall s) v t) refl refl (time s v t)))
+      (λ e. rw e (said refl refl (own-small s (wrongSmall s) v t) refl refl (small s v t)))
+      (λ b l e. condition p v t b e l) (λ w a b c d f g h e. rw (e, a, b, c, d, f, g, h, other-name w 101 refl h, other-name w 112 refl h) (never s v t)) (nameAt s p) refl
 
   known : (p : ℕ) (t : Json) → filterMember s p t ≡ true → slotAt s FILTER p ≡ UNKNOWN → ⊥
   unfolding nameSlot filterSlot conditionSlot filterMember sameBytes isCondition
@@ -100,21 +116,21 @@ module _ (s : List ℕ) where
       (λ w a b c d f g h e m z. no (let y : false ≡ true = rw (e, a, b, c, d, f, g, h) at m in cc)) (nameAt s p) refl
 
   -- ---- each at most once
-  two-same : (ts : Items) → allItems (filterMember s) ts ≡ true → noTwo (slotAt s FILTER) ts ≡ noNameTwice s ts
+  two-same : (ts : Items) → allItems (filterMember s) ts ≡ true → noTwo (bitAt s FILTER) ts ≡ noNameTwice s ts
   unfolding noTwo noNameTwice allItems nameSlot
   two-same nil e = refl
   two-same (item p v t ts) e =
       rw (
-        any-same _ _ (λ q u. same-slot filterSlot filterBack filter-back (nameAt s q) (nameAt s p) (known p t (and-left (filterMember s p t) _ e))) ts,
+        any-same _ _ (λ q u. same-bit filterSlot filterBack filter-back filter-bit (nameAt s q) (nameAt s p) (known p t (and-left (filterMember s p t) _ e))) ts,
         two-same ts (and-right (filterMember s p t) _ e),
       )
 
-  none-twice : (ts : Items) → (not (allItems (filterMember s) ts) || (twice (slotAt s FILTER) 0 ts || false)) ≡ not (allItems (filterMember s) ts && noNameTwice s ts)
+  none-twice : (ts : Items) → (not (allItems (filterMember s) ts) || (twice (bitAt s FILTER) 0 ts || false)) ≡ not (allItems (filterMember s) ts && noNameTwice s ts)
   none-twice ts = go (allItems (filterMember s) ts) refl
     where
-      go : (x : Bool) → allItems (filterMember s) ts ≡ x → (not x || (twice (slotAt s FILTER) 0 ts || false)) ≡ not (x && noNameTwice s ts)
+      go : (x : Bool) → allItems (filterMember s) ts ≡ x → (not x || (twice (bitAt s FILTER) 0 ts || false)) ≡ not (x && noNameTwice s ts)
       go false a = refl
-      go true a = or-false _ ∙ twice-none (slotAt s FILTER) ts ∙ ap not (two-same ts a)
+      go true a = or-false _ ∙ twice-none (bitAt s FILTER) ts ∙ ap not (two-same ts a)
 
   -- ---- the # conditions
   marks-one : (p n : ℕ) → marksAfter (slotAt s FILTER p) n ≡ cond (isCondition (nameAt s p)) (min (n + 1) 5) n
@@ -141,16 +157,17 @@ module _ (s : List ℕ) where
       go false e = let h = ltb-false mostConditions n e in le-ltb mostConditions (min (0 + n) 5) (omega arith) ∙ sym e
 
   -- ---- the whole
-  pub filter : (t : Json)
-      → Lowest (rowOf s FILTER t) (refusedIn s t) (not (isFilter s t)) (onObject (anyItem (filterNumber s)) t) (onObject (anyItem (filterHex s)) t) (onObject (filterCounts s) t)
-  unfolding low rowOf refusedIn stringFormRow stringForm numberRow groupForm fresh endRow isFilter filterCounts
-  filter (word a n) = record { is = refl }
-  filter (num a n) = record { is = refl }
-  filter (str a n) = record { is = refl }
-  filter (arr ts) = begins (never-after s false 0 fresh ts)
-  filter (obj ts) =
+  pub filter : (v : ℕ) (t : Json)
+      → Lowest (faultOf s FILTER v t) (refusedIn s t) (not (isFilter s t)) (ofObject [] (memberPlaces (filterNumber s) (wrongSmall s)) t)
+      (ofObject [] (memberPlaces (filterHex s) (wrongHex hexLength s)) t) (onObject (filterCounts s) t)
+  unfolding low placedAt faultOf refusedIn stringFault stringForm numberFault groupForm fresh endFault isFilter filterCounts
+  filter v (word a n) = record { is = refl }
+  filter v (num a n) = record { is = refl }
+  filter v (str a n) = record { is = refl }
+  filter v (arr ts) = begins (never-after s false 0 fresh ts)
+  filter v (obj ts) =
       said refl (none-twice ts) refl refl
       (ap (λ (x : Bool). anyItem (wrongFilter s) ts || x) (ap (outside 0 mostConditions) (marks-are 0 ts (omega arith)) ∙ outside-most (countItems (λ p t. isCondition (nameAt s p)) ts)))
       (begins
-      (object-after s FILTER (filterMember s) (filterNumber s) (filterHex s) (wrongFilter s) (λ m. false) (outside 0 mostConditions) member
+      (object-after s FILTER (filterMember s) (wrongFilter s) numberAt hexAt (λ m. false) (outside 0 mostConditions) member
       (λ k a. record { is = bounds-is 0 mostConditions (a .marks) }) 0 fresh ts))

@@ -12,7 +12,8 @@ use Rattle.wire.specs.Bytes.{sameBytes}
 use Rattle.shape.specs.Shape.{idName, pubkeyName, createdAtName, kindName, tagsName, contentName, sigName}
 use Rattle.shape.specs.Shape.{idsName, authorsName, kindsName, sinceName, untilName, limitName, isLetter}
 use Rattle.shape.specs.Shape.{isCondition}
-use Rattle.shape.specs.Inner.{SIG, UNKNOWN, LOWER, UPPER, among, eventSlot, letterSlot, conditionSlot, filterSlot}
+use Rattle.shape.specs.Inner.{SIG, UNKNOWN, IDS, AUTHORS, KINDS, SINCE, UNTIL, LOWER, UPPER, among, eventSlot}
+use Rattle.shape.specs.Inner.{letterSlot, conditionSlot, filterSlot, bitOf}
 use Rattle.wire.proofs.Bytes.{same-equal, same-self}
 use Rattle.shape.proofs.Names.{no, both-ways, within-ends, condition-is, condition-letter, among-none}
 
@@ -54,7 +55,7 @@ eventBack j =
 pub filterBack : ℕ → List ℕ
 filterBack j =
     cond (ltb j LOWER)
-    (cond (eqb j 0) idsName (cond (eqb j 1) authorsName (cond (eqb j 2) kindsName (cond (eqb j 3) sinceName (cond (eqb j 4) untilName limitName)))))
+    (cond (eqb j IDS) idsName (cond (eqb j AUTHORS) authorsName (cond (eqb j KINDS) kindsName (cond (eqb j SINCE) sinceName (cond (eqb j UNTIL) untilName limitName)))))
     (35 ∷ cond (ltb j UPPER) (j - LOWER + 97) (j - UPPER + 65) ∷ [])
 
 pub event-back : (w : List ℕ) → (eventSlot w ≡ UNKNOWN → ⊥) → w ≡ eventBack (eventSlot w)
@@ -93,10 +94,63 @@ filter-back =
     filter-cases (λ w. (filterSlot w ≡ UNKNOWN → ⊥) → w ≡ filterBack (filterSlot w)) (λ n. refl) (λ n. refl) (λ n. refl) (λ n. refl) (λ n. refl) (λ n. refl)
     (λ b l n. letter-back b l ∙ ap filterBack (sym (condition-slot b))) (λ w a b c d e f g n. absurd (n (rw (a, b, c, d, e, f, g))))
 
--- ---- one slot, one name
-module _ (slot : List ℕ → ℕ) (back : ℕ → List ℕ) (is : (w : List ℕ) → (slot w ≡ UNKNOWN → ⊥) → w ≡ back (slot w)) where
-  pub same-slot : (x y : List ℕ) → (slot y ≡ UNKNOWN → ⊥) → eqb (slot x) (slot y) ≡ sameBytes x y
-  same-slot x y n =
-      both-ways (eqb (slot x) (slot y)) (sameBytes x y)
-      (λ e. let q = eqb-true (slot x) (slot y) e in ap (λ (z : List ℕ). sameBytes z y) (is x (λ z. n (sym q ∙ z)) ∙ ap back q ∙ sym (is y n)) ∙ same-self y)
-      (λ e. eq-eqb (slot x) (slot y) (ap slot (same-equal x y e)))
+-- ---- the slots of events, and of filters, with that of a name that is none of theirs
+either : (P : ℕ → Type 0) (b : Bool) {x y : ℕ} → P x → P y → P (cond b x y)
+either P true p q = p
+either P false p q = q
+
+event-slots : (w : List ℕ) → eventSlot w ≤ UNKNOWN
+unfolding eventSlot
+event-slots w =
+    either (λ n. n ≤ UNKNOWN) (sameBytes w idName) (omega arith)
+    (either (λ n. n ≤ UNKNOWN) (sameBytes w pubkeyName) (omega arith)
+    (either (λ n. n ≤ UNKNOWN) (sameBytes w createdAtName) (omega arith)
+    (either (λ n. n ≤ UNKNOWN) (sameBytes w kindName) (omega arith)
+    (either (λ n. n ≤ UNKNOWN) (sameBytes w tagsName) (omega arith)
+    (either (λ n. n ≤ UNKNOWN) (sameBytes w contentName) (omega arith)
+    (either (λ n. n ≤ UNKNOWN) (sameBytes w sigName) (omega arith) (omega arith)))))))
+
+letter-slots : (b : ℕ) → (UNKNOWN ≤ letterSlot b) × (letterSlot b ≤ 65)
+unfolding letterSlot
+letter-slots b = go (isBetween 97 122 b) refl (isBetween 65 90 b) refl
+  where
+    go : (x : Bool) → isBetween 97 122 b ≡ x → (y : Bool) → isBetween 65 90 b ≡ y
+        → (UNKNOWN ≤ cond x (b - 97 + LOWER) (cond y (b - 65 + UPPER) UNKNOWN)) × (cond x (b - 97 + LOWER) (cond y (b - 65 + UPPER) UNKNOWN) ≤ 65)
+    go true p y q = let w = within-ends 97 122 b p in (omega arith, omega arith)
+    go false p true q = let w = within-ends 65 90 b q in (omega arith, omega arith)
+    go false p false q = (omega arith, omega arith)
+
+among-few : (w : List ℕ) (b : Bool) → among w b 6 ≤ 6
+among-few w b =
+    either (λ n. n ≤ 6) (sameBytes w (cond b idName idsName)) (omega arith)
+    (either (λ n. n ≤ 6) (sameBytes w (cond b pubkeyName authorsName)) (omega arith)
+    (either (λ n. n ≤ 6) (sameBytes w (cond b createdAtName kindsName)) (omega arith)
+    (either (λ n. n ≤ 6) (sameBytes w (cond b kindName sinceName)) (omega arith)
+    (either (λ n. n ≤ 6) (sameBytes w (cond b tagsName untilName)) (omega arith)
+    (either (λ n. n ≤ 6) (sameBytes w (cond b contentName limitName)) (omega arith) (omega arith))))))
+
+pub among-told : (w : List ℕ) (b : Bool) {k : ℕ} → k ≡ among w b 6 → k ≤ 6
+among-told w b e = let few = among-few w b in omega arith
+
+filter-slots : (w : List ℕ) → (UNKNOWN ≤ filterSlot w) × (filterSlot w ≤ 65)
+unfolding filterSlot conditionSlot
+filter-slots w =
+    let few = among-few w false in
+    either (λ n. (UNKNOWN ≤ n) × (n ≤ 65)) (eqb (among w false 6) 6)
+    (either (λ n. (UNKNOWN ≤ n) × (n ≤ 65)) (isCondition w) (letter-slots (getD w 1 0)) (omega arith, omega arith)) (omega arith, omega arith)
+
+-- ---- one bit, one slot
+pub event-bit : (x y : List ℕ) → (eventSlot y ≡ UNKNOWN → ⊥) → bitOf (eventSlot x) ≡ bitOf (eventSlot y) → eventSlot x ≡ eventSlot y
+event-bit x y n e = let a = event-slots x in let b = event-slots y in omega arith
+
+pub filter-bit : (x y : List ℕ) → (filterSlot y ≡ UNKNOWN → ⊥) → bitOf (filterSlot x) ≡ bitOf (filterSlot y) → filterSlot x ≡ filterSlot y
+filter-bit x y n e = let a = filter-slots x in let b = filter-slots y in omega (arith, a .0, a .1, b .0, b .1, n, e)
+
+-- ---- one bit, one name
+module _ (slot : List ℕ → ℕ) (back : ℕ → List ℕ) (is : (w : List ℕ) → (slot w ≡ UNKNOWN → ⊥) → w ≡ back (slot w))
+    (one : (x y : List ℕ) → (slot y ≡ UNKNOWN → ⊥) → bitOf (slot x) ≡ bitOf (slot y) → slot x ≡ slot y) where
+  pub same-bit : (x y : List ℕ) → (slot y ≡ UNKNOWN → ⊥) → eqb (bitOf (slot x)) (bitOf (slot y)) ≡ sameBytes x y
+  same-bit x y n =
+      both-ways (eqb (bitOf (slot x)) (bitOf (slot y))) (sameBytes x y)
+      (λ e. let q = one x y n (eqb-true (bitOf (slot x)) (bitOf (slot y)) e) in ap (λ (z : List ℕ). sameBytes z y) (is x (λ z. n (sym q ∙ z)) ∙ ap back q ∙ sym (is y n)) ∙ same-self y)
+      (λ e. eq-eqb (bitOf (slot x)) (bitOf (slot y)) (ap (λ w. bitOf (slot w)) (same-equal x y e)))

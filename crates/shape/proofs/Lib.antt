@@ -7,6 +7,10 @@ pub mod Low
 mod Never
 mod Leaves
 mod Lists
+mod Placed
+mod Told
+mod Standing
+mod Rowed
 mod Objects
 mod Known
 mod Events
@@ -15,5 +19,6 @@ mod Messages
 mod Openings
 mod Values
 pub mod Exact
-mod Slots
+pub mod Offsets
+pub mod Earliest
 mod Walks

@@ -1,7 +1,7 @@
 -- Objects: the rows of the whole are those of some member, of a member that is there twice, of the members that are
 -- there, and of the number of # conditions.
 use mathlib.Core.Path.{_≡_, refl, sym, ap, _∙_}
-use mathlib.Core.List.{List}
+use mathlib.Core.List.{List, []}
 use mathlib.Core.Bool.{Bool, true, false, cond, not, _&&_, _||_, or-false}
 use Prim.Native.Nat.{ℕ, suc, _+_, _^_, _≤_, _<_}
 use native.Mathlib.Omega.{arith}
@@ -12,15 +12,16 @@ use Rattle.json.specs.Tree.{Json, Items, nil, item}
 use Rattle.rows.specs.Strings.{refusedIn, refusedItems}
 use Rattle.shape.specs.declared.Tally.{Tally}
 use Rattle.shape.specs.Shape.{anyItem, allItems, countItems, nameAt}
-use Rattle.shape.specs.Inner.{nameSlot, memberItem, itemOf, slotForm, isIn, marksAfter, stepped, endRow, closed}
-use Rattle.shape.specs.Inner.{rowOf, rowItems}
+use Rattle.shape.specs.Offsets.{collect}
+use Rattle.shape.specs.Inner.{nameSlot, memberForm, memberItem, itemOf, bitOf, isIn, marksAfter, stepped, endFault}
+use Rattle.shape.specs.Inner.{closed, faultOf, faultItems}
 use Rattle.shape.proofs.Names.{no, and-left, and-right, both-ways}
 use Rattle.shape.proofs.Bits.{in-more, in-none}
 use Rattle.shape.proofs.Low.{Lowest, After, after-said, ends, either-first, broken-first}
 use Rattle.shape.proofs.Never.{turn-after}
 use Rattle.shape.proofs.Lists.{no-item}
 
--- ---- over the items, by the slot of each: one that is there already, the slots taken, the # conditions
+-- ---- over the items: by the bit of each, one that is there already and the bits taken; by its slot the # conditions
 module _ (slot : ℕ → ℕ) where
   unfoldable pub twice : ℕ → Items → Bool
   twice m nil = false
@@ -34,7 +35,7 @@ module _ (slot : ℕ → ℕ) where
   marked n nil = n
   marked n (item p v t ts) = marked (marksAfter (slot p) n) ts
 
-  -- no two items have the same slot
+  -- no two items have the same bit
   unfoldable pub noTwo : Items → Bool
   noTwo nil = true
   noTwo (item p v t ts) = not (anyItem (λ q u. eqb (slot q) (slot p)) ts) && noTwo ts
@@ -42,17 +43,20 @@ module _ (slot : ℕ → ℕ) where
 abbrev pub slotAt : List ℕ → ℕ → ℕ → ℕ
 slotAt s f p = nameSlot f (nameAt s p)
 
-module _ (s : List ℕ) (f : ℕ) (member w₆ w₇ w₈ : ℕ → Json → Bool) (e₅ e₈ : ℕ → Bool)
-    (inner : (p : ℕ) (t : Json) → Lowest (rowOf s (slotForm f (slotAt s f p)) t) (refusedIn s t) (not (member p t)) (w₆ p t) (w₇ p t) (w₈ p t))
-    (end : (k : ℕ) (a : Tally) → Lowest (endRow f k a) false (e₅ (a .seen)) false false (e₈ (a .marks))) where
+abbrev pub bitAt : List ℕ → ℕ → ℕ → ℕ
+bitAt s f p = bitOf (slotAt s f p)
+
+module _ (s : List ℕ) (f : ℕ) (member w₈ : ℕ → Json → Bool) (w₆ w₇ : ℕ → ℕ → Json → List ℕ) (e₅ e₈ : ℕ → Bool)
+    (inner : (p v : ℕ) (t : Json) → Lowest (faultOf s (memberForm f (slotAt s f p)) v t) (refusedIn s t) (not (member p t)) (w₆ p v t) (w₇ p v t) (w₈ p t))
+    (end : (k : ℕ) (a : Tally) → Lowest (endFault f k a) false (e₅ (a .seen)) [] [] (e₈ (a .marks))) where
   pub object-after : (k : ℕ) (a : Tally) (ts : Items)
-      → After (rowItems s true f k a ts) (a .row) (refusedItems s true ts) (not (allItems member ts) || (twice (slotAt s f) (a .seen) ts || e₅ (taken (slotAt s f) (a .seen) ts)))
-      (anyItem w₆ ts) (anyItem w₇ ts) (anyItem w₈ ts || e₈ (marked (slotAt s f) (a .marks) ts))
-  unfolding rowOf refusedIn itemOf memberItem nameAt stepped closed allItems anyItem twice taken marked
+      → After (faultItems s true f k a ts) (a .fault) (refusedItems s true ts) (not (allItems member ts) || (twice (bitAt s f) (a .seen) ts || e₅ (taken (bitAt s f) (a .seen) ts)))
+      (collect w₆ ts) (collect w₇ ts) (anyItem w₈ ts || e₈ (marked (slotAt s f) (a .marks) ts))
+  unfolding faultOf refusedIn itemOf memberItem nameAt stepped closed allItems anyItem collect twice taken marked
   object-after k a nil = ends refl (end k a)
   object-after k a (item p v t ts) =
-      after-said refl (broken-first (member p t) (isIn (slotAt s f p) (a .seen)) (allItems member ts) _ _) refl refl (either-first (w₈ p t) (anyItem w₈ ts) _)
-      (turn-after s f true k p a (inner p t) (object-after (k + 1) _ ts))
+      after-said refl (broken-first (member p t) (isIn (bitAt s f p) (a .seen)) (allItems member ts) _ _) refl refl (either-first (w₈ p t) (anyItem w₈ ts) _)
+      (turn-after s f true k p a (inner p v t) (object-after (k + 1) _ ts))
 
 -- ---- what holds of some item, and how many
 pub any-same : (f g : ℕ → Json → Bool) → ((p : ℕ) (t : Json) → f p t ≡ g p t) → (ts : Items) → anyItem f ts ≡ anyItem g ts

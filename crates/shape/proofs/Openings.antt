@@ -1,10 +1,11 @@
--- The first word as the code finds it, by its place, is the first word of the tree; and the ways out of message_row.
+-- The first word as the code finds it, by its place, is the first word of the tree; and the ways out of
+-- message_refusal.
 use mathlib.Core.Path.{_≡_, refl, sym, ap, _∙_}
-use mathlib.Core.List.{List, []}
+use mathlib.Core.List.{List, [], _∷_}
 use mathlib.Core.Bool.{Bool, true, false, cond, not}
-use Prim.Native.Nat.{ℕ, zero, suc, _+_, _-_, _≤_}
+use Prim.Native.Nat.{ℕ, zero, suc, _+_, _-_, _≤_, _<_}
 use native.Mathlib.Omega.{arith}
-use borrow.Author.Tests.{eqb-true, eq-eqb, ne-eqb, le-ltb}
+use borrow.Author.Tests.{eqb-true, eq-eqb, ne-eqb, lt-ltb, le-ltb}
 use lib.Dec.{eqb, ltb}
 use lib.ListN.{length, getD}
 use Rattle.json.specs.Grammar.{case, wsAt, inClass, oneAt, tokenAt, stringAt, numberAt, literalAt, scalarAt, openedAt}
@@ -31,10 +32,17 @@ use Rattle.shape.specs.Shape.{Word as TheWord}
 use Rattle.rows.specs.Rows.{row3}
 use Rattle.utf8.specs.Utf8.{isUtf8}
 use Rattle.shape.specs.declared.Judged.the-variants.{Ends, Wrong}
-use Rattle.shape.specs.Rows.{treeRow, rootRow, messageRow}
-use Rattle.shape.specs.Inner.{wordForm, openingOf, rowOf, judgedOf, toldOf}
+use Rattle.shape.specs.declared.Offset.{Offset}
+use Rattle.shape.specs.Rows.{row4, row5, row8, treeRow, rootRow, messageRow}
+use Rattle.shape.specs.Offsets.{numberPlaces, hexPlaces, offsetOf, refusalOf, plainRefusal}
+use Rattle.shape.specs.Inner.{places, faultRow, faultOffset, wordForm, openingOf, faultOf, judgedOf}
 use Rattle.shape.proofs.Names.{no}
-use Rattle.shape.proofs.Messages.{tree-row}
+use Rattle.shape.proofs.Low.{Lowest}
+use Rattle.shape.proofs.Placed.{number-some, hex-some}
+use Rattle.shape.proofs.Told.{Told, told-row, told-offset, offsetBy}
+use Rattle.shape.proofs.Standing.{Each}
+use Rattle.shape.proofs.Offsets.{plain-refusal, numbers-stand, hexes-stand, number-within, string-within}
+use Rattle.shape.proofs.Messages.{lowest}
 
 -- the word that a value spells, and that the first of some items does
 abbrev pub wordIn : List ℕ → Json → TheWord
@@ -164,43 +172,67 @@ module _ (s : List ℕ) (d at : ℕ) where
       go (Many i true) w = ap wordForm (named-other t m (itemsAt (treeAt s d) s true (length s) i) w)
       go (Many i false) w = ap wordForm (items-first t m i (itemsAt (treeAt s d) s false (length s) i) refl w)
 
--- ---- the ways out of message_row
+-- ---- the ways out of message_refusal
+module _ (s : List ℕ) where
+  pub message-long : mostMessage < length s → plainRefusal 1 ≡ refusalOf s
+  unfolding messageRow
+  message-long h = plain-refusal s 1 (omega arith) (rw (lt-ltb mostMessage (length s) h))
+
+  pub message-bytes : length s ≤ mostMessage → isUtf8 s ≡ false → plainRefusal 2 ≡ refusalOf s
+  unfolding messageRow
+  message-bytes h u = plain-refusal s 2 (omega arith) (rw (le-ltb mostMessage (length s) h, u))
+
+  pub message-control : length s ≤ mostMessage → isUtf8 s ≡ true → hasControl s ≡ true → plainRefusal 3 ≡ refusalOf s
+  unfolding messageRow
+  message-control h u k = plain-refusal s 3 (omega arith) (rw (le-ltb mostMessage (length s) h, u, k))
+
 module _ (s : List ℕ) {f : ℕ} {at : ℕ} (short : length s ≤ mostMessage) (utf : isUtf8 s ≡ true) (clean : hasControl s ≡ false) (place : at ≡ wsAt s 0) (form : f ≡ openingOf s (startAt s at)) where
   by-root : {x : ℕ} → x ≡ cond (not (endsAt (length s) (endOf (root s)))) 3 (rootRow s (root s)) → x ≡ messageRow s
   unfolding messageRow
   by-root e = rw (le-ltb mostMessage (length s) short, utf, clean) e
 
-  pub message-wrong : Wrong ≡ judgedOf s f (treeAt s depth at) → 3 ≡ messageRow s
+  pub message-wrong : Wrong ≡ judgedOf s f at (treeAt s depth at) → plainRefusal 3 ≡ refusalOf s
   unfolding judgedOf
-  message-wrong e = by-root (go (root s) (rw place at e))
+  message-wrong e = plain-refusal s 3 (omega arith) (by-root (go (root s) (rw place at e)))
     where
-      go : (g : Got Json) → Wrong ≡ judgedOf s f g → 3 ≡ cond (not (endsAt (length s) (endOf g))) 3 (rootRow s g)
+      go : (g : Got Json) → Wrong ≡ judgedOf s f (wsAt s 0) g → 3 ≡ cond (not (endsAt (length s) (endOf g))) 3 (rootRow s g)
       go none w = refl
       go (got t n) w = no cc
 
-  module _ (n : ℕ) {r : ℕ} (e : Ends n r ≡ judgedOf s f (treeAt s depth at)) where
-    ended : cond (eqb n (length s)) (toldOf r) 3 ≡ messageRow s
+  module _ (n : ℕ) {x : ℕ} (e : Ends n x ≡ judgedOf s f at (treeAt s depth at)) where
+    -- the tree that was judged, and its fault
+    judged : (t : Json) × (root s ≡ got t n) × Lowest x (row4 s t) (row5 s t) (numberPlaces s t) (hexPlaces s t) (row8 s t)
     unfolding judgedOf
-    ended = by-root (go (root s) refl (rw place at e))
+    judged = go (root s) refl (rw place at e)
       where
-        told : (t : Json) (m : ℕ) → root s ≡ got t m → toldOf (rowOf s f t) ≡ treeRow s t
-        told t m q =
-            let o = rw place at form in
-            rw (o ∙ sym (opening-is s 7 (wsAt s 0) t m q)) (tree-row s t)
-
-        turned : (b : Bool) (x : ℕ) → cond b x 3 ≡ cond (not b) 3 x
-        turned true x = refl
-        turned false x = refl
-
-        go : (g : Got Json) → root s ≡ g → Ends n r ≡ judgedOf s f g → cond (eqb n (length s)) (toldOf r) 3 ≡ cond (not (endsAt (length s) (endOf g))) 3 (rootRow s g)
+        go : (g : Got Json) → root s ≡ g → Ends n x ≡ judgedOf s f (wsAt s 0) g
+            → (t : Json) × (root s ≡ got t n) × Lowest x (row4 s t) (row5 s t) (numberPlaces s t) (hexPlaces s t) (row8 s t)
         go none q w = no cc
         go (got t m) q w =
-            let a : n ≡ m = cc in
-            let b : r ≡ rowOf s f t = cc in
-            rw (a, b, told t m q) (turned (eqb m (length s)) (treeRow s t))
+            let a : m ≡ n = cc in
+            let b : faultOf s f (wsAt s 0) t ≡ x = cc in
+            let o : f ≡ wordForm (opened s t .first) = rw place at form ∙ sym (opening-is s 7 (wsAt s 0) t m q) in
+            (t, q ∙ ap (got t) a, rw (← b, o) (lowest s (wsAt s 0) t))
 
-    pub message-told : n ≡ length s → toldOf r ≡ messageRow s
-    message-told h = rw (eq-eqb n (length s) h) at ended
+    rows : n ≡ length s → (t : Json) → root s ≡ got t n → Lowest x (row4 s t) (row5 s t) (numberPlaces s t) (hexPlaces s t) (row8 s t) → faultRow x ≡ messageRow s
+    unfolding treeRow
+    rows h t q w =
+        by-root (rw (q, eq-eqb n (length s) h, number-some s t, hex-some s t) (told-row w))
 
-    pub message-early : (n ≡ length s → ⊥) → 3 ≡ messageRow s
-    message-early h = rw (ne-eqb n (length s) h) at ended
+    pub message-told : n ≡ length s → {row : ℕ} {o : Offset} → row ≡ faultRow x → o ≡ faultOffset x → record { row = row; offset = o } ≡ refusalOf s
+    unfolding offsetOf
+    message-told h r o =
+        let (t, q, w) = judged in
+        let m = rows h t q w in
+        let c = few (λ v y. let l = number-within s v y in omega arith) (numberPlaces s t) (numbers-stand s q) in
+        let d = few (λ v y. let l = string-within s v y in omega arith) (hexPlaces s t) (hexes-stand s q) in
+        rw (r, o, m, q) (ap (λ z. record { row = messageRow s; offset = z }) (told-offset w c d ∙ ap (λ k. offsetBy k (numberPlaces s t) (hexPlaces s t)) (sym (told-row w) ∙ m)))
+      where
+        few : {P : ℕ → Type 0} → ((v : ℕ) → P v → v < places) → (c : List ℕ) → Each P c → Told c
+        few f [] h = tt
+        few f (p ∷ ps) (h, hs) = f p h
+
+    pub message-early : (n ≡ length s → ⊥) → plainRefusal 3 ≡ refusalOf s
+    message-early h =
+        let (t, q, w) = judged in
+        plain-refusal s 3 (omega arith) (by-root (rw (q, ne-eqb n (length s) h)))

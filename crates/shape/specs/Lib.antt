@@ -3,5 +3,7 @@
 pub mod Shape
 pub mod Rows
 pub mod Lowest
+pub mod Offsets
+pub mod Earliest
 pub mod Inner
 pub mod Values

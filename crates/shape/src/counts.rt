@@ -1,39 +1,38 @@
-// What is kept from item to item, and what the items of a value break in all.
+// What is kept from item to item, and the fault of the items of a value in all.
 ghost use mathlib.Core.Path.{_≡_};
-ghost use Prim.Native.Nat.{_<_, _^_};
-ghost use Rattle.shape.specs.Inner.{isIn, onceRow, marksAfter, fresh, stepped, isFull, endRow, closed};
+ghost use Prim.Native.Nat.{_^_};
+ghost use Rattle.shape.specs.Inner.{bitOf, isIn, onceFault, marksAfter, fresh, stepped, isFull};
+ghost use Rattle.shape.specs.Inner.{endFault, closed};
 use crate::Item;
 use crate::Tally;
 use crate::forms;
 use crate::scalar;
 
+// The bit of a slot.
 pub(crate) fn bit(slot: u8) -> u64
-    requires { ⌜ slot < 64 ⌝ }
-    ensures { λ r. ⌜ r ≡ 2 ^ slot ⌝ }
+    ensures { λ r. ⌜ r ≡ 2 ^ bitOf slot ⌝ }
 {
-    1u64 << slot
+    1u64 << (slot % 64)
 }
 
 pub(crate) fn is_in(slot: u8, seen: u64) -> bool
-    requires { ⌜ slot < 64 ⌝ }
-    ensures { λ r. ⌜ r ≡ isIn slot seen ⌝ }
+    ensures { λ r. ⌜ r ≡ isIn (bitOf slot) seen ⌝ }
 {
-    (seen >> slot) % 2 == 1
+    (seen >> (slot % 64)) % 2 == 1
 }
 
 // A member may stand once.
-pub(crate) fn once_row(named: bool, slot: u8, seen: u64) -> u8
-    requires { ⌜ slot < 64 ⌝ }
-    ensures { λ r. ⌜ r ≡ onceRow named slot seen ⌝ }
+pub(crate) fn once_fault(named: bool, slot: u8, seen: u64) -> u64
+    ensures { λ r. ⌜ r ≡ onceFault named slot seen ⌝ }
 {
     if named {
         if is_in(slot, seen) {
             forms::SHAPE
         } else {
-            forms::NO_ROW
+            forms::NO_FAULT
         }
     } else {
-        forms::NO_ROW
+        forms::NO_FAULT
     }
 }
 
@@ -53,21 +52,23 @@ pub(crate) fn start() -> Tally
     ensures { λ r. ⌜ r ≡ fresh ⌝ }
 {
     Tally {
-        row: forms::NO_ROW,
+        fault: forms::NO_FAULT,
         seen: 0,
         marks: 0,
     }
 }
 
-// One item more, in whose value the lowest row is `row`.
-pub(crate) fn step(named: bool, a: Tally, it: Item, row: u8) -> Tally
-    requires { ⌜ it .slot < 64 ⌝ }
-    ensures { λ r. ⌜ r ≡ stepped named a it row ⌝ }
+// One item more, in whose value the least fault is x.
+pub(crate) fn step(named: bool, a: Tally, it: Item, x: u64) -> Tally
+    ensures { λ r. ⌜ r ≡ stepped named a it x ⌝ }
 {
     Tally {
-        row: wire::least(
-            a.row,
-            wire::least(it.row, wire::least(row, once_row(named, it.slot, a.seen))),
+        fault: forms::least(
+            a.fault,
+            forms::least(
+                it.fault,
+                forms::least(x, once_fault(named, it.slot, a.seen)),
+            ),
         ),
         seen: a.seen | bit(it.slot),
         marks: marks_after(it.slot, a.marks),
@@ -81,13 +82,13 @@ pub(crate) fn is_full(seen: u64) -> bool
     seen % 128 == 127
 }
 
-// What k items in all break.
-pub(crate) fn end_row(form: u8, k: usize, a: Tally) -> u8
-    ensures { λ r. ⌜ r ≡ endRow form k a ⌝ }
+// The fault of k items in all.
+pub(crate) fn end_fault(form: u8, k: usize, a: Tally) -> u64
+    ensures { λ r. ⌜ r ≡ endFault form k a ⌝ }
 {
     if form == forms::EVENT {
         if is_full(a.seen) {
-            forms::NO_ROW
+            forms::NO_FAULT
         } else {
             forms::SHAPE
         }
@@ -108,14 +109,14 @@ pub(crate) fn end_row(form: u8, k: usize, a: Tally) -> u8
             scalar::bounded(3, 2 + wire::MOST_FILTERS, k)
         }
     } else if k == 2 {
-        forms::NO_ROW
+        forms::NO_FAULT
     } else {
         forms::SHAPE
     }
 }
 
-pub(crate) fn close(form: u8, k: usize, a: Tally) -> u8
+pub(crate) fn close(form: u8, k: usize, a: Tally) -> u64
     ensures { λ r. ⌜ r ≡ closed form k a ⌝ }
 {
-    wire::least(a.row, end_row(form, k, a))
+    forms::least(a.fault, end_fault(form, k, a))
 }

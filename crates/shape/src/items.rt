@@ -1,23 +1,11 @@
-// The slot of an item: of an element by its place, of a member by its name.
+// An item: the slot of a member by its name, the form of its value, the fault of its name.
 ghost use mathlib.Core.Path.{_≡_};
 ghost use mathlib.Core.Bool.{cond};
 ghost use Rattle.spell.specs.Spell.{decode};
-ghost use Rattle.shape.specs.Inner.{placeSlot, among, eventSlot, letterSlot, conditionSlot, filterSlot, nameSlot};
-ghost use Rattle.shape.specs.Inner.{nameRow, memberItem, itemOf};
+ghost use Rattle.shape.specs.Inner.{among, eventSlot, letterSlot, conditionSlot, filterSlot, nameSlot};
+ghost use Rattle.shape.specs.Inner.{nameFault, memberItem, itemOf};
 use crate::Item;
 use crate::forms;
-
-pub(crate) fn place_slot(k: usize) -> u8
-    ensures { λ r. ⌜ r ≡ placeSlot k ⌝ }
-{
-    if k == 0 {
-        forms::FIRST
-    } else if k == 1 {
-        forms::SECOND
-    } else {
-        forms::LATER
-    }
-}
 
 // The first of two words, or the second.
 pub(crate) fn either<'a>(first: bool, x: &'a [u8], y: &'a [u8]) -> &'a [u8]
@@ -109,11 +97,11 @@ pub(crate) fn condition_slot(p: &[u8]) -> u8
 pub(crate) fn filter_slot(p: &[u8]) -> u8
     ensures { λ r. ⌜ r ≡ filterSlot (decode (now (p .entry))) ⌝ }
 {
-    let slot = among(p, false);
-    if slot != forms::NONE {
-        return slot;
+    let field = among(p, false);
+    if field == forms::NONE {
+        return condition_slot(p);
     }
-    condition_slot(p)
+    field + forms::IDS
 }
 
 pub(crate) fn name_slot(form: u8, p: &[u8]) -> u8
@@ -128,22 +116,24 @@ pub(crate) fn name_slot(form: u8, p: &[u8]) -> u8
     }
 }
 
-pub(crate) fn name_row(p: &[u8]) -> u8
-    ensures { λ r. ⌜ r ≡ nameRow (now (p .entry)) ⌝ }
+pub(crate) fn name_fault(p: &[u8]) -> u64
+    ensures { λ r. ⌜ r ≡ nameFault (now (p .entry)) ⌝ }
 {
     if spell::refused(p) {
         forms::STRING
     } else {
-        forms::NO_ROW
+        forms::NO_FAULT
     }
 }
 
 pub(crate) fn member(form: u8, p: &[u8]) -> Item
     ensures { λ r. ⌜ r ≡ memberItem form (now (p .entry)) ⌝ }
 {
+    let slot = name_slot(form, p);
     Item {
-        slot: name_slot(form, p),
-        row: name_row(p),
+        slot,
+        form: forms::member_form(form, slot),
+        fault: name_fault(p),
     }
 }
 
@@ -155,8 +145,9 @@ pub(crate) fn item_of(s: &[u8], form: u8, named: bool, k: usize, p: usize) -> It
         member(form, rows::spelled(s, p))
     } else {
         Item {
-            slot: place_slot(k),
-            row: forms::NO_ROW,
+            slot: forms::UNKNOWN,
+            form: forms::element_form(form, k),
+            fault: forms::NO_FAULT,
         }
     }
 }

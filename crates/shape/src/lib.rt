@@ -1,11 +1,11 @@
-// Rows 1 to 8 of 01 for a client message: the lowest that holds anywhere in it. Every part answers the lowest row that
-// it breaks, and NO_ROW for none; parts are joined by the least. What must stand at a place is its form, a small
-// number.
+// Rows 1 to 8 of 01 for a client message: the lowest that holds anywhere in it, and with rows 6 and 7 the place that
+// breaks it first. Every part answers its least fault, a row and a place as one number, and NO_FAULT for none; parts are
+// joined by the least. What must stand at a place is its form, a small number.
 ghost use mathlib.Core.Path.{_≡_};
 ghost use Rattle.json.specs.Grammar.{startAt};
 ghost use Rattle.json.specs.Tree.{treeAt};
-ghost use Rattle.shape.specs.Rows.{messageRow};
-ghost use Rattle.shape.specs.Inner.{judgedOf, openingOf, toldOf};
+ghost use Rattle.shape.specs.Inner.{judgedOf, openingOf, faultRow, faultOffset};
+ghost use Rattle.shape.specs.Offsets.{refusalOf, plainRefusal};
 ghost use Rattle.shape.specs.Values.{valueRow};
 
 mod counts;
@@ -17,29 +17,53 @@ use json::Next;
 use json::Out;
 use json::Start;
 
-// Where a value ends, and the lowest row in it; or that no value stands there.
+// The byte offset in a message, from 0, that a refusal carries with it.
+pub enum Offset {
+    Absent,
+    At(usize),
+}
+
+// What refuses a message: a row, 0 where none does, and with rows 6 and 7 the offset of the earliest number, or opening
+// quote of a string, that breaks that row.
+pub struct Refusal {
+    pub row: u8,
+    pub offset: Offset,
+}
+
+// A refusal that carries its number and no offset.
+pub fn plain_refusal(row: u8) -> Refusal
+    ensures { λ r. ⌜ r ≡ plainRefusal row ⌝ }
+{
+    Refusal {
+        row,
+        offset: Offset::Absent,
+    }
+}
+
+// Where a value ends, and the least fault in it; or that no value stands there.
 enum Judged {
-    Ends(usize, u8),
+    Ends(usize, u64),
     Wrong,
 }
 
-// An item's slot, and the row of its name.
+// A member's slot, the form that its value must have, and the fault of its name.
 struct Item {
     slot: u8,
-    row: u8,
+    form: u8,
+    fault: u64,
 }
 
-// What is kept from item to item: the lowest row, the slots taken, a bit each, and the # conditions, to one more than
+// What is kept from item to item: the least fault, the slots taken, a bit each, and the # conditions, to one more than
 // may be.
 struct Tally {
-    row: u8,
+    fault: u64,
     seen: u64,
     marks: u8,
 }
 
 // A value where the form must stand, with at most d brackets and braces open at once, and the white space after it.
 fn judge(s: &[u8], at: usize, d: usize, form: u8) -> Judged
-    ensures { λ r. ⌜ r ≡ judgedOf (now (s .entry)) form (treeAt (now (s .entry)) d at) ⌝ }
+    ensures { λ r. ⌜ r ≡ judgedOf (now (s .entry)) form at (treeAt (now (s .entry)) d at) ⌝ }
 {
     if d == 0 {
         return scalar::leaf(s, at, form);
@@ -60,11 +84,10 @@ fn judge(s: &[u8], at: usize, d: usize, form: u8) -> Judged
                     return Judged::Wrong;
                 };
                 let it = items::item_of(s, inner, named, k, i);
-                let Judged::Ends(n, row) = judge(s, v, d - 1, forms::slot_form(inner, it.slot))
-                else {
+                let Judged::Ends(n, x) = judge(s, v, d - 1, it.form) else {
                     return Judged::Wrong;
                 };
-                a = counts::step(named, a, it, row);
+                a = counts::step(named, a, it, x);
                 match json::after(s, n, named) {
                     Next::More(j) => {
                         i = j;
@@ -100,29 +123,55 @@ fn opening(s: &[u8], at: usize) -> u8
     }
 }
 
-fn told(row: u8) -> u8
-    ensures { λ r. ⌜ r ≡ toldOf row ⌝ }
+// The row of a fault, 0 where there is none.
+fn row_of(x: u64) -> u8
+    ensures { λ r. ⌜ r ≡ faultRow x ⌝ }
 {
-    if row == forms::NO_ROW { 0 } else { row }
+    if x == forms::NO_FAULT {
+        return 0;
+    }
+    (x / forms::PLACES % 256) as u8
 }
 
-// The lowest of rows 1 to 8 that holds of a message, and 0 where none does.
-pub fn message_row(s: &[u8]) -> u8
-    ensures { λ r. ⌜ r ≡ messageRow (now (s .entry)) ⌝ }
+// Its offset: the place of rows 6 and 7.
+fn offset_of(x: u64) -> Offset
+    ensures { λ r. ⌜ r ≡ faultOffset x ⌝ }
+{
+    if x < forms::NUMBER {
+        return Offset::Absent;
+    }
+    if x < forms::COUNT {
+        return Offset::At((x % forms::PLACES) as usize);
+    }
+    Offset::Absent
+}
+
+// The lowest of rows 1 to 8 that holds of a message, 0 where none does, and the offset that goes with it.
+pub fn message_refusal(s: &[u8]) -> Refusal
+    ensures { λ r. ⌜ r ≡ refusalOf (now (s .entry)) ⌝ }
 {
     if wire::MOST_MESSAGE < s.len() {
-        return 1;
+        return plain_refusal(1);
     }
     if !utf8::is_utf8(s) {
-        return 2;
+        return plain_refusal(2);
     }
     if wire::has_control(s) {
-        return 3;
+        return plain_refusal(3);
     }
     let at = json::space(s, 0);
     match judge(s, at, json::DEPTH, opening(s, at)) {
-        Judged::Ends(n, row) => { if n == s.len() { told(row) } else { 3 } }
-        Judged::Wrong => 3,
+        Judged::Ends(n, x) => {
+            if n == s.len() {
+                Refusal {
+                    row: row_of(x),
+                    offset: offset_of(x),
+                }
+            } else {
+                plain_refusal(3)
+            }
+        }
+        Judged::Wrong => plain_refusal(3),
     }
 }
 
@@ -141,13 +190,13 @@ pub fn value_row(s: &[u8], at: usize, k: Sort) -> u8
     ensures { λ r. ⌜ r ≡ valueRow (now (s .entry)) at k ⌝ }
 {
     match judge(s, at, json::DEPTH, forms::sort_form(k)) {
-        Judged::Ends(n, row) => {
+        Judged::Ends(n, x) => {
             if utf8::is_utf8(scalar::cut(s, at, n)) {
-                told(row)
+                row_of(x)
             } else {
                 2
             }
         }
-        Judged::Wrong => forms::SHAPE,
+        Judged::Wrong => 5,
     }
 }

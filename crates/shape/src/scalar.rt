@@ -1,4 +1,4 @@
-// A value that holds no value: the lowest row that it breaks, where a form must stand.
+// A value that holds no value: its fault, where a form must stand.
 ghost use mathlib.Core.Path.{_≡_};
 ghost use Prim.Native.Nat.{_-_};
 ghost use lib.IntN.{pos, negℤ};
@@ -6,12 +6,13 @@ ghost use Rattle.json.specs.Grammar.{scalarAt};
 ghost use Rattle.json.specs.Tree.{onLeaf};
 ghost use Rattle.wire.specs.Limits.{widest, mostSmall};
 ghost use Rattle.rows.specs.Strings.{part};
-ghost use Rattle.shape.specs.Inner.{bounds, hexFormRow, stringForm, stringFormRow, rangeRow, numberRow, judgedOf};
+ghost use Rattle.shape.specs.Inner.{bounds, hexFault, stringForm, stringFault, rangeFault, numberFault};
+ghost use Rattle.shape.specs.Inner.{judgedOf};
 use crate::Judged;
 use crate::forms;
 use json::Kind;
 
-pub(crate) fn bounded(low: usize, high: usize, n: usize) -> u8
+pub(crate) fn bounded(low: usize, high: usize, n: usize) -> u64
     ensures { λ r. ⌜ r ≡ bounds low high n ⌝ }
 {
     if n < low {
@@ -19,7 +20,7 @@ pub(crate) fn bounded(low: usize, high: usize, n: usize) -> u8
     } else if high < n {
         forms::COUNT
     } else {
-        forms::NO_ROW
+        forms::NO_FAULT
     }
 }
 
@@ -39,69 +40,69 @@ pub(crate) fn cut(s: &[u8], from: usize, to: usize) -> &[u8]
     &s[from..to]
 }
 
-pub(crate) fn hex_row(k: usize, p: &[u8]) -> u8
-    ensures { λ r. ⌜ r ≡ hexFormRow k (now (p .entry)) ⌝ }
+pub(crate) fn hex_fault(k: usize, v: usize, p: &[u8]) -> u64
+    ensures { λ r. ⌜ r ≡ hexFault k v (now (p .entry)) ⌝ }
 {
     if spell::is_hex(p, k) {
-        forms::NO_ROW
+        forms::NO_FAULT
     } else {
-        forms::HEX
+        forms::at_place(forms::HEX, v)
     }
 }
 
-pub(crate) fn string_form(form: u8, p: &[u8]) -> u8
-    ensures { λ r. ⌜ r ≡ stringForm form (now (p .entry)) ⌝ }
+pub(crate) fn string_form(form: u8, v: usize, p: &[u8]) -> u64
+    ensures { λ r. ⌜ r ≡ stringForm form v (now (p .entry)) ⌝ }
 {
     if form == forms::TEXT {
-        forms::NO_ROW
+        forms::NO_FAULT
     } else if form == forms::LABEL {
         bounded(1, wire::MOST_CHARACTERS, spell::characters(p))
     } else if form == forms::HEX64 {
-        hex_row(wire::HEX_LENGTH, p)
+        hex_fault(wire::HEX_LENGTH, v, p)
     } else if form == forms::HEX128 {
-        hex_row(wire::SIG_LENGTH, p)
+        hex_fault(wire::SIG_LENGTH, v, p)
     } else {
         forms::SHAPE
     }
 }
 
-pub(crate) fn string_row(form: u8, p: &[u8]) -> u8
-    ensures { λ r. ⌜ r ≡ stringFormRow form (now (p .entry)) ⌝ }
+pub(crate) fn string_fault(form: u8, v: usize, p: &[u8]) -> u64
+    ensures { λ r. ⌜ r ≡ stringFault form v (now (p .entry)) ⌝ }
 {
     if spell::refused(p) {
         forms::STRING
     } else {
-        string_form(form, p)
+        string_form(form, v, p)
     }
 }
 
-pub(crate) fn time_row(p: &[u8]) -> u8
-    ensures { λ r. ⌜ r ≡ rangeRow (negℤ (pos widest)) (pos widest) (now (p .entry)) ⌝ }
+pub(crate) fn time_fault(v: usize, p: &[u8]) -> u64
+    ensures { λ r. ⌜ r ≡ rangeFault (negℤ (pos widest)) (pos widest) v (now (p .entry)) ⌝ }
 {
     if numeral::within(numeral::read_whole(p), wire::MINUS_WIDEST, wire::WIDEST) {
-        forms::NO_ROW
+        forms::NO_FAULT
     } else {
-        forms::NUMBER
+        forms::at_place(forms::NUMBER, v)
     }
 }
 
-pub(crate) fn small_row(p: &[u8]) -> u8
-    ensures { λ r. ⌜ r ≡ rangeRow (pos 0) (pos mostSmall) (now (p .entry)) ⌝ }
+pub(crate) fn small_fault(v: usize, p: &[u8]) -> u64
+    ensures { λ r. ⌜ r ≡ rangeFault (pos 0) (pos mostSmall) v (now (p .entry)) ⌝ }
 {
     if numeral::within(numeral::read_whole(p), 0, wire::MOST_SMALL) {
-        forms::NO_ROW
+        forms::NO_FAULT
     } else {
-        forms::NUMBER
+        forms::at_place(forms::NUMBER, v)
     }
 }
 
-pub(crate) fn number_row(form: u8, p: &[u8]) -> u8
-    ensures { λ r. ⌜ r ≡ numberRow form (now (p .entry)) ⌝ }
+pub(crate) fn number_fault(form: u8, v: usize, p: &[u8]) -> u64
+    ensures { λ r. ⌜ r ≡ numberFault form v (now (p .entry)) ⌝ }
 {
     if form == forms::TIME {
-        time_row(p)
+        time_fault(v, p)
     } else if form == forms::SMALL {
-        small_row(p)
+        small_fault(v, p)
     } else {
         forms::SHAPE
     }
@@ -109,16 +110,18 @@ pub(crate) fn number_row(form: u8, p: &[u8]) -> u8
 
 // A value that holds no value.
 pub(crate) fn leaf(s: &[u8], at: usize, form: u8) -> Judged
-    ensures { λ r. ⌜ r ≡ judgedOf (now (s .entry)) form (onLeaf (now (s .entry)) at (scalarAt (now (s .entry)) at)) ⌝ }
+    ensures { λ r. ⌜ r ≡ judgedOf (now (s .entry)) form at (onLeaf (now (s .entry)) at
+        (scalarAt (now (s .entry)) at)) ⌝ }
 {
     match json::scalar(s, at) {
         Kind::Str(n) => {
-            let row = string_row(form, cut(s, at + 1, n - 1));
-            Judged::Ends(json::space(s, n), row)
+            let inner = at + 1;
+            let x = string_fault(form, at, cut(s, inner, n - 1));
+            Judged::Ends(json::space(s, n), x)
         }
         Kind::Num(n) => {
-            let row = number_row(form, cut(s, at, n));
-            Judged::Ends(json::space(s, n), row)
+            let x = number_fault(form, at, cut(s, at, n));
+            Judged::Ends(json::space(s, n), x)
         }
         Kind::Word(n) => Judged::Ends(json::space(s, n), forms::SHAPE),
         Kind::None => Judged::Wrong,

@@ -10,7 +10,7 @@ returns c =
     let u = c .before .before in
     let n = u .before .before .before in
     let j = n .before .before in
-    c .told .ensures ∙ value-told _ _ _ (j .before .sort-form .ensures) (sym (n .n .given .1) ∙ j .judge .ensures) (u .before .cut .ensures) (sym (u .is-utf8 .ensures) ∙ c .before .if1 .taken)
+    c .row-of .ensures ∙ value-told _ _ _ (j .before .sort-form .ensures) (sym (n .n .given .1) ∙ j .judge .ensures) (u .before .cut .ensures) (sym (u .is-utf8 .ensures) ∙ c .before .if1 .taken)
 
 returns-2 : tie.Need-returns-2
 returns-2 c =

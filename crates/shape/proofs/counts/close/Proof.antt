@@ -1,4 +1,4 @@
--- `least` promises the smaller of the row so far and the row that `end_row` promises.
+-- `least` promises the lesser of the fault so far and the fault that `end_fault` promises.
 use Rattle.shape.specs.Inner.{closed}
 use borrow.Author.Needs.{needs}
 use Rattle.shape.proofs.counts.close.Statement.{statement}
@@ -6,4 +6,4 @@ use Rattle.shape.proofs.counts.close.Tie as tie
 
 pub close-spec : {M : Type 1} → statement M
 unfolding closed
-close-spec = tie.close (tie.spec (λ c κs. search needs) (λ c κs. search needs) (λ c. simp (c .before .end-row .ensures, c .least .ensures)))
+close-spec = tie.close (tie.spec (λ c κs. search needs) (λ c κs. search needs) (λ c. simp (c .before .end-fault .ensures, c .least .ensures)))

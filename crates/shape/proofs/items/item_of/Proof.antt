@@ -1,4 +1,4 @@
--- A member is what `member` promises of the name that `spelled` gives; an element has the slot of its place.
+-- A member is what `member` promises of the name that `spelled` gives; an element has the form of its number.
 use Rattle.shape.specs.Inner.{itemOf}
 use borrow.Author.Needs.{needs}
 use Rattle.shape.proofs.items.item_of.Statement.{statement}
@@ -10,4 +10,4 @@ item-of-spec =
     tie.close
     (tie.spec (λ c κs. search needs) (λ c κs. search needs) (λ c κs. search needs)
     (λ c. simp (c .before .before .if1 .taken, c .before .spelled .ensures, c .member .ensures))
-    (λ c. simp (c .before .if1 .left, c .place-slot .ensures)))
+    (λ c. simp (c .before .if1 .left, c .element-form .ensures)))

@@ -1,14 +1,14 @@
 -- The definition's tests in its order, with what `is_full` and `bounded` promise.
 use Rattle.shape.proofs.Tests.{tests}
-use Rattle.shape.specs.Inner.{endRow}
+use Rattle.shape.specs.Inner.{endFault}
 use borrow.Author.Tests.{eq-eqb}
 use borrow.Author.Needs.{needs}
-use Rattle.shape.proofs.counts.end_row.Statement.{statement}
-use Rattle.shape.proofs.counts.end_row.Tie as tie
+use Rattle.shape.proofs.counts.end_fault.Statement.{statement}
+use Rattle.shape.proofs.counts.end_fault.Tie as tie
 
-pub end-row-spec : {M : Type 1} → statement M
-unfolding endRow
-end-row-spec =
+pub end-fault-spec : {M : Type 1} → statement M
+unfolding endFault
+end-fault-spec =
     tie.close
     (tie.spec (λ c κs. search needs) (λ c. search needs) (λ c κs. search needs) (λ c κs. search needs) (λ c κs. search needs)
     (λ c κs. search needs) (λ c. search needs) (λ c κs. search needs)
