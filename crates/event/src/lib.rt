@@ -28,10 +28,10 @@ pub enum Written {
     Refused(u8),
 }
 
-// The event of a message: its parts, and how many bytes its text has; or the row that refuses the message.
+// The event of a message: its parts, and how many bytes its text has; or what refuses the message.
 pub enum SentText {
     Wrote(message::EventParts, usize),
-    Refused(u8),
+    Refused(shape::Refusal),
 }
 
 // A row, or 0, and beside it the id; zeros where a row refuses the parts.
@@ -209,9 +209,9 @@ pub fn sent_text(m: &[u8], out: &mut [u8]) -> SentText
 {
     match message::read(m) {
         message::Message::Event(p) => tested::sent_event(m, p, out),
-        message::Message::Req(_) => SentText::Refused(5),
-        message::Message::Close(_) => SentText::Refused(5),
-        message::Message::Refused(row) => SentText::Refused(tested::unread_row(m, row)),
+        message::Message::Req(_) => SentText::Refused(shape::plain_refusal(5)),
+        message::Message::Close(_) => SentText::Refused(shape::plain_refusal(5)),
+        message::Message::Refused(r) => SentText::Refused(tested::unread(m, r)),
     }
 }
 

@@ -8,7 +8,7 @@ ghost use Rattle.event.specs.Lent.{said};
 ghost use Rattle.event.specs.Inner.{Tested};
 ghost use Rattle.event.specs.Answer.{hexOf, hashedOf, shortRow, answered, outputAfter, writtenNumber};
 ghost use Rattle.event.specs.Answer.{offeredTextRow, offered, offeredOut};
-ghost use Rattle.event.specs.Sent.{unreadRow, sentRowOf, sentTextOf, sentOutOf, sentTextNumber};
+ghost use Rattle.event.specs.Sent.{unreadRefusal, sentRowOf, sentTextOf, sentOutOf, sentTextNumber};
 use crate::Identified;
 use crate::SentText;
 use crate::Written;
@@ -87,17 +87,17 @@ pub(crate) fn rest_text(b: &[u8], p: message::EventParts, out: &mut [u8]) -> Wri
     }
 }
 
-// The row of a message that the reader refused: "gives 5 also if it isn't an EVENT", after rows 1 to 4.
-pub(crate) fn unread_row(m: &[u8], row: u8) -> u8
-    ensures { λ r. ⌜ r ≡ unreadRow (now (m .entry)) row ⌝ }
+// What refuses a message that the reader refused: "gives 5 also if it isn't an EVENT", after rows 1 to 4.
+pub(crate) fn unread(m: &[u8], x: shape::Refusal) -> shape::Refusal
+    ensures { λ r. ⌜ r ≡ unreadRefusal (now (m .entry)) x ⌝ }
 {
-    if row <= 4 {
-        return row;
+    if x.row <= 4 {
+        return x;
     }
     if message::is_event(m) {
-        return row;
+        return x;
     }
-    5
+    shape::plain_refusal(5)
 }
 
 // The event of a message that the reader took.
@@ -109,6 +109,6 @@ pub(crate) fn sent_event(m: &[u8], p: message::EventParts, out: &mut [u8]) -> Se
 {
     match rest_text(m, p, out) {
         Written::Wrote(n) => SentText::Wrote(p, n),
-        Written::Refused(row) => SentText::Refused(row),
+        Written::Refused(row) => SentText::Refused(shape::plain_refusal(row)),
     }
 }

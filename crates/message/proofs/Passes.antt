@@ -23,6 +23,8 @@ use Rattle.shape.specs.Shape.{isFilter, Word, event, req, close, other, wordOf,
 use Rattle.shape.specs.Rows.{row4, row5, row6, row7, row8, treeRow, rootRow, messageRow, inMessage, wrongTime}
 use Rattle.shape.specs.Rows.{wrongSmall, wrongHex, eventNumber, eventHex, eventCount, wrongList, filterNumber}
 use Rattle.shape.specs.Rows.{filterHex, wrongFilter, filterCounts, wrongRequest, wrongSubscription, outside, wrongTags}
+use Rattle.shape.specs.Offsets.{refusalOf}
+use Rattle.shape.specs.declared.Refusal.{Refusal}
 use Rattle.message.specs.declared.EventParts.{EventParts}
 use Rattle.message.specs.declared.ReqParts.{ReqParts}
 use Rattle.message.specs.declared.Message.{Message}
@@ -240,14 +242,14 @@ accepted-of s e =
         (t, n, record { tree = r; bytes = u; a4 = z₄; a5 = not-false _ z₅; a6 = z₆; a7 = z₇; a8 = z₈ })
 
 -- what is read of it
-module _ (s : List ℕ) {m : Message} (read : (k : ℕ) → message.Refused k ≡ m → ⊥) where
+module _ (s : List ℕ) {m : Message} (read : (x : Refusal) → message.Refused x ≡ m → ⊥) where
   read-accepted : readOf s ≡ m → (messageRow s ≡ 0) × (inRoot s (root s) ≡ m)
   unfolding readOf
   read-accepted e = go (eqb (messageRow s) 0) refl e
     where
-      go : (b : Bool) → eqb (messageRow s) 0 ≡ b → cond b (inRoot s (root s)) (message.Refused (messageRow s)) ≡ m → (messageRow s ≡ 0) × (inRoot s (root s) ≡ m)
+      go : (b : Bool) → eqb (messageRow s) 0 ≡ b → cond b (inRoot s (root s)) (message.Refused (refusalOf s)) ≡ m → (messageRow s ≡ 0) × (inRoot s (root s) ≡ m)
       go true q e = (eqb-true (messageRow s) 0 q, e)
-      go false q e = absurd (read (messageRow s) e)
+      go false q e = absurd (read (refusalOf s) e)
 
 rest-walk : {value : ℕ → Got Json} {s : List ℕ} {f i p v q w n : ℕ} {t u : Json} {us : Items} → Walk value s false f i (item p v t (item q w u us)) n
     → (g : ℕ) × (j : ℕ) × (g ≤ f) × Walk value s false g j (item q w u us) n

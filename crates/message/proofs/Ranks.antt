@@ -19,9 +19,9 @@ use Rattle.numeral.specs.Whole.{isWithin}
 use Rattle.numeral.specs.declared.Whole.the-variants.{Value}
 use Rattle.rows.specs.Strings.{part, refusedIn}
 use Rattle.shape.specs.Rows.{outside}
-use Rattle.shape.proofs.Low.{low, Lowest as Lower, join as lower-join}
 use Rattle.message.specs.declared.Span.{Span}
 use Rattle.message.specs.declared.Body.{Body}
+use Rattle.shape.proofs.Low.{at-least, least}
 use Rattle.message.specs.declared.EventParts.{EventParts}
 use Rattle.message.specs.declared.FilterParts.{FilterParts}
 use Rattle.message.specs.declared.Bound.{Bound}
@@ -38,32 +38,54 @@ use Rattle.wire.specs.Lowest.{lowerRow}
 use Rattle.shape.specs.Values.{ownText, fits, sort6, sort7, sort8, sortRow, gotRow, valueRow}
 use Rattle.message.specs.Inner.{lowestBy, rank, rowTold, rankOf, LowestRank, ValueRank, ListRank}
 
--- ---- joined by the least: row 2 here, the others as in a message
-first : (a b : Bool) (x y : ℕ) → 2 ≤ x → 2 ≤ y → min (cond a 2 x) (cond b 2 y) ≡ cond (a || b) 2 (min x y)
-first true true x y p q = omega arith
-first true false x y p q = omega arith
-first false true x y p q = omega arith
-first false false x y p q = refl
+-- ---- joined by the least
+abbrev from8 : Bool → ℕ
+from8 f = cond f 8 9
 
-above : (b c d e f : Bool) → 2 ≤ low b c d e f
-unfolding low
-above b c d e f = or b (omega arith) (or c (omega arith) (or d (omega arith) (or e (omega arith) (or f (omega arith) (omega arith)))))
-  where
-    or : (b : Bool) {x y : ℕ} → 2 ≤ x → 2 ≤ y → 2 ≤ cond b x y
-    or true p q = p
-    or false p q = q
+abbrev from7 : Bool → Bool → ℕ
+from7 e f = cond e 7 (from8 f)
+
+abbrev from6 : Bool → Bool → Bool → ℕ
+from6 d e f = cond d 6 (from7 e f)
+
+abbrev from5 : Bool → Bool → Bool → Bool → ℕ
+from5 c d e f = cond c 5 (from6 d e f)
+
+abbrev from4 : Bool → Bool → Bool → Bool → Bool → ℕ
+from4 b c d e f = cond b 4 (from5 c d e f)
+
+above8 : (f : Bool) → 8 ≤ from8 f
+above8 f = at-least 8 f (omega arith) (omega arith)
+
+above7 : (e f : Bool) → 7 ≤ from7 e f
+above7 e f = at-least 7 e (omega arith) (let h = above8 f in omega arith)
+
+above6 : (d e f : Bool) → 6 ≤ from6 d e f
+above6 d e f = at-least 6 d (omega arith) (let h = above7 e f in omega arith)
+
+above5 : (c d e f : Bool) → 5 ≤ from5 c d e f
+above5 c d e f = at-least 5 c (omega arith) (let h = above6 d e f in omega arith)
+
+above4 : (b c d e f : Bool) → 4 ≤ from4 b c d e f
+above4 b c d e f = at-least 4 b (omega arith) (let h = above5 c d e f in omega arith)
 
 module _ {a b c d e f a′ b′ c′ d′ e′ f′ : Bool} where
   join : {x y : ℕ} → LowestRank x a b c d e f → LowestRank y a′ b′ c′ d′ e′ f′ → LowestRank (min x y) (a || a′) (b || b′) (c || c′) (d || d′) (e || e′) (f || f′)
-  unfolding rank low
-  join p q =
-      let v : Lower (low b c d e f) b c d e f = record { is = refl } in
-      let w : Lower (low b′ c′ d′ e′ f′) b′ c′ d′ e′ f′ = record { is = refl } in
-      record {
-        is =
-            rw (p .is, q .is)
-            (first a a′ (low b c d e f) (low b′ c′ d′ e′ f′) (above b c d e f) (above b′ c′ d′ e′ f′) ∙ ap (cond (a || a′) 2) (lower-join v w .is));
-      }
+  unfolding rank
+  join p q = record {
+    is =
+        rw (p .is, q .is)
+        (least 2 a a′ (from4 b c d e f) (from4 b′ c′ d′ e′ f′) (let h = above4 b c d e f in omega arith) (let h = above4 b′ c′ d′ e′ f′ in omega arith)
+        ∙ ap (cond (a || a′) 2)
+        (least 4 b b′ (from5 c d e f) (from5 c′ d′ e′ f′) (let h = above5 c d e f in omega arith) (let h = above5 c′ d′ e′ f′ in omega arith)
+        ∙ ap (cond (b || b′) 4)
+        (least 5 c c′ (from6 d e f) (from6 d′ e′ f′) (let h = above6 d e f in omega arith) (let h = above6 d′ e′ f′ in omega arith)
+        ∙ ap (cond (c || c′) 5)
+        (least 6 d d′ (from7 e f) (from7 e′ f′) (let h = above7 e f in omega arith) (let h = above7 e′ f′ in omega arith)
+        ∙ ap (cond (d || d′) 6)
+        (least 7 e e′ (from8 f) (from8 f′) (let h = above8 f in omega arith) (let h = above8 f′ in omega arith)
+        ∙ ap (cond (e || e′) 7) (least 8 f f′ 9 9 (omega arith) (omega arith)))))));
+  }
 
 -- a number that is the least of two
 pub both : {x y z : ℕ} {a b c d e f a′ b′ c′ d′ e′ f′ : Bool} → z ≡ min x y → LowestRank x a b c d e f → LowestRank y a′ b′ c′ d′ e′ f′

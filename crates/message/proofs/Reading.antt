@@ -5,7 +5,7 @@ use mathlib.Core.List.{List}
 use mathlib.Core.Bool.{Bool, true, false, cond, not, false≢true}
 use Prim.Native.Nat.{ℕ, suc, _+_, _-_}
 use native.Mathlib.Omega.{arith}
-use borrow.Author.Tests.{eqb-true}
+use borrow.Author.Tests.{eqb-true, ne-eqb}
 use lib.Dec.{eqb}
 use lib.ListN.{length}
 use Rattle.json.specs.Grammar.{wsAt, stringAt, scalarAt, startAt}
@@ -24,15 +24,18 @@ use Rattle.shape.specs.Shape.{Word, event, req, close, other, wordOf, nameAt, O
 use Rattle.shape.specs.Shape.{isString, isEvent, isFilter, idName}
 use Rattle.wire.specs.Limits.{mostCharacters}
 use Rattle.shape.specs.Rows.{row4, row5, row6, row7, row8, treeRow, rootRow, messageRow, outside, wrongSubscription}
+use Rattle.shape.specs.Offsets.{refusalOf}
+use Rattle.shape.specs.declared.Refusal.{Refusal}
 use Rattle.message.specs.declared.Element.the-variants.{At}
 use Rattle.message.specs.declared.Message.{Message}
 use Rattle.message.specs.declared.Message.the-variants as message
 use Rattle.message.specs.declared.Named.{Named}
+use Rattle.message.specs.declared.Naming.{Naming}
 use Rattle.message.specs.declared.Named.the-variants as names
 use Rattle.message.specs.Lists.{startElement, openWithin, nextOf}
 use Rattle.message.specs.Parts.{memberOf, spanOf, spanIn, membersOf, membersGot, membersAt, eventPartsOf, eventAt}
 use Rattle.message.specs.Read.{firstItem as firstElement, secondPlace, messageParts, inRoot, readOf, readNumber}
-use Rattle.message.specs.Read.{RowRead, idNamed, subscriptionNamed, namedIn, namedRoot, isEarly, namedOf}
+use Rattle.message.specs.Read.{RowRead, idNamed, subscriptionNamed, namedIn, namedRoot, isEarly, namedOf, namingOf}
 use Rattle.message.specs.Inner.{spanAt, wordOpening, openingAt, elementPlace, wordPlace, stringAfter, partsAt}
 use Rattle.message.specs.Inner.{labelNamed, namedAt}
 use Rattle.message.proofs.Walks.{never, bind-got, deeper}
@@ -220,10 +223,29 @@ row-read s = go (eqb (messageRow s) 0) refl
     on : messageRow s ≡ 0 → Shaped s → readNumber (inRoot s (root s)) ≡ messageRow s
     on z (shaped {t = t} r h) = rw (r, z) (by (opened s t .first) (opened s t .rest) h)
 
-    go : (b : Bool) → eqb (messageRow s) 0 ≡ b → readNumber (cond b (inRoot s (root s)) (message.Refused (messageRow s))) ≡ messageRow s
+    go : (b : Bool) → eqb (messageRow s) 0 ≡ b → readNumber (cond b (inRoot s (root s)) (message.Refused (refusalOf s))) ≡ messageRow s
     go true e = let z = eqb-true (messageRow s) 0 e in on z (late-shaped s (ap isEarly z))
     go false e = refl
 
 -- an answer and its number
 pub with-row : (s : List ℕ) {r : Message} → r ≡ readOf s → (r ≡ readOf s) × (readNumber r ≡ messageRow s)
 with-row s e = (e, ap readNumber e ∙ row-read s)
+
+-- what refuses a message, its own row, and what the reply names
+module _ (s : List ℕ) {x : Refusal} (e : x ≡ refusalOf s) where
+  pub own-row : {n : ℕ} → x .row ≡ n → messageRow s ≡ n
+  own-row z = sym (ap (λ y. y .row) e) ∙ z
+
+  pub read-refused : (x .row ≡ 0 → ⊥) → message.Refused x ≡ readOf s
+  unfolding readOf
+  read-refused n = simp (e, ne-eqb (messageRow s) 0 (λ z. n (ap (λ y. y .row) e ∙ z)))
+
+  pub named-early : {b : Bool} → b ≡ isEarly (x .row) → b ≡ true → names.Nothing ≡ namedOf s
+  unfolding namedOf
+  named-early q t = simp (sym (ap (λ y. isEarly (y .row)) e) ∙ sym q ∙ t)
+
+  pub named-late : {b : Bool} → b ≡ isEarly (x .row) → b ≡ false → isEarly (messageRow s) ≡ false
+  named-late q t = sym (ap (λ y. isEarly (y .row)) e) ∙ sym q ∙ t
+
+  pub naming-is : {n : Named} → n ≡ namedOf s → (_≡_ {A = Naming} (record { refusal = x; named = n }) (namingOf s)) × (x .row ≡ messageRow s)
+  naming-is q = (rw (e, q) refl, ap (λ y. y .row) e)

@@ -29,6 +29,7 @@ use Rattle.message.specs.declared.Element.the-variants as element
 use Rattle.message.specs.declared.Body.{Body}
 use Rattle.message.specs.declared.Members.{Members}
 use Rattle.shape.specs.Rows.{outside}
+use Rattle.shape.specs.Offsets.{plainRefusal}
 use Rattle.message.specs.declared.Message.{Message}
 use Rattle.message.specs.declared.Message.the-variants as message
 use Rattle.message.specs.declared.Named.{Named}
@@ -163,7 +164,7 @@ unfoldable pub partsAt : (s : Bytes) (x : Opening) (j : ℕ) → Message
 partsAt s opening.Event j = message.Event (eventAt s j)
 partsAt s opening.Req j = message.Req (record { subscription = spanAt s j; filters = stringAfter s j })
 partsAt s opening.Close j = message.Close (spanAt s j)
-partsAt s opening.Other j = message.Refused 5
+partsAt s opening.Other j = message.Refused (plainRefusal 5)
 
 -- ---- the filters of a REQ, one element after the other
 abbrev pub followingOf : Bytes → Element → Element

@@ -11,11 +11,14 @@ use Rattle.rows.specs.Rows.{onRoot}
 use Rattle.spell.specs.Spell.{isHexOf}
 use Rattle.shape.specs.Shape.{Word, event, req, close, other, Opened, opened, idName}
 use Rattle.shape.specs.Rows.{messageRow, wrongSubscription}
+use Rattle.shape.specs.Offsets.{plainRefusal, refusalOf}
+use Rattle.shape.specs.declared.Refusal.{Refusal}
 use Rattle.message.specs.Parts.{spanOf, eventPartsOf, membersOf, memberOf, spanIn}
 use Rattle.message.specs.declared.Span.{Span}
 use Rattle.message.specs.declared.Message.{Message}
 use Rattle.message.specs.declared.Message.the-variants as message
 use Rattle.message.specs.declared.Named.{Named}
+use Rattle.message.specs.declared.Naming.{Naming}
 use Rattle.message.specs.declared.Named.the-variants as names
 use Rattle.wire.specs.Bytes.{Bytes}
 
@@ -34,16 +37,16 @@ abbrev pub messageParts : (s : Bytes) (word : Word) (ts : Items) → Message
 messageParts s event ts = message.Event (eventPartsOf s (membersOf (firstItem ts)))
 messageParts s req ts = message.Req (record { subscription = spanOf (firstItem ts); filters = secondPlace ts })
 messageParts s close ts = message.Close (spanOf (firstItem ts))
-messageParts s other ts = message.Refused 5
+messageParts s other ts = message.Refused (plainRefusal 5)
 
 abbrev pub inRoot : Bytes → Got Json → Message
-inRoot s none = message.Refused 3
+inRoot s none = message.Refused (plainRefusal 3)
 inRoot s (got t n) = messageParts s (opened s t .first) (opened s t .rest)
 
 -- 01: "A read message is an EVENT, a REQ or a CLOSE, each with its own parts"; "A refusal carries its number and no
--- other value"
+-- other value", but for the offset of rows 6 and 7 (02, Wish 9)
 unfoldable pub readOf : Bytes → Message
-readOf s = cond (eqb (messageRow s) 0) (inRoot s (root s)) (message.Refused (messageRow s))
+readOf s = cond (eqb (messageRow s) 0) (inRoot s (root s)) (message.Refused (refusalOf s))
 
 -- 01's number of an answer: 0 where none of rows 1 to 8 holds. That it is the message's row is proved in
 -- proofs/Reading.antt
@@ -51,7 +54,7 @@ abbrev pub readNumber : Message → ℕ
 readNumber (message.Event p) = 0
 readNumber (message.Req r) = 0
 readNumber (message.Close p) = 0
-readNumber (message.Refused r) = r
+readNumber (message.Refused r) = r .row
 
 abbrev pub RowRead : Type 0
 RowRead = (s : List ℕ) → readNumber (readOf s) ≡ messageRow s
@@ -93,3 +96,7 @@ isEarly r = leb 1 r && leb r 5
 
 unfoldable pub namedOf : Bytes → Named
 namedOf s = cond (isEarly (messageRow s)) names.Nothing (namedRoot s (root s))
+
+-- what refuses a message, if any row does, and what the reply names: all that a reply to it says
+abbrev pub namingOf : Bytes → Naming
+namingOf s = record { refusal = refusalOf s; named = namedOf s }

@@ -5,7 +5,7 @@ ghost use Rattle.json.specs.Grammar.{startAt};
 ghost use Rattle.shape.specs.Rows.{messageRow};
 ghost use Rattle.message.specs.Parts.{filterAt, filtersAt};
 ghost use Rattle.message.specs.Lists.{startElement, nextOf};
-ghost use Rattle.message.specs.Read.{readOf, readNumber, isEvent, namedOf};
+ghost use Rattle.message.specs.Read.{readOf, readNumber, isEvent, namingOf};
 ghost use Rattle.message.specs.Lent.{stringRow, hexRow, subscriptionRow, bodyRow, eventRow, filterRow};
 ghost use Rattle.wire.specs.Lowest.{lowerRow};
 
@@ -17,6 +17,7 @@ mod words;
 use json::Next;
 use json::Out;
 use json::Start;
+use shape::Refusal;
 use shape::Sort;
 
 // The brackets and braces that may be open at once within an item of what stands at a place.
@@ -90,7 +91,7 @@ pub enum Message {
     Event(EventParts),
     Req(ReqParts),
     Close(Span),
-    Refused(u8),
+    Refused(Refusal),
 }
 
 // What the reply to a refused message names.
@@ -98,6 +99,12 @@ pub enum Named {
     Id(Span),
     Subscription(Span),
     Nothing,
+}
+
+// What refuses a message, row 0 where none does, and what the reply to it names.
+pub struct Naming {
+    pub refusal: Refusal,
+    pub named: Named,
 }
 
 // The places of an object's members, the first of each name, in the order in which 01 lists them under Shape: id,
@@ -165,14 +172,14 @@ pub fn next(s: &[u8], at: usize) -> Element
     }
 }
 
-// A message read: its parts, or the lowest of rows 1 to 8 that holds of it.
+// A message read: its parts, or the lowest of rows 1 to 8 that holds of it, with the offset of rows 6 and 7.
 pub fn read(s: &[u8]) -> Message
     ensures { λ r. ⌜ r ≡ readOf (now (s .entry)) ⌝ }
     ensures { λ r. ⌜ readNumber r ≡ messageRow (now (s .entry)) ⌝ }
 {
-    let row = shape::message_row(s);
-    if row != 0 {
-        return Message::Refused(row);
+    let refusal = shape::message_refusal(s);
+    if refusal.row != 0 {
+        return Message::Refused(refusal);
     }
     let i = words::word_place(s);
     words::parts(s, words::opening_at(s, i), words::second(s, i))
@@ -205,16 +212,22 @@ pub fn is_event(s: &[u8]) -> bool
     }
 }
 
-// What the reply to a message that rows 6 to 12 refuse names: the event's id if it is 64 lower-case hex, the
-// subscription id of a REQ if it is within bounds.
-pub fn names(s: &[u8]) -> Named
-    ensures { λ r. ⌜ r ≡ namedOf (now (s .entry)) ⌝ }
+// What refuses a message, with the offset of rows 6 and 7, and what the reply to a message that rows 6 to 12 refuse
+// names: the event's id if it is 64 lower-case hex, the subscription id of a REQ if it is within bounds.
+pub fn names(s: &[u8]) -> Naming
+    ensures { λ r. ⌜ r ≡ namingOf (now (s .entry)) ⌝ }
+    ensures { λ r. ⌜ r .refusal .row ≡ messageRow (now (s .entry)) ⌝ }
 {
-    if words::early(shape::message_row(s)) {
-        return Named::Nothing;
+    let refusal = shape::message_refusal(s);
+    if words::early(refusal.row) {
+        return Naming {
+            refusal,
+            named: Named::Nothing,
+        };
     }
     let i = words::word_place(s);
-    words::named_in(s, words::opening_at(s, i), words::second(s, i))
+    let named = words::named_in(s, words::opening_at(s, i), words::second(s, i));
+    Naming { refusal, named }
 }
 
 // The lowest of rows 2, 4 and 5 that holds of a string part, lent in b; 0 where none does.

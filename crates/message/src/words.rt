@@ -20,6 +20,8 @@ use crate::Span;
 use crate::lent;
 use crate::object;
 use crate::values;
+use shape::Offset;
+use shape::Refusal;
 
 pub(crate) fn opening_at(s: &[u8], at: usize) -> Opening
     ensures { λ r. ⌜ r ≡ openingAt (now (s .entry)) at ⌝ }
@@ -78,7 +80,10 @@ pub(crate) fn parts(s: &[u8], x: Opening, j: usize) -> Message
             })
         }
         Opening::Close => Message::Close(values::span_at(s, j)),
-        Opening::Other => Message::Refused(5),
+        Opening::Other => Message::Refused(Refusal {
+            row: 5,
+            offset: Offset::Absent,
+        }),
     }
 }
 

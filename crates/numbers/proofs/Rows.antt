@@ -21,6 +21,7 @@ use Rattle.json.proofs.Ends.{then-end, byte-is}
 use Rattle.json.proofs.Bytes.{past-none}
 use Rattle.shape.specs.Shape.{Word, event, req, close, other, opened, isFilter, createdAtName, kindName}
 use Rattle.shape.specs.Rows.{messageRow}
+use Rattle.shape.specs.Offsets.{refusalOf}
 use Rattle.message.specs.declared.Element.{Element}
 use Rattle.message.specs.declared.Element.the-variants.{At, Ended, Broken}
 use Rattle.message.specs.declared.EventParts.{EventParts}
@@ -197,7 +198,7 @@ read-event s p e = accepted (eqb (messageRow s) 0) e
     in-root none q = absurd (let z : _≡_ {A = ℕ} 0 1 = cc in omega arith)
     in-root (got t n) q = by-word (opened s t .first) (opened s t .rest) q
 
-    accepted : (b : Bool) → cond b (inRoot s (root s)) (Refused (messageRow s)) ≡ Event p → Members s p
+    accepted : (b : Bool) → cond b (inRoot s (root s)) (Refused (refusalOf s)) ≡ Event p → Members s p
     accepted true q = in-root (root s) q
     accepted false q = absurd (let z : _≡_ {A = ℕ} 0 1 = cc in omega arith)
 

@@ -39,7 +39,7 @@ twelve Ephemeral = refl
 twelve Duplicate = refl
 twelve Older = refl
 twelve Stored = refl
-twelve (Refused r) = go (eqb r 12)
+twelve (Refused r) = go (eqb (r .row) 12)
   where
     go : (t : Bool) → t ≡ isNoRoom (cond t noRoom refused)
     go true = refl
@@ -159,7 +159,7 @@ was-stored Ephemeral e = absurd (false≢true e)
 was-stored Duplicate e = absurd (false≢true e)
 was-stored Older e = absurd (false≢true e)
 was-stored Stored e = refl
-was-stored (Refused r) e = absurd (go (eqb r 12) e)
+was-stored (Refused r) e = absurd (go (eqb (r .row) 12) e)
   where
     go : (t : Bool) → isStoredVerdict (cond t noRoom refused) ≡ true → ⊥
     go true q = false≢true q

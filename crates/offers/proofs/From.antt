@@ -16,6 +16,8 @@ use Rattle.text.specs.Read.{read, readText}
 use Rattle.text.specs.Answer.{textParts}
 use Rattle.shape.specs.Shape.{Word, event, req, close, other, opened}
 use Rattle.shape.specs.Rows.{messageRow}
+use Rattle.shape.specs.Offsets.{plainRefusal, refusalOf, refusalFor}
+use Rattle.shape.specs.declared.Refusal.{Refusal}
 use Rattle.rows.specs.Rows.{row1, row2, row3, row4, onRoot, textRow}
 use Rattle.json.specs.Tree.{Json, Got, none, got, root}
 use Rattle.message.specs.Read.{isEventWord, isEvent, inRoot, readOf}
@@ -25,14 +27,15 @@ use Rattle.message.specs.declared.Message.the-variants as message
 use Rattle.message.specs.declared.EventParts.{EventParts}
 use Rattle.message.proofs.Reading.{row-read}
 use Rattle.message.proofs.Order.{Late, rows-first, rows-late, text-clean}
-use Rattle.event.specs.Sent.{unreadRow, sentRowOf, sentRow, sentText, sentOut, sentTextNumber}
+use Rattle.event.specs.Sent.{unreadRefusal, sentRowOf, sentRow, sentText, sentOut, sentTextNumber}
 use Rattle.event.specs.declared.SentText.{SentText}
 use Rattle.event.specs.declared.SentText.the-variants as sent
 use Rattle.event.specs.declared.Written.the-variants as written
 use Rattle.event.proofs.Answers.{AsOffered, row-alone-most}
 use Rattle.event.proofs.Sent.{some-row, sent-wrote, sent-refused}
 use Rattle.table.specs.Layout.{slotSize, textPlace, slotBytes}
-use Rattle.table.specs.Offer.{messageOfferRow, partsIn, partsOf, heldOf}
+use Rattle.table.specs.Offer.{asMessage, messageOfferRow, partsIn, partsOf, heldOf}
+use Rattle.table.proofs.Faithful.{valid-plain}
 use Rattle.table.proofs.Rows.{message-rows, event-rows}
 use Rattle.offers.specs.Inner.{SpellsHex, headOf}
 use Rattle.offers.specs.Taken.{Made, Makes}
@@ -45,7 +48,7 @@ module _ (m : List ℕ) where
   -- a message that was read and is no EVENT
   not-event : (x : Message) → ((p : EventParts) → x ≡ message.Event p → ⊥) → readOf m ≡ x → messageRow m ≡ 0 → isEvent m ≡ false
   unfolding readOf isEvent
-  not-event x n e z = go (root m) (sym (ap (λ t. cond t (inRoot m (root m)) (message.Refused (messageRow m))) (eq-eqb (messageRow m) 0 z)) ∙ e)
+  not-event x n e z = go (root m) (sym (ap (λ t. cond t (inRoot m (root m)) (message.Refused (refusalOf m))) (eq-eqb (messageRow m) 0 z)) ∙ e)
     where
       go : (g : Got Json) → inRoot m g ≡ x → onRoot (λ t. isEventWord (opened m t .first)) g ≡ false
       go none f = refl
@@ -72,24 +75,24 @@ module _ (m : List ℕ) where
       go false false false true = omega arith
       go false false false false = omega arith
 
-  unread : {r : ℕ} → readOf m ≡ message.Refused r → unreadRow m r ≡ messageOfferRow m
-  unread {r} e = go (read-row e) (some-row m e) (eqb (textRow m) 0) refl (isEvent m) refl
+  unread : {x : Refusal} → readOf m ≡ message.Refused x → unreadRefusal m x .row ≡ messageOfferRow m
+  unread {x} e = go (read-row e) (some-row m e) (eqb (textRow m) 0) refl (isEvent m) refl
     where
-      late : messageRow m ≡ r → (r ≡ 0 → ⊥) → Late (messageRow m) → 4 < r
+      late : messageRow m ≡ x .row → (x .row ≡ 0 → ⊥) → Late (messageRow m) → 4 < x .row
       late w o (inl z) = absurd (o (sym w ∙ z))
       late w o (inr z) = omega arith
 
-      go : messageRow m ≡ r → (r ≡ 0 → ⊥) → (t : Bool) → eqb (textRow m) 0 ≡ t → (v : Bool) → isEvent m ≡ v → unreadRow m r ≡ messageOfferRow m
+      go : messageRow m ≡ x .row → (x .row ≡ 0 → ⊥) → (t : Bool) → eqb (textRow m) 0 ≡ t → (v : Bool) → isEvent m ≡ v → unreadRefusal m x .row ≡ messageOfferRow m
       go w o false q v u =
           let k = eqb-false (textRow m) 0 q in
-          let z : textRow m ≡ r = sym (rows-first m k) ∙ w in
-          ap (λ t. cond (t || isEvent m) r 5) (le-leb r 4 (omega (arith, text-most))) ∙ sym z ∙ sym (message-rows m .text k)
+          let z : textRow m ≡ x .row = sym (rows-first m k) ∙ w in
+          ap (λ t. cond (t || isEvent m) x (plainRefusal 5) .row) (le-leb (x .row) 4 (omega (arith, text-most))) ∙ sym z ∙ sym (message-rows m .text k)
       go w o true q true u =
           let k = eqb-true (textRow m) 0 q in
-          ap₂ (λ t v. cond (t || v) r 5) (lt-leb r 4 (late w o (rows-late m k))) u ∙ sym w ∙ sym (message-rows m .refused k u (λ z. o (sym w ∙ z)))
+          ap₂ (λ t v. cond (t || v) x (plainRefusal 5) .row) (lt-leb (x .row) 4 (late w o (rows-late m k))) u ∙ sym w ∙ sym (message-rows m .refused k u (λ z. o (sym w ∙ z)))
       go w o true q false u =
           let k = eqb-true (textRow m) 0 q in
-          ap₂ (λ t v. cond (t || v) r 5) (lt-leb r 4 (late w o (rows-late m k))) u ∙ sym (message-rows m .no-event k u)
+          ap₂ (λ t v. cond (t || v) x (plainRefusal 5) .row) (lt-leb (x .row) 4 (late w o (rows-late m k))) u ∙ sym (message-rows m .no-event k u)
 
   -- ---- an output that has room for every text does not change the row
   sent-row : (out : List ℕ) → mostText ≤ length out → sentRow m out ≡ messageOfferRow m
@@ -104,8 +107,11 @@ module _ (m : List ℕ) where
 
   -- ---- the slot made from a message, o at exit; d is what was lent, zeros
   module _ (d : List ℕ) (zs : d ≡ replicate slotSize 0) {s : SentText} (a : s ≡ sentText m (lentPart d)) where
-    pub from-refused : {r : ℕ} {o : List ℕ} → sentTextNumber s ≡ sentRow m (lentPart d) → s ≡ sent.Refused r → Makes m (sent.Refused r) o
-    from-refused q e = record { is = (sym (ap sentTextNumber e) ∙ q ∙ sent-row (lentPart d) (lent-most zs), sent-refused m (lentPart d) (sym a ∙ e)) }
+    pub from-refused : {r : Refusal} {o : List ℕ} → sentTextNumber s ≡ sentRow m (lentPart d) → s ≡ sent.Refused r → Makes m (sent.Refused r) o
+    from-refused {r} q e =
+        let z : r .row ≡ messageOfferRow m = sym (ap sentTextNumber e) ∙ q ∙ sent-row (lentPart d) (lent-most zs) in
+        let (f, n) = sent-refused m (lentPart d) (sym a ∙ e) in
+        record { is = (f ∙ ap (refusalFor m) z, λ w. n (z ∙ w)) }
 
     module _ {p : EventParts} {n : ℕ} (e : s ≡ sent.Wrote p n) where
       told : (readOf m ≡ message.Event p) × AsOffered m p (lentPart d) (written.Wrote n) (sentOut m (lentPart d))
@@ -124,17 +130,21 @@ module _ (m : List ℕ) where
           let (k, l) = made m p d zs w q refl (o ∙ y) g in
           record { is = (f, (k ∙ sym (event-rows m p f .as-parts), l refl ∙ ap (λ x. slotBytes (heldOf m (partsIn x))) (sym f))) }
 
--- ---- what was made: the row alone
+-- ---- what was made: what refuses it alone
 module _ (m : List ℕ) {s : SentText} {o : List ℕ} (k : Makes m s o) where
   pub made-wrote : {p : EventParts} {n : ℕ} → s ≡ sent.Wrote p n
       → (readOf m ≡ message.Event p) × ((0 ≡ messageOfferRow m) × (o ≡ slotBytes (heldOf m (partsOf m))))
   made-wrote {p} {n} e = let h : Made m (sent.Wrote p n) o = rw e at (k .is) in h
 
-  pub made-refused : {r : ℕ} → s ≡ sent.Refused r → (r ≡ messageOfferRow m) × (r ≡ 0 → ⊥)
+  pub made-refused : {r : Refusal} → s ≡ sent.Refused r → (r ≡ refusalFor m (messageOfferRow m)) × (messageOfferRow m ≡ 0 → ⊥)
   made-refused {r} e = let h : Made m (sent.Refused r) o = rw e at (k .is) in h
 
-  pub row-none : {p : EventParts} {n : ℕ} → s ≡ sent.Wrote p n → (0 ≡ messageOfferRow m) × (_≡_ {A = ℕ} 0 0 → o ≡ slotBytes (heldOf m (partsOf m)))
-  row-none e = let (f, (z, q)) = made-wrote e in (z, λ w. q)
+  -- what make_from promises
+  abbrev From : Refusal → Type 0
+  From x = (x ≡ refusalFor m (messageOfferRow m)) × (x .row ≡ 0 → o ≡ slotBytes (heldOf m (partsOf m)))
 
-  pub row-some : {r : ℕ} → s ≡ sent.Refused r → (r ≡ messageOfferRow m) × (r ≡ 0 → o ≡ slotBytes (heldOf m (partsOf m)))
-  row-some e = let (f, n) = made-refused e in (f, λ z. absurd (n z))
+  pub row-none : {p : EventParts} {n : ℕ} → s ≡ sent.Wrote p n → {x : Refusal} → x ≡ plainRefusal 0 → From x
+  row-none e g = let (f, (z, q)) = made-wrote e in (g ∙ sym (valid-plain (asMessage m) (sym z)), λ w. q)
+
+  pub row-some : {r : Refusal} → s ≡ sent.Refused r → From r
+  row-some e = let (f, n) = made-refused e in (f, λ z. absurd (n (sym (ap (λ x. x .row) f) ∙ z)))

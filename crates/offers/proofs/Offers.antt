@@ -10,21 +10,23 @@ use Rattle.wire.specs.Put.{put}
 use Rattle.wire.specs.Field.{leBytes}
 use Rattle.text.specs.Kinds.{isEphemeral, keyOf}
 use Rattle.shape.specs.Shape.{event}
+use Rattle.shape.specs.Offsets.{plainRefusal}
+use Rattle.shape.specs.declared.Refusal.{Refusal}
 use Rattle.law.specs.Lists.{any, find}
 use Rattle.law.specs.Table.{hasId, hasKey, hasKeyNewer, lacksSlot, firstVerdict, verdict}
 use Rattle.law.specs.Table as law
 use Rattle.table.specs.Layout.{Held, Fits, slotPlace, countPlace, capacityOf, countOf, slotBytes}
 use Rattle.table.specs.Events.{signedEvents, classIn, classOfEvent, classOfText, inSlot, ofHeld, view}
 use Rattle.table.specs.Sound.{sound}
-use Rattle.table.specs.Offer.{Offering, offeringRow, isValid, offeredOf, offeredBy, answer, offerNumber, isStored}
-use Rattle.table.specs.Offer.{countAfter, slotFor, storedIn, next}
+use Rattle.table.specs.Offer.{Offering, offeringRow, offeringRefusal, isValid, offeredOf, offeredBy, answer}
+use Rattle.table.specs.Offer.{offerNumber, isStored, countAfter, slotFor, storedIn, next}
 use Rattle.table.specs.declared.Offered.{Offered}
 use Rattle.table.specs.declared.Offered.the-variants.{Refused}
 use Rattle.table.proofs.Valid.{valid-fits, valid-read}
 use Rattle.table.proofs.Slots.{slot-length, slot-kind, slot-reads, slot-sound, slot-holds}
 use Rattle.table.proofs.Distinct.{class-lasts}
 use Rattle.table.proofs.Stored.{length-view}
-use Rattle.table.proofs.Faithful.{answer-invalid, answer-unsound, answer-valid}
+use Rattle.table.proofs.Faithful.{refusal-row, valid-plain, answer-invalid, answer-unsound, answer-valid}
 use Rattle.offers.specs.Row.{needsSlot, allInUse, offerRow}
 use Rattle.offers.specs.Inner.{New, answerFor, slotOf, storedFor, offeredTo, offeredNext}
 
@@ -49,7 +51,7 @@ module _ {A : Type 0} (p q : A → Bool) where
 
 -- the number of a verdict: n holds nowhere where k does not
 verdict-number : (e i n k l : Bool) → (k ≡ false → n ≡ false)
-    → offerNumber (offeredBy 0 (firstVerdict e i n (not k && l))) ≡ cond ((not e && (not i && not k)) && l) 12 0
+    → offerNumber (offeredBy (plainRefusal 0) (firstVerdict e i n (not k && l))) ≡ cond ((not e && (not i && not k)) && l) 12 0
 verdict-number true i n k l h = refl
 verdict-number false true n k l h = refl
 verdict-number false false true true l h = refl
@@ -71,8 +73,8 @@ module _ (b : List ℕ) (o : Offering) where
       let i = any (hasId signedEvents h) (view b) in
       let n = any (hasKeyNewer signedEvents h) (view b) in
       ap offerNumber (answer-valid b o v g)
-      ∙ ap₂ (λ r e. offerNumber (offeredBy r (firstVerdict e i n (lacksSlot signedEvents (capacityOf b) (view b) h)))) (eqb-true (offeringRow o) 0 v) (class-is v)
-      ∙ ap (λ m. offerNumber (offeredBy 0 (firstVerdict (isEphemeral (offeredOf o .event .kind)) i n (not k && leb (capacityOf b) m)))) (length-view b)
+      ∙ ap₂ (λ r e. offerNumber (offeredBy r (firstVerdict e i n (lacksSlot signedEvents (capacityOf b) (view b) h)))) (valid-plain o (eqb-true (offeringRow o) 0 v)) (class-is v)
+      ∙ ap (λ m. offerNumber (offeredBy (plainRefusal 0) (firstVerdict (isEphemeral (offeredOf o .event .kind)) i n (not k && leb (capacityOf b) m)))) (length-view b)
       ∙ verdict-number (isEphemeral (offeredOf o .event .kind)) i n k (leb (capacityOf b) (countOf b))
       (any-both (hasKey signedEvents h) (λ x. signedEvents .newer x h) (view b))
 
@@ -84,7 +86,7 @@ module _ (b : List ℕ) (o : Offering) where
           → offerNumber (answer b o) ≡ cond v (cond g (cond (needsSlot b (offeredOf o) && allInUse b) 12 0) 11) (offeringRow o)
       go true v true g = valid-number v g
       go true v false g = ap offerNumber (answer-unsound b o v g)
-      go false v g h = ap offerNumber (answer-invalid b o v)
+      go false v g h = ap offerNumber (answer-invalid b o v) ∙ refusal-row o
 
 -- ---- an offer o by its slot
 module _ (b : List ℕ) (o : Offering) where
@@ -99,15 +101,15 @@ module _ (b : List ℕ) (o : Offering) where
   answers e = (e, ap offerNumber e ∙ number-is b o)
 
   module _ {r : ℕ} (f : r ≡ offeringRow o) where
-    refused-is : (r ≡ 0 → ⊥) → answer b o ≡ Refused (offeringRow o)
+    refused-is : (r ≡ 0 → ⊥) → answer b o ≡ Refused (offeringRefusal o)
     refused-is n = answer-invalid b o (ne-eqb (offeringRow o) 0 (λ q. n (f ∙ q)))
 
-    pub refused : (r ≡ 0 → ⊥) → Answers (Refused r)
-    refused n = answers (ap Refused f ∙ sym (refused-is n))
+    pub refused : (r ≡ 0 → ⊥) → {x : Refusal} → x ≡ offeringRefusal o → Answers (Refused x)
+    refused n e = answers (ap Refused e ∙ sym (refused-is n))
 
-    pub refused-stays : (r ≡ 0 → ⊥) → Leaves (Refused r) b
+    pub refused-stays : (r ≡ 0 → ⊥) → {x : Refusal} → x ≡ offeringRefusal o → Leaves (Refused x) b
     unfolding next
-    refused-stays n = let a = refused n in (a .0, (a .1, sym (ap (λ x. cond (isStored x) (storedIn b (offeredOf o)) b) (refused-is n))))
+    refused-stays n e = let a = refused n e in (a .0, (a .1, sym (ap (λ x. cond (isStored x) (storedIn b (offeredOf o)) b) (refused-is n))))
 
     module _ (z : r ≡ 0) {s : List ℕ} (w : r ≡ 0 → s ≡ slotBytes (offeredOf o)) where
       q : s ≡ slotBytes (offeredOf o)
@@ -129,9 +131,9 @@ module _ (b : List ℕ) (o : Offering) where
       unfolding offeredTo answerFor
       answer-is = go (sound b) refl
         where
-          go : (x : Bool) → sound b ≡ x → cond x (answerFor b s) (Refused 11) ≡ answer b o
+          go : (x : Bool) → sound b ≡ x → cond x (answerFor b s) (Refused (plainRefusal 11)) ≡ answer b o
           go true g =
-              ap₂ (λ k v. offeredBy k (verdict signedEvents (capacityOf b) (view b) (some v))) (sym (sym f ∙ z)) held ∙ sym (answer-valid b o valid g)
+              ap₂ (λ k v. offeredBy k (verdict signedEvents (capacityOf b) (view b) (some v))) (sym (valid-plain o (sym f ∙ z))) held ∙ sym (answer-valid b o valid g)
           go false g = sym (answer-unsound b o valid g)
 
       stores : storedFor b s ≡ storedIn b (offeredOf o)

@@ -14,6 +14,8 @@ use Rattle.wire.specs.Limits.{mostSlots}
 use Rattle.wire.specs.Field.{fieldAt, leBytes}
 use Rattle.wire.specs.Put.{put, Puts}
 use Rattle.wire.proofs.Laws.{puts-whole}
+use Rattle.shape.specs.Offsets.{plainRefusal}
+use Rattle.shape.specs.declared.Refusal.{Refusal}
 use Rattle.text.specs.Kinds.{isEphemeral}
 use Rattle.law.specs.Lists.{any, find}
 use Rattle.law.specs.Table.{hasId, hasKey, firstVerdict}
@@ -46,7 +48,7 @@ lent-put d a k s e h =
     sym (sets-eq s d a h′ ∙ append-assoc (take a d) s (drop (a + length s) d)
     ∙ ap (λ (l : List ℕ). take a d ++ (s ++ l)) (ap (λ (j : ℕ). drop (a + j) d) e ∙ sym (drop-drop k a d)))
 
-stored-means : (a i n l : Bool) → isStored (offeredBy 0 (firstVerdict a i n l)) ≡ true → (a ≡ false) × (l ≡ false)
+stored-means : (a i n l : Bool) → isStored (offeredBy (plainRefusal 0) (firstVerdict a i n l)) ≡ true → (a ≡ false) × (l ≡ false)
 stored-means true i n l e = absurd (false≢true e)
 stored-means false true n l e = absurd (false≢true e)
 stored-means false false true l e = absurd (false≢true e)
@@ -58,7 +60,7 @@ pub room-sound : (b s : List ℕ) → HasRoom b s → (sound b ≡ true) × (isS
 unfolding offeredTo
 room-sound b s h = go (sound b) refl (h .stored)
   where
-    go : (t : Bool) → sound b ≡ t → isStored (cond t (answerFor b s) (Refused 11)) ≡ true → (sound b ≡ true) × (isStored (answerFor b s) ≡ true)
+    go : (t : Bool) → sound b ≡ t → isStored (cond t (answerFor b s) (Refused (plainRefusal 11))) ≡ true → (sound b ≡ true) × (isStored (answerFor b s) ≡ true)
     go true e q = (e, q)
     go false e q = absurd (false≢true q)
 
@@ -115,9 +117,9 @@ module _ (b s : List ℕ) (n : New s) (h : HasRoom b s) where
 
 -- ---- an offer to a table that is sound or not
 module _ (b s : List ℕ) {x : Bool} (f : x ≡ sound b) where
-  pub not-sound : x ≡ false → Decides b s (offeredTo b s) (Answered (Refused 11))
+  pub not-sound : x ≡ false → {y : Refusal} → y ≡ plainRefusal 11 → Decides b s (offeredTo b s) (Answered (Refused y))
   unfolding offeredTo
-  not-sound e = record { is = (sym (ap (λ t. cond t (answerFor b s) (Refused 11)) (sym f ∙ e)), refl) }
+  not-sound e h = record { is = (ap Refused h ∙ sym (ap (λ t. cond t (answerFor b s) (Refused (plainRefusal 11))) (sym f ∙ e)), refl) }
 
   pub is-judged : {d : Decided} → x ≡ true → Decides b s (answerFor b s) d → Decides b s (offeredTo b s) d
   unfolding offeredTo

@@ -3,6 +3,7 @@ use mathlib.Core.Path.{_≡_, refl, sym, ap, ap₂, _∙_}
 use mathlib.Core.List.{List}
 use Prim.Native.Nat.{ℕ}
 use native.Mathlib.Omega.{arith}
+use Rattle.shape.specs.declared.Refusal.{Refusal}
 use Rattle.message.specs.Read.{readOf}
 use Rattle.message.specs.declared.Span.{Span}
 use Rattle.message.specs.declared.EventParts.{EventParts}
@@ -53,12 +54,12 @@ takes-as b m {a} (e, (n, l)) {r} f g = (
 pub read-again : (m : List ℕ) (a : Offered) {x y : Message} → x ≡ readOf m → x ≡ y → takenAs a y ≡ takenAs a (readOf m)
 read-again m a f e = ap (takenAs a) (sym e ∙ f)
 
--- s is what was made of the message: the slot o of its event, or a row
+-- s is what was made of the message: the slot o of its event, or what refuses it
 module _ (b m : List ℕ) {s : SentText} {o : List ℕ} (k : Makes m s o) where
-  pub refused-taken : {row : ℕ} {r : Taken} → s ≡ sent.Refused row → r ≡ takenAs (offered.Refused row) (readOf m) → Takes b m r b
+  pub refused-taken : {x : Refusal} {r : Taken} → s ≡ sent.Refused x → r ≡ takenAs (offered.Refused x) (readOf m) → Takes b m r b
   refused-taken e f =
       let (g, n) = made-refused m k e in
-      takes-as b m (offers.refused-stays b (asMessage m) g n) f (sym (table-as b (readOf m)))
+      takes-as b m (offers.refused-stays b (asMessage m) refl n g) f (sym (table-as b (readOf m)))
 
   module _ {p : EventParts} {n : ℕ} (e : s ≡ sent.Wrote p n) where
     pub new-event : New o
@@ -107,7 +108,7 @@ module _ (b m : List ℕ) {r : Taken} (a : r ≡ taken b m) where
       go (message.Close s) g = let y : s ≡ q = cc in ap message.Close y
       go (message.Refused k) g = absurd (let y : _≡_ {A = ℕ} 0 1 = cc in omega arith)
 
-  pub took-refused : {k : ℕ} → r ≡ takes.Refused k → readOf m ≡ message.Refused k
+  pub took-refused : {k : Refusal} → r ≡ takes.Refused k → readOf m ≡ message.Refused k
   unfolding taken
   took-refused {k} e = go (readOf m) (sym a ∙ e)
     where
@@ -131,6 +132,6 @@ module _ (b m : List ℕ) where
   unfolding takenTable
   table-close e = ap (tableAs b (next b (asMessage m))) e
 
-  pub table-refused : {k : ℕ} → readOf m ≡ message.Refused k → takenTable b m ≡ b
+  pub table-refused : {k : Refusal} → readOf m ≡ message.Refused k → takenTable b m ≡ b
   unfolding takenTable
   table-refused e = ap (tableAs b (next b (asMessage m))) e

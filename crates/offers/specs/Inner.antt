@@ -22,6 +22,7 @@ use Rattle.event.specs.Order.{isNewer}
 use Rattle.law.specs.Lists.{find}
 use Rattle.law.specs.Table.{hasKey, verdict}
 use Rattle.law.specs.Table as law
+use Rattle.shape.specs.Offsets.{plainRefusal}
 use Rattle.table.specs.Layout.{slotSize, slotPlace, countPlace, capacityOf, countOf, idIn, timeIn, kindIn, textIn}
 use Rattle.table.specs.Events.{signedEvents, inSlot, classOfText, view}
 use Rattle.table.specs.Sound.{slotSound, sound}
@@ -49,11 +50,11 @@ pub record New (s : List ℕ) : Type 0 where
 
 -- "Verdicts of an offer"
 unfoldable pub answerFor : Bytes → Bytes → Offered
-answerFor b s = offeredBy 0 (verdict signedEvents (capacityOf b) (view b) (some (inSlot s)))
+answerFor b s = offeredBy (plainRefusal 0) (verdict signedEvents (capacityOf b) (view b) (some (inSlot s)))
 
 -- row 11, then the verdict
 unfoldable pub offeredTo : Bytes → Bytes → Offered
-offeredTo b s = cond (sound b) (answerFor b s) (Refused 11)
+offeredTo b s = cond (sound b) (answerFor b s) (Refused (plainRefusal 11))
 
 -- "over the slot with its key, else in slot C"
 unfoldable pub slotOf : Bytes → Bytes → ℕ

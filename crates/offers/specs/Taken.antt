@@ -2,6 +2,7 @@
 use mathlib.Core.Path.{_≡_}
 use mathlib.Core.List.{List}
 use Prim.Native.Nat.{ℕ}
+use Rattle.shape.specs.Offsets.{refusalFor}
 use Rattle.message.specs.Read.{readOf}
 use Rattle.message.specs.declared.Message.{Message}
 use Rattle.message.specs.declared.Message.the-variants as message
@@ -30,13 +31,13 @@ abbrev pub takenNumber : Taken → ℕ
 takenNumber (Event i a) = offerNumber a
 takenNumber (Req q) = 0
 takenNumber (Close s) = 0
-takenNumber (Refused r) = r
+takenNumber (Refused r) = r .row
 
 abbrev pub takenRowAs : ℕ → Message → ℕ
 takenRowAs k (message.Event p) = k
 takenRowAs k (message.Req q) = 0
 takenRowAs k (message.Close s) = 0
-takenRowAs k (message.Refused r) = r
+takenRowAs k (message.Refused r) = r .row
 
 unfoldable pub takenRow : Bytes → Bytes → Row
 takenRow b m = takenRowAs (offerRow b (asMessage m)) (readOf m)
@@ -56,7 +57,7 @@ takenTable b m = tableAs b (next b (asMessage m)) (readOf m)
 abbrev pub Made : (m : Bytes) (x : SentText) (o : Bytes) → Type 0
 Made m (sent.Wrote p n) o =
     (readOf m ≡ message.Event p) × ((0 ≡ messageOfferRow m) × (o ≡ slotBytes (heldOf m (partsOf m))))
-Made m (sent.Refused r) o = (r ≡ messageOfferRow m) × (r ≡ 0 → ⊥)
+Made m (sent.Refused r) o = (r ≡ refusalFor m (messageOfferRow m)) × (messageOfferRow m ≡ 0 → ⊥)
 
 pub record Makes (m : List ℕ) (s : SentText) (o : List ℕ) : Type 0 where
   pub is : Made m s o

@@ -26,7 +26,7 @@ pub enum Taken {
     Event(message::Span, table::Offered),
     Req(message::ReqParts),
     Close(message::Span),
-    Refused(u8),
+    Refused(shape::Refusal),
 }
 
 // What is decided of an offer: the slot that it fills, or what it is answered where nothing is stored.
@@ -145,7 +145,7 @@ fn verdict(table: &[u8], new: &[u8]) -> Decided
         return Decided::Fills(k);
     }
     if full {
-        return Decided::Answered(table::Offered::Refused(12));
+        return Decided::Answered(table::Offered::Refused(shape::plain_refusal(12)));
     }
     Decided::Fills(k)
 }
@@ -157,7 +157,7 @@ fn judge(table: &[u8], new: &[u8]) -> Decided
         r ⌝ }
 {
     if !slots::sound(table) {
-        return Decided::Answered(table::Offered::Refused(11));
+        return Decided::Answered(table::Offered::Refused(shape::plain_refusal(11)));
     }
     verdict(table, new)
 }
@@ -221,7 +221,7 @@ pub fn offer_parts(table: &mut [u8], b: &[u8], p: message::EventParts) -> table:
     let mut new = [0u8; slots::SLOT_SIZE];
     let row = made::make_slot(&mut new, b, p);
     if row != 0 {
-        return table::Offered::Refused(row);
+        return table::Offered::Refused(shape::plain_refusal(row));
     }
     offer_slot(table, &new)
 }
@@ -233,9 +233,9 @@ pub fn offer_message(table: &mut [u8], m: &[u8]) -> table::Offered
     ensures { λ _. ⌜ now (table .exit) ≡ next (now (table .entry)) (asMessage (now (m .entry))) ⌝ }
 {
     let mut new = [0u8; slots::SLOT_SIZE];
-    let row = made::make_from(&mut new, m);
-    if row != 0 {
-        return table::Offered::Refused(row);
+    let refusal = made::make_from(&mut new, m);
+    if refusal.row != 0 {
+        return table::Offered::Refused(refusal);
     }
     offer_slot(table, &new)
 }
@@ -246,9 +246,9 @@ pub fn judge_message(table: &[u8], m: &[u8]) -> table::Offered
     ensures { λ r. ⌜ offerNumber r ≡ offerRow (now (table .entry)) (asMessage (now (m .entry))) ⌝ }
 {
     let mut new = [0u8; slots::SLOT_SIZE];
-    let row = made::make_from(&mut new, m);
-    if row != 0 {
-        return table::Offered::Refused(row);
+    let refusal = made::make_from(&mut new, m);
+    if refusal.row != 0 {
+        return table::Offered::Refused(refusal);
     }
     match judge(table, &new) {
         Decided::Fills(_) => table::Offered::Stored,
@@ -256,14 +256,14 @@ pub fn judge_message(table: &[u8], m: &[u8]) -> table::Offered
     }
 }
 
-// What a message gives that a row refuses as an offer: it is read again.
-fn untaken(m: &[u8], row: u8) -> Taken
-    ensures { λ r. ⌜ r ≡ takenAs (offered.Refused row) (readOf (now (m .entry))) ⌝ }
+// What a message gives that is refused as an offer: it is read again.
+fn untaken(m: &[u8], refusal: shape::Refusal) -> Taken
+    ensures { λ r. ⌜ r ≡ takenAs (offered.Refused refusal) (readOf (now (m .entry))) ⌝ }
 {
     match message::read(m) {
         message::Message::Event(p) => {
             let id = p.id;
-            Taken::Event(id, table::Offered::Refused(row))
+            Taken::Event(id, table::Offered::Refused(refusal))
         }
         message::Message::Req(q) => Taken::Req(q),
         message::Message::Close(s) => Taken::Close(s),
@@ -285,6 +285,6 @@ pub fn take(table: &mut [u8], m: &[u8]) -> Taken
             let a = offer_slot(table, &new);
             Taken::Event(id, a)
         }
-        event::SentText::Refused(row) => untaken(m, row),
+        event::SentText::Refused(r) => untaken(m, r),
     }
 }

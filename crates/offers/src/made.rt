@@ -12,6 +12,7 @@ ghost use Rattle.text.specs.Event.{Event};
 ghost use Rattle.text.specs.Read.{read, readText};
 ghost use Rattle.text.specs.Answer.{textParts};
 ghost use Rattle.text.specs.Kinds.{classOf};
+ghost use Rattle.shape.specs.Offsets.{refusalFor};
 ghost use Rattle.event.specs.Lent.{said};
 ghost use Rattle.event.specs.Answer.{offeredRow};
 ghost use Rattle.table.specs.Layout.{slotSize, textPlace, slotBytes};
@@ -141,18 +142,19 @@ pub(crate) fn make_event(out: &mut [u8], m: &[u8]) -> event::SentText
             put_fields(out, m, p, n);
             event::SentText::Wrote(p, n)
         }
-        event::SentText::Refused(row) => event::SentText::Refused(row),
+        event::SentText::Refused(r) => event::SentText::Refused(r),
     }
 }
 
-// The row alone.
-pub(crate) fn make_from(out: &mut [u8], m: &[u8]) -> u8
+// What refuses the message alone, row 0 where none does.
+pub(crate) fn make_from(out: &mut [u8], m: &[u8]) -> shape::Refusal
     requires { ⌜ now out ≡ replicate slotSize 0 ⌝ }
-    ensures { λ r. ⌜ r ≡ messageOfferRow (now (m .entry)) ⌝ }
-    ensures { λ r. ⌜ (r ≡ 0 → now (out .exit) ≡ slotBytes (heldOf (now (m .entry)) (partsOf (now (m .entry))))) ⌝ }
+    ensures { λ r. ⌜ r ≡ refusalFor (now (m .entry)) (messageOfferRow (now (m .entry))) ⌝ }
+    ensures { λ r. ⌜ (r .row ≡ 0 →
+        now (out .exit) ≡ slotBytes (heldOf (now (m .entry)) (partsOf (now (m .entry))))) ⌝ }
 {
     match make_event(out, m) {
-        event::SentText::Wrote(_, _) => 0,
-        event::SentText::Refused(row) => row,
+        event::SentText::Wrote(_, _) => shape::plain_refusal(0),
+        event::SentText::Refused(r) => r,
     }
 }

@@ -10,6 +10,9 @@ use native.Mathlib.Omega.{arith}
 use lib.Dec.{T, eqb, leb}
 use lib.ListN.{length, getD, drop}
 use borrow.Author.Tests.{ne-eqb, leb-false}
+use Rattle.shape.specs.Offsets.{plainRefusal}
+use Rattle.shape.specs.declared.Refusal.{Refusal}
+use Rattle.shape.proofs.Offsets.{offset-plain}
 use Rattle.text.specs.Kinds.{keyOf, isEphemeral}
 use Rattle.law.specs.Lists.{_∈_, any}
 use Rattle.law.specs.Table.{Verdict, refused, wasEphemeral, duplicate, older, stored, noRoom, firstVerdict, hasId}
@@ -22,8 +25,8 @@ use Rattle.table.specs.Layout.{Fits, tableSize, capacityOf, slotBytes}
 use Rattle.table.specs.Events.{SignedEvent, Signature, tableEvents, signedEvents, ofHeld, classOfEvent}
 use Rattle.table.specs.Events.{classOfText, view}
 use Rattle.table.specs.Sound.{sound}
-use Rattle.table.specs.Offer.{Offering, offeringRow, isValid, offeredOf, judge, offeredBy, verdictOn, answer}
-use Rattle.table.specs.Offer.{isStored, slotFor, countAfter, storedIn, next}
+use Rattle.table.specs.Offer.{Offering, asMessage, asParts, offeringRow, offeringRefusal, isValid, offeredOf}
+use Rattle.table.specs.Offer.{judge, offeredBy, verdictOn, answer, isStored, slotFor, countAfter, storedIn, next}
 use Rattle.table.specs.Demand3.{verdictOf, relay}
 use Rattle.table.specs.Claims.{Unchanged, OtherBytes, BytesAfter}
 use Rattle.table.specs.declared.Offered.{Offered}
@@ -38,7 +41,7 @@ use Rattle.table.proofs.Good.{Good, fresh-good, fresh-view}
 use Rattle.table.proofs.Valid.{valid-fits, valid-hashed, valid-read, refused-row}
 
 -- ---- verdicts
-answer-stored : (r : ℕ) (v : Verdict) → isStored (offeredBy r v) ≡ true → v ≡ stored
+answer-stored : (r : Refusal) (v : Verdict) → isStored (offeredBy r v) ≡ true → v ≡ stored
 answer-stored r refused e = absurd (false≢true e)
 answer-stored r wasEphemeral e = absurd (false≢true e)
 answer-stored r duplicate e = absurd (false≢true e)
@@ -52,13 +55,13 @@ stored-as Ephemeral = refl
 stored-as Duplicate = refl
 stored-as Older = refl
 stored-as Stored = refl
-stored-as (Refused r) = go (eqb r 12)
+stored-as (Refused r) = go (eqb (r .row) 12)
   where
     go : (t : Bool) → law.isStored (cond t noRoom refused) ≡ false
     go true = refl
     go false = refl
 
-first-said : (r : ℕ) (a i n l : Bool) → verdictOf (offeredBy r (firstVerdict a i n l)) ≡ firstVerdict a i n l
+first-said : (r : Refusal) (a i n l : Bool) → verdictOf (offeredBy r (firstVerdict a i n l)) ≡ firstVerdict a i n l
 first-said r true i n l = refl
 first-said r false true n l = refl
 first-said r false false true l = refl
@@ -72,20 +75,29 @@ first-stored false false true l e = absurd (false≢true (ap law.isStored e))
 first-stored false false false true e = absurd (false≢true (ap law.isStored e))
 first-stored false false false false e = (refl, refl)
 
+-- ---- what refuses an offer: by its row, and none with an offset where no row does
+pub refusal-row : (o : Offering) → offeringRefusal o .row ≡ offeringRow o
+refusal-row (asMessage m) = refl
+refusal-row (asParts b p) = refl
+
+pub valid-plain : (o : Offering) → offeringRow o ≡ 0 → offeringRefusal o ≡ plainRefusal 0
+valid-plain (asMessage m) z = rw z (ap (λ x. record { row = 0; offset = x }) (offset-plain m 0 (λ e. omega arith) (λ e. omega arith)))
+valid-plain (asParts b p) z = ap plainRefusal z
+
 -- ---- an offer
 module _ (b : List ℕ) (o : Offering) where
   abbrev offered : SignedEvent
   offered = ofHeld (offeredOf o)
 
-  pub answer-invalid : isValid o ≡ false → answer b o ≡ Refused (offeringRow o)
+  pub answer-invalid : isValid o ≡ false → answer b o ≡ Refused (offeringRefusal o)
   unfolding answer verdictOn judge verdict
   answer-invalid e = rw e
 
-  pub answer-unsound : isValid o ≡ true → sound b ≡ false → answer b o ≡ Refused 11
+  pub answer-unsound : isValid o ≡ true → sound b ≡ false → answer b o ≡ Refused (plainRefusal 11)
   unfolding answer
   answer-unsound e s = rw (e, s)
 
-  pub answer-valid : isValid o ≡ true → sound b ≡ true → answer b o ≡ offeredBy (offeringRow o) (verdict signedEvents (capacityOf b) (view b) (some offered))
+  pub answer-valid : isValid o ≡ true → sound b ≡ true → answer b o ≡ offeredBy (offeringRefusal o) (verdict signedEvents (capacityOf b) (view b) (some offered))
   unfolding answer verdictOn judge
   answer-valid e s = rw (e, s)
 
@@ -112,7 +124,7 @@ module _ (b : List ℕ) (o : Offering) where
       go true true p q = record {
         valid = p;
         is-sound = q;
-        stores = answer-stored (offeringRow o) (verdict signedEvents (capacityOf b) (view b) (some offered)) (sym (ap isStored (answer-valid p q)) ∙ e);
+        stores = answer-stored (offeringRefusal o) (verdict signedEvents (capacityOf b) (view b) (some offered)) (sym (ap isStored (answer-valid p q)) ∙ e);
       }
 
   module _ (s : Stores) where
@@ -202,12 +214,12 @@ module _ (b : List ℕ) (o : Offering) (g : Good b) where
       go true e =
           let x = offered b o in
           ap verdictOf (answer-valid b o e (g .is-sound))
-          ∙ first-said (offeringRow o) (law.isEphemeral (signedEvents .classOf x)) (any (hasId signedEvents x) (view b))
+          ∙ first-said (offeringRefusal o) (law.isEphemeral (signedEvents .classOf x)) (any (hasId signedEvents x) (view b))
           (any (hasKeyNewer signedEvents x) (view b)) (lacksSlot signedEvents (capacityOf b) (view b) x)
           ∙ ap (verdict signedEvents (capacityOf b) (view b)) (sym (judge-valid b o e))
       go false e =
           ap verdictOf (answer-invalid b o e)
-          ∙ ap (λ t. cond t noRoom refused) (ne-eqb (offeringRow o) 12 (λ q. omega (arith, refused-row o e)))
+          ∙ ap (λ t. cond t noRoom refused) (ap (λ r. eqb r 12) (refusal-row o) ∙ ne-eqb (offeringRow o) 12 (λ q. omega (arith, refused-row o e)))
           ∙ ap (verdict signedEvents (capacityOf b) (view b)) (sym (judge-invalid b o e))
 
   does : view (next b o) ≡ after signedEvents (capacityOf b) (view b) (judge o)

@@ -18,6 +18,7 @@ use Rattle.rows.specs.Strings.{refusedIn}
 use Rattle.digest.specs.Digest.{digest}
 use Rattle.shape.specs.Shape.{Word, event, req, close, other, opened}
 use Rattle.shape.specs.Rows.{treeRow, rootRow, messageRow}
+use Rattle.shape.specs.Offsets.{refusalOf}
 use Rattle.message.specs.Lent.{eventRow}
 use Rattle.message.specs.Read.{messageParts, inRoot, readOf}
 use Rattle.message.specs.declared.EventParts.{EventParts}
@@ -30,7 +31,7 @@ use Rattle.table.specs.Offer.{judge}
 use Rattle.table.specs.Offer as offer
 use Rattle.table.specs.Claims.{OfferRows, MessageRows, EventRows, RowsInOrder}
 use Rattle.table.proofs.Valid.{refused-row}
-use Rattle.table.proofs.Faithful.{answer-invalid, answer-unsound, answer-valid}
+use Rattle.table.proofs.Faithful.{valid-plain, answer-invalid, answer-unsound, answer-valid}
 
 -- ---- a row, or else the next
 or-first : (r s : ℕ) → r ≢ 0 → orElse r s ≡ r
@@ -44,7 +45,7 @@ pub offer-rows : (b : List ℕ) (o : Offering) → OfferRows b o
 offer-rows b o = record {
   early = λ e. let n : offeringRow o ≢ 0 = eqb-false (offeringRow o) 0 e in (omega arith, refused-row o e, answer-invalid b o e);
   unsound = λ e s. answer-unsound b o e s;
-  judged = λ e s. let z : offeringRow o ≡ 0 = eqb-true (offeringRow o) 0 e in rw z at (answer-valid b o e s);
+  judged = λ e s. let z : offeringRow o ≡ 0 = eqb-true (offeringRow o) 0 e in rw (valid-plain o z) at (answer-valid b o e s);
 }
 
 -- ---- a message
@@ -91,7 +92,7 @@ module _ (m : List ℕ) (p : EventParts) (e : readOf m ≡ message.Event p) wher
   unfolding readOf isEvent
   accepted = go (eqb (messageRow m) 0) refl e
     where
-      go : (t : Bool) → eqb (messageRow m) 0 ≡ t → cond t (inRoot m (root m)) (message.Refused (messageRow m)) ≡ message.Event p
+      go : (t : Bool) → eqb (messageRow m) 0 ≡ t → cond t (inRoot m (root m)) (message.Refused (refusalOf m)) ≡ message.Event p
           → (messageRow m ≡ 0) × (onRoot (λ t. isEventWord (opened m t .first)) (root m) ≡ true)
       go true q z = (eqb-true (messageRow m) 0 q, event-first m p (root m) z)
       go false q z = absurd (let y : _≡_ {A = ℕ} 0 1 = cc in omega arith)

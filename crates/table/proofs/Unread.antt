@@ -20,7 +20,7 @@ use Rattle.table.specs.Layout.{headerSize, slotSize, tableSize, slotPlac
 use Rattle.table.specs.Layout.{slotSizeOf, firstSlotOf, heldSlots, laterSlots, slotBytes}
 use Rattle.table.specs.Events.{signedEvents, inSlot, ofHeld, view}
 use Rattle.table.specs.Sound.{slotSound, slotsSound, noneTwice, noIdTwice, noKeyTwice, isZero, laterZero, sound}
-use Rattle.table.specs.Offer.{Offering, offeringRow, isValid, offeredOf, offeredBy, answer, isStored, slotFor}
+use Rattle.table.specs.Offer.{Offering, offeringRefusal, isValid, offeredOf, offeredBy, answer, isStored, slotFor}
 use Rattle.table.specs.Offer.{countAfter, storedIn, next}
 use Rattle.table.proofs.Slots.{slot-length}
 use Rattle.table.specs.Claims.{NeverRead}
@@ -131,7 +131,7 @@ module _ (b t : List ℕ) (full : length b ≡ tableSize (capacityOf b)) where
         go true false p q = answer-unsound (b ++ t) o p (sound-append ∙ q) ∙ sym (answer-unsound b o p q)
         go true true p q =
             answer-valid (b ++ t) o p (sound-append ∙ q)
-            ∙ ap₂ (λ N v. offeredBy (offeringRow o) (verdict signedEvents N v (some (ofHeld (offeredOf o))))) capacity-append (view-append (clauses b q .count))
+            ∙ ap₂ (λ N v. offeredBy (offeringRefusal o) (verdict signedEvents N v (some (ofHeld (offeredOf o))))) capacity-append (view-append (clauses b q .count))
             ∙ sym (answer-valid b o p q)
 
     stored-append : isStored (answer b o) ≡ true → storedIn (b ++ t) (offeredOf o) ≡ storedIn b (offeredOf o) ++ t

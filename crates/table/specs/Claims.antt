@@ -14,6 +14,7 @@ use Rattle.rows.specs.Rows.{textRow}
 use Rattle.rows.specs.Strings.{part}
 use Rattle.digest.specs.Digest.{digest}
 use Rattle.shape.specs.Rows.{messageRow}
+use Rattle.shape.specs.Offsets.{plainRefusal}
 use Rattle.text.specs.Event.{Event, serialise, isFit, all}
 use Rattle.text.specs.Read.{read, readText, IsTextOf}
 use Rattle.text.specs.Kinds.{replaceable, addressable, classOf, dOf, keyOf, hasKey}
@@ -32,8 +33,9 @@ use Rattle.table.specs.Layout.{textPlace, textIn, noSpan, dPlace, slotBy
 use Rattle.table.specs.Events.{SignedEvent, Signature, classOfText, timeOfText, tableEvents, signedEvents, inSlot}
 use Rattle.table.specs.Events.{ofHeld, view}
 use Rattle.table.specs.Sound.{slotSound, soundUpTo, sound}
-use Rattle.table.specs.Offer.{Offering, asMessage, asParts, isEvent, messageOfferRow, offeringRow, isValid}
-use Rattle.table.specs.Offer.{isStored, judge, offeredBy, answerIf, answer, offeredOf, slotFor, next}
+use Rattle.table.specs.Offer.{Offering, asMessage, asParts, isEvent, messageOfferRow, offeringRow}
+use Rattle.table.specs.Offer.{offeringRefusal, isValid, isStored, judge, offeredBy, answerIf, answer, offeredOf}
+use Rattle.table.specs.Offer.{slotFor, next}
 use Rattle.table.specs.Format.{formatRow, formatted, shownRowIf, shownRow, shown}
 use Rattle.table.specs.Demand3.{relay, Fresh, Tells, AsParts}
 use Rattle.table.specs.declared.Offered.the-variants.{Refused}
@@ -61,10 +63,12 @@ pub record FormatRows (N : ℕ) (b : List ℕ) : Type 0 where
 -- "Where several hold, the lowest number is given": rows 1 to 10 first, whatever the table; then 11, before every
 -- verdict; and "Verdicts of an offer after row 11"
 pub record OfferRows (b : List ℕ) (o : Offering) : Type 0 where
-  pub early : isValid o ≡ false → (1 ≤ offeringRow o) × (offeringRow o ≤ 10) × (answer b o ≡ Refused (offeringRow o))
-  pub unsound : isValid o ≡ true → sound b ≡ false → answer b o ≡ Refused 11
+  pub early : isValid o ≡ false →
+      (1 ≤ offeringRow o) × (offeringRow o ≤ 10) × (answer b o ≡ Refused (offeringRefusal o))
+  pub unsound : isValid o ≡ true → sound b ≡ false → answer b o ≡ Refused (plainRefusal 11)
   pub judged : isValid o ≡ true → sound b ≡ true →
-      answer b o ≡ offeredBy 0 (verdict signedEvents (capacityOf b) (view b) (some (ofHeld (offeredOf o))))
+      answer b o
+      ≡ offeredBy (plainRefusal 0) (verdict signedEvents (capacityOf b) (view b) (some (ofHeld (offeredOf o))))
 
 -- "Reading a message tests rows 1 to 8; offering one tests 1 to 12, .. and gives 5 also if it isn't an EVENT": 5 before
 -- 6 to 8, after 1 to 4

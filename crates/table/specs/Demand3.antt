@@ -68,7 +68,7 @@ verdictOf Ephemeral = wasEphemeral
 verdictOf Duplicate = duplicate
 verdictOf Older = older
 verdictOf Stored = stored
-verdictOf (Refused r) = cond (eqb r 12) noRoom refused
+verdictOf (Refused r) = cond (eqb (r .row) 12) noRoom refused
 
 -- a relay over such tables and offers, by what it answers and the table that an offer leaves
 abbrev pub relayWith : (List ℕ → Offering → Offered) → (List ℕ → Offering → List ℕ) → Machine tableEvents Signature

@@ -11,6 +11,8 @@ use Rattle.wire.specs.Field.{leBytes}
 use Rattle.rows.specs.Rows.{textRow}
 unfoldable pub use Rattle.spell.specs.Spell.{unhex}
 use Rattle.shape.specs.Rows.{messageRow}
+use Rattle.shape.specs.Offsets.{plainRefusal, refusalFor}
+use Rattle.shape.specs.declared.Refusal.{Refusal}
 use Rattle.message.specs.Parts.{nowhere}
 pub use Rattle.message.specs.Read.{isEventWord}
 unfoldable pub use Rattle.message.specs.Read.{isEvent}
@@ -60,6 +62,11 @@ abbrev pub offeringRow : Offering → ℕ
 offeringRow (asMessage m) = messageOfferRow m
 offeringRow (asParts b p) = offeredRow b p
 
+-- what refuses an offer: of a message with the offset of rows 6 and 7 (02, Wish 9)
+abbrev pub offeringRefusal : Offering → Refusal
+offeringRefusal (asMessage m) = refusalFor m (messageOfferRow m)
+offeringRefusal (asParts b p) = plainRefusal (offeredRow b p)
+
 -- "A valid event is one offered, as a message or as parts, that none of rows 1 to 10 refuses."
 abbrev pub isValid : Offering → Bool
 isValid o = eqb (offeringRow o) 0
@@ -76,14 +83,14 @@ unfoldable pub judge : Offering → Offer signedEvents
 judge o = cond (isValid o) (some (ofHeld (offeredOf o))) none
 
 -- ---- the answer
--- 01's number of a verdict that has one, and the row r that refused the offer
-abbrev pub offeredBy : ℕ → Verdict → Offered
+-- 01's number of a verdict that has one, and what refused the offer
+abbrev pub offeredBy : Refusal → Verdict → Offered
 offeredBy r refused = Refused r
 offeredBy r wasEphemeral = Ephemeral
 offeredBy r duplicate = Duplicate
 offeredBy r older = Older
 offeredBy r stored = Stored
-offeredBy r noRoom = Refused 12
+offeredBy r noRoom = Refused (plainRefusal 12)
 
 -- "Verdicts of an offer after row 11": law/Table, `verdict`
 unfoldable pub verdictOn : Bytes → Offering → Verdict
@@ -91,7 +98,8 @@ verdictOn b o = verdict signedEvents (capacityOf b) (view b) (judge o)
 
 -- rows 1 to 10, then 11, where the table is told not to be sound, then the verdict
 abbrev pub answerIf : (isSound : Bool) (b : Bytes) (o : Offering) → Offered
-answerIf isSound b o = cond (isValid o && not isSound) (Refused 11) (offeredBy (offeringRow o) (verdictOn b o))
+answerIf isSound b o =
+    cond (isValid o && not isSound) (Refused (plainRefusal 11)) (offeredBy (offeringRefusal o) (verdictOn b o))
 
 unfoldable pub answer : Bytes → Offering → Offered
 answer b o = answerIf (sound b) b o
@@ -102,7 +110,7 @@ offerNumber Ephemeral = 0
 offerNumber Duplicate = 0
 offerNumber Older = 0
 offerNumber Stored = 0
-offerNumber (Refused r) = r
+offerNumber (Refused r) = r .row
 
 abbrev pub isStored : Offered → Bool
 isStored Ephemeral = false

@@ -12,10 +12,10 @@ verdict-requires c κs =
     (sym (c1 .sound .ensures) ∙ not-false _ (c .if1 .left), c1 .before .before .before .pre)
 
 returns : tie.Need-returns
-returns c = not-sound _ _ (c .before .sound .ensures) (not-true _ (c .if1 .taken))
+returns c = not-sound _ _ (c .before .before .sound .ensures) (not-true _ (c .before .if1 .taken)) (c .plain-refusal .ensures)
 
 returns-2 : tie.Need-returns-2
 returns-2 c = is-judged _ _ (c .before .before .sound .ensures) (not-false _ (c .before .if1 .left)) (c .verdict .ensures)
 
 pub judge-spec : {M : Type 1} → statement M
-judge-spec = tie.close (tie.spec (λ c κs. search needs) returns verdict-requires returns-2)
+judge-spec = tie.close (tie.spec (λ c κs. search needs) (λ c κs. search needs) returns verdict-requires returns-2)

@@ -1,6 +1,7 @@
 -- By the row of the parts.
-use mathlib.Core.Path.{refl}
+use mathlib.Core.Path.{refl, ap, _∙_}
 use borrow.Author.Needs.{needs}
+use Rattle.shape.specs.Offsets.{plainRefusal}
 use Rattle.table.specs.Offer.{asParts}
 use Rattle.offers.proofs.Offers.{refused-stays, is-new, taken}
 use Rattle.offers.proofs.offer_parts.Statement.{statement}
@@ -8,9 +9,11 @@ use Rattle.offers.proofs.offer_parts.Tie as tie
 
 returns : tie.Need-returns
 returns c =
-    let c2 = c .before .before in
-    let a = c2 .before .before .before .before .args in
-    refused-stays (a .table .now) (asParts (a .b .now) (a .p)) (c2 .make-slot .ensures .0) (c .if1 .taken)
+    let c1 = c .before in
+    let c3 = c1 .before .before in
+    let a = c3 .before .before .before .before .args in
+    refused-stays (a .table .now) (asParts (a .b .now) (a .p)) (c3 .make-slot .ensures .0) (c1 .if1 .taken)
+    (c .plain-refusal .ensures ∙ ap plainRefusal (c3 .make-slot .ensures .0))
 
 offer-slot-requires : tie.Need-offer-slot-requires
 offer-slot-requires c κs =
@@ -28,4 +31,4 @@ returns-2 c =
     taken (a .table .now) (asParts (a .b .now) (a .p)) (c7 .make-slot .ensures .0) (c5 .if1 .left) (c7 .make-slot .ensures .1) (c2 .offer-slot .ensures)
 
 pub offer-parts-spec : {M : Type 1} → statement M
-offer-parts-spec = tie.close (tie.spec (search needs) (λ c κs. refl) returns (search needs) offer-slot-requires (search needs) returns-2)
+offer-parts-spec = tie.close (tie.spec (search needs) (λ c κs. refl) (search needs) returns (search needs) offer-slot-requires (search needs) returns-2)

@@ -25,7 +25,7 @@ returns-2 c =
     let c2 = c .before .before in
     let c5 = c2 .before .before .before in
     let a = c5 .before .before .before .before .args in
-    refused-taken (a .table .now) (a .m .now) (c5 .make-event .ensures) (c2 .row .given .1) (c .untaken .ensures)
+    refused-taken (a .table .now) (a .m .now) (c5 .make-event .ensures) (c2 .r .given .1) (c .untaken .ensures)
 
 pub take-spec : {M : Type 1} → statement M
 take-spec =

@@ -36,10 +36,10 @@ returns-4 c =
 
 returns-5 : tie.Need-returns-5
 returns-5 c =
-    let k = c .before .before in let i = k .before .before .before in let e = i .before .before in
+    let f = c .before in let k = f .before .before in let i = k .before .before .before in let e = i .before .before in
     let p = e .before .before .before .before .before .pre in
     no-room _ _ (p .0) (p .1) (e .before .before .le-at .ensures .is) (e .before .is-ephemeral .ensures) (e .if1 .left) (i .before .le-at2 .ensures .is)
-    (i .id-held .ensures) (k .before .if2 .left) (k .find-key .ensures) (c .before .if3 .left) (k .before .before .is-full .ensures) (c .if5 .taken)
+    (i .id-held .ensures) (k .before .if2 .left) (k .find-key .ensures) (f .before .if3 .left) (k .before .before .is-full .ensures) (f .if5 .taken) (c .plain-refusal .ensures)
 
 returns-6 : tie.Need-returns-6
 returns-6 c =
@@ -52,4 +52,4 @@ pub verdict-spec : {M : Type 1} → statement M
 verdict-spec =
     tie.close
     (tie.spec (λ c κs. search needs) (λ c κs. search needs) returns (λ c κs. search needs) (λ c κs. search needs) (λ c κs. search needs) returns-2
-    (λ c κs. search needs) (λ c κs. search needs) (λ c κs. search needs) returns-3 returns-4 returns-5 returns-6)
+    (λ c κs. search needs) (λ c κs. search needs) (λ c κs. search needs) returns-3 returns-4 (λ c κs. search needs) returns-5 returns-6)

@@ -29,7 +29,7 @@ returns-2 c =
     let c5 = c1 .before .before .before .before in
     let a = c5 .before .before .before .before in
     let o = c5 .sent-text .ensures in
-    from-refused _ (a .args .out .now) (a .pre) (o .0) (o .1 .0) (c1 .row .given .1)
+    from-refused _ (a .args .out .now) (a .pre) (o .0) (o .1 .0) (c1 .r .given .1)
 
 pub make-event-spec : {M : Type 1} → statement M
 make-event-spec =
