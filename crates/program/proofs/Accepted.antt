@@ -22,6 +22,7 @@ use Rattle.rows.specs.Strings.{spelledAt, refusedIn}
 use Rattle.shape.specs.Shape.{anyItem, allItems, countItems, nameAt, noNameTwice, once, eventMember, isEvent, isFilter}
 use Rattle.shape.specs.Shape.{wordOf}
 use Rattle.shape.specs.Rows.{row6, row7, row8, eventNumber, eventHex, eventCount, wrongTime, wrongSmall, wrongHex}
+use Rattle.shape.specs.Offsets.{plainRefusal}
 use Rattle.shape.specs.Rows.{wrongTag, filterCounts, wrongSubscription, treeRow, messageRow}
 use Rattle.message.specs.Parts.{memberOf, bodyOf, eventPartsOf, membersAt, filterAt}
 use Rattle.message.specs.Read.{readOf}
@@ -167,10 +168,10 @@ says-stored : answer freshTable (asMessage sent) ≡ Stored
 unfolding partsOf
 says-stored =
     rows-in-order .0 freshTable (asMessage sent) .judged (rw valid) (fresh-good freshTable fresh .is-sound)
-    ∙ ap (λ (t : List SignedEvent). offer.offeredBy 0 (verdict signedEvents (capacityOf freshTable) t (some (ofHeld (offeredOf (asMessage sent)))))) (fresh-view freshTable fresh)
-    ∙ ap (λ N. offer.offeredBy 0 (verdict signedEvents N [] (some (ofHeld (offeredOf (asMessage sent)))))) capacity
-    ∙ ap (λ x. offer.offeredBy 0 (verdict signedEvents 8 [] (some x))) (rw reads held-is)
-    ∙ ap (offer.offeredBy 0) first-verdict
+    ∙ ap (λ (t : List SignedEvent). offer.offeredBy (plainRefusal 0) (verdict signedEvents (capacityOf freshTable) t (some (ofHeld (offeredOf (asMessage sent)))))) (fresh-view freshTable fresh)
+    ∙ ap (λ N. offer.offeredBy (plainRefusal 0) (verdict signedEvents N [] (some (ofHeld (offeredOf (asMessage sent)))))) capacity
+    ∙ ap (λ x. offer.offeredBy (plainRefusal 0) (verdict signedEvents 8 [] (some x))) (rw reads held-is)
+    ∙ ap (offer.offeredBy (plainRefusal 0)) first-verdict
 
 -- slot 0 holds it
 slot-0 : inSlot (slotAt table 0) ≡ note

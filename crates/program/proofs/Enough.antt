@@ -44,8 +44,9 @@ use Rattle.table.proofs.Bytes.{clauses}
 use Rattle.query.specs.Answer.{answerList, filtersMeant}
 use Rattle.wire.proofs.Cases.{no-left, no-right}
 use Rattle.query.proofs.Tables.{answer-means}
-use Rattle.reply.specs.Replies.{Reply, ok, eose, closed, notice, truth, stringJson, replyText, reasonOf}
-use Rattle.program.specs.Program.{verdictReason}
+use Rattle.reply.specs.Replies.{Reply, ok, eose, closed, notice, truth, stringJson, replyText}
+use Rattle.reply.proofs.Reasons.{reason-short}
+use Rattle.program.specs.Program.{verdictReason, reasonFor}
 use Rattle.program.specs.Program.{refusalNaming, refusal, offerReply, requestReplies, repliesTo, replyLine}
 use Rattle.program.specs.Program.{written}
 use Rattle.program.specs.Respond.{response, respondRow, slotLine, joined, slotLines}
@@ -53,7 +54,7 @@ use Rattle.program.specs.Claims.Respond.{enoughFor, Enough}
 use Rattle.program.proofs.Which.{names-id, names-subscription}
 use Rattle.program.proofs.Shown.{answers-held}
 use Rattle.program.proofs.Streamed.{one-by-one}
-use Rattle.program.proofs.Sizes.{string-length, line-length, held-json, spelled-short, hex-short, reason-short}
+use Rattle.program.proofs.Sizes.{string-length, line-length, held-json, spelled-short, hex-short}
 
 -- ---- what a message that rows 1 to 5 let pass is: UTF-8, and no string of it is refused
 late-utf8 : (s : List ℕ) → isEarly (messageRow s) ≡ false → isUtf8 s ≡ true
@@ -168,11 +169,11 @@ refusal-short : (m : List ℕ) (r : ℕ) → length (replyLine (refusal m r)) �
 unfolding refusal
 refusal-short m r = go (leb r 5) (namedOf m) (named-short m)
   where
-    go : (x : Bool) (n : Named) → NamedShort m n → length (replyLine (cond x (notice (reasonOf r)) (refusalNaming m n (reasonOf r)))) ≤ 428
-    go true n h = omega (arith, notice-line (reasonOf r), reason-short r)
-    go false (names.Id p) h = omega (arith, ok-line (said m p) false (reasonOf r), reason-short r, h)
-    go false (names.Subscription p) h = omega (arith, closed-line (said m p) (reasonOf r), reason-short r, h)
-    go false names.Nothing h = omega (arith, notice-line (reasonOf r), reason-short r)
+    go : (x : Bool) (n : Named) → NamedShort m n → length (replyLine (cond x (notice (reasonFor m r)) (refusalNaming m n (reasonFor m r)))) ≤ 428
+    go true n h = omega (arith, notice-line (reasonFor m r), reason-short m r)
+    go false (names.Id p) h = omega (arith, ok-line (said m p) false (reasonFor m r), reason-short m r, h)
+    go false (names.Subscription p) h = omega (arith, closed-line (said m p) (reasonFor m r), reason-short m r, h)
+    go false names.Nothing h = omega (arith, notice-line (reasonFor m r), reason-short m r)
 
 -- a verdict's reason has at most 34 bytes
 verdicts-short : (length (stringJson (verdictReason offered.Ephemeral)) ≡ 2) × (length (stringJson (verdictReason offered.Duplicate)) ≡ 36)
@@ -185,7 +186,7 @@ offer-short m i offered.Ephemeral h = omega (arith, ok-line i true (verdictReaso
 offer-short m i offered.Duplicate h = omega (arith, ok-line i true (verdictReason offered.Duplicate), verdicts-short .1, h)
 offer-short m i offered.Older h = omega (arith, ok-line i true (verdictReason offered.Older), verdicts-short .2, h)
 offer-short m i offered.Stored h = omega (arith, ok-line i true (verdictReason offered.Stored), verdicts-short .3, h)
-offer-short m i (offered.Refused r) h = refusal-short m r
+offer-short m i (offered.Refused r) h = refusal-short m (r .row)
 
 -- ---- the whole
 slots-short : (b sub : List ℕ) → sound b ≡ true → length (stringJson sub) ≤ 386 → (ks : List ℕ) → ((k : ℕ) → k ∈ ks → k < countOf b)
@@ -252,7 +253,7 @@ module _ (b m : List ℕ) where
           one-short (offerReply m (said m (p .id)) a) (rw e) (offer-short m (said m (p .id)) a (rw (names-id m p e) at (named-short m)))
       go (message.Req r) e = request-short r e
       go (message.Close p) e = close-short p e
-      go (message.Refused r) e = one-short (refusal m r) (rw e) (refusal-short m r)
+      go (message.Refused r) e = one-short (refusal m (r .row)) (rw e) (refusal-short m (r .row))
 
 pub enough : Enough
 unfolding respondRow

@@ -4,6 +4,7 @@ use mathlib.Core.Bool.{true, cond}
 use lib.Dec.{ltb}
 use mathlib.Core.List.{List, [], _∷_, _++_}
 use Prim.Native.Nat.{ℕ}
+use native.Mathlib.Omega.{arith}
 use Rattle.wire.specs.Bytes.{sameBytes}
 use Rattle.wire.specs.Escape.{letterOf, escOne, escape, jsonOne, jsonOf}
 use Rattle.utf8.specs.Utf8.{isUtf8, utf8From, leadOf}
@@ -30,11 +31,12 @@ use Rattle.table.proofs.Formatted.{formatted-view, formatted-sound}
 use Rattle.query.specs.Answer.{keep, numbersFrom, newestFirst, union, answerList, filtersMeant}
 use Rattle.wire.specs.Ascii.{ascii}
 use Rattle.reply.specs.Replies.{Reply, eose, notice, stringJson, replyText, reasonOf}
-use Rattle.program.specs.Program.{refusal, eventsOf, requestReplies, repliesTo, tableAfter, lines, written}
+use Rattle.program.specs.Program.{eventsOf, requestReplies, repliesTo, tableAfter, lines, written}
 use Rattle.program.specs.Program.{outputFrom, programSlots, freshTable, output}
+use Rattle.program.proofs.Which.{early-at}
 
-braces : readOf (ascii "{}") ≡ message.Refused 5
-unfolding inClass run past oneAt tokenAt wordAt literalAt digitsAt intAt fracAt expAt numberAt hexAt escapedAt charAt charsUpTo charsAt stringAt scalarAt itemsAt treeAt isUtf8 utf8From leadOf charOf charsFrom charBytes charsBytes decode isRefused spell.any refuses sameBytes points characterCount spelledAt refusedIn anyItem countItems nameAt noNameTwice isFilter wordOf allItems row6 row7 row8 filterCounts wrongSubscription treeRow messageRow readOf
+braces : messageRow (ascii "{}") ≡ 5
+unfolding inClass run past oneAt tokenAt wordAt literalAt digitsAt intAt fracAt expAt numberAt hexAt escapedAt charAt charsUpTo charsAt stringAt scalarAt itemsAt treeAt isUtf8 utf8From leadOf charOf charsFrom charBytes charsBytes decode isRefused spell.any refuses sameBytes points characterCount spelledAt refusedIn anyItem countItems nameAt noNameTwice isFilter wordOf allItems row6 row7 row8 filterCounts wrongSubscription treeRow messageRow
 braces = refl
 
 pub request : readOf (ascii "[\"REQ\",\"s\",{}]") ≡ message.Req (record { subscription = record { start = 8; len = 1 }; filters = 11 })
@@ -45,8 +47,8 @@ close : readOf (ascii "[\"CLOSE\",\"s\"]") ≡ message.Close (record { start = 1
 unfolding inClass run past oneAt tokenAt wordAt literalAt digitsAt intAt fracAt expAt numberAt hexAt escapedAt charAt charsUpTo charsAt stringAt scalarAt itemsAt treeAt isUtf8 utf8From leadOf charOf charsFrom charBytes charsBytes decode isRefused spell.any refuses sameBytes points characterCount spelledAt refusedIn anyItem countItems nameAt noNameTwice isFilter wordOf allItems row6 row7 row8 filterCounts wrongSubscription treeRow messageRow readOf
 close = refl
 
-empty : readOf [] ≡ message.Refused 3
-unfolding inClass run past oneAt tokenAt wordAt literalAt digitsAt intAt fracAt expAt numberAt hexAt escapedAt charAt charsUpTo charsAt stringAt scalarAt itemsAt treeAt isUtf8 utf8From leadOf charOf charsFrom charBytes charsBytes decode isRefused spell.any refuses sameBytes points characterCount spelledAt refusedIn anyItem countItems nameAt noNameTwice isFilter wordOf allItems row6 row7 row8 filterCounts wrongSubscription treeRow messageRow readOf
+empty : messageRow [] ≡ 3
+unfolding inClass run past oneAt tokenAt wordAt literalAt digitsAt intAt fracAt expAt numberAt hexAt escapedAt charAt charsUpTo charsAt stringAt scalarAt itemsAt treeAt isUtf8 utf8From leadOf charOf charsFrom charBytes charsBytes decode isRefused spell.any refuses sameBytes points characterCount spelledAt refusedIn anyItem countItems nameAt noNameTwice isFilter wordOf allItems row6 row7 row8 filterCounts wrongSubscription treeRow messageRow
 empty = refl
 
 -- ---- the fresh table
@@ -70,8 +72,7 @@ fresh-answer = rw fresh-count
 
 -- ---- the replies to each line, and the table
 first : (repliesTo freshTable (ascii "{}") ≡ notice (reasonOf 5) ∷ []) × (tableAfter freshTable (ascii "{}") ≡ freshTable)
-unfolding repliesTo tableAfter refusal
-first = (rw braces, rw braces)
+first = early-at freshTable (ascii "{}") 5 braces (omega arith) (omega arith)
 
 second : (repliesTo freshTable (ascii "[\"REQ\",\"s\",{}]") ≡ eose (ascii "s") ∷ []) × (tableAfter freshTable (ascii "[\"REQ\",\"s\",{}]") ≡ freshTable)
 unfolding repliesTo tableAfter requestReplies eventsOf charOf charsFrom charBytes charsBytes decode
@@ -82,8 +83,7 @@ unfolding repliesTo tableAfter
 third = (rw close, rw close)
 
 fourth : repliesTo freshTable [] ≡ notice (reasonOf 3) ∷ []
-unfolding repliesTo refusal
-fourth = rw empty
+fourth = early-at freshTable [] 3 empty (omega arith) (omega arith) .0
 
 -- ---- the whole input
 abbrev input : List ℕ

@@ -1,16 +1,16 @@
--- How long replies are: an EVENT of a held slot, what a refusal names, a row's reason.
+-- How long replies are: an EVENT of a held slot, what a refusal names.
 use mathlib.Core.Path.{_≡_, refl, ap, _∙_}
 use mathlib.Core.Bool.{Bool, true, false, cond, _&&_}
 use mathlib.Core.List.{List, [], _∷_, _++_}
-use Prim.Native.Nat.{ℕ, zero, suc, _+_, _*_, _/_, _%_, _≤_, _<_}
+use Prim.Native.Nat.{ℕ, suc, _+_, _*_, _/_, _%_, _≤_, _<_}
 use native.Mathlib.Omega.{arith}
 use borrow.Author.Tests.{eqb-true, leb-true, le-leb, lt-leb}
 use lib.Dec.{eqb, leb, ltb}
 use lib.IntN.{ℤ, pos, negsuc}
-use lib.ListN.{length, getD, length-append}
+use lib.ListN.{length, length-append}
 use Rattle.wire.specs.Limits.{hexLength, mostText}
 use Rattle.wire.specs.Bytes.{isHex, isControl, hasControl, hexDigit}
-use Rattle.wire.specs.Escape.{letterOf, escOne, escape, jsonOne, jsonOf, controlCount}
+use Rattle.wire.specs.Escape.{escOne, escape, jsonOf, controlCount}
 use Rattle.wire.proofs.Escapes.{esc-two, control-high}
 use Rattle.wire.proofs.Json.{json-append, json-same, json-length, count-none, count-cons, count-append, count-one, count-most}
 use Rattle.wire.proofs.Json.{count-escOne, own-escape}
@@ -25,7 +25,6 @@ use Rattle.spell.specs.Spell.{decode, refuses, points, characterCount, isHexOf}
 use Rattle.spell.specs.Spell as spell
 use Rattle.spell.proofs.Laws.{hex-escape}
 use Rattle.text.specs.Event.{Tag, Event, quoted, membersText, tagText, tagsText, serialise, isPubkey, isStringBytes, isFit}
-use Rattle.text.specs.Event.{all}
 use Rattle.text.proofs.Pieces.{both}
 use Rattle.text.proofs.Limits.{limits-of}
 use Rattle.text.proofs.Places.{escape-none}
@@ -40,7 +39,7 @@ use Rattle.table.specs.Sound.{sound}
 use Rattle.table.proofs.Slots.{part-length}
 use Rattle.table.proofs.Shown.{slot-size}
 use Rattle.table.proofs.Passes.{pubkey-hex}
-use Rattle.reply.specs.Replies.{event, stringJson, tagsJson, objectText, replyText, reasons, reasonOf}
+use Rattle.reply.specs.Replies.{event, stringJson, tagsJson, objectText, replyText}
 use Rattle.program.specs.Respond.{slotText, slotLine}
 use Rattle.program.proofs.Streamed.{slot-text-is}
 
@@ -274,14 +273,3 @@ unfolding isHexOf
 hex-short l h =
     let (n, a) = both (eqb (length (decode l)) hexLength) _ h in
     omega (arith, plain-length (decode l) (hex-escape (decode l) a) (hex-none (decode l) a), eqb-true (length (decode l)) hexLength n)
-
--- ---- a reason has at most 27 bytes
-entry-short : (ls : List (List ℕ)) (r : ℕ) → all (λ l. leb (length (stringJson l)) 29) ls ≡ true → length (stringJson (getD ls r [])) ≤ 29
-unfolding all stringJson quoted jsonOf jsonOne escape
-entry-short [] r h = omega arith
-entry-short (l ∷ ls) zero h = leb-true (length (stringJson l)) 29 (both (leb (length (stringJson l)) 29) _ h .0)
-entry-short (l ∷ ls) (suc r) h = entry-short ls r (both (leb (length (stringJson l)) 29) _ h .1)
-
-pub reason-short : (r : ℕ) → length (stringJson (reasonOf r)) ≤ 29
-unfolding reasonOf all stringJson quoted jsonOf jsonOne escape escOne letterOf
-reason-short r = entry-short reasons r refl

@@ -1,9 +1,9 @@
 -- Which reply a message gets.
-use mathlib.Core.Path.{_≡_, refl, sym, ap, _∙_}
+use mathlib.Core.Path.{_≡_, refl, sym, ap, subst, _∙_}
 use mathlib.Core.Bool.{Bool, true, false, cond, not, _&&_, _||_, false≢true}
 use mathlib.Core.Logic.{_⊎_, inl, inr, _≢_}
 use mathlib.Core.Option.{some}
-use mathlib.Core.List.{List, [], _∷_, map}
+use mathlib.Core.List.{List, [], _∷_, _++_, map, append-nil}
 use Prim.Native.Nat.{ℕ, zero, suc, _≤_, _<_}
 use native.Mathlib.Omega.{arith}
 use borrow.Author.Tests.{eqb-false, ne-eqb, le-leb, lt-leb, lt-ltb, not-false}
@@ -17,6 +17,10 @@ use Rattle.rows.specs.Rows as text
 use Rattle.shape.specs.Shape.{Word, event, req, close, other, opened, hasShape}
 use Rattle.shape.specs.Rows.{row4, row5, row6, row7, row8, treeRow, rootRow, messageRow, wrongRequest}
 use Rattle.shape.specs.Rows.{wrongSubscription}
+use Rattle.shape.specs.declared.Offset.the-variants.{Absent}
+use Rattle.shape.specs.declared.Refusal.{Refusal}
+use Rattle.shape.specs.Offsets.{plainRefusal, refusalOf}
+use Rattle.shape.proofs.Offsets.{refusal-own, offset-plain}
 use Rattle.message.specs.declared.EventParts.{EventParts}
 use Rattle.message.specs.declared.ReqParts.{ReqParts}
 use Rattle.message.specs.declared.Message.{Message}
@@ -44,8 +48,8 @@ use Rattle.table.specs.Offer.{answer, isStored, next}
 use Rattle.table.specs.declared.Offered.{Offered}
 use Rattle.table.specs.declared.Offered.the-variants as offered
 use Rattle.table.proofs.Valid.{or-else}
-use Rattle.reply.specs.Replies.{Reply, ok, closed, notice, reasonOf}
-use Rattle.program.specs.Program.{isAccepted, verdictReason}
+use Rattle.reply.specs.Replies.{Reply, ok, closed, notice, reasonOf, offsetText, refusalReason}
+use Rattle.program.specs.Program.{isAccepted, verdictReason, reasonFor}
 use Rattle.program.specs.Program.{refusalNaming, refusal, offerReply, requestReplies, repliesTo, tableIn}
 use Rattle.program.specs.Program.{tableAfter}
 use Rattle.program.specs.Claims.Program.{openedIn, wordIn, restItems, idField, subscriptionField, Covered}
@@ -54,7 +58,7 @@ use Rattle.program.specs.Claims.Program.{NamesSubscription, LastRows, Re
 use Rattle.program.specs.Claims.Program.{Overlong, AllOffered}
 
 -- ---- refused when read
-read-refused : (m : List ℕ) → 1 ≤ messageRow m → readOf m ≡ message.Refused (messageRow m)
+read-refused : (m : List ℕ) → 1 ≤ messageRow m → readOf m ≡ message.Refused (refusalOf m)
 unfolding readOf
 read-refused m h = rw (ne-eqb (messageRow m) 0 (λ e. omega arith))
 
@@ -63,9 +67,21 @@ one-reply : (b m : List ℕ) (r : Reply) → 1 ≤ messageRow m → refusal m (m
 unfolding repliesTo tableAfter
 one-reply b m r h e = (rw (read-refused m h, e), rw (read-refused m h))
 
+-- rows other than 6 and 7 give their text alone
+pub plain-reason : (m : List ℕ) (r : ℕ) → (r ≡ 6 → ⊥) → (r ≡ 7 → ⊥) → reasonFor m r ≡ reasonOf r
+plain-reason m r a b = ap (λ x. reasonOf r ++ offsetText x) (offset-plain m r a b) ∙ append-nil (reasonOf r)
+
 pub early-row : EarlyRow
 unfolding refusal
-early-row b m h k = one-reply b m (notice (reasonOf (messageRow m))) h (rw (le-leb (messageRow m) 5 k))
+early-row b m h k =
+    one-reply b m (notice (reasonOf (messageRow m))) h
+    (rw (le-leb (messageRow m) 5 k) (ap notice (plain-reason m (messageRow m) (λ e. omega arith) (λ e. omega arith))))
+
+-- of a row that is known
+pub early-at : (b m : List ℕ) (r : ℕ) → messageRow m ≡ r → 1 ≤ r → r ≤ 5 → (repliesTo b m ≡ notice (reasonOf r) ∷ []) × (tableAfter b m ≡ b)
+early-at b m r e h k =
+    let (p, q) = early-row b m (omega arith) (omega arith) in
+    (p ∙ ap (λ x. notice (reasonOf x) ∷ []) e, q)
 
 -- what is named stands after the first word
 named-root : (m : List ℕ) (g : Got Json) → namedRoot m g ≡ namedIn m (openedIn m g .first) (openedIn m g .rest)
@@ -75,27 +91,34 @@ named-root m (got t n) = refl
 not-early : (r : ℕ) → 6 ≤ r → isEarly r ≡ false
 not-early r h = rw (le-leb 1 r (omega arith), lt-leb r 5 (omega arith))
 
-late-refusal : (m : List ℕ) (r : ℕ) → isEarly (messageRow m) ≡ false → 6 ≤ r → refusal m r ≡ refusalNaming m (namedIn m (wordIn m) (restItems m)) (reasonOf r)
+late-refusal : (m : List ℕ) (r : ℕ) → isEarly (messageRow m) ≡ false → 6 ≤ r → refusal m r ≡ refusalNaming m (namedIn m (wordIn m) (restItems m)) (reasonFor m r)
 unfolding refusal namedOf
 late-refusal m r e h = rw (lt-leb r 5 (omega arith), e, named-root m (root m))
 
+-- a message's own reason
+abbrev own : List ℕ → List ℕ
+own m = refusalReason (refusalOf m)
+
 module _ (b m : List ℕ) (h : 6 ≤ messageRow m) where
-  late : (w : Word) → wordIn m ≡ w → (r : Reply) → refusalNaming m (namedIn m w (restItems m)) (reasonOf (messageRow m)) ≡ r → (repliesTo b m ≡ r ∷ []) × (tableAfter b m ≡ b)
+  late : (w : Word) → wordIn m ≡ w → (r : Reply) → refusalNaming m (namedIn m w (restItems m)) (own m) ≡ r → (repliesTo b m ≡ r ∷ []) × (tableAfter b m ≡ b)
   late w e r q =
       one-reply b m r (omega arith)
-      (late-refusal m (messageRow m) (not-early (messageRow m) h) h ∙ ap (λ v. refusalNaming m (namedIn m v (restItems m)) (reasonOf (messageRow m))) e ∙ q)
+      (late-refusal m (messageRow m) (not-early (messageRow m) h) h
+      ∙ ap (λ x. refusalNaming m (namedIn m (wordIn m) (restItems m)) (refusalReason x)) (refusal-own m)
+      ∙ ap (λ v. refusalNaming m (namedIn m v (restItems m)) (own m)) e
+      ∙ q)
 
 pub late-event : LateEvent
 late-event b m h e = late b m h event e _ (go (isHexOf 64 (part m (idField m .start) (idField m .len))))
   where
-    go : (x : Bool) → refusalNaming m (cond x (names.Id (idField m)) names.Nothing) (reasonOf (messageRow m)) ≡ cond x (ok (said m (idField m)) false (reasonOf (messageRow m))) (notice (reasonOf (messageRow m)))
+    go : (x : Bool) → refusalNaming m (cond x (names.Id (idField m)) names.Nothing) (own m) ≡ cond x (ok (said m (idField m)) false (own m)) (notice (own m))
     go true = refl
     go false = refl
 
 pub late-request : LateRequest
 late-request b m h e = late b m h req e _ (go (wrongSubscription m (firstItem (restItems m))))
   where
-    go : (x : Bool) → refusalNaming m (cond x names.Nothing (names.Subscription (subscriptionField m))) (reasonOf (messageRow m)) ≡ cond x (notice (reasonOf (messageRow m))) (closed (said m (subscriptionField m)) (reasonOf (messageRow m)))
+    go : (x : Bool) → refusalNaming m (cond x names.Nothing (names.Subscription (subscriptionField m))) (own m) ≡ cond x (notice (own m)) (closed (said m (subscriptionField m)) (own m))
     go true = refl
     go false = refl
 
@@ -110,10 +133,7 @@ late-word m h e = go (late-shaped m (not-early (messageRow m) h)) e
 
 pub overlong : Overlong
 unfolding messageRow reasonOf
-overlong b m h =
-    let e : messageRow m ≡ 1 = rw (lt-ltb mostMessage (length m) h) in
-    let (p, q) = early-row b m (omega arith) (omega arith) in
-    (p ∙ ap (λ r. notice (reasonOf r) ∷ []) e, q)
+overlong b m h = early-at b m 1 (rw (lt-ltb mostMessage (length m) h)) (omega arith) (omega arith)
 
 -- ---- read
 row-of : (m : List ℕ) (x : Message) → readOf m ≡ x → messageRow m ≡ readNumber x
@@ -172,13 +192,13 @@ covered m = go (messageRow m) refl (below m)
     below : (m : List ℕ) → messageRow m ≤ 8
     below m = most (row1 m) 1 _ (omega arith) (most (row2 m) 2 _ (omega arith) (most (row3 m) 3 _ (omega arith) (tree m (root m))))
 
-    word : (w : Word) (ts : Items) (r : ℕ) → hasShape m w ts ≡ true → messageParts m w ts ≢ message.Refused r
+    word : (w : Word) (ts : Items) (r : Refusal) → hasShape m w ts ≡ true → messageParts m w ts ≢ message.Refused r
     word event ts r h e = let z : _≡_ {A = ℕ} 0 1 = cc in omega arith
     word req ts r h e = let z : _≡_ {A = ℕ} 0 1 = cc in omega arith
     word close ts r h e = let z : _≡_ {A = ℕ} 0 1 = cc in omega arith
     word other ts r h e = false≢true h
 
-    go : (k : ℕ) → messageRow m ≡ k → messageRow m ≤ 8 → ((1 ≤ messageRow m) × (messageRow m ≤ 8)) ⊎ ((r : ℕ) → readOf m ≢ message.Refused r)
+    go : (k : ℕ) → messageRow m ≡ k → messageRow m ≤ 8 → ((1 ≤ messageRow m) × (messageRow m ≤ 8)) ⊎ ((r : Refusal) → readOf m ≢ message.Refused r)
     go zero z l = let (t, n, c) = clean-of m z in inr (λ r e. word (opened m t .first) (opened m t .rest) r (c .shape) (sym (read-tree m t n z (c .tree)) ∙ e))
     go (suc k) z l = inl (omega arith, l)
 
@@ -248,14 +268,21 @@ large-rows true h r e z = (omega arith, omega arith)
 large-rows false true r e z = absurd (z e)
 large-rows false false r e z = (omega arith, omega arith)
 
-first-rows : (r x : ℕ) (a i n l : Bool) → offeredBy x (firstVerdict a i n l) ≡ offered.Refused r → (9 ≤ r) × (r ≤ 12)
+-- rows 9 to 12, and no offset
+abbrev pub Last : Refusal → Type 0
+Last r = (9 ≤ r .row) × (r .row ≤ 12) × (r .offset ≡ Absent)
+
+last-is : {x r : Refusal} → offered.Refused x ≡ offered.Refused r → Last x → Last r
+last-is {x} {r} e h = let z : x ≡ r = cc in subst Last z h
+
+first-rows : (r x : Refusal) (a i n l : Bool) → offeredBy x (firstVerdict a i n l) ≡ offered.Refused r → Last r
 first-rows r x true i n l e = absurd (false≢true (sym (ap isAccepted e)))
 first-rows r x false true n l e = absurd (false≢true (sym (ap isAccepted e)))
 first-rows r x false false true l e = absurd (false≢true (sym (ap isAccepted e)))
-first-rows r x false false false true e = let z = ap offers.offerNumber e in (omega arith, omega arith)
+first-rows r x false false false true e = last-is e (omega arith, omega arith, refl)
 first-rows r x false false false false e = absurd (false≢true (sym (ap isAccepted e)))
 
-pub verdict-rows : (r x N : ℕ) (t : List SignedEvent) (e : SignedEvent) → offeredBy x (verdict signedEvents N t (some e)) ≡ offered.Refused r → (9 ≤ r) × (r ≤ 12)
+pub verdict-rows : (r x : Refusal) (N : ℕ) (t : List SignedEvent) (e : SignedEvent) → offeredBy x (verdict signedEvents N t (some e)) ≡ offered.Refused r → Last r
 unfolding verdict
 verdict-rows r x N t e q =
     first-rows r x (isEphemeral (signedEvents .classOf e)) (any (law.hasId signedEvents e) t) (any (hasKeyNewer signedEvents e) t) (lacksSlot signedEvents N t e) q
@@ -264,19 +291,23 @@ pub last-rows : LastRows
 unfolding answer verdictOn judge verdict
 last-rows b m p r e a = go (isValid (asMessage m)) refl (sound b) a
   where
-    go : (v : Bool) → isValid (asMessage m) ≡ v → (s : Bool) → cond (v && not s) (offered.Refused 11) (offeredBy (offers.offeringRow (asMessage m)) (verdictOn b (asMessage m))) ≡ offered.Refused r → (9 ≤ r) × (r ≤ 12)
-    go true v false q = let z = ap offers.offerNumber q in (omega arith, omega arith)
-    go true v true q = verdict-rows r (offers.offeringRow (asMessage m)) (capacityOf b) (view b) (ofHeld (offers.offeredOf (asMessage m))) (rw v at q)
+    go : (v : Bool) → isValid (asMessage m) ≡ v → (s : Bool) → cond (v && not s) (offered.Refused (plainRefusal 11)) (offeredBy (offers.offeringRefusal (asMessage m)) (verdictOn b (asMessage m))) ≡ offered.Refused r → Last r
+    go true v false q = last-is q (omega arith, omega arith, refl)
+    go true v true q = verdict-rows r (offers.offeringRefusal (asMessage m)) (capacityOf b) (view b) (ofHeld (offers.offeredOf (asMessage m))) (rw v at q)
     go false v s q =
-        let z : offers.offeringRow (asMessage m) ≡ r = ap offers.offerNumber (rw v at q) in
-        large-rows (isLarge m (p .body)) (hasId m p) r (sym z ∙ offer-row m p e) (λ k. eqb-false _ 0 v (z ∙ k))
+        let k = offers.offeringRow (asMessage m) in
+        let (l, h) = large-rows (isLarge m (p .body)) (hasId m p) k (offer-row m p e) (eqb-false k 0 v) in
+        last-is (rw v at q) (l, h, offset-plain m k (λ z. omega arith) (λ z. omega arith))
 
 pub read-event : ReadEvent
 unfolding repliesTo tableAfter refusal
 read-event b m p e = (rw e (ap (_∷ []) (go (answer b (asMessage m)) refl)), rw e)
   where
-    late : (r : ℕ) → answer b (asMessage m) ≡ offered.Refused r → refusal m r ≡ ok (said m (p .id)) false (reasonOf r)
-    late r a = let (l, h) = last-rows b m p r e a in rw (lt-leb r 5 (omega arith), names-id m p e)
+    late : (r : Refusal) → answer b (asMessage m) ≡ offered.Refused r → refusal m (r .row) ≡ ok (said m (p .id)) false (refusalReason r)
+    late r a =
+        let (l, h, n) = last-rows b m p r e a in
+        let z = offset-plain m (r .row) (λ q. omega arith) (λ q. omega arith) ∙ sym n in
+        rw (lt-leb (r .row) 5 (omega arith), names-id m p e) (ap (λ x. ok (said m (p .id)) false (reasonOf (r .row) ++ offsetText x)) z)
 
     go : (a : Offered) → answer b (asMessage m) ≡ a → offerReply m (said m (p .id)) a ≡ ok (said m (p .id)) (isAccepted a) (verdictReason a)
     go offered.Ephemeral a = refl
@@ -308,7 +339,10 @@ names-subscription m r e =
 
 pub bad-table : BadTable
 unfolding repliesTo tableAfter requestReplies refusal
-bad-table b m r e s = (rw (e, s, names-subscription m r e), rw e)
+bad-table b m r e s = (
+  rw (e, s, names-subscription m r e) (ap (λ x. closed (said m (r .subscription)) x ∷ []) (plain-reason m 11 (λ q. omega arith) (λ q. omega arith))),
+  rw e,
+)
 
 -- ---- the table
 pub only-stored : OnlyStored

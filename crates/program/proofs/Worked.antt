@@ -26,6 +26,9 @@ use Rattle.shape.specs.Shape.{anyItem, allItems, countItems, nameAt, noNameTwic
 use Rattle.shape.specs.Shape.{wordOf, isEvent, eventMember, once}
 use Rattle.shape.specs.Rows.{row6, row7, row8, wrongFilter, filterNumber, filterHex, filterCounts, wrongList, wrongHex}
 use Rattle.shape.specs.Rows.{wrongSubscription, treeRow, messageRow, eventNumber, wrongTime, wrongSmall}
+use Rattle.shape.specs.declared.Offset.{Offset}
+use Rattle.shape.specs.declared.Offset.the-variants.{At}
+use Rattle.shape.specs.Offsets.{collect, numberPlaces, hexPlaces, leastOf, offsetOf, offsetFor}
 use Rattle.message.specs.Parts.{memberOf}
 use Rattle.message.specs.declared.Span.{Span}
 use Rattle.message.specs.Lent.{spanBytes as bytes}
@@ -33,7 +36,7 @@ use Rattle.message.specs.Read.{readOf, namedOf}
 use Rattle.event.specs.Lent.{said}
 use Rattle.wire.specs.Ascii.{ascii}
 use Rattle.reply.specs.Replies.{ok, event, eose, closed, notice, stringJson, tagsJson, objectText, replyText}
-use Rattle.reply.specs.Replies.{reasonOf}
+use Rattle.reply.specs.Replies.{reasonOf, refusalReason}
 use Rattle.query.specs.Answer.{keep}
 use Rattle.program.specs.Program.{refusal, repliesTo, lines}
 use Rattle.program.specs.Claims.Program.{wordIn, idField}
@@ -44,26 +47,36 @@ pub without-filter :
     ((b : List ℕ) → repliesTo b (ascii "[\"REQ\",\"a\\/\\u0062\"]") ≡ closed (ascii "a/b") (reasonOf 8) ∷ [])
     × ((b : List ℕ) → repliesTo b (ascii "[\"REQ\",\"\"]") ≡ notice (reasonOf 8) ∷ [])
     × ((b : List ℕ) → repliesTo b (ascii "[\"CLOSE\",\"\"]") ≡ notice (reasonOf 8) ∷ [])
-unfolding inClass run past oneAt tokenAt wordAt literalAt digitsAt intAt fracAt expAt numberAt hexAt escapedAt charAt charsUpTo charsAt stringAt scalarAt itemsAt treeAt isUtf8 utf8From leadOf charOf charsFrom charBytes charsBytes decode isRefused spell.any refuses sameBytes points characterCount spelledAt refusedIn anyItem countItems nameAt noNameTwice isFilter wordOf allItems row6 row7 row8 filterCounts wrongSubscription treeRow messageRow readOf namedOf repliesTo refusal spell.shortOf spell.unicodeOf spell.isPair spell.fourAt spell.four spell.hexVal spell.utf8Of
+unfolding inClass run past oneAt tokenAt wordAt literalAt digitsAt intAt fracAt expAt numberAt hexAt escapedAt charAt charsUpTo charsAt stringAt scalarAt itemsAt treeAt isUtf8 utf8From leadOf charOf charsFrom charBytes charsBytes decode isRefused spell.any refuses sameBytes points characterCount spelledAt refusedIn anyItem countItems nameAt noNameTwice isFilter wordOf allItems row6 row7 row8 filterCounts wrongSubscription treeRow messageRow readOf namedOf repliesTo refusal spell.shortOf spell.unicodeOf spell.isPair spell.fourAt spell.four spell.hexVal spell.utf8Of offsetFor offsetOf reasonOf
 without-filter = ((λ b. refl), (λ b. refl), (λ b. refl))
 
 -- the lowest row over the whole message, also past a bound; a second member; hex of the wrong length; names and shapes;
 -- what is no JSON text
 pub more-refused :
-    ((b : List ℕ) → repliesTo b (ascii "[\"REQ\",\"s\",{\"limit\":-0}]") ≡ closed (ascii "s") (reasonOf 6) ∷ [])
-    × ((b : List ℕ) → repliesTo b (ascii "[\"REQ\",\"\",{\"limit\":-0}]") ≡ notice (reasonOf 6) ∷ [])
-    × ((b : List ℕ) → repliesTo b (ascii "[\"REQ\",\"s\",{},{},{},{},{\"limit\":-0}]") ≡ closed (ascii "s") (reasonOf 6) ∷ [])
+    ((b : List ℕ) → repliesTo b (ascii "[\"REQ\",\"s\",{\"limit\":-0}]") ≡ closed (ascii "s") (ascii "invalid: number at 20") ∷ [])
+    × ((b : List ℕ) → repliesTo b (ascii "[\"REQ\",\"\",{\"limit\":-0}]") ≡ notice (ascii "invalid: number at 19") ∷ [])
+    × ((b : List ℕ) → repliesTo b (ascii "[\"REQ\",\"s\",{},{},{},{},{\"limit\":-0}]") ≡ closed (ascii "s") (ascii "invalid: number at 32") ∷ [])
     × ((b : List ℕ) → repliesTo b (ascii "[\"REQ\",\"s\",{\"kinds\":[]}]") ≡ closed (ascii "s") (reasonOf 8) ∷ [])
-    × ((b : List ℕ) → repliesTo b (ascii "[\"REQ\",\"s\",{\"kinds\":[1,65536]}]") ≡ closed (ascii "s") (reasonOf 6) ∷ [])
-    × ((b : List ℕ) → repliesTo b (ascii "[\"REQ\",\"s\",{\"ids\":[\"\"]}]") ≡ closed (ascii "s") (reasonOf 7) ∷ [])
-    × ((b : List ℕ) → repliesTo b (ascii "[\"REQ\",\"s\",{\"authors\":[\"x\"]}]") ≡ closed (ascii "s") (reasonOf 7) ∷ [])
+    × ((b : List ℕ) → repliesTo b (ascii "[\"REQ\",\"s\",{\"kinds\":[1,65536]}]") ≡ closed (ascii "s") (ascii "invalid: number at 23") ∷ [])
+    × ((b : List ℕ) → repliesTo b (ascii "[\"REQ\",\"s\",{\"ids\":[\"\"]}]") ≡ closed (ascii "s") (ascii "invalid: hex at 19") ∷ [])
+    × ((b : List ℕ) → repliesTo b (ascii "[\"REQ\",\"s\",{\"authors\":[\"x\"]}]") ≡ closed (ascii "s") (ascii "invalid: hex at 23") ∷ [])
     × ((b : List ℕ) → repliesTo b (ascii "[\"REQ\",\"s\",{\"#ee\":[\"x\"]}]") ≡ notice (reasonOf 5) ∷ [])
     × ((b : List ℕ) → repliesTo b (ascii "[\"CLOSE\",\"s\",\"t\"]") ≡ notice (reasonOf 5) ∷ [])
     × ((b : List ℕ) → repliesTo b (ascii "[\"REQ\",{}]") ≡ notice (reasonOf 5) ∷ [])
     × ((b : List ℕ) → repliesTo b (0xef ∷ 0xbb ∷ 0xbf ∷ ascii "[]") ≡ notice (reasonOf 3) ∷ [])
     × ((b : List ℕ) → repliesTo b (ascii "\r") ≡ notice (reasonOf 3) ∷ [])
-unfolding inClass run past oneAt tokenAt wordAt literalAt digitsAt intAt fracAt expAt numberAt hexAt escapedAt charAt charsUpTo charsAt stringAt scalarAt itemsAt treeAt isUtf8 utf8From leadOf charOf charsFrom charBytes charsBytes decode isRefused spell.any refuses sameBytes points characterCount spelledAt refusedIn anyItem countItems nameAt noNameTwice isFilter wordOf allItems row6 row7 row8 filterCounts wrongSubscription treeRow messageRow readOf namedOf repliesTo refusal spell.shortOf spell.unicodeOf spell.isPair spell.fourAt spell.four spell.hexVal spell.utf8Of filterMember isCondition wrongFilter filterNumber filterHex wrongList wrongHex wrongTime wrongSmall wholeOf wholeAnswer isWithin isNatural allDigits isDigit valueFrom naturalOf negativeOf isHexOf isHex spell.all
+unfolding inClass run past oneAt tokenAt wordAt literalAt digitsAt intAt fracAt expAt numberAt hexAt escapedAt charAt charsUpTo charsAt stringAt scalarAt itemsAt treeAt isUtf8 utf8From leadOf charOf charsFrom charBytes charsBytes decode isRefused spell.any refuses sameBytes points characterCount spelledAt refusedIn anyItem countItems nameAt noNameTwice isFilter wordOf allItems row6 row7 row8 filterCounts wrongSubscription treeRow messageRow readOf namedOf repliesTo refusal spell.shortOf spell.unicodeOf spell.isPair spell.fourAt spell.four spell.hexVal spell.utf8Of filterMember isCondition wrongFilter filterNumber filterHex wrongList wrongHex wrongTime wrongSmall wholeOf wholeAnswer isWithin isNatural allDigits isDigit valueFrom naturalOf negativeOf isHexOf isHex spell.all offsetFor offsetOf reasonOf numberPlaces hexPlaces collect leastOf digitsIn digits
 more-refused = ((λ b. refl), (λ b. refl), (λ b. refl), (λ b. refl), (λ b. refl), (λ b. refl), (λ b. refl), (λ b. refl), (λ b. refl), (λ b. refl), (λ b. refl), (λ b. refl))
+
+-- ---- 02, Wish 9: the earliest by place, and not in the order of Shape; the row that is given, and not the one that stands first; bytes and not
+-- characters, white space too; a minus; a member before another
+pub offsets :
+    ((b : List ℕ) → repliesTo b (ascii "[\"REQ\",\"s\",{\"until\":1.0,\"since\":1e3}]") ≡ closed (ascii "s") (ascii "invalid: number at 20") ∷ [])
+    × ((b : List ℕ) → repliesTo b (ascii "[\"REQ\",\"s\",{\"ids\":[\"x\"],\"limit\":-0}]") ≡ closed (ascii "s") (ascii "invalid: number at 32") ∷ [])
+    × ((b : List ℕ) → repliesTo b (ascii " [\"REQ\",\"" ++ (0xc3 ∷ 0xa9 ∷ ascii "\",{\"limit\": -1}]")) ≡ closed (0xc3 ∷ 0xa9 ∷ []) (ascii "invalid: number at 23") ∷ [])
+    × ((b : List ℕ) → repliesTo b (ascii "[\"REQ\",\"s\",{\"#p\":[\"\",\"x\"]},{\"ids\":[\"y\"]}]") ≡ closed (ascii "s") (ascii "invalid: hex at 18") ∷ [])
+unfolding inClass run past oneAt tokenAt wordAt literalAt digitsAt intAt fracAt expAt numberAt hexAt escapedAt charAt charsUpTo charsAt stringAt scalarAt itemsAt treeAt isUtf8 utf8From leadOf charOf charsFrom charBytes charsBytes decode isRefused spell.any refuses sameBytes points characterCount spelledAt refusedIn anyItem countItems nameAt noNameTwice isFilter wordOf allItems row6 row7 row8 filterCounts wrongSubscription treeRow messageRow readOf namedOf repliesTo refusal spell.shortOf spell.unicodeOf spell.isPair spell.fourAt spell.four spell.hexVal spell.utf8Of filterMember isCondition wrongFilter filterNumber filterHex wrongList wrongHex wrongTime wrongSmall wholeOf wholeAnswer isWithin isNatural allDigits isDigit valueFrom naturalOf negativeOf isHexOf isHex spell.all offsetFor offsetOf reasonOf numberPlaces hexPlaces collect leastOf digitsIn digits
+offsets = ((λ b. refl), (λ b. refl), (λ b. refl), (λ b. refl))
 
 -- ---- 02, Wish 1: members of #e and #p are 64 characters of lower-case hex
 -- the row of a REQ that asks # and the letter b for one member, as spelled
@@ -93,15 +106,15 @@ hex-members = (refl, refl, refl, refl, refl, refl)
 
 -- either letter spelled with an escape; a member after a good one; a fifth filter; beside rows 6 and 8; no subscription id
 pub hex-refused :
-    ((b : List ℕ) → repliesTo b (ascii "[\"REQ\",\"s\",{\"#\\u0065\":[\"x\"]}]") ≡ closed (ascii "s") (reasonOf 7) ∷ [])
-    × ((b : List ℕ) → repliesTo b (ascii "[\"REQ\",\"s\",{\"#\\u0070\":[\"x\"]}]") ≡ closed (ascii "s") (reasonOf 7) ∷ [])
-    × ((b : List ℕ) → repliesTo b (ascii "[\"REQ\",\"s\",{\"#e\":[\"" ++ (replicate 64 97 ++ ascii "\",\"x\"]}]")) ≡ closed (ascii "s") (reasonOf 7) ∷ [])
-    × ((b : List ℕ) → repliesTo b (ascii "[\"REQ\",\"s\",{},{},{},{},{\"#e\":[\"x\"]}]") ≡ closed (ascii "s") (reasonOf 7) ∷ [])
-    × ((b : List ℕ) → repliesTo b (ascii "[\"REQ\",\"s\",{\"#e\":[\"x\"],\"limit\":65536}]") ≡ closed (ascii "s") (reasonOf 6) ∷ [])
-    × ((b : List ℕ) → repliesTo b (ascii "[\"REQ\",\"s\",{\"#e\":[\"x\"]},{\"#p\":[]}]") ≡ closed (ascii "s") (reasonOf 7) ∷ [])
+    ((b : List ℕ) → repliesTo b (ascii "[\"REQ\",\"s\",{\"#\\u0065\":[\"x\"]}]") ≡ closed (ascii "s") (ascii "invalid: hex at 23") ∷ [])
+    × ((b : List ℕ) → repliesTo b (ascii "[\"REQ\",\"s\",{\"#\\u0070\":[\"x\"]}]") ≡ closed (ascii "s") (ascii "invalid: hex at 23") ∷ [])
+    × ((b : List ℕ) → repliesTo b (ascii "[\"REQ\",\"s\",{\"#e\":[\"" ++ (replicate 64 97 ++ ascii "\",\"x\"]}]")) ≡ closed (ascii "s") (ascii "invalid: hex at 85") ∷ [])
+    × ((b : List ℕ) → repliesTo b (ascii "[\"REQ\",\"s\",{},{},{},{},{\"#e\":[\"x\"]}]") ≡ closed (ascii "s") (ascii "invalid: hex at 30") ∷ [])
+    × ((b : List ℕ) → repliesTo b (ascii "[\"REQ\",\"s\",{\"#e\":[\"x\"],\"limit\":65536}]") ≡ closed (ascii "s") (ascii "invalid: number at 31") ∷ [])
+    × ((b : List ℕ) → repliesTo b (ascii "[\"REQ\",\"s\",{\"#e\":[\"x\"]},{\"#p\":[]}]") ≡ closed (ascii "s") (ascii "invalid: hex at 18") ∷ [])
     × ((b : List ℕ) → repliesTo b (ascii "[\"REQ\",\"s\",{\"#e\":[]}]") ≡ closed (ascii "s") (reasonOf 8) ∷ [])
-    × ((b : List ℕ) → repliesTo b (ascii "[\"REQ\",\"\",{\"#e\":[\"x\"]}]") ≡ notice (reasonOf 7) ∷ [])
-unfolding inClass run past oneAt tokenAt wordAt literalAt digitsAt intAt fracAt expAt numberAt hexAt escapedAt charAt charsUpTo charsAt stringAt scalarAt itemsAt treeAt isUtf8 utf8From leadOf charOf charsFrom charBytes charsBytes decode isRefused spell.any refuses sameBytes points characterCount spelledAt refusedIn anyItem countItems nameAt noNameTwice isFilter wordOf allItems row6 row7 row8 filterCounts wrongSubscription treeRow messageRow readOf namedOf repliesTo refusal spell.shortOf spell.unicodeOf spell.isPair spell.fourAt spell.four spell.hexVal spell.utf8Of filterMember isCondition wrongFilter filterNumber filterHex wrongList wrongHex wrongTime wrongSmall wholeOf wholeAnswer isWithin isNatural allDigits isDigit valueFrom naturalOf negativeOf isHexOf isHex spell.all
+    × ((b : List ℕ) → repliesTo b (ascii "[\"REQ\",\"\",{\"#e\":[\"x\"]}]") ≡ notice (ascii "invalid: hex at 17") ∷ [])
+unfolding inClass run past oneAt tokenAt wordAt literalAt digitsAt intAt fracAt expAt numberAt hexAt escapedAt charAt charsUpTo charsAt stringAt scalarAt itemsAt treeAt isUtf8 utf8From leadOf charOf charsFrom charBytes charsBytes decode isRefused spell.any refuses sameBytes points characterCount spelledAt refusedIn anyItem countItems nameAt noNameTwice isFilter wordOf allItems row6 row7 row8 filterCounts wrongSubscription treeRow messageRow readOf namedOf repliesTo refusal spell.shortOf spell.unicodeOf spell.isPair spell.fourAt spell.four spell.hexVal spell.utf8Of filterMember isCondition wrongFilter filterNumber filterHex wrongList wrongHex wrongTime wrongSmall wholeOf wholeAnswer isWithin isNatural allDigits isDigit valueFrom naturalOf negativeOf isHexOf isHex spell.all offsetFor offsetOf reasonOf numberPlaces hexPlaces collect leastOf digitsIn digits
 hex-refused = ((λ b. refl), (λ b. refl), (λ b. refl), (λ b. refl), (λ b. refl), (λ b. refl), (λ b. refl), (λ b. refl))
 
 -- ---- 02, Wish 3: control characters
@@ -129,7 +142,7 @@ pub control-replies :
     × ((b : List ℕ) → repliesTo b (ascii "{\"\\u0001\":1}") ≡ notice (reasonOf 5) ∷ [])
     × ((b : List ℕ) → repliesTo b (ascii "[\"REQ\",\"\\u0001\\ud800\",{}]") ≡ notice (reasonOf 4) ∷ [])
     × ((b : List ℕ) → repliesTo b (0x01 ∷ ascii "[\"REQ\",\"s\",{}]") ≡ notice (reasonOf 3) ∷ [])
-unfolding inClass run past oneAt tokenAt wordAt literalAt digitsAt intAt fracAt expAt numberAt hexAt escapedAt charAt charsUpTo charsAt stringAt scalarAt itemsAt treeAt isUtf8 utf8From leadOf charOf charsFrom charBytes charsBytes decode isRefused spell.any refuses sameBytes points characterCount spelledAt refusedIn anyItem countItems nameAt noNameTwice isFilter wordOf allItems row6 row7 row8 filterCounts wrongSubscription treeRow messageRow readOf namedOf repliesTo refusal spell.shortOf spell.unicodeOf spell.isPair spell.fourAt spell.four spell.hexVal spell.utf8Of filterMember isCondition wrongFilter filterNumber filterHex wrongList wrongHex wrongTime wrongSmall wholeOf wholeAnswer isWithin isNatural allDigits isDigit valueFrom naturalOf negativeOf isHexOf isHex spell.all
+unfolding inClass run past oneAt tokenAt wordAt literalAt digitsAt intAt fracAt expAt numberAt hexAt escapedAt charAt charsUpTo charsAt stringAt scalarAt itemsAt treeAt isUtf8 utf8From leadOf charOf charsFrom charBytes charsBytes decode isRefused spell.any refuses sameBytes points characterCount spelledAt refusedIn anyItem countItems nameAt noNameTwice isFilter wordOf allItems row6 row7 row8 filterCounts wrongSubscription treeRow messageRow readOf namedOf repliesTo refusal spell.shortOf spell.unicodeOf spell.isPair spell.fourAt spell.four spell.hexVal spell.utf8Of filterMember isCondition wrongFilter filterNumber filterHex wrongList wrongHex wrongTime wrongSmall wholeOf wholeAnswer isWithin isNatural allDigits isDigit valueFrom naturalOf negativeOf isHexOf isHex spell.all offsetFor offsetOf reasonOf
 control-replies = ((λ b. refl), (λ b. refl), (λ b. refl), (λ b. refl))
 
 -- 0D stays in the line; empty lines are messages
@@ -147,6 +160,11 @@ row : messageRow message ≡ 6
 unfolding inClass run past oneAt tokenAt wordAt literalAt digitsAt intAt fracAt expAt numberAt hexAt escapedAt charAt charsUpTo charsAt stringAt scalarAt itemsAt treeAt isUtf8 utf8From leadOf charOf charsFrom charBytes charsBytes decode isRefused spell.any refuses sameBytes points characterCount spelledAt refusedIn anyItem countItems nameAt noNameTwice isFilter wordOf allItems row6 row7 row8 filterCounts wrongSubscription treeRow messageRow spell.shortOf spell.unicodeOf spell.isPair spell.fourAt spell.four spell.hexVal spell.utf8Of isEvent eventMember once eventNumber wrongTime wrongSmall wholeOf wholeAnswer isWithin isNatural allDigits isDigit valueFrom naturalOf negativeOf
 row = refl
 
+-- the place of the number
+offset : offsetOf message ≡ At 94
+unfolding inClass run past oneAt tokenAt wordAt literalAt digitsAt intAt fracAt expAt numberAt hexAt escapedAt charAt charsUpTo charsAt stringAt scalarAt itemsAt treeAt isUtf8 utf8From leadOf charOf charsFrom charBytes charsBytes decode isRefused spell.any refuses sameBytes points characterCount spelledAt refusedIn anyItem countItems nameAt noNameTwice isFilter wordOf allItems row6 row7 row8 filterCounts wrongSubscription treeRow messageRow spell.shortOf spell.unicodeOf spell.isPair spell.fourAt spell.four spell.hexVal spell.utf8Of isEvent eventMember once eventNumber wrongTime wrongSmall wholeOf wholeAnswer isWithin isNatural allDigits isDigit valueFrom naturalOf negativeOf offsetOf numberPlaces hexPlaces collect leastOf
+offset = refl
+
 abbrev place : Span
 place = record { start = 16; len = 69 }
 
@@ -159,9 +177,9 @@ unfolding charOf charsFrom charBytes charsBytes decode spell.shortOf spell.unico
 spelled = (refl, refl)
 
 -- from the law, so that the checker reads the message a few times only
-named : (b m i : List ℕ) (p : Span) (r : ℕ) → messageRow m ≡ r → 6 ≤ r → wordIn m ≡ word.event → idField m ≡ p → isHexOf 64 (bytes m p) ≡ true → said m p ≡ i
-    → repliesTo b m ≡ ok i false (reasonOf r) ∷ []
-named b m i p r e h w f x s = late-event b m (omega arith) w .0 ∙ rw (f, x, s, e)
+named : (b m i : List ℕ) (p : Span) (r : ℕ) (x : Offset) → messageRow m ≡ r → offsetOf m ≡ x → 6 ≤ r → wordIn m ≡ word.event → idField m ≡ p → isHexOf 64 (bytes m p) ≡ true
+    → said m p ≡ i → repliesTo b m ≡ ok i false (refusalReason (record { row = r; offset = x })) ∷ []
+named b m i p r x e o h w f t s = late-event b m (omega arith) w .0 ∙ rw (f, t, s, e, o)
 
-pub wrong-kind : (b : List ℕ) → repliesTo b message ≡ ok (replicate 64 97) false (reasonOf 6) ∷ []
-wrong-kind b = named b message (replicate 64 97) place 6 row (omega arith) (found .0) (found .1) (spelled .0) (spelled .1)
+pub wrong-kind : (b : List ℕ) → repliesTo b message ≡ ok (replicate 64 97) false (refusalReason (record { row = 6; offset = At 94 })) ∷ []
+wrong-kind b = named b message (replicate 64 97) place 6 (At 94) row offset (omega arith) (found .0) (found .1) (spelled .0) (spelled .1)

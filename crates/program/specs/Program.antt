@@ -19,7 +19,8 @@ use Rattle.table.specs.Format.{formatted}
 use Rattle.table.specs.declared.Offered.{Offered}
 use Rattle.table.specs.declared.Offered.the-variants as offered
 use Rattle.query.specs.Answer.{answerList, filtersMeant}
-use Rattle.reply.specs.Replies.{Reply, ok, event, eose, closed, notice, replyText, reasonOf}
+use Rattle.shape.specs.Offsets.{refusalFor}
+use Rattle.reply.specs.Replies.{Reply, ok, event, eose, closed, notice, replyText, refusalReason}
 use Rattle.wire.specs.Bytes.{Bytes}
 use Rattle.wire.specs.Ascii.{ascii}
 
@@ -36,7 +37,7 @@ verdictReason offered.Ephemeral = []
 verdictReason offered.Stored = []
 verdictReason offered.Duplicate = ascii "duplicate: already have this event"
 verdictReason offered.Older = ascii "duplicate: have a newer version"
-verdictReason (offered.Refused r) = reasonOf r
+verdictReason (offered.Refused r) = refusalReason r
 
 -- ---- "Rows 1-5 give NOTICE. Rows 6-12 give OK with false if the id field is 64 lower-case hex; CLOSED for a REQ whose
 -- subscription id is within bounds; otherwise NOTICE."
@@ -45,9 +46,9 @@ refusalNaming m (names.Id p) reason = ok (said m p) false reason
 refusalNaming m (names.Subscription p) reason = closed (said m p) reason
 refusalNaming m names.Nothing reason = notice reason
 
--- the reason why row r refuses the message m: the row's text
+-- the reason why row r refuses the message m
 abbrev pub reasonFor : Bytes → ℕ → Bytes
-reasonFor m r = reasonOf r
+reasonFor m r = refusalReason (refusalFor m r)
 
 unfoldable pub refusal : Bytes → ℕ → Reply
 refusal m r = cond (leb r 5) (notice (reasonFor m r)) (refusalNaming m (namedOf m) (reasonFor m r))
@@ -58,7 +59,7 @@ offerReply m i offered.Ephemeral = ok i true (verdictReason offered.Ephemeral)
 offerReply m i offered.Duplicate = ok i true (verdictReason offered.Duplicate)
 offerReply m i offered.Older = ok i true (verdictReason offered.Older)
 offerReply m i offered.Stored = ok i true (verdictReason offered.Stored)
-offerReply m i (offered.Refused r) = refusal m r
+offerReply m i (offered.Refused r) = refusal m (r .row)
 
 -- ---- "An accepted REQ gives its EVENTs, then EOSE."
 -- every held text of a sound table reads, so no slot is left out: specs/Claims/Replies, `ReadRequest`
@@ -84,7 +85,7 @@ repliesIn b m (message.Event p) = offerReply m (said m (p .id)) (answer b (asMes
 repliesIn b m (message.Req r) = requestReplies b m (said m (r .subscription)) (r .filters)
 -- "CLOSE gives nothing."
 repliesIn b m (message.Close p) = []
-repliesIn b m (message.Refused r) = refusal m r ∷ []
+repliesIn b m (message.Refused r) = refusal m (r .row) ∷ []
 
 unfoldable pub repliesTo : Bytes → Bytes → List Reply
 repliesTo b m = repliesIn b m (readOf m)

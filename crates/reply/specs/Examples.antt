@@ -2,13 +2,16 @@
 use mathlib.Core.Path.{_≡_, refl}
 use mathlib.Core.Bool.{true, false}
 use mathlib.Core.List.{[], _∷_, _++_, map}
+use Prim.Native.Nat.{ℕ}
 use lib.IntN.{negsuc}
 use Rattle.wire.specs.Ascii.{ascii}
 use Rattle.wire.specs.Escape.{letterOf, escOne, escape, jsonOne, jsonOf}
 use Rattle.numeral.specs.Decimal.{digitsIn, digits, decimal}
+use Rattle.shape.specs.declared.Offset.the-variants.{Absent, At}
+use Rattle.shape.specs.declared.Refusal.{Refusal}
 use Rattle.text.specs.Event.{Event, quoted, membersText, tagText, tagsText}
 use Rattle.reply.specs.Replies.{ok, event, eose, closed, notice, stringJson, tagsJson, objectText}
-use Rattle.reply.specs.Replies.{replyText, reasonOf}
+use Rattle.reply.specs.Replies.{replyText, reasonOf, refusalReason}
 
 -- ids, keys and signatures are shortened here
 abbrev small : Event
@@ -66,3 +69,24 @@ pub reason-texts :
     ∷ []
 unfolding replyText stringJson jsonOf jsonOne reasonOf quoted letterOf escOne escape
 reason-texts = refl
+
+-- 02, Wish 9: `invalid: number at 57`; the first byte of a message, and the last of the longest; no offset
+abbrev byNumber : ℕ → Refusal
+byNumber p = record { row = 6; offset = At p }
+
+abbrev byHex : ℕ → Refusal
+byHex p = record { row = 7; offset = At p }
+
+pub offset-texts :
+    (replyText (ok (ascii "0f") false (refusalReason (byNumber 57)))
+    ≡ ascii "[\"OK\",\"0f\",false,\"invalid: number at 57\"]")
+    × (replyText (ok (ascii "0f") false (refusalReason (byHex 12))) ≡ ascii "[\"OK\",\"0f\",false,\"invalid: hex at 12\"]")
+    × (replyText (closed (ascii "s") (refusalReason (byNumber 16383)))
+    ≡ ascii "[\"CLOSED\",\"s\",\"invalid: number at 16383\"]")
+    × (replyText (closed (ascii "s") (refusalReason (byHex 12))) ≡ ascii "[\"CLOSED\",\"s\",\"invalid: hex at 12\"]")
+    × (replyText (notice (refusalReason (byNumber 0))) ≡ ascii "[\"NOTICE\",\"invalid: number at 0\"]")
+    × (replyText (notice (refusalReason (byHex 12))) ≡ ascii "[\"NOTICE\",\"invalid: hex at 12\"]")
+    × (replyText (notice (refusalReason (record { row = 8; offset = Absent })))
+    ≡ ascii "[\"NOTICE\",\"invalid: count or length\"]")
+unfolding replyText stringJson jsonOf jsonOne reasonOf quoted letterOf escOne escape digitsIn digits
+offset-texts = (refl, refl, refl, refl, refl, refl, refl)

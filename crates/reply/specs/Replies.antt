@@ -6,6 +6,9 @@ use mathlib.Core.List.{List, [], _∷_, _++_}
 use Prim.Native.Nat.{ℕ}
 use lib.ListN.{getD}
 use Rattle.numeral.specs.Decimal.{digits, decimal}
+use Rattle.shape.specs.declared.Offset.{Offset}
+use Rattle.shape.specs.declared.Offset.the-variants.{Absent, At}
+use Rattle.shape.specs.declared.Refusal.{Refusal}
 use Rattle.text.specs.Event.{Tag, Event, quoted, tagsText}
 use Rattle.wire.specs.Ascii.{ascii}
 use Rattle.wire.specs.Bytes.{Bytes}
@@ -76,3 +79,11 @@ reasons =
 
 unfoldable pub reasonOf : ℕ → Bytes
 reasonOf r = getD reasons r []
+
+-- 02, Wish 9: "The reply text gains ` at ` and the decimal offset"
+abbrev pub offsetText : Offset → Bytes
+offsetText Absent = []
+offsetText (At p) = ascii " at " ++ digits p
+
+abbrev pub refusalReason : Refusal → Bytes
+refusalReason r = reasonOf (r .row) ++ offsetText (r .offset)

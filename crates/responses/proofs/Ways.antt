@@ -4,7 +4,7 @@ use mathlib.Core.Bool.{Bool, true, false, cond, false≢true}
 use mathlib.Core.List.{List, [], _∷_, _++_, append-nil}
 use Prim.Native.Nat.{ℕ, _+_, _-_, _≤_, _<_, _^_}
 use native.Mathlib.Omega.{arith}
-use borrow.Author.Tests.{lt-ltb, le-ltb, ltb-true, ltb-false, leb-true, leb-false}
+use borrow.Author.Tests.{eqb-true, eqb-false, lt-ltb, le-ltb, ltb-true, ltb-false, leb-true, leb-false}
 use lib.Dec.{eqb, leb, ltb}
 use lib.ListN.{length, take, drop, length-append}
 use lib.Seq.{take-append-seam}
@@ -15,23 +15,28 @@ use Rattle.wire.proofs.Laws.{puts-none, puts-then, puts-whole}
 use Rattle.json.specs.Tree.{Json, Items, Got, none, got, root}
 use Rattle.shape.specs.Shape.{Word, event, req, close, other, opened, idName}
 use Rattle.shape.specs.Rows.{messageRow, wrongSubscription}
+use Rattle.shape.specs.declared.Offset.the-variants.{Absent}
+use Rattle.shape.specs.declared.Refusal.{Refusal}
+use Rattle.shape.specs.Offsets.{plainRefusal, offsetFor}
+use Rattle.shape.proofs.Offsets.{offset-other, offset-plain}
 use Rattle.rows.specs.Strings.{part}
 use Rattle.spell.specs.Spell.{decode, isHexOf}
 use Rattle.text.specs.Event.{quoted}
 use Rattle.message.specs.Parts as parts
 use Rattle.message.specs.Parts.{spanOf, memberOf, membersOf, spanIn}
-use Rattle.message.specs.Read.{firstItem, readOf, namedIn, namedRoot, isEarly, namedOf}
+use Rattle.message.specs.Read.{firstItem, readOf, readNumber, namedIn, namedRoot, isEarly, namedOf}
 use Rattle.message.specs.declared.EventParts.{EventParts}
 use Rattle.message.specs.declared.Filters.{Filters}
 use Rattle.message.specs.declared.ReqParts.{ReqParts}
 use Rattle.message.specs.declared.Span.{Span}
 use Rattle.message.specs.declared.Message.{Message}
 use Rattle.message.specs.declared.Message.the-variants as message
-use Rattle.message.specs.declared.Named.{Named}
 use Rattle.message.specs.declared.Named.the-variants as names
+use Rattle.message.specs.declared.Naming.{Naming}
+use Rattle.message.proofs.Reading.{row-read}
 use Rattle.message.proofs.Taken.{filters-taken}
 use Rattle.event.specs.Lent.{said, lengthOf}
-use Rattle.event.specs.Answer.{writtenNumber}
+use Rattle.event.specs.Answer.{writtenNumber, offeredRow}
 use Rattle.event.specs.declared.Written.{Written}
 use Rattle.event.specs.declared.Written.the-variants as sent
 use Rattle.event.proofs.Answers.{number-is}
@@ -51,23 +56,24 @@ use Rattle.query.specs.declared.Listing.{Listing}
 use Rattle.query.specs.declared.Listing.the-variants as listing
 use Rattle.query.proofs.Tables.{answer-means}
 use Rattle.query.proofs.ReadFilters.{read-listing}
-use Rattle.reply.specs.Replies.{Reply, eose, closed, replyText, reasonOf, stringJson}
+use Rattle.reply.specs.Replies.{Reply, eose, closed, replyText, reasonOf, offsetText, refusalReason, stringJson}
+use Rattle.reply.proofs.Reasons.{row-short, reason-length}
 use Rattle.reply.specs.Lent.{shortRow}
 use Rattle.program.specs.Program.{refusal, eventsOf, requestReplies, repliesTo, tableAfter, written}
 use Rattle.program.specs.Respond.{response, respondRow, responded, respondedOut, respondedTable}
 use Rattle.program.proofs.Lines.{written-append}
 use Rattle.program.proofs.Shown.{answers-held}
-use Rattle.program.proofs.Sizes.{hex-short, reason-short}
-use Rattle.program.proofs.Which.{names-id, read-event, read-close, bad-table}
+use Rattle.program.proofs.Sizes.{hex-short}
+use Rattle.program.proofs.Which.{names-id, last-rows, read-event, read-close, bad-table}
 use Rattle.replies.specs.Inner.{Room}
 use Rattle.slot_replies.specs.Left.{linesSize, leftIn}
 use Rattle.slot_replies.specs.declared.Left.{Left}
 use Rattle.slot_replies.specs.declared.Left.the-variants as left
 use Rattle.slot_replies.proofs.Lines.{lines-size}
-use Rattle.responses.specs.Inner.{verdictText, okText, namedFor, namingText, ended, eoseLine, answerText, AllHeld}
+use Rattle.responses.specs.Inner.{verdictText, okText, namingFor, namingText, ended, eoseLine, answerText, AllHeld}
 use Rattle.responses.specs.Inner.{Said}
 use Rattle.responses.specs.Refused.{refusedText, refusedRow, refusedReply, refusedOut}
-use Rattle.responses.proofs.Lines.{ok-length, eose-length, naming-is, cut-room}
+use Rattle.responses.proofs.Lines.{refused-length, ok-length, eose-length, naming-is, cut-room}
 
 -- ---- what is answered
 said-short : (t out : List ℕ) → length out < length t → Said t out (sent.Refused 13) out
@@ -86,12 +92,12 @@ ended-length : (t : List ℕ) → length (ended t) ≡ length t + 1
 ended-length t = length-append t (0x0a ∷ [])
 
 -- ---- a refused message, alone
-module _ (m : List ℕ) (row : ℕ) (out : List ℕ) {n : Named} (e : n ≡ namedFor m row) {f : Bool} (room : Room (length (namingText m n row)) (length out) f) where
+module _ (m : List ℕ) (row : ℕ) (out : List ℕ) {x : Naming} (e : x ≡ namingFor m row) {f : Bool} (room : Room (length (namingText m x)) (length out) f) where
   abbrev AsRefused : Written → List ℕ → Type 0
   AsRefused r o = (r ≡ refusedReply m row out) × ((writtenNumber r ≡ refusedRow m row out) × (o ≡ refusedOut m row out))
 
-  text-is : namingText m n row ≡ refusedText m row
-  text-is = ap (λ x. namingText m x row) e ∙ naming-is m row
+  text-is : namingText m x ≡ refusedText m row
+  text-is = ap (namingText m) e ∙ naming-is m row
 
   as-refused : {r : Written} {o : List ℕ} → Said (refusedText m row) out r o → AsRefused r o
   unfolding refusedReply refusedRow refusedOut
@@ -100,7 +106,7 @@ module _ (m : List ℕ) (row : ℕ) (out : List ℕ) {n : Named} (e : n ≡ name
   pub refused-short : f ≡ false → AsRefused (sent.Refused 13) out
   refused-short q = as-refused (said-short (refusedText m row) out (omega (arith, room .no q, ap length text-is)))
 
-  pub refused-put : f ≡ true → {r : ℕ} {o : List ℕ} → Puts out 0 (namingText m n row) r o → AsRefused (sent.Wrote r) o
+  pub refused-put : f ≡ true → {r : ℕ} {o : List ℕ} → Puts out 0 (namingText m x) r o → AsRefused (sent.Wrote r) o
   refused-put q p = as-refused (said-put (refusedText m row) out (omega (arith, room .yes q, ap length text-is)) (rw text-is at p))
 
 -- ---- with 0A
@@ -145,23 +151,36 @@ named-hex m p = early (isEarly (messageRow m))
     early true e = clash cc
     early false e = tree (root m) e
 
-verdict-most : (a : Offered) → length (verdictText a) ≤ 41
+-- what a verdict and a refusal without an offset say
+verdict-most : (a : Offered) → ((x : Refusal) → a ≡ offered.Refused x → x .offset ≡ Absent) → length (verdictText a) ≤ 41
 unfolding verdictText stringJson quoted jsonOf jsonOne escape escOne letterOf
-verdict-most offered.Ephemeral = omega arith
-verdict-most offered.Duplicate = omega arith
-verdict-most offered.Older = omega arith
-verdict-most offered.Stored = omega arith
-verdict-most (offered.Refused r) = omega (arith, reason-short r)
+verdict-most offered.Ephemeral n = omega arith
+verdict-most offered.Duplicate n = omega arith
+verdict-most offered.Older n = omega arith
+verdict-most offered.Stored n = omega arith
+verdict-most (offered.Refused x) n =
+    omega (arith, refused-length x, reason-length x, ap (λ y. length (offsetText y)) (n x refl), row-short (x .row))
 
 one-written : (r : Reply) → written (r ∷ []) ≡ ended (replyText r)
 unfolding written
 one-written r = append-nil (ended (replyText r))
 
 module _ (b m : List ℕ) (p : EventParts) (e : readOf m ≡ message.Event p) where
+  -- no row refuses what was read, and so no row has an offset
+  no-offset : (row : ℕ) → offsetFor m row ≡ Absent
+  no-offset row = go (eqb row 0) refl
+    where
+      none : messageRow m ≡ 0
+      none = sym (row-read m) ∙ ap readNumber e
+
+      go : (t : Bool) → eqb row 0 ≡ t → offsetFor m row ≡ Absent
+      go true q = let z = eqb-true row 0 q in offset-plain m row (λ y. omega arith) (λ y. omega arith)
+      go false q = offset-other m row (λ y. eqb-false row 0 q (y ∙ none))
+
   -- what was read is answered as the message is
   parts-answer : answer b (asParts m p) ≡ answer b (asMessage m)
   unfolding answer verdictOn
-  parts-answer = let r = event-rows m p e in rw (r .as-parts, r .same-event)
+  parts-answer = let r = event-rows m p e in rw (r .as-parts, r .same-event, no-offset (offeredRow m p))
 
   parts-next : next b (asParts m p) ≡ next b (asMessage m)
   unfolding next partsOf
@@ -179,9 +198,9 @@ module _ (b m : List ℕ) (p : EventParts) (e : readOf m ≡ message.Event p) wh
       ap length ok-line ∙ omega (arith, ended-length (okText i a), ok-length i a, h)
 
   pub longest-fits : (room : ℕ) → 116 ≤ room → Room (length (response b m)) room true
-  longest-fits room h = record { yes = λ q. omega (arith, ok-line-length, verdict-most (answer b (asMessage m))); no = λ q. absurd (false≢true (sym q)) }
+  longest-fits room h = record { yes = λ q. omega (arith, ok-line-length, verdict-most (answer b (asMessage m)) (λ x a. last-rows b m p x e a .2)); no = λ q. absurd (false≢true (sym q)) }
 
-  pub verdict-fits : (room : ℕ) {a : Offered} {n : ℕ} → a ≡ answer b (asMessage m) → (n ≡ length (verdictText a)) × (n ≤ 41) → Room (length (response b m)) room (leb (75 + n) room)
+  pub verdict-fits : (room : ℕ) {a : Offered} {n : ℕ} → a ≡ answer b (asMessage m) → (n ≡ length (verdictText a)) × (n ≤ 59) → Room (length (response b m)) room (leb (75 + n) room)
   verdict-fits room {a} {n} ea (f, h) =
       let g = ap (λ x. length (verdictText x)) ea in
       record {
@@ -320,16 +339,18 @@ module _ (b m : List ℕ) (q : ReqParts) (e : readOf m ≡ message.Req q) {fs : 
       request-said s = said-as (ap (answerText b sub) taken ∙ sym answer-line) s
 
   -- only row 11 refuses: CLOSED
-  pub request-refused : {k : ℕ} → x ≡ listing.Refused k → {out o : List ℕ} {r : Written} → Said (ended (namingText m (names.Subscription (q .subscription)) k)) out r o → Said (response b m) out r o
+  pub request-refused : {k : ℕ} → x ≡ listing.Refused k → {y : Refusal} → y ≡ plainRefusal k → {out o : List ℕ} {r : Written}
+      → Said (ended (namingText m (record { refusal = y; named = names.Subscription (q .subscription) }))) out r o → Said (response b m) out r o
   unfolding response namingText
-  request-refused {k} z {out} {o} {r} s = go (sound b) refl
+  request-refused {k} z {y} f {out} {o} {r} s = go (sound b) refl
     where
       go : (t : Bool) → sound b ≡ t → Said (response b m) out r o
       go true t = absurd (let y = sound-told t in let w : _≡_ {A = ℕ} 0 1 = cc in omega arith)
       go false t =
           let n : k ≡ 11 = let y = unsound-told t in cc in
+          let v : refusalReason y ≡ reasonOf 11 = ap refusalReason (f ∙ ap plainRefusal n) ∙ append-nil (reasonOf 11) in
           let w : response b m ≡ ended (replyText (closed sub (reasonOf 11))) = ap written (bad-table b m q e t .0) ∙ one-written _ in
-          said-as (sym w) (rw n at s)
+          said-as (ap (λ l. ended (replyText (closed sub l))) v ∙ sym w) s
 
 -- ---- one message
 abbrev pub Responds : (b m out : List ℕ) (r : Written) (o t : List ℕ) → Type 0
@@ -354,11 +375,11 @@ module _ (b m out : List ℕ) {r : Written} {o : List ℕ} where
     unfolding tableAfter
     responds-request e s = responds s (table-stays b m out (rw (sym a ∙ e)))
 
-    pub responds-refused : {k : ℕ} {n : Named} → x ≡ message.Refused k → n ≡ namedFor m k → Said (ended (namingText m n k)) out r o → Responds b m out r o b
+    pub responds-refused : {k : Refusal} {n : Naming} → x ≡ message.Refused k → n ≡ namingFor m (k .row) → Said (ended (namingText m n)) out r o → Responds b m out r o b
     unfolding tableAfter response repliesTo refusedText
     responds-refused {k} {n} e en s =
         let f = sym a ∙ e in
-        let z : ended (namingText m n k) ≡ response b m = ap ended (ap (λ y. namingText m y k) en ∙ naming-is m k) ∙ sym (rw f (one-written (refusal m k))) in
+        let z : ended (namingText m n) ≡ response b m = ap ended (ap (namingText m) en ∙ naming-is m (k .row)) ∙ sym (rw f (one-written (refusal m (k .row)))) in
         responds (said-as z s) (table-stays b m out (rw f))
 
 pub responds-close : (b m out : List ℕ) {x : Message} {p : Span} → x ≡ readOf m → x ≡ message.Close p → Responds b m out (sent.Wrote 0) out b
@@ -394,5 +415,5 @@ module _ (b m out : List ℕ) {x : Taken} (a : x ≡ taking.taken b m) {t : List
   pub taken-close : {p : Span} → x ≡ takes.Close p → Responds b m out (sent.Wrote 0) out t
   taken-close e = let f = took-close b m a e in with-table (et ∙ table-close b m f) (responds-close b m out refl f)
 
-  pub taken-refused : {k : ℕ} {n : Named} → x ≡ takes.Refused k → n ≡ namedFor m k → {r : Written} {o : List ℕ} → Said (ended (namingText m n k)) out r o → Responds b m out r o t
+  pub taken-refused : {k : Refusal} {n : Naming} → x ≡ takes.Refused k → n ≡ namingFor m (k .row) → {r : Written} {o : List ℕ} → Said (ended (namingText m n)) out r o → Responds b m out r o t
   taken-refused e en s = let f = took-refused b m a e in with-table (et ∙ table-refused b m f) (responds-refused b m out refl f en s)

@@ -8,6 +8,7 @@ use lib.Dec.{leb}
 use lib.ListN.{length}
 use Rattle.message.specs.Read.{namedOf}
 use Rattle.message.specs.declared.Named.{Named}
+use Rattle.message.specs.declared.Naming.{Naming}
 use Rattle.message.specs.declared.Named.the-variants.{Nothing}
 use Rattle.event.specs.Answer.{answered}
 use Rattle.event.specs.declared.Written.{Written}
@@ -16,11 +17,22 @@ use Rattle.table.specs.Layout.{countOf}
 use Rattle.table.specs.Sound.{sound}
 use Rattle.table.specs.declared.Offered.{Offered}
 use Rattle.wire.specs.Ascii.{ascii}
-use Rattle.reply.specs.Replies.{ok, eose, closed, notice, stringJson, replyText, truth, reasonOf}
+use Rattle.shape.specs.declared.Offset.{Offset}
+use Rattle.shape.specs.declared.Refusal.{Refusal}
+use Rattle.shape.specs.Offsets.{refusalFor}
+use Rattle.reply.specs.Replies.{ok, eose, closed, notice, stringJson, replyText, truth, reasonOf, offsetText}
+use Rattle.reply.specs.Replies.{refusalReason}
 use Rattle.program.specs.Program.{isAccepted, verdictReason}
 use Rattle.reply.specs.Lent.{shortRow, outputAfter}
 use Rattle.program.specs.Program.{refusalNaming, eventsOf, written}
 use Rattle.wire.specs.Bytes.{Bytes, Row}
+
+-- ---- the reply text of a refusal in two pieces: that of its row behind a quote, then the offset and a quote
+abbrev pub openText : Row → Bytes
+openText row = 34 ∷ reasonOf row
+
+abbrev pub endText : Offset → Bytes
+endText x = offsetText x ++ (34 ∷ [])
 
 -- ---- the replies
 -- ACCEPTED,REASON of an offer that was answered a
@@ -30,19 +42,23 @@ verdictText a = truth (isAccepted a) ++ (ascii "," ++ stringJson (verdictReason 
 unfoldable pub okText : (id : Bytes) (a : Offered) → Bytes
 okText i a = replyText (ok i (isAccepted a) (verdictReason a))
 
-unfoldable pub closedText : (sub : Bytes) (row : Row) → Bytes
-closedText s row = replyText (closed s (reasonOf row))
+unfoldable pub closedText : (sub : Bytes) (x : Refusal) → Bytes
+closedText s x = replyText (closed s (refusalReason x))
 
-unfoldable pub noticeText : (row : Row) → Bytes
-noticeText row = replyText (notice (reasonOf row))
+unfoldable pub noticeText : (x : Refusal) → Bytes
+noticeText x = replyText (notice (refusalReason x))
 
 -- what the reply to a refusal by a row may name
 unfoldable pub namedFor : (m : Bytes) (row : Row) → Named
 namedFor m row = cond (leb row 5) Nothing (namedOf m)
 
--- the reply to a refusal by a row, of which n is named
-unfoldable pub namingText : (m : Bytes) (n : Named) (row : Row) → Bytes
-namingText m n row = replyText (refusalNaming m n (reasonOf row))
+-- what it says: the offset goes with the message's own row
+abbrev pub namingFor : (m : Bytes) (row : Row) → Naming
+namingFor m row = record { refusal = refusalFor m row; named = namedFor m row }
+
+-- the reply to a refusal, by what it says
+unfoldable pub namingText : (m : Bytes) (x : Naming) → Bytes
+namingText m x = replyText (refusalNaming m (x .named) (refusalReason (x .refusal)))
 
 -- "The program ends each reply with 0A."
 abbrev pub ended : Bytes → Bytes

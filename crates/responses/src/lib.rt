@@ -9,20 +9,23 @@ ghost use Rattle.message.specs.Read.{readOf};
 ghost use Rattle.message.specs.declared.Message.the-variants as message;
 ghost use Rattle.event.specs.Lent.{said};
 ghost use Rattle.event.specs.Answer.{writtenNumber};
-ghost use Rattle.reply.specs.Replies.{stringJson, reasonOf};
+ghost use Rattle.reply.specs.Replies.{stringJson, reasonOf, offsetText, refusalReason};
 ghost use Rattle.program.specs.Respond.{response, responded, respondRow, respondedOut, respondedTable};
 ghost use Rattle.replies.specs.Inner.{Room};
 ghost use Rattle.responses.specs.Refused.{refusedReply, refusedRow, refusedOut};
-ghost use Rattle.responses.specs.Inner.{verdictText, okText, closedText, noticeText, namedFor, namingText, ended};
-ghost use Rattle.responses.specs.Inner.{eoseLine, answerText, AllHeld, Said};
+ghost use Rattle.responses.specs.Inner.{openText, endText, verdictText, okText, closedText, noticeText};
+ghost use Rattle.responses.specs.Inner.{namingFor, namingText, ended, eoseLine, answerText, AllHeld, Said};
 use event::Written;
 use message::EventParts;
 use message::Message;
 use message::Named;
+use message::Naming;
 use message::ReqParts;
 use message::Span;
 use offers::Taken;
 use query::Listing;
+use shape::Offset;
+use shape::Refusal;
 use slot_replies::Left;
 use table::Offered;
 
@@ -33,35 +36,78 @@ const LENGTHS: [usize; 13] = [2, 27, 20, 19, 29, 22, 17, 14, 26, 26, 28, 18, 16]
 const LONGEST_OK: usize = 116;
 
 // ---- pieces of a reply
-// The reply text of a row, between quotes; rows 0, 13 and later have none.
-fn put_reason(out: &mut [u8], at: usize, row: u8) -> usize
-    ensures { λ r. ⌜ Puts (now (out .entry)) at (stringJson (reasonOf row)) r (now (out .exit)) ⌝ }
+// The reply text of a row behind a quote; rows 0, 13 and later have none.
+fn put_row(out: &mut [u8], at: usize, row: u8) -> usize
+    ensures { λ r. ⌜ Puts (now (out .entry)) at (openText row) r (now (out .exit)) ⌝ }
 {
     match row {
-        1 => wire::put(out, at, b"\"invalid: message too long\""),
-        2 => wire::put(out, at, b"\"invalid: not UTF-8\""),
-        3 => wire::put(out, at, b"\"invalid: not JSON\""),
-        4 => wire::put(out, at, b"\"invalid: string not allowed\""),
-        5 => wire::put(out, at, b"\"invalid: wrong shape\""),
-        6 => wire::put(out, at, b"\"invalid: number\""),
-        7 => wire::put(out, at, b"\"invalid: hex\""),
-        8 => wire::put(out, at, b"\"invalid: count or length\""),
-        9 => wire::put(out, at, b"\"invalid: event too large\""),
-        10 => wire::put(out, at, b"\"invalid: id does not match\""),
-        11 => wire::put(out, at, b"\"error: bad table\""),
-        12 => wire::put(out, at, b"\"error: no room\""),
-        _ => wire::put(out, at, b"\"\""),
+        1 => wire::put(out, at, b"\"invalid: message too long"),
+        2 => wire::put(out, at, b"\"invalid: not UTF-8"),
+        3 => wire::put(out, at, b"\"invalid: not JSON"),
+        4 => wire::put(out, at, b"\"invalid: string not allowed"),
+        5 => wire::put(out, at, b"\"invalid: wrong shape"),
+        6 => wire::put(out, at, b"\"invalid: number"),
+        7 => wire::put(out, at, b"\"invalid: hex"),
+        8 => wire::put(out, at, b"\"invalid: count or length"),
+        9 => wire::put(out, at, b"\"invalid: event too large"),
+        10 => wire::put(out, at, b"\"invalid: id does not match"),
+        11 => wire::put(out, at, b"\"error: bad table"),
+        12 => wire::put(out, at, b"\"error: no room"),
+        _ => wire::put(out, at, b"\""),
     }
 }
 
-// How long it is.
-fn reason_len(row: u8) -> usize
-    ensures { λ r. ⌜ (r ≡ length (stringJson (reasonOf row))) × (r ≤ 29) ⌝ }
+// How long it is between quotes.
+fn row_len(row: u8) -> usize
+    ensures { λ r. ⌜ (r ≡ length (reasonOf row) + 2) × (r ≤ 29) ⌝ }
 {
     if row < 13 {
         return LENGTHS[row as usize];
     }
     2
+}
+
+// ` at ` and the decimal offset, where there is one, and the quote behind the reply text.
+fn put_offset(out: &mut [u8], at: usize, x: Offset) -> usize
+    ensures { λ r. ⌜ Puts (now (out .entry)) at (endText x) r (now (out .exit)) ⌝ }
+{
+    match x {
+        Offset::Absent => wire::put(out, at, b"\""),
+        Offset::At(p) => {
+            let a = wire::put(out, at, b" at ");
+            let b = numeral::put_natural(out, a, p as u64);
+            wire::put(out, b, b"\"")
+        }
+    }
+}
+
+// How much longer the reply text is by it.
+fn offset_len(x: Offset) -> usize
+    ensures { λ r. ⌜ (r ≡ length (offsetText x)) × (r ≤ 24) ⌝ }
+{
+    match x {
+        Offset::Absent => 0,
+        Offset::At(p) => 4 + numeral::natural_len(p as u64),
+    }
+}
+
+// The reply text of a refusal, between quotes.
+fn put_reason(out: &mut [u8], at: usize, x: Refusal) -> usize
+    ensures { λ r. ⌜ Puts (now (out .entry)) at (stringJson (refusalReason x)) r (now (out .exit)) ⌝ }
+{
+    let row = x.row;
+    let offset = x.offset;
+    let a = put_row(out, at, row);
+    put_offset(out, a, offset)
+}
+
+// How long it is.
+fn reason_len(x: Refusal) -> usize
+    ensures { λ r. ⌜ (r ≡ length (stringJson (refusalReason x))) × (r ≤ 53) ⌝ }
+{
+    let row = x.row;
+    let offset = x.offset;
+    row_len(row) + offset_len(offset)
 }
 
 // ACCEPTED,REASON of an OK, by what the offer was answered.
@@ -73,22 +119,22 @@ fn put_verdict(out: &mut [u8], at: usize, a: Offered) -> usize
         Offered::Duplicate => wire::put(out, at, b"true,\"duplicate: already have this event\""),
         Offered::Older => wire::put(out, at, b"true,\"duplicate: have a newer version\""),
         Offered::Stored => wire::put(out, at, b"true,\"\""),
-        Offered::Refused(row) => {
+        Offered::Refused(x) => {
             let b = wire::put(out, at, b"false,");
-            put_reason(out, b, row)
+            put_reason(out, b, x)
         }
     }
 }
 
 fn verdict_len(a: Offered) -> usize
-    ensures { λ r. ⌜ (r ≡ length (verdictText a)) × (r ≤ 41) ⌝ }
+    ensures { λ r. ⌜ (r ≡ length (verdictText a)) × (r ≤ 59) ⌝ }
 {
     match a {
         Offered::Ephemeral => 7,
         Offered::Duplicate => 41,
         Offered::Older => 38,
         Offered::Stored => 7,
-        Offered::Refused(row) => 6 + reason_len(row),
+        Offered::Refused(x) => 6 + reason_len(x),
     }
 }
 
@@ -115,22 +161,22 @@ fn put_ok(out: &mut [u8], m: &[u8], id: Span, a: Offered) -> usize
 }
 
 // ["CLOSED",SUB,REASON]
-fn put_closed(out: &mut [u8], m: &[u8], sub: Span, row: u8) -> usize
-    ensures { λ r. ⌜ Puts (now (out .entry)) 0 (closedText (said (now (m .entry)) sub) row) r (now (out .exit)) ⌝ }
+fn put_closed(out: &mut [u8], m: &[u8], sub: Span, x: Refusal) -> usize
+    ensures { λ r. ⌜ Puts (now (out .entry)) 0 (closedText (said (now (m .entry)) sub) x) r (now (out .exit)) ⌝ }
 {
     let b = wire::put(out, 0, b"[\"CLOSED\",");
     let c = event::put_part(out, b, m, sub);
     let d = wire::put(out, c, b",");
-    let e = put_reason(out, d, row);
+    let e = put_reason(out, d, x);
     wire::put(out, e, b"]")
 }
 
 // ["NOTICE",REASON]
-fn put_notice(out: &mut [u8], row: u8) -> usize
-    ensures { λ r. ⌜ Puts (now (out .entry)) 0 (noticeText row) r (now (out .exit)) ⌝ }
+fn put_notice(out: &mut [u8], x: Refusal) -> usize
+    ensures { λ r. ⌜ Puts (now (out .entry)) 0 (noticeText x) r (now (out .exit)) ⌝ }
 {
     let b = wire::put(out, 0, b"[\"NOTICE\",");
-    let c = put_reason(out, b, row);
+    let c = put_reason(out, b, x);
     wire::put(out, c, b"]")
 }
 
@@ -144,33 +190,50 @@ fn put_eose(out: &mut [u8], at: usize, m: &[u8], sub: Span) -> usize
 }
 
 // ---- a refused message
-// What the reply to a refusal by a row may name: "Rows 1-5 give NOTICE".
-fn named_for(m: &[u8], row: u8) -> Named
-    ensures { λ r. ⌜ r ≡ namedFor (now (m .entry)) row ⌝ }
+// What the reply to a refusal by a row says: the offset goes with the message's own row, and "Rows 1-5 give NOTICE".
+fn naming_for(m: &[u8], row: u8) -> Naming
+    ensures { λ r. ⌜ r ≡ namingFor (now (m .entry)) row ⌝ }
 {
+    let alone = shape::plain_refusal(row);
     if row <= 5 {
-        return Named::Nothing;
+        return Naming {
+            refusal: alone,
+            named: Named::Nothing,
+        };
     }
-    message::names(m)
+    let x = message::names(m);
+    let own = x.refusal;
+    if own.row == row {
+        return x;
+    }
+    let named = x.named;
+    Naming {
+        refusal: alone,
+        named,
+    }
 }
 
 // "OK with false if the id field is 64 lower-case hex; CLOSED for a REQ whose subscription id is within bounds;
 // otherwise NOTICE"
-fn put_refusal(out: &mut [u8], m: &[u8], n: Named, row: u8) -> usize
-    ensures { λ r. ⌜ Puts (now (out .entry)) 0 (namingText (now (m .entry)) n row) r (now (out .exit)) ⌝ }
+fn put_refusal(out: &mut [u8], m: &[u8], x: Naming) -> usize
+    ensures { λ r. ⌜ Puts (now (out .entry)) 0 (namingText (now (m .entry)) x) r (now (out .exit)) ⌝ }
 {
-    match n {
-        Named::Id(p) => put_ok(out, m, p, Offered::Refused(row)),
-        Named::Subscription(p) => put_closed(out, m, p, row),
-        Named::Nothing => put_notice(out, row),
+    let refusal = x.refusal;
+    let named = x.named;
+    match named {
+        Named::Id(p) => put_ok(out, m, p, Offered::Refused(refusal)),
+        Named::Subscription(p) => put_closed(out, m, p, refusal),
+        Named::Nothing => put_notice(out, refusal),
     }
 }
 
-fn refusal_fits(m: &[u8], n: Named, row: u8, room: usize) -> bool
-    ensures { λ r. ⌜ Room (length (namingText (now (m .entry)) n row)) room r ⌝ }
+fn refusal_fits(m: &[u8], x: Naming, room: usize) -> bool
+    ensures { λ r. ⌜ Room (length (namingText (now (m .entry)) x)) room r ⌝ }
 {
-    let k = reason_len(row);
-    match n {
+    let refusal = x.refusal;
+    let named = x.named;
+    let k = reason_len(refusal);
+    match named {
         Named::Id(p) => has_room(room, 16 + k, event::part_len(m, p)),
         Named::Subscription(p) => has_room(room, 14 + k, event::part_len(m, p)),
         Named::Nothing => has_room(room, 11 + k, 0),
@@ -183,24 +246,24 @@ pub fn refused(m: &[u8], row: u8, out: &mut [u8]) -> Written
     ensures { λ r. ⌜ writtenNumber r ≡ refusedRow (now (m .entry)) row (now (out .entry)) ⌝ }
     ensures { λ _. ⌜ now (out .exit) ≡ refusedOut (now (m .entry)) row (now (out .entry)) ⌝ }
 {
-    let n = named_for(m, row);
-    if refusal_fits(m, n, row, out.len()) {
-        return Written::Wrote(put_refusal(out, m, n, row));
+    let x = naming_for(m, row);
+    if refusal_fits(m, x, out.len()) {
+        return Written::Wrote(put_refusal(out, m, x));
     }
     Written::Refused(13)
 }
 
 // ---- one message
-// The same reply, with 0A, where what it names is known.
-fn respond_refused(m: &[u8], n: Named, row: u8, out: &mut [u8]) -> Written
-    ensures { λ r. ⌜ Said (ended (namingText (now (m .entry)) n row)) (now (out .entry)) r (now (out .exit)) ⌝ }
+// The same reply, with 0A, where what it says is known.
+fn respond_refused(m: &[u8], x: Naming, out: &mut [u8]) -> Written
+    ensures { λ r. ⌜ Said (ended (namingText (now (m .entry)) x)) (now (out .entry)) r (now (out .exit)) ⌝ }
 {
     let room = out.len();
     if room == 0 {
         return Written::Refused(13);
     }
-    if refusal_fits(m, n, row, room - 1) {
-        let a = put_refusal(out, m, n, row);
+    if refusal_fits(m, x, room - 1) {
+        let a = put_refusal(out, m, x);
         return Written::Wrote(wire::put(out, a, b"\n"));
     }
     Written::Refused(13)
@@ -264,7 +327,11 @@ fn respond_request(table: &[u8], m: &[u8], q: ReqParts, out: &mut [u8]) -> Writt
     let mut row = [0u16; wire::MOST_SLOTS];
     match matching::answer(table, m, parts, n, &mut row) {
         Listing::Count(k) => put_answer(table, m, sub, &row[..k], out),
-        Listing::Refused(k) => respond_refused(m, Named::Subscription(sub), k, out),
+        Listing::Refused(k) => {
+            let refusal = shape::plain_refusal(k);
+            let named = Named::Subscription(sub);
+            respond_refused(m, Naming { refusal, named }, out)
+        }
     }
 }
 
@@ -297,7 +364,7 @@ fn respond_taken(table: &mut [u8], m: &[u8], out: &mut [u8]) -> Written
         }
         Taken::Req(q) => respond_request(table, m, q, out),
         Taken::Close(_) => Written::Wrote(0),
-        Taken::Refused(row) => respond_refused(m, named_for(m, row), row, out),
+        Taken::Refused(x) => respond_refused(m, naming_for(m, x.row), out),
     }
 }
 
@@ -316,6 +383,6 @@ pub fn respond(table: &mut [u8], m: &[u8], out: &mut [u8]) -> Written
         Message::Event(p) => respond_event(table, m, p, out),
         Message::Req(q) => respond_request(table, m, q, out),
         Message::Close(_) => Written::Wrote(0),
-        Message::Refused(row) => respond_refused(m, named_for(m, row), row, out),
+        Message::Refused(x) => respond_refused(m, naming_for(m, x.row), out),
     }
 }

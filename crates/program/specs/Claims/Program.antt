@@ -14,6 +14,10 @@ use Rattle.spell.specs.Spell.{isHexOf}
 use Rattle.shape.specs.Shape.{Word, event, req, close, other, Opened, opened, idName}
 use Rattle.rows.specs.Rows.{row1, textRowIf, textRow}
 use Rattle.shape.specs.Rows.{messageRowIf, messageRow, wrongSubscription}
+use Rattle.shape.specs.Offsets.{refusalOf, offsetFor}
+use Rattle.shape.specs.declared.Offset.{Offset}
+use Rattle.shape.specs.declared.Offset.the-variants.{Absent}
+use Rattle.shape.specs.declared.Refusal.{Refusal}
 use Rattle.digest.specs.Digest.{digest}
 use Rattle.text.specs.Event.{Event, serialise, isFit, all}
 use Rattle.text.specs.Read.{read, readText}
@@ -36,13 +40,13 @@ use Rattle.table.specs.Events.{Signature, tableEvents, ofHeld, view}
 use Rattle.table.specs.Sound.{soundUpTo, sound}
 use Rattle.table.specs.Demand3.{relay}
 use Rattle.table.specs.Offer as offers
-use Rattle.table.specs.Offer.{Offering, asMessage, answer, next}
+use Rattle.table.specs.Offer.{Offering, asMessage, asParts, answer, next}
 use Rattle.table.specs.declared.Offered.the-variants.{Stored, Refused}
 use Rattle.query.specs.Filter.{Filter}
 use Rattle.query.specs.Answer.{answerList, filtersMeant}
 use Rattle.wire.specs.Ascii.{ascii}
 use Rattle.reply.specs.Replies as replies
-use Rattle.reply.specs.Replies.{Reply, ok, eose, closed, notice, objectText, replyText, reasonOf}
+use Rattle.reply.specs.Replies.{Reply, ok, eose, closed, notice, objectText, replyText, reasonOf, refusalReason}
 use Rattle.program.specs.Program.{isAccepted, verdictReason, requestRepliesIf, requestReplies}
 use Rattle.program.specs.Program.{repliesTo, tableAfter, lines, written, outputFrom, freshTable, output}
 use Rattle.wire.specs.Bytes.{Bytes}
@@ -68,7 +72,7 @@ subscriptionField m = spanOf (firstItem (restItems m))
 
 -- ---- a message is refused by one of rows 1 to 8, or it is read
 abbrev pub Covered : Type 0
-Covered = (m : List ℕ) → ((1 ≤ messageRow m) × (messageRow m ≤ 8)) ⊎ ((r : ℕ) → readOf m ≢ message.Refused r)
+Covered = (m : List ℕ) → ((1 ≤ messageRow m) × (messageRow m ≤ 8)) ⊎ ((r : Refusal) → readOf m ≢ message.Refused r)
 
 -- ---- refused by rows 1 to 8: one reply, and the table stays
 -- "Rows 1-5 give NOTICE."
@@ -85,8 +89,8 @@ LateWord = (m : List ℕ) → 6 ≤ messageRow m → wordIn m ≢ other
 abbrev pub LateEvent : Type 0
 LateEvent = (b m : List ℕ) → 6 ≤ messageRow m → wordIn m ≡ event →
     (repliesTo b m
-    ≡ cond (isHexOf hexLength (spanBytes m (idField m))) (ok (said m (idField m)) false (reasonOf (messageRow m)))
-    (notice (reasonOf (messageRow m)))
+    ≡ cond (isHexOf hexLength (spanBytes m (idField m))) (ok (said m (idField m)) false (refusalReason (refusalOf m)))
+    (notice (refusalReason (refusalOf m)))
     ∷ [])
     × (tableAfter b m ≡ b)
 
@@ -94,15 +98,15 @@ LateEvent = (b m : List ℕ) → 6 ≤ messageRow m → wordIn m ≡ event →
 abbrev pub LateRequest : Type 0
 LateRequest = (b m : List ℕ) → 6 ≤ messageRow m → wordIn m ≡ req →
     (repliesTo b m
-    ≡ cond (wrongSubscription m (firstItem (restItems m))) (notice (reasonOf (messageRow m)))
-    (closed (said m (subscriptionField m)) (reasonOf (messageRow m)))
+    ≡ cond (wrongSubscription m (firstItem (restItems m))) (notice (refusalReason (refusalOf m)))
+    (closed (said m (subscriptionField m)) (refusalReason (refusalOf m)))
     ∷ [])
     × (tableAfter b m ≡ b)
 
 -- a CLOSE has neither: "otherwise NOTICE"
 abbrev pub LateClose : Type 0
 LateClose =
-    (b m : List ℕ) → 6 ≤ messageRow m → wordIn m ≡ close → (repliesTo b m ≡ notice (reasonOf (messageRow m)) ∷ []) ×
+    (b m : List ℕ) → 6 ≤ messageRow m → wordIn m ≡ close → (repliesTo b m ≡ notice (refusalReason (refusalOf m)) ∷ []) ×
     (tableAfter b m ≡ b)
 
 -- ---- read: what rows 9 to 12 would name is there
@@ -113,11 +117,11 @@ abbrev pub NamesSubscription : Type 0
 NamesSubscription =
     (m : List ℕ) (r : ReqParts) → readOf m ≡ message.Req r → namedOf m ≡ names.Subscription (r .subscription)
 
--- an EVENT that was read is refused, if at all, by one of rows 9 to 12
+-- an EVENT that was read is refused, if at all, by one of rows 9 to 12, which carry no offset
 abbrev pub LastRows : Type 0
 LastRows =
-    (b m : List ℕ) (p : EventParts) (r : ℕ) → readOf m ≡ message.Event p → answer b (asMessage m) ≡ Refused r →
-    (9 ≤ r) × (r ≤ 12)
+    (b m : List ℕ) (p : EventParts) (r : Refusal) → readOf m ≡ message.Event p → answer b (asMessage m) ≡ Refused r →
+    (9 ≤ r .row) × (r .row ≤ 12) × (r .offset ≡ Absent)
 
 -- one OK that names its id: true with a verdict, false on a refusal; "Replies: ephemeral and stored `true,""`;
 -- duplicate .. older .."
@@ -267,8 +271,14 @@ ProgramSettles =
     (map asMessage ms) →
     Settled tableEvents (map (signature.event tableEvents Signature) (view (tableFrom freshTable ms))) (offersIn ms)
 
--- ---- "A refusal carries its number and no other value": of an offer, the row of a refusal, and 0 for a verdict
+-- ---- "A refusal carries its number and no other value", as 02, Wish 9, amends it: of an offer, the row of a refusal,
+-- with the offset that goes with this row of a message, and with none of parts; and 0 for a verdict
+abbrev pub offsetAt : Offering → ℕ → Offset
+offsetAt (asMessage m) row = offsetFor m row
+offsetAt (asParts b p) row = Absent
+
 abbrev pub OfferedNumber : Type 0
 OfferedNumber = (b : List ℕ) (o : Offering) →
-    ((r : ℕ) → 1 ≤ r → (offers.offerNumber (answer b o) ≡ r) ↔ (answer b o ≡ Refused r))
-    × ((offers.offerNumber (answer b o) ≡ 0) ↔ ((r : ℕ) → answer b o ≢ Refused r))
+    ((r : ℕ) → 1 ≤ r → (offers.offerNumber (answer b o) ≡ r) ↔
+    (answer b o ≡ Refused (record { row = r; offset = offsetAt o r })))
+    × ((offers.offerNumber (answer b o) ≡ 0) ↔ ((r : Refusal) → answer b o ≢ Refused r))

@@ -1,35 +1,17 @@
--- An arm for each row.
+-- Two pieces.
 use borrow.Author.Needs.{needs}
-use Rattle.wire.specs.Escape.{letterOf, escOne, escape, jsonOne, jsonOf}
-use Rattle.text.specs.Event.{quoted}
-use Rattle.reply.specs.Replies.{reasonOf, stringJson}
-use Rattle.responses.proofs.Lines.{reason-put, rest-put, reason-none}
+use Rattle.responses.proofs.Lines.{reason-put}
 use Rattle.responses.proofs.put_reason.Statement.{statement}
 use Rattle.responses.proofs.put_reason.Tie as tie
 
-returns-13 : tie.Need-returns-13
-returns-13 c = rest-put _ (search (reason-none, needs)) (c .before .before .put13 .ensures)
+returns : tie.Need-returns
+returns c =
+    let c2 = c .before .before in
+    let c6 = c2 .before .before .before .before in
+    let c9 = c6 .before .before .before in
+    reason-put (c9 .args .x) (c6 .put-row .ensures) (c2 .put-offset .ensures)
 
 pub put-reason-spec : {M : Type 1} → statement M
-unfolding stringJson quoted jsonOf jsonOne escape escOne letterOf reasonOf
 put-reason-spec =
     tie.close
-    (tie.spec (λ c. search needs) (λ c κs. search needs) (λ c. search needs) (λ c κs. search needs) (λ c. search needs)
-    (λ c κs. search needs) (λ c. search needs) (λ c κs. search needs) (λ c. search needs) (λ c κs. search needs)
-    (λ c. search needs) (λ c κs. search needs) (λ c. search needs) (λ c κs. search needs) (λ c. search needs)
-    (λ c κs. search needs) (λ c. search needs) (λ c κs. search needs) (λ c. search needs) (λ c κs. search needs)
-    (λ c. search needs) (λ c κs. search needs) (λ c. search needs) (λ c κs. search needs) (λ c. search needs)
-    (λ c κs. search needs)
-    (λ c. search needs) (λ c. reason-put 1 (c .before .before .before .before .before .match .keys1) (c .before .before .put .ensures))
-    (λ c. search needs) (λ c. reason-put 2 (c .before .before .before .before .before .match .keys2) (c .before .before .put2 .ensures))
-    (λ c. search needs) (λ c. reason-put 3 (c .before .before .before .before .before .match .keys3) (c .before .before .put3 .ensures))
-    (λ c. search needs) (λ c. reason-put 4 (c .before .before .before .before .before .match .keys4) (c .before .before .put4 .ensures))
-    (λ c. search needs) (λ c. reason-put 5 (c .before .before .before .before .before .match .keys5) (c .before .before .put5 .ensures))
-    (λ c. search needs) (λ c. reason-put 6 (c .before .before .before .before .before .match .keys6) (c .before .before .put6 .ensures))
-    (λ c. search needs) (λ c. reason-put 7 (c .before .before .before .before .before .match .keys7) (c .before .before .put7 .ensures))
-    (λ c. search needs) (λ c. reason-put 8 (c .before .before .before .before .before .match .keys8) (c .before .before .put8 .ensures))
-    (λ c. search needs) (λ c. reason-put 9 (c .before .before .before .before .before .match .keys9) (c .before .before .put9 .ensures))
-    (λ c. search needs) (λ c. reason-put 10 (c .before .before .before .before .before .match .keys10) (c .before .before .put10 .ensures))
-    (λ c. search needs) (λ c. reason-put 11 (c .before .before .before .before .before .match .keys11) (c .before .before .put11 .ensures))
-    (λ c. search needs) (λ c. reason-put 12 (c .before .before .before .before .before .match .keys12) (c .before .before .put12 .ensures))
-    (λ c. search needs) returns-13)
+    (tie.spec (λ c κs. search needs) (λ c κs. search needs) (λ c. search needs) returns)

@@ -8,13 +8,13 @@ returns : tie.Need-returns
 returns c =
     let c2 = c .before .before in
     let c5 = c2 .before .before .before in
-    id-put _ _ _ (c5 .n .given .1) (c2 .put-ok .ensures)
+    id-put _ _ _ (c5 .named .given .1) (c2 .put-ok .ensures)
 
 returns-2 : tie.Need-returns-2
 returns-2 c =
     let c2 = c .before .before in
     let c5 = c2 .before .before .before in
-    sub-put _ _ _ (c5 .n2 .given .1) (c2 .put-closed .ensures)
+    sub-put _ _ _ (c5 .named2 .given .1) (c2 .put-closed .ensures)
 
 returns-3 : tie.Need-returns-3
 returns-3 c =

@@ -53,7 +53,7 @@ returns-5 c =
     let c6 = c4 .before .before in
     let c8 = c6 .before .before in
     let c14 = c8 .before .before .before .before .before .before in
-    let a = c14 .args in responds-refused (a .table .now) (a .m .now) (a .out .now) (c8 .read .ensures .0) (c6 .row .given .1) (c4 .named-for .ensures) (c2 .respond-refused .ensures)
+    let a = c14 .args in responds-refused (a .table .now) (a .m .now) (a .out .now) (c8 .read .ensures .0) (c6 .x .given .1) (c4 .naming-for .ensures) (c2 .respond-refused .ensures)
 
 pub respond-spec : {M : Type 1} → statement M
 respond-spec =

@@ -43,15 +43,16 @@ returns c =
 returns-2 : tie.Need-returns-2
 returns-2 c =
     let c2 = c .before .before in
-    let c5 = c2 .before .before .before in
-    let c8 = c5 .before .before .before in
-    let c11 = c8 .before .before .before in
-    let c16 = c11 .before .before .before .before .before in
-    request-refused _ _ _ (c16 .pre) (c11 .filters-at .ensures) _ refl (c8 .answer .ensures .0) (c5 .k2 .given .1) (c2 .respond-refused .ensures)
+    let c4 = c2 .before .before in
+    let c6 = c4 .before .before in
+    let c9 = c6 .before .before .before in
+    let c12 = c9 .before .before .before in
+    let c17 = c12 .before .before .before .before .before in
+    request-refused _ _ _ (c17 .pre) (c12 .filters-at .ensures) _ refl (c9 .answer .ensures .0) (c6 .k2 .given .1) (c4 .plain-refusal .ensures) (c2 .respond-refused .ensures)
 
 pub respond-request-spec : {M : Type 1} → statement M
 respond-request-spec =
     tie.close
     (tie.spec (λ c κs. search needs) (λ c. search needs) (λ c κs. search needs) (λ c. search needs)
     array-share-prefix-row slice-aggregate-put-answer put-answer-requires (λ c. search needs) (λ c κs. search needs)
-    (λ c. search needs) returns (λ c. search needs) returns-2)
+    (λ c κs. search needs) (λ c. search needs) returns (λ c. search needs) returns-2)

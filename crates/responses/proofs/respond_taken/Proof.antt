@@ -46,7 +46,7 @@ returns-4 c =
     let c10 = c6 .before .before .before .before in
     let c15 = c10 .before .before .before .before .before in
     let a = c15 .args in
-    taken-refused (a .table .now) (a .m .now) (a .out .now) (c10 .take .ensures .0) (c10 .take .ensures .1 .1) (c6 .row .given .1) (c4 .named-for .ensures)
+    taken-refused (a .table .now) (a .m .now) (a .out .now) (c10 .take .ensures .0) (c10 .take .ensures .1 .1) (c6 .x .given .1) (c4 .naming-for .ensures)
     (c2 .respond-refused .ensures)
 
 pub respond-taken-spec : {M : Type 1} → statement M
