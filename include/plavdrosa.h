@@ -7,7 +7,13 @@
  * the length counts members, not bytes. A pointer is never NULL, also where its length is 0, and lies as its type wants.
  *
  * A call answers 0, or the number of what refuses it (enum plavdrosa_row). A count or a length is written to a lent number and never shares the
- * answer. On a refusal every lent buffer and every lent number stays as found. Output is written from its start, and its rest stays.
+ * answer. On a refusal every lent buffer and every lent number stays as found, but for the number that is lent as offset. Output is written from
+ * its start, and its rest stays.
+ *
+ * A call that is lent a message says where it is wrong if 6 or 7 refuses it: the offset is that of the earliest number (6) or string (7) in the
+ * message that breaks the row, in bytes from its start, counted from 0. Of a number it is the first byte, the minus if it has one, of a string the
+ * opening quote. Any other answer leaves the number that is lent for it as found, so a caller looks at it on 6 and 7 alone. Calls that are lent parts
+ * give no offset.
  *
  * What is not checked: that a buffer which is written overlaps no other argument of the same call, that it has the length said, and that nobody
  * else uses it during the call.
@@ -72,8 +78,8 @@ enum plavdrosa_row {
     PLAVDROSA_NOT_JSON = 3,         /* no JSON, or more than 8 brackets and braces open at once; "invalid: not JSON" */
     PLAVDROSA_BAD_STRING = 4,       /* an unpaired surrogate; "invalid: string not allowed" */
     PLAVDROSA_WRONG_SHAPE = 5,      /* also a part outside its buffer, or no spelling of a string; "invalid: wrong shape" */
-    PLAVDROSA_BAD_NUMBER = 6,       /* "invalid: number" */
-    PLAVDROSA_BAD_HEX = 7,          /* an id, pubkey, sig or member of ids, authors, #e or #p; "invalid: hex" */
+    PLAVDROSA_BAD_NUMBER = 6,       /* "invalid: number", and of a message " at " and the offset, as "invalid: number at 57" */
+    PLAVDROSA_BAD_HEX = 7,          /* an id, pubkey, sig or member of ids, authors, #e or #p; "invalid: hex", " at " and the offset */
     PLAVDROSA_BAD_COUNT = 8,        /* a count out of bounds; "invalid: count or length" */
     PLAVDROSA_EVENT_TOO_LARGE = 9,  /* serialised text over PLAVDROSA_MAX_TEXT bytes; "invalid: event too large" */
     PLAVDROSA_WRONG_ID = 10,        /* id is not the SHA-256 of the text; "invalid: id does not match" */
@@ -255,18 +261,20 @@ uint8_t plavdrosa_text_row(const uint8_t *bytes, size_t bytes_len);
 /** Test a client message by rows 1 to 8.
  *
  *  Returns: the lowest of 1 to 8 that holds, or 0.
- *  In:      bytes: the message.
+ *  In:      bytes:  the message.
+ *  Out:     offset: on 6 and 7 where the earliest number or string that breaks the row begins in the message; else as found.
  */
-uint8_t plavdrosa_message_row(const uint8_t *bytes, size_t bytes_len);
+uint8_t plavdrosa_message_row(const uint8_t *bytes, size_t bytes_len, size_t *offset);
 
 /** Read a client message.
  *
  *  Returns: the lowest of 1 to 8 that holds, 13 if the row has no room for the parts, or 0.
- *  In:      bytes: the message.
- *  Out:     out:   its parts, as places in the message: 12 numbers of an EVENT, 4 and 10 a filter of a REQ, or 3 of a CLOSE; as found on a
- *                  refusal. PLAVDROSA_MESSAGE_NUMBERS are always enough.
+ *  In:      bytes:  the message.
+ *  Out:     out:    its parts, as places in the message: 12 numbers of an EVENT, 4 and 10 a filter of a REQ, or 3 of a CLOSE; as found on a
+ *                   refusal. PLAVDROSA_MESSAGE_NUMBERS are always enough.
+ *           offset: as of plavdrosa_message_row.
  */
-uint8_t plavdrosa_read(const uint8_t *bytes, size_t bytes_len, uint64_t *out, size_t out_len);
+uint8_t plavdrosa_read(const uint8_t *bytes, size_t bytes_len, uint64_t *out, size_t out_len, size_t *offset);
 
 /* ---- An event's text and id. */
 
@@ -363,10 +371,11 @@ uint8_t plavdrosa_sound(const uint8_t *table, size_t table_len);
  *  Returns: an enum plavdrosa_verdict, or the lowest of 1 to 12 that refuses it (5 also if the message is no EVENT).
  *  In/Out:  table:   the table; as found unless the answer is PLAVDROSA_STORED.
  *  In:      message: the message.
+ *  Out:     offset:  as of plavdrosa_message_row.
  */
-uint8_t plavdrosa_offer(uint8_t *table, size_t table_len, const uint8_t *message, size_t message_len);
+uint8_t plavdrosa_offer(uint8_t *table, size_t table_len, const uint8_t *message, size_t message_len, size_t *offset);
 
-/** Offer an event to a table, as parts.
+/** Offer an event to a table, as parts. No refusal of parts has an offset.
  *
  *  Returns: an enum plavdrosa_verdict, or the lowest of 2 and 4 to 12 that refuses it.
  *  In/Out:  table: the table; as found unless the answer is PLAVDROSA_STORED.
@@ -380,8 +389,9 @@ uint8_t plavdrosa_offer_parts(uint8_t *table, size_t table_len, const uint8_t *b
  *  Returns: as plavdrosa_offer.
  *  In:      table:   the table.
  *           message: the message.
+ *  Out:     offset:  as of plavdrosa_message_row.
  */
-uint8_t plavdrosa_judge(const uint8_t *table, size_t table_len, const uint8_t *message, size_t message_len);
+uint8_t plavdrosa_judge(const uint8_t *table, size_t table_len, const uint8_t *message, size_t message_len, size_t *offset);
 
 /** Show the text of a slot: where it stands in the table. It may have zero bytes.
  *
@@ -426,7 +436,8 @@ uint8_t plavdrosa_list(const uint8_t *table, size_t table_len, const uint8_t *me
  *
  *  Returns: 13 if the output has no room, or 0.
  *  In:      message: the message.
- *           row:     what refused it. A row without a text, as 0 and 13 and later, gives an empty reason.
+ *           row:     what refused it. A row without a text, as 0 and 13 and later, gives an empty reason. 6 and 7 give the offset too if the
+ *                    row is the one that plavdrosa_message_row answers for the message, and else their text alone.
  *  Out:     out:     the reply, from its start; as found on 13.
  *           written: how many bytes it has; as found on 13.
  */

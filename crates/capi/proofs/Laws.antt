@@ -1,15 +1,17 @@
 -- A law for each way out of a call that writes into a lent row; the numbers of a REQ.
 use mathlib.Core.Path.{_≡_, refl, sym, ap, _∙_}
-use mathlib.Core.Bool.{Bool, true, false}
 use mathlib.Core.List.{List, [], _++_}
 use Prim.Native.Nat.{ℕ, _≤_, _<_}
 use native.Mathlib.Omega.{arith}
-use borrow.Author.Tests.{le-leb, lt-leb, eq-eqb, ne-eqb, eqb-true, eqb-false}
-use lib.Dec.{eqb}
+use borrow.Author.Tests.{le-leb, lt-leb, eq-eqb, ne-eqb}
 use lib.ListN.{length, take, drop, length-append, length-take}
 use lib.Seq.{take-append-seam}
 use Rattle.wire.specs.Put.{Puts}
-use Rattle.wire.proofs.Laws.{puts-none, puts-whole, puts-then}
+use Rattle.wire.proofs.Laws.{puts-whole, puts-then}
+use Rattle.shape.specs.Rows.{messageRow}
+use Rattle.shape.specs.Offsets.{refusalOf}
+use Rattle.shape.specs.declared.Refusal.{Refusal}
+use Rattle.shape.proofs.Offsets.{offset-absent}
 use Rattle.message.specs.declared.Body.{Body}
 use Rattle.message.specs.declared.EventParts.{EventParts}
 use Rattle.message.specs.declared.FilterParts.{FilterParts}
@@ -18,12 +20,14 @@ use Rattle.message.specs.declared.Message.the-variants as message
 use Rattle.message.specs.declared.Filters.{Filters}
 use Rattle.message.specs.Parts.{filtersAt}
 use Rattle.message.specs.Read.{readOf, readNumber}
+use Rattle.message.proofs.Reading.{row-read}
 use Rattle.event.specs.Answer.{writtenNumber, serialised, serialisedOut}
 use Rattle.event.specs.declared.Written.{Written}
+use Rattle.event.proofs.Sent.{some-row, refused-own}
 use Rattle.numbers.specs.Numbers.{partsNumbers, messageNumbers}
 use Rattle.numbers.specs.Parts.{eventFrom}
 use Rattle.numbers.proofs.Laws.{length-parts}
-use Rattle.capi.specs.Calls.{lentRow, lentOut, readRow, readOut, lengthOr}
+use Rattle.capi.specs.Calls.{lentRow, lentOut, offsetIn, offsetOr, readRow, readOut, lengthOr}
 
 -- ---- row r, or the list l into a row that has room for k
 module _ (r k : ℕ) (l out : List ℕ) where
@@ -95,22 +99,25 @@ pub lent-as : (out : List ℕ) {l m o : List ℕ} {x : ℕ} → l ≡ m → x �
     (x ≡ lentRow 0 (length m) out) × (o ≡ lentOut 0 (length m) m out)
 lent-as out e a b = rw (sym e) (a, b)
 
--- ---- a message that was read
-module _ (s out : List ℕ) {m : Message} (e : m ≡ readOf s) where
-  pub read-lent : {l o : List ℕ} {x : ℕ} → readNumber m ≡ 0 → l ≡ messageNumbers s m → x ≡ lentRow 0 (length l) out → o ≡ lentOut 0 (length l) l out →
-      (x ≡ readRow s out) × (o ≡ readOut s out)
-  read-lent z f a b =
-      let y : readNumber (readOf s) ≡ 0 = ap readNumber (sym e) ∙ z in
-      let g = f ∙ ap (messageNumbers s) e in
-      rw (y, sym g) (a, b)
+-- ---- a message tested, with k in the lent number
+pub row-told : (s : List ℕ) (k : ℕ) {x : Refusal} {o : ℕ} → x ≡ refusalOf s → o ≡ offsetOr x k → (x .row ≡ messageRow s) × (o ≡ offsetOr (refusalOf s) k)
+row-told s k e f = (ap (λ (y : Refusal). y .row) e, f ∙ ap (λ (y : Refusal). offsetOr y k) e)
 
-  -- a refusal by no row is none: nothing would be written
-  pub read-refused : (x : ℕ) → m ≡ message.Refused x → (x ≡ readRow s out) × (out ≡ readOut s out)
-  read-refused x f = let y : readOf s ≡ message.Refused x = sym e ∙ f in rw y (go (eqb x 0) refl)
-    where
-      go : (b : Bool) → eqb x 0 ≡ b → (x ≡ lentRow x 0 out) × (out ≡ lentOut x 0 [] out)
-      go true q =
-          let z : x ≡ 0 = eqb-true x 0 q in
-          let w = lent-wrote x 0 [] out z (omega arith) refl (puts-none out 0 (omega arith)) in
-          (z ∙ w .0, w .1)
-      go false q = lent-refused x 0 [] out refl (eqb-false x 0 q)
+-- ---- a message that was read
+module _ (s out : List ℕ) {m : Message} (e : m ≡ readOf s) (k : ℕ) where
+  abbrev pub ReadSays : ℕ → List ℕ → ℕ → Type 0
+  ReadSays x o j = (x ≡ readRow s out) × ((o ≡ readOut s out) × (j ≡ offsetOr (refusalOf s) k))
+
+  pub read-lent : {l o : List ℕ} {x : ℕ} → readNumber m ≡ 0 → l ≡ messageNumbers s m → x ≡ lentRow 0 (length l) out → o ≡ lentOut 0 (length l) l out → ReadSays x o k
+  read-lent {o = o} {x = x} z f a b =
+      let y : readNumber (readOf s) ≡ 0 = ap readNumber (sym e) ∙ z in
+      let w : messageRow s ≡ 0 = sym (row-read s) ∙ y in
+      let g = f ∙ ap (messageNumbers s) e in
+      let h : (x ≡ readRow s out) × (o ≡ readOut s out) = rw (y, sym g) (a, b) in
+      (h .0, (h .1, sym (ap (λ t. offsetIn t k) (offset-absent s (λ n. omega arith) (λ n. omega arith)))))
+
+  pub read-refused : {z : Refusal} {j : ℕ} → m ≡ message.Refused z → j ≡ offsetOr z k → ReadSays (z .row) out j
+  read-refused {z} f g =
+      let y : readOf s ≡ message.Refused z = sym e ∙ f in
+      let h : (z .row ≡ readRow s out) × (out ≡ readOut s out) = rw y (lent-refused (z .row) 0 [] out refl (some-row s y)) in
+      (h .0, (h .1, g ∙ ap (λ (r : Refusal). offsetOr r k) (sym (refused-own s y))))

@@ -10,6 +10,9 @@ use Rattle.text.specs.Read.{readText}
 use Rattle.text.specs.Answer.{textAnswerOf, textNumber}
 use Rattle.event.specs.Answer.{identified, serialised, serialisedOut}
 use Rattle.event.specs.Answer as written
+use Rattle.shape.specs.declared.Offset.{Offset}
+use Rattle.shape.specs.declared.Offset.the-variants.{Absent, At}
+use Rattle.shape.specs.declared.Refusal.{Refusal}
 use Rattle.event.specs.declared.Written.{Written}
 use Rattle.event.specs.declared.Written.the-variants.{Wrote, Refused}
 use Rattle.numbers.specs.Numbers.{messageNumbers, answerNumbers}
@@ -22,6 +25,14 @@ lentRow r k out = cond (eqb r 0) (cond (leb k (length out)) 0 13) r
 
 unfoldable pub lentOut : (r k : ℕ) (l out : List ℕ) → List ℕ
 lentOut r k l out = cond (eqb r 0) (cond (leb k (length out)) (put out 0 l) out) out
+
+-- ---- the offset that a refusal carries, to a lent number, which stays where there is none
+abbrev pub offsetIn : Offset → ℕ → ℕ
+offsetIn Absent k = k
+offsetIn (At p) k = p
+
+abbrev pub offsetOr : Refusal → ℕ → ℕ
+offsetOr r k = offsetIn (r .offset) k
 
 -- ---- a message read: rows 1 to 8, then its parts, which need no more room than they take
 abbrev pub readRow : List ℕ → List ℕ → Row

@@ -3,10 +3,13 @@ ghost use mathlib.Core.Path.{_≡_};
 ghost use lib.ListN.{length};
 ghost use Rattle.rows.specs.Rows.{textRow};
 ghost use Rattle.shape.specs.Rows.{messageRow};
+ghost use Rattle.shape.specs.Offsets.{refusalOf};
 ghost use Rattle.numbers.specs.Numbers.{requestNumbers};
-ghost use Rattle.capi.specs.Calls.{lentRow, lentOut, readRow, readOut};
+ghost use Rattle.capi.specs.Calls.{lentRow, lentOut, offsetOr, readRow, readOut};
 use message::Message;
 use message::ReqParts;
+use shape::Offset;
+use shape::Refusal;
 
 // The lowest of rows 1 to 4 that holds of a text, or 0.
 #[no_mangle]
@@ -16,12 +19,29 @@ pub extern "C" fn plavdrosa_text_row(bytes: &[u8]) -> u8
     rows::text_row(bytes)
 }
 
-// Rows 1 to 8 of a client message: the lowest that holds, or 0.
-#[no_mangle]
-pub extern "C" fn plavdrosa_message_row(bytes: &[u8]) -> u8
-    ensures { λ r. ⌜ r ≡ messageRow (now (bytes .entry)) ⌝ }
+// The offset that a refusal carries, into `offset`, which stays where there is none.
+pub(crate) fn put_offset(offset: &mut usize, x: Refusal)
+    ensures { λ _. ⌜ now (offset .exit) ≡ offsetOr x (now (offset .entry)) ⌝ }
 {
-    shape::message_row(bytes)
+    let o = x.offset;
+    match o {
+        Offset::Absent => {}
+        Offset::At(p) => {
+            *offset = p;
+        }
+    }
+}
+
+// Rows 1 to 8 of a client message: the lowest that holds, or 0. With rows 6 and 7 the offset of the earliest number, or
+// opening quote of a string, that breaks that row goes into `offset`, which else stays as found.
+#[no_mangle]
+pub extern "C" fn plavdrosa_message_row(bytes: &[u8], offset: &mut usize) -> u8
+    ensures { λ r. ⌜ r ≡ messageRow (now (bytes .entry)) ⌝ }
+    ensures { λ _. ⌜ now (offset .exit) ≡ offsetOr (refusalOf (now (bytes .entry))) (now (offset .entry)) ⌝ }
+{
+    let r = shape::message_refusal(bytes);
+    put_offset(offset, r);
+    r.row
 }
 
 // Numbers from the start of `out`: 13 if it has no room for them, or 0.
@@ -59,11 +79,12 @@ fn put_request(out: &mut [u64], s: &[u8], p: ReqParts) -> u8
 
 // A client message read, and its parts as numbers into `out`: the lowest of rows 1 to 8 that holds, 13 if `out` has no
 // room for them, or 0. The first number says what was read: 1 an EVENT (12 numbers), 2 a REQ (4, of which the last says
-// how many filters follow, and 10 a filter), 3 a CLOSE (3).
+// how many filters follow, and 10 a filter), 3 a CLOSE (3). `offset` is as plavdrosa_message_row leaves it.
 #[no_mangle]
-pub extern "C" fn plavdrosa_read(bytes: &[u8], out: &mut [u64]) -> u8
+pub extern "C" fn plavdrosa_read(bytes: &[u8], out: &mut [u64], offset: &mut usize) -> u8
     ensures { λ r. ⌜ r ≡ readRow (now (bytes .entry)) (now (out .entry)) ⌝ }
     ensures { λ _. ⌜ now (out .exit) ≡ readOut (now (bytes .entry)) (now (out .entry)) ⌝ }
+    ensures { λ _. ⌜ now (offset .exit) ≡ offsetOr (refusalOf (now (bytes .entry))) (now (offset .entry)) ⌝ }
 {
     match message::read(bytes) {
         Message::Event(p) => {
@@ -75,6 +96,9 @@ pub extern "C" fn plavdrosa_read(bytes: &[u8], out: &mut [u64]) -> u8
             let l = [3, p.start as u64, p.len as u64];
             put_row(out, &l)
         }
-        Message::Refused(r) => r,
+        Message::Refused(r) => {
+            put_offset(offset, r);
+            r.row
+        }
     }
 }

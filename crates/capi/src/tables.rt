@@ -4,7 +4,8 @@ ghost use Rattle.table.specs.Format.{formatRow, formatted, shownRow};
 ghost use Rattle.table.specs.Offer.{asMessage, asParts, answer, next};
 ghost use Rattle.slots.specs.Shown.{shownAt};
 ghost use Rattle.numbers.specs.Parts.{eventFrom};
-ghost use Rattle.capi.specs.Table.{soundRow, offeredNumber, shownPlace, shownLength};
+ghost use Rattle.capi.specs.Table.{soundRow, offeredNumber, offeredOffset, shownPlace, shownLength};
+use crate::messages;
 
 // Formats the buffer: 14, 13 or 0.
 #[no_mangle]
@@ -34,18 +35,36 @@ fn offered_number(x: table::Offered) -> u8
         table::Offered::Ephemeral => 100,
         table::Offered::Duplicate => 101,
         table::Offered::Older => 102,
-        table::Offered::Refused(r) => r,
+        table::Offered::Refused(r) => r.row,
+    }
+}
+
+// The offset that an offer's refusal carries, into `offset`, which stays where there is none.
+fn put_offered(offset: &mut usize, x: table::Offered)
+    ensures { λ _. ⌜ now (offset .exit) ≡ offeredOffset x (now (offset .entry)) ⌝ }
+{
+    match x {
+        table::Offered::Stored => {}
+        table::Offered::Ephemeral => {}
+        table::Offered::Duplicate => {}
+        table::Offered::Older => {}
+        table::Offered::Refused(r) => messages::put_offset(offset, r),
     }
 }
 
 // A message offered: 0 if it is stored, 100 if it is ephemeral, 101 if it is a duplicate, 102 if it is older, or the
-// row that refuses it.
+// row that refuses it. With rows 6 and 7 the offset of the earliest number, or opening quote of a string, that breaks
+// that row goes into `offset`, which else stays as found.
 #[no_mangle]
-pub extern "C" fn plavdrosa_offer(table: &mut [u8], message: &[u8]) -> u8
+pub extern "C" fn plavdrosa_offer(table: &mut [u8], message: &[u8], offset: &mut usize) -> u8
     ensures { λ r. ⌜ r ≡ offeredNumber (answer (now (table .entry)) (asMessage (now (message .entry)))) ⌝ }
     ensures { λ _. ⌜ now (table .exit) ≡ next (now (table .entry)) (asMessage (now (message .entry))) ⌝ }
+    ensures { λ _. ⌜ now (offset .exit) ≡ offeredOffset (answer (now (table .entry)) (asMessage (now (message .entry))))
+        (now (offset .entry)) ⌝ }
 {
-    offered_number(offers::offer_message(table, message))
+    let x = offers::offer_message(table, message);
+    put_offered(offset, x);
+    offered_number(x)
 }
 
 // An event offered as parts of `bytes`; the same numbers.
@@ -62,10 +81,14 @@ pub extern "C" fn plavdrosa_offer_parts(table: &mut [u8], bytes: &[u8], event: &
 
 // What the offer of a message would be answered, as plavdrosa_offer tells it; the table is only read.
 #[no_mangle]
-pub extern "C" fn plavdrosa_judge(table: &[u8], message: &[u8]) -> u8
+pub extern "C" fn plavdrosa_judge(table: &[u8], message: &[u8], offset: &mut usize) -> u8
     ensures { λ r. ⌜ r ≡ offeredNumber (answer (now (table .entry)) (asMessage (now (message .entry)))) ⌝ }
+    ensures { λ _. ⌜ now (offset .exit) ≡ offeredOffset (answer (now (table .entry)) (asMessage (now (message .entry))))
+        (now (offset .entry)) ⌝ }
 {
-    offered_number(offers::judge_message(table, message))
+    let x = offers::judge_message(table, message);
+    put_offered(offset, x);
+    offered_number(x)
 }
 
 // Where the text of a slot stands in the table, into `place`, and how many bytes it has, into `len`: 11, 14 or 0. On a
