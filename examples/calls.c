@@ -1,5 +1,5 @@
-/* Each call of the header once, from C99 and from C++: that it links, and that it answers what the header says; and a table moved to a larger
- * one. */
+/* Each call of the header once, from C99 and from C++: that it links, and that it answers what the header says; where a message is wrong; and a
+ * table moved to a larger one. */
 #include <stdio.h>
 #include <string.h>
 
@@ -23,6 +23,7 @@ static uint8_t larger[PLAVDROSA_TABLE_SIZE(PLAVDROSA_MAX_CAPACITY)];
 static uint64_t e[PLAVDROSA_EVENT_NUMBERS];
 static uint64_t r[PLAVDROSA_MESSAGE_NUMBERS];
 static uint64_t o[PLAVDROSA_MESSAGE_NUMBERS];
+static size_t at;
 static int wrong;
 
 /* A string as a slice, without its final zero. */
@@ -49,13 +50,12 @@ static void texts(void) {
     EXPECT(plavdrosa_text_row(BYTES("\"\\ud800\"")), PLAVDROSA_BAD_STRING);
     EXPECT(plavdrosa_text_row(BYTES("\"\\u0001\"")), PLAVDROSA_DONE);
     EXPECT(plavdrosa_text_row(BYTES("\"\001\"")), PLAVDROSA_NOT_JSON);
-    EXPECT(plavdrosa_message_row(BYTES("[1]")), PLAVDROSA_WRONG_SHAPE);
-    EXPECT(plavdrosa_message_row(BYTES("[\"REQ\",\"s\",{\"#e\":[\"5c83\"]}]")), PLAVDROSA_BAD_HEX);
-    EXPECT(plavdrosa_message_row(BYTES("[\"REQ\",\"s\",{\"#E\":[\"5c83\"]}]")), PLAVDROSA_DONE);
-    EXPECT(plavdrosa_read(BYTES(event), e, PLAVDROSA_EVENT_NUMBERS), PLAVDROSA_DONE);
+    EXPECT(plavdrosa_message_row(BYTES("[1]"), &at), PLAVDROSA_WRONG_SHAPE);
+    EXPECT(plavdrosa_message_row(BYTES("[\"REQ\",\"s\",{\"#E\":[\"5c83\"]}]"), &at), PLAVDROSA_DONE);
+    EXPECT(plavdrosa_read(BYTES(event), e, PLAVDROSA_EVENT_NUMBERS, &at), PLAVDROSA_DONE);
     EXPECT(e[0] == PLAVDROSA_EVENT && (int64_t)e[PLAVDROSA_EVENT_CREATED_AT] == -7200, 1);
-    EXPECT(plavdrosa_read(BYTES(req), r, PLAVDROSA_MESSAGE_NUMBERS), PLAVDROSA_DONE);
-    EXPECT(plavdrosa_read(BYTES(other), o, PLAVDROSA_MESSAGE_NUMBERS), PLAVDROSA_DONE);
+    EXPECT(plavdrosa_read(BYTES(req), r, PLAVDROSA_MESSAGE_NUMBERS, &at), PLAVDROSA_DONE);
+    EXPECT(plavdrosa_read(BYTES(other), o, PLAVDROSA_MESSAGE_NUMBERS, &at), PLAVDROSA_DONE);
     EXPECT(r[0] == PLAVDROSA_REQ && r[PLAVDROSA_REQ_FILTERS] == 1 && r[PLAVDROSA_FILTER(0) + PLAVDROSA_FILTER_LIMIT] == 1, 1);
     EXPECT(plavdrosa_serialise(BYTES(event), e, PLAVDROSA_EVENT_NUMBERS, out, sizeof out, &n), PLAVDROSA_DONE);
     EXPECT(is(n, text), 1);
@@ -66,6 +66,40 @@ static void texts(void) {
     EXPECT(plavdrosa_digest(BYTES(text), out, PLAVDROSA_ID_SIZE), PLAVDROSA_DONE);
     EXPECT(out[0] == 0xaf && out[31] == 0x3a, 1);
     EXPECT(plavdrosa_class(30078), PLAVDROSA_CLASS_ADDRESSABLE);
+}
+
+/* Where a message is wrong: on 6 and 7 the offset points at the number or at the string's opening quote, and on any other answer it stays. */
+static void places(void) {
+    static const char hex[] = "[\"REQ\",\"s\",{\"#e\":[\"5c83\"]}]", number[] = "[\"REQ\",\"\303\251\",{\"ids\":[\"5c83\"],\"limit\":-1}]";
+    static char timed[sizeof event];
+    char *time;
+    size_t offset = 7, n = 0;
+    EXPECT(plavdrosa_message_row(BYTES(event), &offset), PLAVDROSA_DONE);
+    EXPECT(plavdrosa_message_row(BYTES("[\"REQ\",\"\",{}]"), &offset), PLAVDROSA_BAD_COUNT);
+    EXPECT(plavdrosa_read(BYTES(event), o, 1, &offset), PLAVDROSA_SHORT_OUTPUT);
+    EXPECT(offset, 7);
+    EXPECT(plavdrosa_message_row(BYTES(hex), &offset), PLAVDROSA_BAD_HEX);
+    EXPECT(memcmp(hex + offset, "\"5c83\"", 6), 0);
+    EXPECT(plavdrosa_read(BYTES(number), o, PLAVDROSA_MESSAGE_NUMBERS, &offset), PLAVDROSA_BAD_NUMBER);
+    EXPECT(strcmp(number + offset, "-1}]"), 0);
+    EXPECT(plavdrosa_refused(BYTES(hex), PLAVDROSA_BAD_HEX, out, sizeof out, &n), PLAVDROSA_DONE);
+    EXPECT(is(n, "[\"CLOSED\",\"s\",\"invalid: hex at 18\"]"), 1);
+    EXPECT(plavdrosa_refused(BYTES(hex), PLAVDROSA_BAD_NUMBER, out, sizeof out, &n), PLAVDROSA_DONE);
+    EXPECT(is(n, "[\"CLOSED\",\"s\",\"invalid: number\"]"), 1);
+    /* an offer: the event with a fraction for its time; a REQ is no EVENT, and 5 has no offset */
+    strcpy(timed, event);
+    time = strstr(timed, "-7200");
+    memcpy(time, "-7.20", 5);
+    EXPECT(plavdrosa_format(table, sizeof table, 2), PLAVDROSA_DONE);
+    EXPECT(plavdrosa_offer(table, sizeof table, BYTES(timed), &offset), PLAVDROSA_BAD_NUMBER);
+    EXPECT(offset == (size_t)(time - timed), 1);
+    offset = 7;
+    EXPECT(plavdrosa_judge(table, sizeof table, BYTES(timed), &offset), PLAVDROSA_BAD_NUMBER);
+    EXPECT(offset == (size_t)(time - timed), 1);
+    offset = 7;
+    EXPECT(plavdrosa_offer(table, sizeof table, BYTES(hex), &offset), PLAVDROSA_WRONG_SHAPE);
+    EXPECT(offset, 7);
+    memset(table, 0, sizeof table);
 }
 
 /* The digest of the text, cut anywhere. */
@@ -98,8 +132,8 @@ static void tables(void) {
     EXPECT(plavdrosa_format(table, sizeof table, 3), PLAVDROSA_SHORT_OUTPUT);
     EXPECT(plavdrosa_format(table, sizeof table, 2), PLAVDROSA_DONE);
     EXPECT(plavdrosa_sound(table, sizeof table), PLAVDROSA_DONE);
-    EXPECT(plavdrosa_judge(table, sizeof table, BYTES(event)), PLAVDROSA_STORED);
-    EXPECT(plavdrosa_offer(table, sizeof table, BYTES(event)), PLAVDROSA_STORED);
+    EXPECT(plavdrosa_judge(table, sizeof table, BYTES(event), &at), PLAVDROSA_STORED);
+    EXPECT(plavdrosa_offer(table, sizeof table, BYTES(event), &at), PLAVDROSA_STORED);
     EXPECT(plavdrosa_offer_parts(table, sizeof table, BYTES(event), e, PLAVDROSA_EVENT_NUMBERS), PLAVDROSA_DUPLICATE);
     EXPECT(plavdrosa_show(table, sizeof table, 1, &place, &n), PLAVDROSA_NO_SLOT);
     EXPECT(plavdrosa_show(table, sizeof table, 0, &place, &n), PLAVDROSA_DONE);
@@ -141,8 +175,8 @@ static void lengths(void) {
     size_t kept = 0, used = 0, n = 0;
     memset(message, ' ', sizeof message);
     memcpy(message, "[\"CLOSE\",\"s\"]", 13);
-    EXPECT(plavdrosa_message_row(message, sizeof message - 1), PLAVDROSA_DONE);
-    EXPECT(plavdrosa_message_row(message, sizeof message), PLAVDROSA_TOO_LONG);
+    EXPECT(plavdrosa_message_row(message, sizeof message - 1, &at), PLAVDROSA_DONE);
+    EXPECT(plavdrosa_message_row(message, sizeof message, &at), PLAVDROSA_TOO_LONG);
     EXPECT(plavdrosa_turn(table, sizeof table, line, sizeof line - 1, &kept, message, 1, out, sizeof out, &used, &n), PLAVDROSA_SHORT_OUTPUT);
     EXPECT(plavdrosa_turn(table, sizeof table, line, sizeof line, &kept, message, sizeof message - 1, out, sizeof out, &used, &n), PLAVDROSA_DONE);
     EXPECT(plavdrosa_finish(table, sizeof table, line, sizeof line, kept, out, sizeof out, &n), PLAVDROSA_DONE);
@@ -195,6 +229,7 @@ static void move(void) {
 
 int main(void) {
     texts();
+    places();
     pieces();
     tables();
     replies();

@@ -39,8 +39,8 @@ unsafe extern "C" {
         written: *mut usize,
     ) -> u8;
     fn plavdrosa_text_row(bytes: *const u8, bytes_len: usize) -> u8;
-    fn plavdrosa_message_row(bytes: *const u8, bytes_len: usize) -> u8;
-    fn plavdrosa_read(bytes: *const u8, bytes_len: usize, out: *mut u64, out_len: usize) -> u8;
+    fn plavdrosa_message_row(bytes: *const u8, bytes_len: usize, offset: *mut usize) -> u8;
+    fn plavdrosa_read(bytes: *const u8, bytes_len: usize, out: *mut u64, out_len: usize, offset: *mut usize) -> u8;
     fn plavdrosa_serialise(
         bytes: *const u8,
         bytes_len: usize,
@@ -66,7 +66,13 @@ unsafe extern "C" {
     fn plavdrosa_class(kind: u16) -> u8;
     fn plavdrosa_format(table: *mut u8, table_len: usize, capacity: usize) -> u8;
     fn plavdrosa_sound(table: *const u8, table_len: usize) -> u8;
-    fn plavdrosa_offer(table: *mut u8, table_len: usize, message: *const u8, message_len: usize) -> u8;
+    fn plavdrosa_offer(
+        table: *mut u8,
+        table_len: usize,
+        message: *const u8,
+        message_len: usize,
+        offset: *mut usize,
+    ) -> u8;
     fn plavdrosa_offer_parts(
         table: *mut u8,
         table_len: usize,
@@ -75,7 +81,13 @@ unsafe extern "C" {
         event: *const u64,
         event_len: usize,
     ) -> u8;
-    fn plavdrosa_judge(table: *const u8, table_len: usize, message: *const u8, message_len: usize) -> u8;
+    fn plavdrosa_judge(
+        table: *const u8,
+        table_len: usize,
+        message: *const u8,
+        message_len: usize,
+        offset: *mut usize,
+    ) -> u8;
     fn plavdrosa_show(table: *const u8, table_len: usize, slot: usize, place: *mut usize, len: *mut usize) -> u8;
     fn plavdrosa_match(
         bytes: *const u8,
@@ -202,12 +214,12 @@ pub(crate) fn text_row(bytes: &[u8]) -> u8 {
     unsafe { plavdrosa_text_row(bytes.as_ptr(), bytes.len()) }
 }
 
-pub(crate) fn message_row(bytes: &[u8]) -> u8 {
-    unsafe { plavdrosa_message_row(bytes.as_ptr(), bytes.len()) }
+pub(crate) fn message_row(bytes: &[u8], offset: &mut usize) -> u8 {
+    unsafe { plavdrosa_message_row(bytes.as_ptr(), bytes.len(), offset) }
 }
 
-pub(crate) fn read(bytes: &[u8], out: &mut [u64]) -> u8 {
-    unsafe { plavdrosa_read(bytes.as_ptr(), bytes.len(), out.as_mut_ptr(), out.len()) }
+pub(crate) fn read(bytes: &[u8], out: &mut [u64], offset: &mut usize) -> u8 {
+    unsafe { plavdrosa_read(bytes.as_ptr(), bytes.len(), out.as_mut_ptr(), out.len(), offset) }
 }
 
 pub(crate) fn serialise(bytes: &[u8], event: &[u64], out: &mut [u8], written: &mut usize) -> u8 {
@@ -269,8 +281,8 @@ pub(crate) fn sound(table: &[u8]) -> u8 {
     unsafe { plavdrosa_sound(table.as_ptr(), table.len()) }
 }
 
-pub(crate) fn offer(table: &mut [u8], message: &[u8]) -> u8 {
-    unsafe { plavdrosa_offer(table.as_mut_ptr(), table.len(), message.as_ptr(), message.len()) }
+pub(crate) fn offer(table: &mut [u8], message: &[u8], offset: &mut usize) -> u8 {
+    unsafe { plavdrosa_offer(table.as_mut_ptr(), table.len(), message.as_ptr(), message.len(), offset) }
 }
 
 pub(crate) fn offer_parts(table: &mut [u8], bytes: &[u8], event: &[u64]) -> u8 {
@@ -286,8 +298,8 @@ pub(crate) fn offer_parts(table: &mut [u8], bytes: &[u8], event: &[u64]) -> u8 {
     }
 }
 
-pub(crate) fn judge(table: &[u8], message: &[u8]) -> u8 {
-    unsafe { plavdrosa_judge(table.as_ptr(), table.len(), message.as_ptr(), message.len()) }
+pub(crate) fn judge(table: &[u8], message: &[u8], offset: &mut usize) -> u8 {
+    unsafe { plavdrosa_judge(table.as_ptr(), table.len(), message.as_ptr(), message.len(), offset) }
 }
 
 pub(crate) fn show(table: &[u8], slot: usize, place: &mut usize, len: &mut usize) -> u8 {

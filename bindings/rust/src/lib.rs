@@ -27,6 +27,15 @@
 //!
 //! A [`Refusal`] is one of 14 rows; where several hold, the lowest is given. A refused call leaves every lent buffer as it found it.
 //!
+//! A wrong number (6) or wrong hex (7) in a message is refused with its [`offset`](Refusal::offset), the place of its first byte or of its opening
+//! quote; of several the earliest. `to_string` gives the reason as clients get it:
+//!
+//! ```
+//! let refusal = plavdrosa::read(br#"["REQ","s",{"since":0,"until":1e9}]"#).unwrap_err();
+//! assert_eq!(refusal.offset(), Some(30));
+//! assert_eq!(refusal.to_string(), "invalid: number at 30");
+//! ```
+//!
 //! # Parts
 //!
 //! A [`Span`] is where a string stands between its quotes in a buffer, as spelled there; a list is the place of its opening bracket. Whoever hands

@@ -4,7 +4,7 @@
 
 use core::num::NonZeroUsize;
 
-use crate::answer::done;
+use crate::answer::{done, placed};
 use crate::event::Body;
 use crate::{Refusal, ffi};
 
@@ -154,27 +154,30 @@ pub fn text_row(bytes: &[u8]) -> Result<(), Refusal> {
     done(ffi::text_row(bytes))
 }
 
-/// Tests a client message by rows 1 to 8, without its parts.
+/// Tests a client message by rows 1 to 8, without its parts. Rows 6 and 7 say where the earliest number or string that breaks them begins.
 ///
 /// ```
 /// use plavdrosa::{Refusal, message_row};
 /// assert_eq!(message_row(br#"["CLOSE","s"]"#), Ok(()));
-/// assert_eq!(message_row(br#"["REQ","s",{"limit":1e3}]"#), Err(Refusal::BadNumber));
+/// assert_eq!(message_row(br#"["REQ","s",{"limit":1e3}]"#), Err(Refusal::BadNumber { offset: Some(20) }));
 /// ```
 pub fn message_row(bytes: &[u8]) -> Result<(), Refusal> {
-    done(ffi::message_row(bytes))
+    let mut offset = 0;
+    done(ffi::message_row(bytes, &mut offset)).map_err(|refusal| placed(refusal, offset))
 }
 
-/// Reads a client message: its parts as places in it, or the lowest of rows 1 to 8.
+/// Reads a client message: its parts as places in it, or the lowest of rows 1 to 8. Rows 6 and 7 say where the earliest number or string that
+/// breaks them begins.
 ///
 /// ```
 /// use plavdrosa::{Message, Refusal, read};
 /// assert!(matches!(read(br#"["CLOSE","s"]"#), Ok(Message::Close(_))));
 /// assert_eq!(read(br#"["REQ","s",{"kinds":[]}]"#), Err(Refusal::BadCount));
+/// assert_eq!(read(br#"["REQ","s",{"authors":["X"]}]"#), Err(Refusal::BadHex { offset: Some(23) }));
 /// ```
 pub fn read(message: &[u8]) -> Result<Message, Refusal> {
-    let mut row = [0; MESSAGE_NUMBERS];
-    done(ffi::read(message, &mut row))?;
+    let (mut row, mut offset) = ([0; MESSAGE_NUMBERS], 0);
+    done(ffi::read(message, &mut row, &mut offset)).map_err(|refusal| placed(refusal, offset))?;
     Ok(match row[0] {
         1 => Message::Event(event_from(&row)),
         2 => Message::Req(request_from(&row)),

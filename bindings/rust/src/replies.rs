@@ -70,12 +70,16 @@ pub fn reply<'o>(bytes: &[u8], parts: &ReplyParts, out: &'o mut [u8]) -> Result<
 /// Writes the reply that a refused message gets, without a line's end: NOTICE for rows 1 to 5; for later ones OK with `false` if the message is
 /// an EVENT with an id of 64 lower-case hex characters, CLOSED if it is a REQ whose subscription id is within bounds, or else NOTICE.
 ///
+/// The offset of rows 6 and 7 is told from the message, whatever the refusal that is given has. Where the row is not the message's own, as
+/// [`read`](crate::read) tells it, the reason is the row's text alone.
+///
 /// ```
-/// use plavdrosa::{read, refused};
+/// use plavdrosa::{Refusal, read, refused};
 /// let message = br#"["REQ","s",{"limit":-1}]"#;
 /// let row = read(message).unwrap_err();
-/// assert_eq!(refused(message, row, &mut [0; 500])?, br#"["CLOSED","s","invalid: number"]"#);
-/// # Ok::<(), plavdrosa::Refusal>(())
+/// assert_eq!(refused(message, row, &mut [0; 500])?, br#"["CLOSED","s","invalid: number at 20"]"#);
+/// assert_eq!(refused(message, Refusal::BadHex { offset: Some(8) }, &mut [0; 500])?, br#"["CLOSED","s","invalid: hex"]"#);
+/// # Ok::<(), Refusal>(())
 /// ```
 pub fn refused<'o>(message: &[u8], refusal: Refusal, out: &'o mut [u8]) -> Result<&'o [u8], Refusal> {
     let mut written = 0;

@@ -2,7 +2,7 @@
 
 #![forbid(unsafe_code)]
 
-use crate::answer::{done, verdict};
+use crate::answer::{done, placed, verdict};
 use crate::feed::each_line;
 use crate::message::{event_numbers, request_numbers};
 use crate::{EventParts, Refusal, ReqParts, Span, Verdict, ffi, table_size};
@@ -123,13 +123,17 @@ impl<'a> Table<'a> {
     /// assert_eq!(table.offer(sample::EVENT), Ok(Verdict::Duplicate));
     /// assert_eq!(table.offer(sample::EPHEMERAL), Ok(Verdict::Ephemeral));
     /// assert_eq!(table.offer(br#"["CLOSE","s"]"#), Err(Refusal::WrongShape));
+    ///
+    /// let wrong = String::from_utf8_lossy(sample::EVENT).replace("-7200", "7.2e3");
+    /// assert_eq!(table.offer(wrong.as_bytes()), Err(Refusal::BadNumber { offset: wrong.find("7.2e3") }));
     /// # Ok::<(), Refusal>(())
     /// ```
     pub fn offer(&mut self, message: &[u8]) -> Result<Verdict, Refusal> {
-        verdict(ffi::offer(self.bytes, message))
+        let mut offset = 0;
+        verdict(ffi::offer(self.bytes, message, &mut offset)).map_err(|refusal| placed(refusal, offset))
     }
 
-    /// Offers an event, as parts of `bytes`.
+    /// Offers an event, as parts of `bytes`. A refusal of parts has no offset.
     ///
     /// ```
     /// use plavdrosa::{Message, Table, Verdict, read, sample, table_size};
@@ -154,7 +158,8 @@ impl<'a> Table<'a> {
     /// # Ok::<(), plavdrosa::Refusal>(())
     /// ```
     pub fn judge(&self, message: &[u8]) -> Result<Verdict, Refusal> {
-        verdict(ffi::judge(self.bytes, message))
+        let mut offset = 0;
+        verdict(ffi::judge(self.bytes, message, &mut offset)).map_err(|refusal| placed(refusal, offset))
     }
 
     /// Shows the text of a slot: the very bytes in the table. Refused by 14 if the slot is not held.

@@ -2,7 +2,7 @@
 
 use plavdrosa::{
     Body, EventParts, Feed, MAX_CAPACITY, MAX_MESSAGE, MAX_TEXT, Message, Refusal, ReplyParts, ReqParts, Span, Table,
-    Verdict, digest, output_size, read, read_text, refused, relay, reply, sample, table_size, text_row,
+    Verdict, digest, message_row, output_size, read, read_text, refused, relay, reply, sample, table_size, text_row,
 };
 
 const STDIN: &[u8] = include_bytes!(concat!(env!("CARGO_MANIFEST_DIR"), "/../../crates/relay/stdin"));
@@ -244,7 +244,9 @@ fn members_of_e_and_p_are_hex() {
     let mut row = [0; 1];
     for name in ["#e", "#p", "#\\u0065", "\\u0023p"] {
         for member in ["", "x", &hex[1..], &hex.to_uppercase()] {
-            assert_eq!(read(&ask(name, member)).err(), Some(Refusal::BadHex));
+            let message = ask(name, member);
+            let offset = Some(message.len() - member.len() - r#"""]}]"#.len());
+            assert_eq!(read(&message), Err(Refusal::BadHex { offset }));
         }
         // the parts of a good message, lent over bytes that were changed since
         let mut message = ask(name, &hex);
@@ -254,11 +256,181 @@ fn members_of_e_and_p_are_hex() {
         assert!(table.list(&message, &request, &mut row).unwrap().is_empty());
         let last = message.len() - 5;
         message[last] = b'F';
-        assert_eq!(table.list(&message, &request, &mut row), Err(Refusal::BadHex));
+        assert_eq!(
+            table.list(&message, &request, &mut row),
+            Err(Refusal::BadHex { offset: None })
+        );
     }
     for name in ["#E", "#P", "#t"] {
         assert!(read(&ask(name, "x")).is_ok());
     }
+}
+
+#[test]
+fn a_refusal_says_where() {
+    let hex = "0123456789abcdef".repeat(4);
+    let wrong = [
+        // the minus; wrong hex before it does not count. Of two the earlier, by place
+        (6, r#"["REQ","s",{"ids":["x"],"limit":-0}]"#.into(), "-0}"),
+        (6, r#"["REQ","s",{"kinds":[1,2,65536,70000]}]"#.into(), "65536"),
+        (6, r#"["REQ","s",{"until":1.0,"since":1e3}]"#.into(), "1.0"),
+        // white space, escapes and characters of several bytes count as they stand
+        (
+            6,
+            " \t\r\n[ \"REQ\" , \"\u{e9}\u{20ac}\u{1d11e}\" ,{ \"limit\" : -1 } ] ".into(),
+            "-1",
+        ),
+        (
+            6,
+            r#"["\u0052EQ","\u00e9\n",{"\u0023t":["\ud834\udd1e"],"limit":65536}]"#.into(),
+            "65536",
+        ),
+        (
+            7,
+            "[\"REQ\",\"\u{1d11e}\",{\"#t\":[\"\u{20ac}\"],\"#\\u0070\":[\"\u{e9}\"]}]".into(),
+            "\"\u{e9}",
+        ),
+        // of a list, of a filter, and beyond the bounds of row 8: the 17th member, the fifth filter
+        (
+            7,
+            format!(r#"["REQ","s",{{"authors":["{hex}","A{}"]}}]"#, &hex[1..]),
+            "\"A",
+        ),
+        (6, format!(r#"["REQ","s",{{"kinds":[{}-1]}}]"#, "1,".repeat(16)), "-1"),
+        (
+            7,
+            format!(r#"["REQ","s",{{"ids":[{}"X"]}}]"#, format!("\"{hex}\",").repeat(16)),
+            "\"X",
+        ),
+        (
+            6,
+            r#"["REQ","s",{},{},{},{},{"since":9007199254740992}]"#.into(),
+            "90071",
+        ),
+        (
+            7,
+            r##"["REQ","s",{},{},{},{},{"#e":[""]},{"#e":["x"]}]"##.into(),
+            "\"\"]",
+        ),
+    ];
+    let mut buffer = vec![0; table_size(1)];
+    let mut out = vec![0; output_size(1)];
+    let mut table = Table::format(&mut buffer, 1).unwrap();
+    for (row, message, piece) in &wrong {
+        let offset = message.find(piece);
+        let refusal = match row {
+            6 => Refusal::BadNumber { offset },
+            _ => Refusal::BadHex { offset },
+        };
+        let text = format!("{} at {}", refusal.text().unwrap(), offset.unwrap());
+        assert_eq!(refusal.to_string(), text);
+        let message = message.as_bytes();
+        assert_eq!(read(message), Err(refusal));
+        assert_eq!(message_row(message), Err(refusal));
+        // no EVENT: refused by 5, which has no offset
+        assert_eq!(table.offer(message), Err(Refusal::WrongShape));
+        assert_eq!(table.judge(message), Err(Refusal::WrongShape));
+        let reply = refused(message, refusal, &mut out).unwrap().to_vec();
+        assert!(reply.starts_with(br#"["CLOSED","#) && reply.ends_with(format!(",\"{text}\"]").as_bytes()));
+        let written = table
+            .respond(message, &mut out, |line| assert_eq!(line, reply))
+            .unwrap();
+        assert_eq!(written.len(), reply.len() + 1);
+    }
+}
+
+#[test]
+fn a_refused_event_says_where() {
+    let good = String::from_utf8(event_saying(0, "\u{e9}\u{1d11e}\\u0000")).unwrap();
+    let hex = "b".repeat(64);
+    let mut buffer = vec![0; table_size(1)];
+    let mut out = vec![0; output_size(1)];
+    let mut table = Table::format(&mut buffer, 1).unwrap();
+    // of two wrong numbers the earlier, whatever the order of the members; a wrong key beside a wrong number does not count
+    let moved = good.replace("\"kind\":1,", "").replace("\"}]", "\",\"kind\":65536}]");
+    let cases = [
+        (6, good.replace(":0,", ":-0,"), "-0,"),
+        (6, good.replace(":0,", ":0.5,").replace(":1,", ":-1,"), "0.5"),
+        (6, moved.clone(), "65536"),
+        (6, moved.replace(&hex, "b"), "65536"),
+        (7, good.replace(&hex, &hex[1..]), "\"bbb"),
+        (7, good.replace(&"0".repeat(128), "0").replace(&hex, "B"), "\"B\""),
+        (7, good.replace(&"0".repeat(128), &"0".repeat(127)), "\"0000"),
+    ];
+    for (row, message, piece) in &cases {
+        let offset = message.find(piece);
+        let refusal = match row {
+            6 => Refusal::BadNumber { offset },
+            _ => Refusal::BadHex { offset },
+        };
+        let message = message.as_bytes();
+        assert_eq!(read(message), Err(refusal));
+        assert_eq!(table.offer(message), Err(refusal));
+        assert_eq!(table.judge(message), Err(refusal));
+        let end = format!(",false,\"{refusal}\"]");
+        table
+            .respond(message, &mut out, |line| {
+                assert!(line.starts_with(b"[\"OK\",") && line.ends_with(end.as_bytes()))
+            })
+            .unwrap();
+    }
+    // an id that is no hex is not named: NOTICE
+    let message = good.replacen("\"id\":\"", "\"id\":\"F", 1);
+    let offset = message.find("\"F");
+    assert_eq!(table.offer(message.as_bytes()), Err(Refusal::BadHex { offset }));
+    let notice = format!("[\"NOTICE\",\"invalid: hex at {}\"]", offset.unwrap());
+    table
+        .respond(message.as_bytes(), &mut out, |line| assert_eq!(line, notice.as_bytes()))
+        .unwrap();
+    assert!(table.is_empty());
+}
+
+#[test]
+fn parts_and_other_rows_have_no_offset() {
+    let mut buffer = vec![0; table_size(1)];
+    let mut table = Table::format(&mut buffer, 1).unwrap();
+    let Ok(Message::Event(parts)) = read(sample::EVENT) else {
+        panic!()
+    };
+    let mut number = parts;
+    number.body.kind = 65_536;
+    let mut hex = parts;
+    hex.sig.len -= 1;
+    let (six, seven) = (Refusal::BadNumber { offset: None }, Refusal::BadHex { offset: None });
+    assert_eq!(table.offer_parts(sample::EVENT, &number), Err(six));
+    assert_eq!(table.offer_parts(sample::EVENT, &hex), Err(seven));
+    assert_eq!(plavdrosa::id(sample::EVENT, &number.body), Err(six));
+    let mut request = asked(ALL);
+    request.filters[0].limit = Some(-1);
+    assert_eq!(plavdrosa::matches(sample::EVENT, &parts, ALL, &request), Err(six));
+    assert_eq!(table.list(ALL, &request, &mut [0; 1]), Err(six));
+
+    let others = [
+        (Refusal::NotUtf8, &b"\xff"[..]),
+        (Refusal::NotJson, b"[1e]"),
+        (Refusal::BadString, br#"["REQ","\ud800",{"limit":-1}]"#),
+        (Refusal::WrongShape, br#"["REQ","s",{"limit":-1,"x":1}]"#),
+        (Refusal::BadCount, br#"["REQ","",{"limit":1}]"#),
+    ];
+    let mut out = [0; 500];
+    for (refusal, message) in others {
+        assert_eq!(read(message), Err(refusal));
+        assert_eq!(refusal.offset(), None);
+        let reply = refused(message, refusal, &mut out).unwrap();
+        assert!(reply.ends_with(format!("\"{refusal}\"]").as_bytes()));
+        // a row that is not the message's own
+        let reply = refused(message, six, &mut out).unwrap();
+        assert!(reply.ends_with(b"\"invalid: number\"]"));
+    }
+    let message = br#"["REQ","s",{"limit":-1,"ids":["x"]}]"#;
+    assert_eq!(
+        refused(message, seven, &mut out).unwrap(),
+        br#"["CLOSED","s","invalid: hex"]"#
+    );
+    assert_eq!(
+        refused(message, six, &mut out).unwrap(),
+        br#"["CLOSED","s","invalid: number at 20"]"#
+    );
 }
 
 #[test]
