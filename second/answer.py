@@ -7,7 +7,7 @@ import query
 import relay
 import table
 from parts import LINE_BYTES, parts_answer
-from rows import Refused, canonical, offered, read_json, read_message, read_text, row_of, text_of
+from rows import Refused, canonical, offered, read_json, read_message, read_text, refusal_of, row_of, text_of
 from sha256 import sha256
 
 LINE = re.compile(rb"(-|([0-9a-f]{2})+)( [0-9]+(,[0-9]+)*)?")
@@ -30,16 +30,16 @@ def digest_answer(line):
 
 
 def json_answer(line):
-    """The lowest of rows 1 to 4, or 0, and of rows 1 to 8."""
-    return b"%d %d" % (row_of(line, read_json), row_of(line, read_message))
+    """The lowest of rows 1 to 4, or 0, and of rows 1 to 8 with the offset."""
+    return ("%d %s" % (row_of(line, read_json), refusal_of(line, read_message))).encode()
 
 
 def message_answer(line):
-    """The lowest of rows 1 to 8, or 0 and the canonical spelling."""
+    """The lowest of rows 1 to 8 with the offset, or 0 and the canonical spelling."""
     try:
         return b"0 " + canonical(read_message(line))
-    except Refused as refusal:
-        return b"%d" % refusal.args
+    except Refused as refused:
+        return str(refused.refusal).encode()
 
 
 def event_answer(line):
@@ -47,8 +47,9 @@ def event_answer(line):
     if line.startswith(b"T "):
         row, event = read_text(line[2:])
         return b"%d" % row if row else b"0 " + text_of(event)
-    row, text = offered(line)
-    return b"%d" % row if text is None else b"%d %s %s" % (row, sha256(text).encode(), text)
+    refusal, text = offered(line)
+    said = str(refusal).encode()
+    return said if text is None else b"%s %s %s" % (said, sha256(text).encode(), text)
 
 
 ANSWERS = {

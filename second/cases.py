@@ -6,6 +6,7 @@ import cases_digest
 import cases_event
 import cases_json
 import cases_message
+import cases_offset
 import cases_parts
 import cases_query
 import cases_relay
@@ -14,8 +15,8 @@ import cases_table
 # The lines, and what stands after the last one: three files end without 0A.
 CASES = {
     "digest_cases": (cases_digest.lines, b"\n"),
-    "json_cases": (cases_json.lines, b""),
-    "message_cases": (cases_message.lines, b""),
+    "json_cases": (lambda: cases_offset.lines()[::6] + cases_json.lines(), b""),
+    "message_cases": (lambda: cases_offset.lines() + cases_message.lines(), b""),
     "event_cases": (cases_event.lines, b"\n"),
     "parts_cases": (cases_parts.lines, b"\n"),
     "table_cases": (cases_table.lines, b"\n"),

@@ -3,6 +3,7 @@
 import random
 from functools import cache
 
+import cases_offset
 from cases_message import A, EVENT_FAULTS, GOOD, event, event_with, many, req
 from rows import MESSAGE_BYTES, text_of
 from sha256 import sha256
@@ -356,6 +357,10 @@ def labelled():
         yield 5, "T " + near
     for line in one_spelling():
         yield 0, line
+    # Rows 6 and 7 say where; what is no EVENT says it nowhere.
+    yield from cases_offset.short("EVENT")
+    for row, line in cases_offset.short("REQ")[::11]:
+        yield min(row, 5), line
     for row, one in control_texts():
         yield row, "T " + one
 

@@ -1,4 +1,6 @@
-"""Lines for message_cases. Those whose row is plain from how they are made stand with it: (row, text)."""
+"""Lines for message_cases. Those whose row is plain from how they are made stand with it: (row, text), the text marked where
+rows 6 and 7 are broken.
+"""
 
 import random
 from itertools import product
@@ -201,24 +203,24 @@ def numbers():
     for name, most in NUMBER_FIELDS.items():
         least = 0 if most == 65535 else -most
         for n in INTEGERS + [-n for n in INTEGERS if n]:
-            yield (0 if least <= n <= most else 6), number_line(name, str(n))
+            yield (0, number_line(name, str(n))) if least <= n <= most else (6, number_line(name, "⑥%d" % n))
         for spelled in NOT_PLAIN:
-            yield 6, number_line(name, spelled)
+            yield 6, number_line(name, "⑥" + spelled)
         for spelled in NOT_JSON:
             yield 3, number_line(name, spelled)
         for spelled in LONG + ["9" * 16000, "-" + "1" * 15999 + "0"]:
-            yield 6, number_line(name, spelled)
+            yield 6, number_line(name, "⑥" + spelled)
         yield 3, number_line(name, "0" * 300)
         yield 3, number_line(name, "-0" + "0" * 300 + "1")
-    yield 6, req('{"kinds":[1,2,65536]}')
-    yield 6, req('{"kinds":[-0,1]}')
+    yield 6, req('{"kinds":[1,2,⑥65536]}')
+    yield 6, req('{"kinds":[⑥-0,1]}')
     yield 0, req('{"kinds":[0,65535,0,0]}')
     for digits in (7000, MESSAGE_BYTES - len(number_line("limit", ""))):
-        yield 6, number_line("limit", "9" * digits)
+        yield 6, number_line("limit", "⑥" + "9" * digits)
     yield 1, number_line("limit", "9" * (digits + 1))
     yield 3, number_line("limit", "0" * digits)
-    yield 6, number_line("limit", "0." + "0" * (digits - 2))
-    yield 6, number_line("limit", "0e" + "0" * (digits - 2))
+    yield 6, number_line("limit", "⑥0." + "0" * (digits - 2))
+    yield 6, number_line("limit", "⑥0e" + "0" * (digits - 2))
 
 
 # Hex.
@@ -242,50 +244,51 @@ def hex_strings():
         yield 0, hex_line(name, '"\\u0039' + good[1:] + '"')
         for other in (0, 1, 2, 32, length // 2, length - 1, length + 1, length + 2, length * 2, 192, 256):
             if other != length:
-                yield 7, hex_line(name, plain("0" * other))
+                yield 7, hex_line(name, "⑦" + plain("0" * other))
         for c in "ABFGg`/:@Zxé€😀０":
             for at in (0, length // 2, length - 1):
-                yield 7, hex_line(name, plain(good[:at] + c + good[at + 1 :]))
+                yield 7, hex_line(name, "⑦" + plain(good[:at] + c + good[at + 1 :]))
         for c in ["\\n", "\\/", '\\"', "\\u0041", "\\u0067", "\\u0047", " ", "\x7f"]:
-            yield 7, hex_line(name, '"' + good[:-1] + c + '"')
-        yield 7, hex_line(name, plain(good.upper()))
-        yield 7, hex_line(name, plain("é" * (length // 2)))
-        yield 7, hex_line(name, plain("0x" + good[2:]))
-        yield 7, hex_line(name, plain(" " + good))
-        yield 7, hex_line(name, plain(good + " "))
-        yield 7, hex_line(name, '"' + good[:-1] + '\\u0000"')
+            yield 7, hex_line(name, '⑦"' + good[:-1] + c + '"')
+        yield 7, hex_line(name, "⑦" + plain(good.upper()))
+        yield 7, hex_line(name, "⑦" + plain("é" * (length // 2)))
+        yield 7, hex_line(name, "⑦" + plain("0x" + good[2:]))
+        yield 7, hex_line(name, "⑦" + plain(" " + good))
+        yield 7, hex_line(name, "⑦" + plain(good + " "))
+        yield 7, hex_line(name, '⑦"' + good[:-1] + '\\u0000"')
         yield 4, hex_line(name, '"' + good + '\\ud800"')
         yield 3, hex_line(name, '"' + good[:-1] + '\x1f"')
         yield 2, hex_line(name, '"' + good[:-1] + '\udc80"')
-    yield 7, req('{"ids":[%s,""]}' % plain(A))
-    yield 7, req('{"authors":["",%s]}' % plain(A))
+    yield 7, req('{"ids":[%s,⑦""]}' % plain(A))
+    yield 7, req('{"authors":[⑦"",%s]}' % plain(A))
 
 
 def hex_conditions():
     """Members of #e and #p are hex, those of every other letter free strings; the name counts as decoded, and so do they."""
     for letter in LETTERS:
         for member in ("", "x", A[1:], A + "a", A.upper(), "g" * 64):
-            yield (7 if letter in "ep" else 0), req(filter_with("#" + letter, "[%s]" % plain(member)))
+            row, mark = (7, "⑦") if letter in "ep" else (0, "")
+            yield row, req(filter_with("#" + letter, "[%s]" % (mark + plain(member))))
         yield 0, req(filter_with("#" + letter, "[%s]" % plain(A)))
     for letter, good in product("ep", (A, "0123456789abcdef" * 4)):
         code = "\\u%04x" % ord(letter)
         for name in ("#" + letter, "#" + code, "\\u0023" + letter, "\\u0023" + code):
             yield 0, req(filter_with(name, "[%s]" % plain(good)))
             yield 0, req(filter_with(name, "[%s]" % escaped(random.Random(3), good)))
-            yield 7, req(filter_with(name, '["x"]'))
-            yield 7, req(filter_with(name, "[%s]" % escaped(random.Random(3), good[1:])))
+            yield 7, req(filter_with(name, '[⑦"x"]'))
+            yield 7, req(filter_with(name, "[⑦%s]" % escaped(random.Random(3), good[1:])))
             yield 8, req(filter_with(name, "[]"))
             yield 8, req(filter_with(name, many(plain(good), 17)))
             yield 5, req('{"%s":["x"],"#%s":["x"]}' % (name, letter))
         capital = "#\\u%04x" % ord(letter.upper())
         yield 0, req('{"%s":["x"],"#%s":[%s]}' % (capital, letter, plain(good)))
-        yield 7, req('{"%s":[%s],"#%s":["x"]}' % (capital, plain(good), letter))
+        yield 7, req('{"%s":[%s],"#%s":[⑦"x"]}' % (capital, plain(good), letter))
         # the first member, one in the middle, the last, one behind the last that row 8 lets pass
         for count, at in ((2, 0), (2, 1), (3, 1), (16, 0), (16, 8), (16, 15), (17, 0), (17, 16), (40, 39)):
             values = [plain(good)] * count
-            values[at] = plain(good[1:])
+            values[at] = "⑦" + plain(good[1:])
             yield 7, req(filter_with("#" + letter, "[%s]" % ",".join(values)))
-        wrong, empty = '{"#%s":["x"]}' % letter, '{"#%s":[]}' % letter
+        wrong, empty = '{"#%s":[⑦"x"]}' % letter, '{"#%s":[]}' % letter
         # each filter, the fifth and the sixth too
         for at in range(6):
             filters = ["{}"] * 6
@@ -293,8 +296,8 @@ def hex_conditions():
             for count in range(at + 1, 7):
                 yield 7, req(*filters[:count])
         # beside the rows below it and above it
-        yield 6, req('{"#%s":["x"],"limit":65536}' % letter)
-        yield 6, req(wrong, '{"since":-0}')
+        yield 6, req('{"#%s":[⑦"x"],"limit":⑥65536}' % letter)
+        yield 6, req(wrong, '{"since":⑥-0}')
         yield 5, req(wrong, '{"x":1}')
         yield 5, req('{"#%s":["x",1]}' % letter)
         yield 4, req('{"#%s":["x","\\ud800"]}' % letter)
@@ -302,7 +305,7 @@ def hex_conditions():
         yield 7, req(empty, wrong)
         yield 7, req(wrong, sub='""')
         yield 7, req(wrong, sub=plain("s" * 65))
-        yield 7, req('{"#a":["v"],"#b":["v"],"#c":["v"],"#d":["v"],"#%s":["x"]}' % letter)
+        yield 7, req('{"#a":["v"],"#b":["v"],"#c":["v"],"#d":["v"],"#%s":[⑦"x"]}' % letter)
     # the tags of an event stay free strings
     for member in ("", "x", A[1:], A + "a", A.upper()):
         yield 0, event_with(tags='[["e",%s],["p",%s,"x"],["e"]]' % (plain(member), plain(member)))
@@ -372,12 +375,12 @@ def large_counts():
         yield 8, req(filter_with(name, many(member, count)))
         faults = {4: '"\\ud800"', 5: "{}"}
         if name == "kinds":
-            faults = {4: '"\\ud800"', 5: '"1"', 6: "-0"}
+            faults = {4: '"\\ud800"', 5: '"1"', 6: "⑥-0"}
         elif name not in ("#E", "#t"):
-            faults[7] = plain(A[1:])
+            faults[7] = "⑦" + plain(A[1:])
         for row, last in faults.items():
             yield row, req(filter_with(name, "[" + (member + ",") * (count - 1) + last + "]"))
-    for last, row in (("{}", 8), ('{"limit":-0}', 6), ('{"ids":[""]}', 7), ('{"x":1}', 5), ("[]", 5), ('{"#a":["\\ud800"]}', 4)):
+    for last, row in (("{}", 8), ('{"limit":⑥-0}', 6), ('{"ids":[⑦""]}', 7), ('{"x":1}', 5), ("[]", 5), ('{"#a":["\\ud800"]}', 4)):
         yield row, req(*["{}"] * 5400, last)
     for character, count in (("a", 16000), ("é", 8000), ("😀", 4000), ("\\u0061", 2700), ("\\ud83d\\ude00", 1350)):
         yield 8, '["CLOSE","%s"]' % (character * count)
@@ -385,7 +388,7 @@ def large_counts():
         yield 4, '["CLOSE","%s\\udfff"]' % (character * count)
     every = members(("#" + letter, many(LISTS.get("#" + letter, '"v"'), 16)) for letter in LETTERS)
     yield 8, req(every)
-    yield 7, req(every[:-1] + ',"ids":["x"]}')
+    yield 7, req(every[:-1] + ',"ids":[⑦"x"]}')
     yield 5, req(every[:-1] + ',"#a":["v"]}')
 
 
@@ -402,11 +405,11 @@ def past_bounds():
         yield row, event_with(tags="[[" + '"t",' * 16 + string + "]]")
         yield row, event_with(tags="[[" + '"t",' * 40 + string + ',"t"]]')
     last = {
-        "ids": {4: '"\\ud800"', 5: "1", 7: '"x"', 8: plain(A)},
-        "authors": {4: '"\\u0000\\ud800"', 5: "null", 7: '"\\u0000"', 8: plain(A)},
-        "kinds": {4: '"\\ud800"', 5: '"\\u0000"', 6: "-0", 8: "1"},
-        "#e": {4: '"\\udfff"', 5: "[]", 7: '"x"', 8: plain(A)},
-        "#p": {4: '"\\udfff"', 5: "[]", 7: plain(A.upper()), 8: plain(A)},
+        "ids": {4: '"\\ud800"', 5: "1", 7: '⑦"x"', 8: plain(A)},
+        "authors": {4: '"\\u0000\\ud800"', 5: "null", 7: '⑦"\\u0000"', 8: plain(A)},
+        "kinds": {4: '"\\ud800"', 5: '"\\u0000"', 6: "⑥-0", 8: "1"},
+        "#e": {4: '"\\udfff"', 5: "[]", 7: '⑦"x"', 8: plain(A)},
+        "#p": {4: '"\\udfff"', 5: "[]", 7: "⑦" + plain(A.upper()), 8: plain(A)},
         "#E": {8: '""'},
         "#t": {4: '"\\udfff"', 5: "[]", 8: '"\\u0000"'},
     }
@@ -415,14 +418,14 @@ def past_bounds():
             for before in (16, 20):
                 yield row, req(filter_with(name, "[" + (LISTS[name] + ",") * before + member + "]"))
                 yield row, req(filter_with(name, "[" + (LISTS[name] + ",") * before + member + "," + LISTS[name] + "]"))
-    fifth = {4: '{"#a":["\\ud800"]}', 5: '{"x":1}', 6: '{"limit":-0}', 7: '{"ids":[""]}', 8: '{"kinds":[]}'}
+    fifth = {4: '{"#a":["\\ud800"]}', 5: '{"x":1}', 6: '{"limit":⑥-0}', 7: '{"ids":[⑦""]}', 8: '{"kinds":[]}'}
     for row, last_filter in fifth.items():
         yield row, req("{}", "{}", "{}", "{}", last_filter)
         yield row, req("{}", "{}", "{}", "{}", "{}", last_filter, "{}")
         yield row, req(last_filter, "{}", "{}", "{}", "{}")
     yield 5, req("{}", "{}", "{}", "{}", "1")
     conditions = '"#a":["v"],"#b":["v"],"#c":["v"],"#d":["v"],'
-    sixth = {4: '"#e":["\\ud800"]', 5: '"#e":[1]', 6: '"since":1.0', 7: '"authors":["x"]', 8: '"#e":[]'}
+    sixth = {4: '"#e":["\\ud800"]', 5: '"#e":[1]', 6: '"since":⑥1.0', 7: '"authors":[⑦"x"]', 8: '"#e":[]'}
     for row, field in sixth.items():
         yield row, req("{" + conditions + '"#f":["v"],' + field + "}")
         yield row, req("{" + field + "," + conditions + '"#f":["v"]}')
@@ -447,13 +450,13 @@ EVENT_FAULTS = [
     (5, "tags", '[["a",1]]'),
     (5, "id", "1"),
     (5, "x", "1"),
-    (6, "kind", "65536"),
-    (6, "kind", "1e3"),
-    (6, "created_at", "-0"),
-    (6, "created_at", "9007199254740992"),
-    (7, "id", plain(A[1:])),
-    (7, "pubkey", plain(A.upper())),
-    (7, "sig", '""'),
+    (6, "kind", "⑥65536"),
+    (6, "kind", "⑥1e3"),
+    (6, "created_at", "⑥-0"),
+    (6, "created_at", "⑥9007199254740992"),
+    (7, "id", "⑦" + plain(A[1:])),
+    (7, "pubkey", "⑦" + plain(A.upper())),
+    (7, "sig", '⑦""'),
     (8, "tags", "[[]]"),
     (8, "tags", many('["t"]', 65)),
     (8, "tags", '[["a"],' + many('""', 17) + "]"),
@@ -469,13 +472,13 @@ FILTER_FAULTS = [
     (5, "search", '""'),
     (5, "#ab", '["x"]'),
     (5, "limit", "null"),
-    (6, "since", "-0"),
-    (6, "limit", "65536"),
-    (6, "kinds", "[1,-1]"),
-    (7, "ids", '[""]'),
-    (7, "authors", "[%s]" % plain(A.upper())),
-    (7, "#e", many('"v"', 17)),
-    (7, "#p", "[%s]" % plain(A[1:])),
+    (6, "since", "⑥-0"),
+    (6, "limit", "⑥65536"),
+    (6, "kinds", "[1,⑥-1]"),
+    (7, "ids", '[⑦""]'),
+    (7, "authors", "[⑦%s]" % plain(A.upper())),
+    (7, "#e", many('⑦"v"', 17)),
+    (7, "#p", "[⑦%s]" % plain(A[1:])),
     (8, "kinds", "[]"),
     (8, "#d", "[]"),
     (8, "#f", many('"v"', 17)),
@@ -522,7 +525,7 @@ def pairs():
         yield row, '["CLOSE","' + "s" * 64 + sub + '"]'
         yield row, '["CLOSE","' + sub + "s" * 64 + '"]'
     yield 4, event_with(id='"' + A + '\\ud800"')
-    yield 7, event_with(id='"\\u0001"')
+    yield 7, event_with(id='⑦"\\u0001"')
     # No EVENT, REQ or CLOSE: row 5 whatever stands inside.
     yield 5, '["AUTH",%s]' % members({**GOOD, "kind": "65536"}.items())
     yield 5, '["EVENT","s",%s]' % members({**GOOD, "id": '""'}.items())
@@ -541,9 +544,9 @@ def controls():
             yield 0, '["CLOSE","%s"]' % s
             yield 0, req("{}", sub='"%s"' % s)
             yield 0, req('{"#t":["%s","x%s"],"#E":["%s"]}' % (s, s, s))
-            yield 7, req('{"ids":["%s"]}' % s)
-            yield 7, req('{"#e":["%s%s"]}' % (A[1:], s))
-            yield 7, event_with(id='"%s%s"' % (s, A[1:]))
+            yield 7, req('{"ids":[⑦"%s"]}' % s)
+            yield 7, req('{"#e":[⑦"%s%s"]}' % (A[1:], s))
+            yield 7, event_with(id='⑦"%s%s"' % (s, A[1:]))
             yield 5, req('{"%s":["x"]}' % s)
             yield 5, req('{"#%s":["x"]}' % s)
             yield 5, req('{"kinds":["%s"]}' % s)
@@ -589,8 +592,8 @@ def long_lines():
         yield row, " " * (size - 14) + '["REQ","s",{}]'
         yield row, '["REQ","s",{"#x":["%s"]}]' % ("é" * 4000 + "y" * (size - 8023))
     # Row 1 goes before rows 2 to 8; with one byte less it is theirs.
-    beside = {2: '["CLOSE","\udcff"]', 3: "[", 4: '["CLOSE","\\ud800"]', 5: '["CLOSE",1]', 6: number_line("limit", "-0")}
-    beside.update({7: hex_line("ids", '""'), 8: '["CLOSE",""]'})
+    beside = {2: '["CLOSE","\udcff"]', 3: "[", 4: '["CLOSE","\\ud800"]', 5: '["CLOSE",1]', 6: number_line("limit", "⑥-0")}
+    beside.update({7: hex_line("ids", '⑦""'), 8: '["CLOSE",""]'})
     for row, text in beside.items():
         rest = " " * (MESSAGE_BYTES - len(raw(text)))
         padded = rest + text if row % 2 else text + rest
@@ -705,13 +708,18 @@ def broken(rng, objects):
     return objects
 
 
-def written(rng, head, objects):
+def spread(rng, head, objects):
+    """A message's text, its fields in any order."""
     elements = list(head)
     for fields in objects:
         rng.shuffle(fields)
         inner = [spell(rng, name) + space(rng) + ":" + space(rng) + value for name, value in fields]
         elements.append(joined(rng, inner, "{}"))
-    return raw(joined(rng, elements, "[]"))
+    return joined(rng, elements, "[]")
+
+
+def written(rng, head, objects):
+    return raw(spread(rng, head, objects))
 
 
 def random_lines(rng, count=460, sample=SAMPLE):

@@ -3,11 +3,12 @@
 import random
 
 import cases_message
+import cases_offset
 from cases_event import KINDS, MAX_TIME, TIMES, good_events, id_of, made, text_borders
 from cases_message import A, GOOD, SUB_FAULTS, event_with, many, req
 from rows import MESSAGE_BYTES, text_of
 from sha256 import sha256
-from spell import BELOW, CONTROLS, SAMPLE, damaged, escaped, hexes, plain, raw, spell, u_escapes, verbatim
+from spell import BELOW, CONTROLS, SAMPLE, damaged, escaped, hexes, plain, raw, said, spell, u_escapes, unmarked, verbatim
 
 TWO_64 = 2**64
 LAST = TWO_64 - 1
@@ -529,20 +530,20 @@ def message(line):
 
 def newlines(line):
     """0A wherever white space may stand around the signs of a text that has none in its strings."""
-    for sign in b"[]{}:,":
-        line = line.replace(bytes([sign]), b"\n" + bytes([sign]) + b"\n")
+    for sign in "[]{}:,":
+        line = line.replace(sign, "\n" + sign + "\n")
     return line
 
 
 def messages():
-    wanted = [(row, text) for row, text in cases_message.labelled() if len(text) < 600]
-    for at, (row, text) in enumerate(wanted):
-        if at % 19 == 0 or len(text) < 100 and row in (0, 6, 7, 8) and at % 4 == 0:
-            yield (None, row), message(raw(text))
-    for row, text in ((0, event_with()), (0, req("{}")), (0, '["CLOSE","s"]'), (6, event_with(kind="65536")),
+    wanted = [(row, text, len(unmarked(text))) for row, text in cases_message.labelled()]
+    for at, (row, text, length) in enumerate(one for one in wanted if one[2] < 600):
+        if at % 19 == 0 or length < 100 and row in (0, 6, 7, 8) and at % 4 == 0:
+            yield (None, said(row, text)), message(raw(text))
+    for row, text in ((0, event_with()), (0, req("{}")), (0, '["CLOSE","s"]'), (6, event_with(kind="⑥65536")),
             (8, req()), (5, "{}"), (5, "[]")):
-        yield (0, row), message(newlines(raw(text)))
-        yield (0, row), message(b"\n" + raw(text) + b"\n\n")
+        for spread in (newlines(text), "\n" + text + "\n\n"):
+            yield (0, said(row, spread)), message(raw(spread))
     for row, text in ((3, '["CLOSE","\n"]'), (3, '["CLOSE\n","s"]'), (3, '["CLOSE","s"\\n]'), (3, '["CLOSE","\\\n"]'),
             (3, "\n"), (3, "\n\n"), (0, '[\n"CLOSE"\n,\n"s"\n]\n')):
         yield (None, row), message(raw(text))
@@ -576,16 +577,22 @@ def messages():
                 inner = ",".join('"%s":%s' % (n.replace("id", "\\u0069d"), fields[n]) for n in names)
                 yield None, message(raw('["EVENT",{%s}]' % inner))
     # As many bytes as a message has, or one more, with the parts behind them.
-    for row, text in ((0, event_with()), (0, req('{"limit":1,"ids":["%s"]}' % A)), (0, '["CLOSE","s"]'), (6, event_with(kind="-0")),
-            (7, req('{"authors":[""]}')), (8, '["CLOSE",""]'), (5, "{}"), (4, '["CLOSE","\\ud800"]')):
+    for row, text in ((0, event_with()), (0, req('{"limit":1,"ids":["%s"]}' % A)), (0, '["CLOSE","s"]'), (6, event_with(kind="⑥-0")),
+            (7, req('{"authors":[⑦""]}')), (8, '["CLOSE",""]'), (5, "{}"), (4, '["CLOSE","\\ud800"]')):
         for extra in (0, 1):
-            space = b"\n" * (MESSAGE_BYTES - len(text) + extra)
-            rows = (1, 1) if extra else (4 if row == 4 else 0, row)
-            yield rows, message(space + raw(text))
+            padded = "\n" * (MESSAGE_BYTES - len(raw(text)) + extra) + text
+            rows = (1, 1) if extra else (4 if row == 4 else 0, said(row, padded))
+            yield rows, message(raw(padded))
     for size in (8193, 16000):
         yield (0, 0), message(raw(event_with(content='"%s"' % ("x" * size)).replace('"id"', " " * 40 + '"id"')))
         yield (0, 8), message(raw(req("{}", sub='"%s"' % ("x" * size))))
-        yield (0, 6), message(raw(event_with(created_at="9" * size)))
+        yield (0, said(6, event_with(created_at="⑥"))), message(raw(event_with(created_at="9" * size)))
+    # 02, Wish 9: places, 0A before them too.
+    for row, text in cases_offset.short()[::5]:
+        yield (None, said(row, text)), message(raw(text))
+    for text in list(cases_offset.filter_orders())[::9] + list(cases_offset.event_orders())[::9]:
+        spread, row = newlines(text), cases_offset.row_in(text)
+        yield (0, said(row, spread)), message(raw(spread))
 
 
 # Order, class, texts, fields, digests.

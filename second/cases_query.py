@@ -3,12 +3,13 @@
 import random
 from itertools import combinations, permutations, product
 
+import cases_offset
 import old
 from cases_event import MAX_TIME, id_of, made, offer
 from cases_message import A, members, req
 from cases_table import B, FIRST, Lent, fresh, in_capitals, size_of, turned
 from rows import LETTERS, MESSAGE_BYTES
-from spell import BELOW, CONTROLS, escaped, hexes, plain, raw, spell, u_escapes, verbatim, words
+from spell import BELOW, CONTROLS, escaped, hexes, plain, raw, said, spell, u_escapes, verbatim, words
 from table import HEADER, MOST, SLOT
 
 NONE = 65535  # no slot has this number
@@ -752,6 +753,29 @@ def hostile_events():
         yield None, line(b"W", *large.place, *spot)
 
 
+def offsets():
+    """02, Wish 9: rows 6 and 7 of a message that is asked, matched or offered say where."""
+    yield from filled(2, EVENTS[:1])
+    asked = Asked()
+    for row, text in cases_offset.short("REQ")[::5]:
+        event = asked.lent.event(EVENTS[0])
+        spot = asked.message(text)
+        asked.lines.append((said(row, text), line(b"R", NONE, 8, *spot)))
+        asked.lines.append((said(row, text), line(b"W", *event.place, *spot)))
+        asked.lines.append((said(min(row, 5), text) + b" 1", line(b"M", *spot)))
+        if asked.full():
+            yield from asked.flush()
+    for row, text in cases_offset.short("EVENT")[::6]:
+        spot, good, wrong = [asked.message(one) for one in (text, req("{}"), req('{"limit":-0,"ids":["x"]}'))]
+        asked.lines.append((said(row, text), line(b"W", *spot, *good)))
+        asked.lines.append((said(row, text), line(b"W", *spot, *wrong)))
+        asked.lines.append((said(row, text), line(b"R", NONE, 8, *spot)))
+        asked.lines.append((said(row, text) + b" 1", line(b"M", *spot)))
+        if asked.full():
+            yield from asked.flush()
+    yield from asked.flush()
+
+
 # Generated tables and filters: few values of everything, so that filters match.
 
 FEW_TAGS = ["x", "y", "", "xy", "é", "\n", '"']
@@ -835,7 +859,8 @@ def tables(rng, count, few, ways):
 
 def labelled():
     parts = (conditions, pairs, letters, fitting_tags, spellings, unions, equal_times, rows_of_numbers, large_table)
-    for part in parts + (unsound_tables, hostile_filters, hostile_events, control_conditions, generated, long_messages, most_slots):
+    parts += (unsound_tables, hostile_filters, hostile_events, control_conditions, generated, long_messages, most_slots)
+    for part in parts + (offsets,):
         yield from part()
     yield from old.labelled("query")
 

@@ -5,13 +5,14 @@ and how often.
 
 import random
 
+import cases_offset
 from cases_event import MAX_TIME, made, offer, spelled_fields
 from cases_table import in_capitals
 from cases_message import A, EVENT_FAULTS, FILTER_FAULTS, SUB_FAULTS, broken, event, full_messages, many, random_lines
 from cases_message import random_message, req, written
 from rows import MESSAGE_BYTES
 from sha256 import sha256
-from spell import BELOW, CONTROLS, SAMPLE, WIDE, damaged, hexes, plain, raw, spell, u_escapes, words
+from spell import BELOW, CONTROLS, MARKS, SAMPLE, WIDE, damaged, hexes, offset_in, plain, raw, spell, u_escapes, words
 
 B = "b" * 64
 REASONS = {
@@ -55,10 +56,17 @@ def fed(text):
     return b"L" + raw(text)
 
 
+def saying_where(want, text):
+    """02, Wish 9: what a marked text is answered, with ` at ` and the offset."""
+    for row in MARKS:
+        want = want.replace(REASONS[row] + '"', '%s at %s"' % (REASONS[row], offset_in(text, row)))
+    return want
+
+
 def run(pairs, cut=0):
-    """Lines with what each is answered."""
+    """Lines with what each is answered, which says where rows 6 and 7 are broken by the marks of the line."""
     pairs = list(pairs)
-    return "".join(want for want, _ in pairs), cut, [fed(text) for _, text in pairs]
+    return "".join(saying_where(want, text) for want, text in pairs), cut, [fed(text) for _, text in pairs]
 
 
 def sent(fields, sub="s"):
@@ -162,9 +170,9 @@ def long_messages():
             (sent(second) + eose(), req('{"since":1}' + " " * 16000)),
             (refused(B, 10), offer(first, escapes, B)),
             (closed("s", 8), req(*["{}"] * 5400)),
-            (closed("s", 6), req(*["{}"] * 5400, '{"limit":-0}')),
+            (closed("s", 6), req(*["{}"] * 5400, '{"limit":⑥-0}')),
             (closed("s", 8), req('{"kinds":%s}' % many("1", 8000))),
-            (closed("s", 6), req('{"kinds":[%s]}' % ("9" * 16000))),
+            (closed("s", 6), req('{"kinds":[⑥%s]}' % ("9" * 16000))),
             (notice(8), req("{}", sub=plain("s" * 16000))),
             (notice(5), req('{"x":%s}' % plain("x" * 16000))),
             (notice(3), "[" * 9 + " " * 16000 + "]" * 9),
@@ -205,10 +213,10 @@ def rows():
     # 02, Wish 1: hex in #e and #p, in the fifth filter too
     for name in ("#e", "#p", "#\\u0065", "\\u0023\\u0070"):
         for value in ("", "x", A[1:], A + "a", A.upper()):
-            wrong = '{"%s":[%s]}' % (name, plain(value))
+            wrong = '{"%s":[⑦%s]}' % (name, plain(value))
             yield run([(closed("s", 7), req(wrong)), (closed("s", 7), req("{}", "{}", "{}", "{}", wrong)), (notice(7), req(wrong, sub='""'))])
         yield run([(eose(), req('{"%s":[%s]}' % (name, string))) for string in (plain(A), '"%s"' % ("\\u0061" * 64))])
-        yield run([(closed("s", 6), req('{"%s":["x"],"limit":65536}' % name)), (closed("s", 8), req('{"%s":[]}' % name))])
+        yield run([(closed("s", 6), req('{"%s":["x"],"limit":⑥65536}' % name)), (closed("s", 8), req('{"%s":[]}' % name))])
     tagged = made(kind=1, tags=[["e", A], ["p", "x"], ["E", "x"]])
     yield run(
         [
@@ -216,7 +224,7 @@ def rows():
             (sent(tagged) + eose(), req('{"#e":[%s]}' % plain(A))),
             (eose(), req('{"#e":[%s]}' % plain(B))),
             (eose(), req('{"#p":[%s]}' % plain(A))),
-            (closed("s", 7), req('{"#p":["x"]}')),
+            (closed("s", 7), req('{"#p":[⑦"x"]}')),
             (sent(tagged) + eose(), req('{"#E":["x"]}')),
         ]
     )
@@ -229,14 +237,27 @@ def rows():
     rng = random.Random(20)
     for _ in range(12):
         string = lambda s: spell(rng, s)
-        wrong = {**spelled_fields(good, string, B), "kind": "65536"}
+        wrong = {**spelled_fields(good, string, B), "kind": "⑥65536"}
         yield run([(refused(B, 6), event(wrong.items())), (refused(B, 10), offer(good, string, B)), (taken(id_in(good)), offer(good, string))])
     for spelled, said in (('"\\u0073"', "s"), ('"\\/\\u0022\\n"', '/\\"\\n'), ('"\\ud83d\\ude00"', "\U0001f600"), ('"\u00e9"', "\u00e9")):
-        asked = [(eose(said), req("{}", sub=spelled)), (closed(said, 6), req('{"limit":-1}', sub=spelled)), ("", '["CLOSE",%s]' % spelled)]
+        asked = [(eose(said), req("{}", sub=spelled)), (closed(said, 6), req('{"limit":⑥-1}', sub=spelled)), ("", '["CLOSE",%s]' % spelled)]
         yield run(asked)
     for count in (64, 65):
         sub = "\u00e9" * count
         yield run([(eose(sub) if count == 64 else notice(8), req("{}", sub=plain(sub)))])
+
+
+def answered(row, text):
+    """The reply to a message that one of rows 1 to 7 refuses, by what it names."""
+    name, spelled = (cases_offset.named(text) if row > 5 else None) or (None, None)
+    return {"sub": closed(spelled, row), "id": refused(spelled, row)}.get(name, notice(row))
+
+
+def offsets():
+    """02, Wish 9: a refusal by 6 or 7 says where, in OK, CLOSED and NOTICE alike; messages one behind the other, cut anywhere."""
+    wrong = [(answered(row, text), text) for row, text in cases_offset.short() + list(cases_offset.labelled())[::29]]
+    for turn, at in enumerate(range(0, len(wrong), 40)):
+        yield run(wrong[at : at + 40], CUTS[turn % len(CUTS)])
 
 
 # Verdicts, and a full table.
@@ -296,9 +317,9 @@ def controls():
                 (taken(id_in(one), DUPLICATE), offer(one)),
                 (sent(one, said) + eose(said), req('{"#t":["no","%s"]}' % s, sub=sub)),
                 (eose(said), req('{"#t":["%s%s","\\%s"]}' % (s, s, s), sub=sub)),
-                (closed(said, 6), req('{"limit":-1}', sub=sub)),
+                (closed(said, 6), req('{"limit":⑥-1}', sub=sub)),
                 (closed(said + said, 8), req(sub='"%s%s"' % (s, s))),
-                (closed(said, 7), req('{"#e":["%s"]}' % s, sub=sub)),
+                (closed(said, 7), req('{"#e":[⑦"%s"]}' % s, sub=sub)),
                 ("", '["CLOSE",%s]' % sub),
                 (notice(5), req('{"%s":["x"]}' % s)),
                 (notice(5), '{"%s":1}' % s),
@@ -326,14 +347,14 @@ def control_replies():
             (taken(id_in(other)), offer(other)),
             (sent(other, said) + sent(second, said) + eose(said), req("{}", sub=in_capitals(every))),
             (sent(second) + eose(), req('{"#t":[%s]}' % plain(every))),
-            (closed(said, 6), req('{"limit":65536}', sub='"%s"' % said)),
+            (closed(said, 6), req('{"limit":⑥65536}', sub='"%s"' % said)),
             (closed(said, 8), req('{"#d":[]}', sub=in_capitals(every))),
         ]
     )
     for c in "\x00\x01\x1f\n":
         for count in (1, 63, 64, 65):
             sub, said = plain(c * count), plain(c * count)[1:-1]
-            asked = [(eose(said), req("{}", sub=sub)), (closed(said, 6), req('{"limit":-1}', sub=sub))]
+            asked = [(eose(said), req("{}", sub=sub)), (closed(said, 6), req('{"limit":⑥-1}', sub=sub))]
             asked.append(("", '["CLOSE",%s]' % sub))
             over = [(notice(row), text) for row, (_, text) in zip((8, 6, 8), asked)]
             yield run(over if count > 64 else asked)
@@ -421,7 +442,7 @@ def random_runs(rng, count, few=FEW_TAGS, sample=SAMPLE):
 
 
 def runs():
-    for part in (ends, long_lines, cut_lines, long_messages, rows, verdicts, controls, control_replies):
+    for part in (ends, long_lines, cut_lines, long_messages, rows, verdicts, controls, control_replies, offsets):
         yield from part()
     yield from random_runs(random.Random(21), 500)
     yield from random_runs(random.Random(23), 40, FEW_TAGS + CONTROL_TAGS, WIDE)
@@ -460,4 +481,5 @@ def relay_lines():
         out += [raw(req("{}")).ljust(size), raw('["CLOSE","s"]').rjust(size)]
     for _, _, given in list(random_runs(rng, 40)) + list(random_runs(random.Random(24), 6, FEW_TAGS + CONTROL_TAGS, WIDE)):
         out += [line[1:] for line in given]
-    return out + [raw(text) for text in control_lines()] + [raw(req("{}"))]
+    out += [raw(text) for text in control_lines()] + [raw(text) for _, text in cases_offset.short()[::15]]
+    return out + [raw(req("{}"))]

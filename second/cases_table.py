@@ -1,13 +1,14 @@
 """Lines for table_cases: (answer, line), where the answer's first words are plain from how the line is made, else None."""
 
 import random
-from itertools import combinations, permutations
+from itertools import combinations, permutations, product
 
+import cases_offset
 import old
 from cases_event import KINDS, MAX_TIME, STARRED, id_of, made, offer, spelled_fields
 from cases_message import A, EVENT_FAULTS, event, event_with, req
 from rows import EVENT, MESSAGE_BYTES, read_text, spelled, text_of
-from spell import BELOW, CONTROLS, SAMPLE, WIDE, escaped, hexes, plain, raw, spell, verbatim, words
+from spell import BELOW, CONTROLS, SAMPLE, WIDE, escaped, hexes, plain, raw, said, spell, verbatim, words
 from table import HEADER, MOST, SLOT, Program, event_of, held
 
 FIRST, SECOND, B = "b" * 128, "c" * 128, "b" * 64
@@ -313,18 +314,18 @@ def refusals():
     for row, name, value in EVENT_FAULTS:
         if len(value) < 300:
             text = event({**spelled_fields(made(kind=1), plain), name: value}.items())
-            wanted.append((row, lent.add(raw(text)), len(raw(text))))
+            wanted.append((said(row, text), lent.add(raw(text)), len(raw(text))))
     no_events = ['["CLOSE","s"]', '["CLOSE",""]', "{}", "[]", '["EVENT"]', '["EVENT",{}]', req("{}"), req('{"limit":-0}'),
         req('{"ids":[""]}'), req('{"kinds":[]}'), req(), req(*["{}"] * 5), req("{}", sub='""')]
     messages = [(5, text) for text in no_events]
     messages += [(5, '["CLOSE","\\u0000"]'), (4, req('{"limit":-0,"#a":["\\ud800"]}')), (3, ""), (3, "[")]
-    messages += [(2, '["CLOSE","\udcff"]'), (6, event_with(kind="65536")), (6, event_with(created_at="1e3"))]
+    messages += [(2, '["CLOSE","\udcff"]'), (6, event_with(kind="⑥65536")), (6, event_with(created_at="⑥1e3"))]
     messages += [(10, event_with()), (10, offer(made(kind=20000), id=A))]
     messages += [(9, offer(made(content="x" * 4017))), (9, offer(made(content="x" * 4017), id=A))]
-    wanted += [(row, lent.add(raw(text)), len(raw(text))) for row, text in messages]
+    wanted += [(said(row, text), lent.add(raw(text)), len(raw(text))) for row, text in messages]
     taken, large = [lent.event(made(content="x" * size)) for size in (4016, 4017)]
     long = lent.add(raw(offer(made()) + " " * MESSAGE_BYTES))
-    wanted += [(1, long, MESSAGE_BYTES + 1), (0, long, MESSAGE_BYTES)]
+    wanted += [(b"1", long, MESSAGE_BYTES + 1)]
     yield lent.set()
     for state in ("sound", "full", "unsound", "unformatted"):
         yield from fresh(1)
@@ -335,10 +336,9 @@ def refusals():
         if state == "unformatted":
             yield None, line(b"L", size_of(1), 0)
         bad = state.startswith("un")
-        for row, at, length in wanted:
-            if row:
-                yield b"%d refused" % row, line(b"M", at, length)
-                yield b"%d refused" % row, line(b"J", at, length)
+        for refusal, at, length in wanted:
+            yield refusal + b" refused", line(b"M", at, length)
+            yield refusal + b" refused", line(b"J", at, length)
         for one in good:
             want = b"11 refused" if bad else None
             yield from both(want, one)
@@ -356,6 +356,34 @@ def refusals():
                 numbers = list(one.numbers)
                 numbers[at] = value
                 yield b"%d refused" % row, line(b"P", *numbers)
+
+
+def offsets():
+    """02, Wish 9: an event refused by 6 or 7 as a message, with its place, and the same as parts, which have none."""
+    lent = Lent()
+    chosen = []
+    for time, kind, key, sig, id in product((0, -MAX_TIME - 1), (1, 65536), (A, "x", A.upper()), (FIRST, A), (None, A[1:])):
+        one = lent.event(made(key, time, kind), sig, id=id)
+        start = one.place[0]
+        numbers = [wrong for wrong, value in ((b'"created_at":', time), (b'"kind":', kind)) if value not in (0, 1)]
+        strings = [wrong for wrong, right in ((b'"id":', not id), (b'"pubkey":', key == A), (b'"sig":', sig == FIRST)) if not right]
+        if numbers + strings:
+            name = (numbers + strings)[0]
+            row = b"6" if numbers else b"7"
+            chosen.append((row, b"%d" % (lent.bytes.index(name, start) + len(name) - start), one))
+    texts = cases_offset.short("EVENT")[::12] + cases_offset.short("REQ")[::60]
+    messages = [(said(row if "EVENT" in text else min(row, 5), text), lent.add(raw(text)), len(raw(text))) for row, text in texts]
+    yield lent.set()
+    for state in (b"sound", b"unsound"):
+        yield from fresh(1)
+        if state == b"unsound":
+            yield state, line(b"X", 8, 1)
+        for row, offset, one in chosen:
+            yield from both(row + b"@" + offset + b" refused", one)
+            yield row + b" refused", one.parts()
+        for refusal, *place in messages:
+            yield refusal + b" refused", line(b"M", *place)
+            yield refusal + b" refused", line(b"J", *place)
 
 
 def part_faults(one):
@@ -988,7 +1016,7 @@ def large_lists(rng):
 
 
 def labelled():
-    for part in (formats, classes, keys, ties, signatures, full_tables, refusals, long_offers):
+    for part in (formats, classes, keys, ties, signatures, full_tables, refusals, offsets, long_offers):
         yield from part()
     for part in (each_byte, header_numbers, large_headers, slot_changes, orders, one_event, control_keys, control_slots):
         yield from part()

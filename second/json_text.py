@@ -178,6 +178,30 @@ def read_string(text, i, plain=UNESCAPED):
     return "".join(out), i + 1
 
 
+# Where the parts of a text stand, counted in characters.
+
+
+def places(text, i, read_item):
+    """(place, item) of each item between the bracket or brace at i and its end."""
+    i = skip(text, i + 1)
+    while text[i] not in "]}":
+        item, end = read_item(text, i, 0)
+        yield i, item
+        i = skip(text, end)
+        if text[i] == ",":
+            i = skip(text, i + 1)
+
+
+def value_place(text, i):
+    """Of the member whose name begins at i."""
+    _, i = read_string(text, i)
+    return skip(text, skip(text, i) + 1)
+
+
+def bytes_before(text, i):
+    return len(text[:i].encode())
+
+
 def is_high(c):
     return "\ud800" <= c <= "\udbff"
 

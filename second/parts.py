@@ -10,13 +10,16 @@ from json_text import (
     NotJson,
     NotUtf8,
     allowed,
+    bytes_before,
     characters,
     parse,
+    places,
     read_member,
     read_string,
     read_value,
     skip,
     strings,
+    value_place,
 )
 from rows import (
     EVENT,
@@ -34,6 +37,7 @@ from rows import (
     read_message,
     read_text,
     record,
+    refusal_of,
     row_of,
     spelled,
     test_parts,
@@ -178,23 +182,6 @@ def filter_answer(buffer, *parts):
 # Messages: the places of their parts, in bytes.
 
 
-def places(text, i, read_item):
-    """(place, item) of each item between the bracket or brace at i and its end."""
-    i = skip(text, i + 1)
-    while text[i] not in "]}":
-        item, end = read_item(text, i, 0)
-        yield i, item
-        i = skip(text, end)
-        if text[i] == ",":
-            i = skip(text, i + 1)
-
-
-def value_place(text, i):
-    """Of the member whose name begins at i."""
-    _, i = read_string(text, i)
-    return skip(text, skip(text, i) + 1)
-
-
 class Places:
     """A JSON text whose places are counted in bytes."""
 
@@ -205,7 +192,7 @@ class Places:
         self.values = [value for _, value in elements]
 
     def byte(self, i):
-        return len(self.text[:i].encode())
+        return bytes_before(self.text, i)
 
     def span(self, i):
         """What stands between the quotes of the string at i."""
@@ -251,9 +238,9 @@ def parts(line, message):
 
 
 def message_answer(line):
-    row = row_of(line, read_message)
-    out = [row_of(line, read_json), row] + named(line, row)
-    return out + (parts(line, read_message(line)) if row == 0 else [row])
+    refusal = refusal_of(line, read_message)
+    out = [row_of(line, read_json), refusal] + named(line, refusal.row)
+    return out + ([refusal] if refusal.row else parts(line, read_message(line)))
 
 
 # A text read back, kinds, order, numbers in bytes, long digests.

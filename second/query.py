@@ -107,7 +107,7 @@ class Program(table.Program):
         try:
             message = read_message(self.lent[at : at + length])
         except Refused as refused:
-            return None, [refused.args[0]]
+            return None, [refused.refusal]
         return (message, None) if message[0] == word else (None, ["no " + word])
 
     def req(self, fill, size, at, length):

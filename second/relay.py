@@ -60,17 +60,23 @@ def string(s):
     return spelled(s, STRING, IN_REPLIES)
 
 
-def notice(row):
-    return reply("NOTICE", string(REFUSED[row]))
+def reason(refusal):
+    """02, Wish 9: "The reply text gains ` at ` and the decimal offset"."""
+    where = "" if refusal.offset is None else " at %d" % refusal.offset
+    return string(REFUSED[refusal.row] + where)
 
 
-def refusal(message, row):
+def notice(refusal):
+    return reply("NOTICE", reason(refusal))
+
+
+def refused_reply(message, refusal):
     """Rows 6 to 12: OK with false, CLOSED or NOTICE, by what the message names."""
     if message[0] == "EVENT" and good_hex(message[1]["id"], 64):
-        return reply("OK", string(message[1]["id"]), "false", string(REFUSED[row]))
+        return reply("OK", string(message[1]["id"]), "false", reason(refusal))
     if message[0] == "REQ" and within(len(message[1]), SUB):
-        return reply("CLOSED", string(message[1]), string(REFUSED[row]))
-    return notice(row)
+        return reply("CLOSED", string(message[1]), reason(refusal))
+    return notice(refusal)
 
 
 def valid_event(fields):
@@ -96,9 +102,9 @@ class Relay:
             self.spelled[slot : slot + 1] = [spelled_record(event.fields, EVENT, IN_REPLIES)]
         return words
 
-    def accepted(self, message):
-        """The replies to a message that has its shape, unless a row refuses it."""
-        test_message(message)
+    def accepted(self, message, line):
+        """The replies to a message that has its shape, read from that line, unless a row refuses it."""
+        test_message(message, line)
         if message[0] == "EVENT":
             words = self.offer(valid_event(message[1]))
             return reply("OK", string(message[1]["id"]), "true", string(ACCEPTED[words]))
@@ -112,11 +118,11 @@ class Relay:
         try:
             message = shape(read_json(line))
         except Refused as refused:
-            return notice(refused.args[0])
+            return notice(refused.refusal)
         try:
-            return self.accepted(message)
+            return self.accepted(message, line)
         except Refused as refused:
-            return refusal(message, refused.args[0])
+            return refused_reply(message, refused.refusal)
 
 
 def messages(stream):

@@ -5,8 +5,24 @@ filter are dicts from field name to content: strings decoded, numbers as spelled
 """
 
 import re
+from typing import NamedTuple
 
-from json_text import HELD, UNESCAPED, NotJson, NotUtf8, allowed, characters, parse, strings
+from json_text import (
+    HELD,
+    UNESCAPED,
+    NotJson,
+    NotUtf8,
+    allowed,
+    bytes_before,
+    characters,
+    parse,
+    places,
+    read_member,
+    read_value,
+    skip,
+    strings,
+    value_place,
+)
 from sha256 import sha256
 
 MESSAGE_BYTES = 16384  # row 1 (02, Wish 6)
@@ -46,8 +62,22 @@ HEX = {"id": 64, "pubkey": 64, "ids": 64, "authors": 64, "sig": 128, "#e": 64, "
 TAGS, TAG_STRINGS, FILTERS, MEMBERS, CONDITIONS, SUB = (0, 64), (1, 16), (1, 4), (1, 16), (0, 4), (1, 64)
 
 
+class Refusal(NamedTuple):
+    """The number of a row, 0 for none; with rows 6 and 7 of a message an offset in it (02, Wish 9)."""
+
+    row: int
+    offset: int = None
+
+    def __str__(self):
+        """As case programs print it."""
+        return "%d" % self.row if self.offset is None else "%d@%d" % self
+
+
 class Refused(Exception):
-    """Carries the number of the row."""
+    """Carries a Refusal."""
+
+    def __init__(self, row, offset=None):
+        self.refusal = Refusal(row, offset)
 
 
 def refuse_if(holds, row):
@@ -55,13 +85,17 @@ def refuse_if(holds, row):
         raise Refused(row)
 
 
-def row_of(given, test):
-    """The row by which a test refuses what it is given, or 0."""
+def refusal_of(given, test):
+    """What a test says of what it is given: its Refusal, or one of row 0."""
     try:
         test(given)
-    except Refused as refusal:
-        return refusal.args[0]
-    return 0
+    except Refused as refused:
+        return refused.refusal
+    return Refusal(0)
+
+
+def row_of(given, test):
+    return refusal_of(given, test).row
 
 
 def read_json(line, plain=UNESCAPED):
@@ -175,20 +209,52 @@ def test_parts(records, all_counts):
     refuse_if(not all(within(n, limits) for n, limits in all_counts), 8)
 
 
-def test_message(message):
-    """Rows 6 to 8 of a message that has its shape."""
+# 02, Wish 9: where rows 6 and 7 are broken. Each with its rules, and with what keeps one of them.
+SAYS_WHERE = {6: (NUMBERS, good_number), 7: (HEX, good_hex)}
+
+
+def singles(text, i):
+    """(place, content) of a value's members if it is a list, else of the value itself."""
+    (kind, inner), _ = read_value(text, i, 0)
+    if kind != "array":
+        return [(i, inner)]
+    return [(at, one) for at, (_, one) in places(text, i, read_value)]
+
+
+def fields_of(text):
+    """(name, place of the value) of each field of a message's event or filters."""
+    for at, (kind, _) in places(text, skip(text, 0), read_value):
+        if kind == "object":
+            for name_at, (name, _) in places(text, at, read_member):
+                yield name, value_place(text, name_at)
+
+
+def offset_of(line, row):
+    """The byte at which the earliest number or string begins that breaks the row; None if the row does not say where."""
+    if row not in SAYS_WHERE:
+        return None
+    rules, good = SAYS_WHERE[row]
+    text = characters(line)
+    judged = [(at, one, rules[name]) for name, i in fields_of(text) if name in rules for at, one in singles(text, i)]
+    return bytes_before(text, min(at for at, one, rule in judged if not good(one, rule)))
+
+
+def test_message(message, line):
+    """Rows 6 to 8 of a message that has its shape, and of the line that it was read from."""
     records = []
     if message[0] == "EVENT":
         records = [message[1]]
     if message[0] == "REQ":
         records = message[2]
-    test_parts(records, counts(message))
+    row = row_of(records, lambda given: test_parts(given, counts(message)))
+    if row:
+        raise Refused(row, offset_of(line, row))
 
 
 def read_message(line):
     """Rows 1 to 8: the message, or Refused."""
     message = shape(read_json(line))
-    test_message(message)
+    test_message(message, line)
     return message
 
 
@@ -238,17 +304,17 @@ def text_of(event):
 
 
 def offered(line):
-    """An offer's rows 1 to 10: the number, and the text if none of rows 1 to 9 refuses it, else None."""
+    """An offer's rows 1 to 10: the Refusal, and the text if none of rows 1 to 9 refuses it, else None."""
     try:
         message = shape(read_json(line))
         refuse_if(message[0] != "EVENT", 5)
-        test_message(message)
+        test_message(message, line)
         event = message[1]
         text = text_of(event)
         refuse_if(len(text) > TEXT_BYTES, 9)
-    except Refused as refusal:
-        return refusal.args[0], None
-    return (0 if event["id"] == sha256(text) else 10), text
+    except Refused as refused:
+        return refused.refusal, None
+    return Refusal(0 if event["id"] == sha256(text) else 10), text
 
 
 def read_text(text):

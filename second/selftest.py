@@ -15,6 +15,7 @@ from functools import cache
 import cases_digest
 import cases_event
 import cases_message
+import cases_offset
 import cases_parts
 import cases_query
 import cases_relay
@@ -26,9 +27,9 @@ from answer import ANSWERS, lines
 from cases import stdin
 from json_text import NotUtf8, characters
 from parts import body_faults, lowest
-from rows import EVENT, IN_REPLIES, MESSAGE_BYTES, spelled_record, text_of
+from rows import EVENT, IN_REPLIES, MESSAGE_BYTES, Refusal, spelled_record, text_of
 from sha256 import sha256
-from spell import BELOW, damaged, raw, u_escapes
+from spell import BELOW, damaged, raw, said, u_escapes
 from table import Event, Program, held, parts_event
 
 A = "a" * 64
@@ -46,7 +47,13 @@ def same(what, got, want):
 
 
 def row_of(answer):
-    return int(answer.split(b" ")[0])
+    return int(answer.split(b" ")[0].split(b"@")[0])
+
+
+def same_refusal(what, answer, row, text):
+    """The row of a message, and where it is marked the offset too."""
+    got, want = answer.split(b" ")[0], said(row, text)
+    same("%s %s" % (what, text[:300]), got if b"@" in want else got.split(b"@")[0], want)
 
 
 def test_digest():
@@ -144,10 +151,43 @@ def held_value(text):
     return json.loads(text.decode(), strict=False)
 
 
+# A string and the colon that makes it a name, or a number, in the bytes of a text.
+TOKEN = re.compile(rb'("(?:[^"\\]|\\.)*")(\s*:)?|-?[0-9][-+.0-9eE]*')
+HEX_LENGTHS = {"id": 64, "pubkey": 64, "sig": 128, "ids": 64, "authors": 64, "#e": 64, "#p": 64}
+
+
+def library_offset(line, row):
+    """02, Wish 9, by re and int: the first token of a message that breaks row 6 or 7, or None."""
+    name = None
+    for token in TOKEN.finditer(line):
+        string, colon = token.groups()
+        if colon:
+            name = json.loads(string)
+        elif row == 7 and string and name in HEX_LENGTHS:
+            if not re.fullmatch("[0-9a-f]{%d}" % HEX_LENGTHS[name], json.loads(string)):
+                return token.start()
+        elif row == 6 and not string:
+            most = 65535 if name in ("kind", "kinds", "limit") else 2**53 - 1
+            plain = re.fullmatch(rb"0|-?[1-9][0-9]{0,18}", token.group())
+            if not plain or not (0 if most == 65535 else -most) <= int(token.group()) <= most:
+                return token.start()
+    return None
+
+
+def same_offset(line, refusal):
+    """Rows 6 and 7 of a message say where, and no others do."""
+    row, _, offset = refusal.split(b" ")[0].partition(b"@")
+    want = b"%d" % library_offset(line, int(row)) if row in (b"6", b"7") else b""
+    same("offset in %r" % line[:300], offset, want)
+
+
 def test_json():
     for name in ("json_cases", "message_cases"):
         for line in stored(name):
-            same("JSON %r" % line[:200], row_of(json_answer(line)), library_row(line))
+            text, message = json_answer(line).split(b" ")
+            same("JSON %r" % line[:200], int(text), library_row(line))
+            same_offset(line, message)
+            same("again %r" % line[:200], message_answer(line).split(b" ")[0], message)
 
 
 # From 01 ("Cases on either side", "Shape", "Counts") and from its readings.
@@ -158,18 +198,18 @@ KNOWN = [
     (3, ""),
     (3, "\r"),
     (3, '\ufeff["CLOSE","s"]'),
-    (6, '["REQ","s",{"kinds":[65536]}]'),
+    (6, '["REQ","s",{"kinds":[⑥65536]}]'),
     (0, '["REQ","s",{"kinds":[65535]}]'),
-    (6, '["REQ","s",{"kinds":[1e3]}]'),
+    (6, '["REQ","s",{"kinds":[⑥1e3]}]'),
     (8, '["REQ","s",{"kinds":[]}]'),
     (0, '["REQ","%s",{}]' % ("é" * 64)),
     (8, '["REQ","%s",{}]' % ("é" * 65)),
-    (6, '["REQ","s",{},{},{},{},{"limit":-0}]'),
+    (6, '["REQ","s",{},{},{},{},{"limit":⑥-0}]'),
     (8, '["REQ","s"]'),
     (5, '["REQ"]'),
     (5, '["REQ",{}]'),
     (8, '["CLOSE",""]'),
-    (7, '["REQ","s",{"ids":[""]}]'),
+    (7, '["REQ","s",{"ids":[⑦""]}]'),
     (0, '["REQ","s",{"ids":["%s"]}]' % ("\\u0061" * 64)),
     (3, '["REQ","s",{"limit":01}]'),
     (0, '["CLOSE","\\u0001"]'),
@@ -188,8 +228,8 @@ KNOWN = [
 
 
 def test_messages():
-    for row, text in KNOWN + list(cases_message.labelled()):
-        same("message %s" % text[:300], row_of(message_answer(raw(text))), row)
+    for row, text in KNOWN + list(cases_message.labelled()) + list(cases_offset.labelled()):
+        same_refusal("message", message_answer(raw(text)), row, text)
     for line in stored("message_cases"):
         answer = message_answer(line)
         if row_of(answer) == 0:
@@ -210,12 +250,14 @@ def test_events():
     same("01's 100 bytes", len(text_of(starred)), 100)
     same("01's 80 bytes", len(text_of(cases_event.made())), 80)
     for row, line in cases_event.labelled():
-        same("event %s" % line[:300], row_of(event_answer(raw(line))), row)
+        same_refusal("event", event_answer(raw(line)), row, line)
     for line in stored("event_cases"):
         answer = event_answer(line)
         if line.startswith(b"T "):
             same("text %r" % line[:300], answer, library_text_answer(line[2:]))
-        elif row_of(answer) in (0, 10):
+            continue
+        same_offset(line, answer)
+        if row_of(answer) in (0, 10):
             event = json.loads(line)[1]
             text = text_bytes([0] + [event[name] for name in ("pubkey", "created_at", "kind", "tags", "content")])
             digest = hashlib.sha256(text).hexdigest()
@@ -252,7 +294,8 @@ def test_controls():
     same("longest text", len(text_of(longest)), 4096)
     fields = spelled_record({**longest, "id": A, "sig": A + A}, EVENT, IN_REPLIES)
     same("longest EVENT", len(relay.reply("EVENT", sub, fields)), EVENT_LINE)
-    refused, accepted = [list(map(relay.string, reasons.values())) for reasons in (relay.REFUSED, relay.ACCEPTED)]
+    accepted = map(relay.string, relay.ACCEPTED.values())
+    refused = [relay.reason(Refusal(row, MESSAGE_BYTES if row in (6, 7) else None)) for row in relay.REFUSED]
     others = [relay.reply("EOSE", sub)] + [relay.reply("OK", relay.string(A), "true", reason) for reason in accepted]
     for reason in refused:
         others += [relay.reply("CLOSED", sub, reason), relay.reply("NOTICE", reason)]
@@ -313,7 +356,9 @@ def test_parts():
             same("digest %r" % line[:80], answer.decode(),
                 hashlib.sha256(bytes.fromhex(buffer.strip(b"-").decode()) * int(numbers[0])).hexdigest())
         elif letter == b"M" and len(line) < 65536:
-            same("rows %r" % line[:300], row_of(answer), library_row(bytes.fromhex(buffer.decode())))
+            message = bytes.fromhex(buffer.decode())
+            same("rows %r" % line[:300], row_of(answer), library_row(message))
+            same_offset(message, answer.split(b" ")[1])
         elif letter == b"T":
             text = bytes.fromhex(buffer.strip(b"-").decode())
             same("text %r" % text[:300], answer.split(b" ")[0], library_text_answer(text).split(b" ")[0])
@@ -417,7 +462,7 @@ class Watched(Program):
         if line[:1] in b"MP" and self.valid is not None:
             numbers = [int(n) for n in line.split(b" ")[1:]]
             offered = self.message(*numbers) if line[:1] == b"M" else parts_event(self.lent, *numbers)
-            self.valid += [] if isinstance(offered, int) else [offered]
+            self.valid += [] if isinstance(offered, Refusal) else [offered]
             self.lacked |= answer.startswith(b"12 ")
         return answer
 
@@ -495,6 +540,12 @@ def test_query():
     for want, line in cases_query.labelled():
         answer = program.answer(line)
         want = (want or b"").split(b" ")
+        if line[:1] in (b"R", b"W") and b"@" in answer:
+            # Of two messages the first that is refused.
+            at = [int(n) for n in line.split(b" ")[1:]][-4 if line[:1] == b"W" else -2 :]
+            messages = [program.lent[start : start + length] for start, length in zip(at[::2], at[1::2])]
+            same_offset(next(m for m in messages if library_offset(m, row_of(answer)) is not None), answer)
+            answer = answer if b"@" in want[0] else b"%d" % row_of(answer)
         same("query %r" % line[:200], answer.split(b" ")[: len(want)] if want != [b""] else [b""], want)
         if line[:1] == b"R" and answer.startswith(b"0 "):
             fill, _, at, length = map(int, line.split(b" ")[1:])
@@ -510,6 +561,49 @@ def test_query():
             same("met %r" % line[:200], answer, b"matches" if fits else b"differs")
 
 
+# 02, Wish 9, counted by hand.
+WHERE = [
+    (b'["EVENT",{"id":""', 15, 7),
+    (b'["EVENT",{"kind":-0', 17, 6),
+    (b' ["EVENT",{"kind":-1', 18, 6),
+    (b'["EVENT",{"\\u006bind":65536', 22, 6),
+    (b'["EVENT",{"content":"\xc3\xa9","kind":1e3', 32, 6),
+    (b'["EVENT",{"content":"\xf0\x9f\x98\x80","kind":1.0', 34, 6),
+    (b'["EVENT",{"content":"\\ud83d\\ude00","kind":99999', 42, 6),
+    (b'["EVENT",{"created_at":9007199254740992,"kind":-0', 23, 6),
+    (b'["EVENT",{"id":"","kind":-0', 25, 6),
+    (b'["EVENT",{"kind":-0,"id":""', 17, 6),
+    (b'["EVENT",{"sig":"","id":""', 16, 7),
+]
+# The rest of an event whose beginning stands above.
+REST = {"id": '"%s"' % A, "pubkey": '"%s"' % A, "created_at": "0", "kind": "1", "tags": "[]", "content": '""', "sig": '"%s"' % (A + A)}
+ASKED = [
+    (b'["REQ","s",{"limit":-0}]', b"6@20"),
+    (b'["REQ","",{"kinds":[1,-1]}]', b"6@22"),
+    (b'["REQ","s",{"ids":["%s",""]}]' % A.encode(), b"7@86"),
+    (b'["REQ","s",{"#e":["x"]},{"since":1.5,"limit":-0}]', b"6@33"),
+    (b'["REQ","s",{},{},{},{},{"until":-0}]', b"6@32"),
+    (b'\t["REQ", "s",\r{ "authors" : [ "" ] }]', b"7@30"),
+    (b'["REQ","\xe2\x82\xac",{"limit":70000}]', b"6@22"),
+    (b'["REQ","s",{"limit":%s,"since":-0}]' % (b"9" * 5000), b"6@20"),
+    (b'["REQ","s",{"until":-0,"limit":%s}]' % (b"9" * 5000), b"6@20"),
+    (b" " * 16363 + b'["REQ","",{"limit":-0', b"3"),
+    (b" " * 16361 + b'["REQ","",{"limit":-0}]', b"6@16380"),
+    (b" " * 16362 + b'["REQ","",{"limit":-0}]', b"1"),
+]
+
+
+def test_where():
+    for begun, at, row in WHERE:
+        rest = "".join(',"%s":%s' % pair for pair in REST.items() if '"%s"' % pair[0] not in begun.decode().replace("\\u006b", "k"))
+        line = begun + rest.encode() + b"}]"
+        same("where %r" % line, message_answer(line), b"%d@%d" % (row, at))
+        same("where offered %r" % line, event_answer(line), b"%d@%d" % (row, at))
+    for line, want in ASKED:
+        same("where %r" % line[-60:], message_answer(line), want)
+        same("where offered %r" % line[-60:], event_answer(line), b"5" if b"@" in want else want)
+
+
 def test_capacity():
     """02, Wish 6: "Raise capacity from 64 to 1,024"; 14 is tested before 13."""
     for capacity, row in ((0, b"14"), (1, b"13"), (64, b"13"), (65, b"13"), (1024, b"13"), (1025, b"14")):
@@ -520,7 +614,9 @@ def test_old():
     """Tables of 64 slots, as they were answered when those were the most."""
     for name, program in (("table", Program()), ("query", query.Program())):
         for want, line in old.labelled(name):
-            same("old %s %r" % (name, line[:100]), program.answer(line), want)
+            # But for the offsets of 02, Wish 9.
+            answer = re.sub(rb"^([67])@[0-9]+", rb"\1", program.answer(line))
+            same("old %s %r" % (name, line[:100]), answer, want)
 
 
 # From 01 and its readings: lines, and the whole output. {e} stands for a made event's object, {id} for its id.
@@ -541,15 +637,17 @@ RELAY = [
     ("x" * 200000, NOTICE % "message too long"),
     ('["REQ","a\\/\\u0062\\n",{}]', '["EOSE","a/b\\n"]\n'),
     ('["REQ","s"]', '["CLOSED","s","invalid: count or length"]\n'),
-    ('["REQ","s",{"limit":-0}]', '["CLOSED","s","invalid: number"]\n'),
-    ('["REQ","",{"limit":-0}]', NOTICE % "number"),
+    ('["REQ","s",{"limit":-0}]', '["CLOSED","s","invalid: number at 20"]\n'),
+    ('["REQ","",{"limit":-0}]', NOTICE % "number at 19"),
+    ('["REQ","s",{"limit":0,"ids":["x"]}]', '["CLOSED","s","invalid: hex at 29"]\n'),
+    ('["REQ","",{"limit":0,"ids":["x"]}]', NOTICE % "hex at 28"),
     ('["REQ","s",{"a":1}]', NOTICE % "wrong shape"),
     ('["CLOSE",""]', NOTICE % "count or length"),
     ('["EVENT",{e}]\n["REQ","s",{}]', '["OK","{id}",true,""]\n["EVENT","s",{e}]\n["EOSE","s"]\n'),
     ('["REQ","s",{"limit":0}]\n["EVENT",{e}]\n["REQ","s",{"limit":0},{"since":1}]',
      '["EOSE","s"]\n["OK","{id}",true,""]\n["EOSE","s"]\n'),
     ('["REQ","\\u0001\\u001F\\u0009\x7f",{}]\n["REQ","\\u0000",{"limit":-0}]\n["CLOSE","\\u0001"]',
-     '["EOSE","\\u0001\\u001f\\t\x7f"]\n["CLOSED","\\u0000","invalid: number"]\n'),
+     '["EOSE","\\u0001\\u001f\\t\x7f"]\n["CLOSED","\\u0000","invalid: number at 25"]\n'),
     ('["REQ","%s",{}]\n["REQ","%s",{}]' % ("\\u000B" * 64, "\\u000B" * 65),
      '["EOSE","%s"]\n' % ("\\u000b" * 64) + NOTICE % "count or length"),
     ('["REQ","\x01",{}]\n{"\\u0001":1}\n["CLOSE","\\u0001\\ud800"]',
@@ -571,7 +669,7 @@ def test_relay():
 
 if __name__ == "__main__":
     tests = (test_digest, test_utf8, test_json, test_messages, test_events, test_controls, test_parts, test_lent_strings)
-    for test in tests + (test_table, test_query, test_capacity, test_old, test_relay, test_replies):
+    for test in tests + (test_where, test_table, test_query, test_capacity, test_old, test_relay, test_replies):
         test()
     print("selftest: %d differences" % len(failures))
     sys.exit(1 if failures else 0)

@@ -8,16 +8,18 @@ import subprocess
 import sys
 
 from cases_message import random_lines
+from cases_offset import random_texts
 from cases_relay import CONTROL_TAGS, FEW_TAGS, LONGEST, random_fields, random_text
 from relay import output
 from rows import MESSAGE_BYTES
-from spell import CONTROLS, WIDE
+from spell import CONTROLS, WIDE, raw
 
 RUN = 1000
 
 
 def one_run(rng, strays):
     """Lines about few events or many, so that tables fill slowly or at once; some lines too long, at times a last one without 0A.
+    Every eighth line or so breaks row 6 or 7, at one place or more.
 
     Control characters stand in all strings, at times in one event or in eight about as many as a message holds.
     """
@@ -25,6 +27,7 @@ def one_run(rng, strays):
     for fields in events[: rng.choice([0] * 12 + [1, 2, 8])]:
         fields["content"] = rng.choice(CONTROLS) * (LONGEST + 10 - rng.randrange(rng.choice([100, LONGEST])))
     pool = [random_text(rng, events, strays, WIDE).replace(b"\n", b" ") for _ in range(400)]
+    pool += [raw(text) for text in random_texts(rng, 60)]
     lines = [rng.choice(pool) for _ in range(RUN)]
     lines[rng.randrange(RUN)] = b" " * rng.choice([8193, MESSAGE_BYTES - 1, MESSAGE_BYTES, MESSAGE_BYTES + 1, 40000])
     return b"\n".join(lines) + rng.choice([b"\n", b""])

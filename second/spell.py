@@ -1,4 +1,8 @@
-"""Random spellings for the case writers. In a str here, U+DC80 to U+DCFF stand for the raw bytes 80 to FF."""
+"""Random spellings for the case writers. In a str here, U+DC80 to U+DCFF stand for the raw bytes 80 to FF.
+
+In a message ⑥ stands before a number that breaks row 6 and ⑦ before a string that breaks row 7 (02, Wish 9): marks, which are
+no part of its bytes.
+"""
 
 HEXDIGITS = "0123456789abcdef"
 SHORT = {'"': '\\"', "\\": "\\\\", "/": "\\/", "\b": "\\b", "\f": "\\f", "\n": "\\n", "\r": "\\r", "\t": "\\t"}
@@ -11,9 +15,30 @@ SAMPLE = 'aZ0 ~#"\\/\b\f\n\r\t\x7f\x80é\u07ff\u0800€\u2028\ud7ff\ue000\ufeff\
 WIDE = SAMPLE + CONTROLS
 
 
+MARKS = {6: "⑥", 7: "⑦"}
+
+
+def unmarked(text):
+    for mark in MARKS.values():
+        text = text.replace(mark, "")
+    return text
+
+
 def raw(text):
     """The bytes of a line."""
-    return text.encode("utf-8", "surrogateescape")
+    return unmarked(text).encode("utf-8", "surrogateescape")
+
+
+def offset_in(text, row):
+    """How many bytes stand before the row's first mark; None if the text has none."""
+    at = text.find(MARKS[row]) if row in MARKS else -1
+    return None if at < 0 else len(raw(text[:at]))
+
+
+def said(row, text):
+    """The row of a marked text, as case programs print it: with the offset that its mark gives."""
+    offset = offset_in(text, row)
+    return b"%d" % row if offset is None else b"%d@%d" % (row, offset)
 
 
 def hexes(rng, length):

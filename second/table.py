@@ -1,7 +1,7 @@
 """What table_cases answers: 01, "The table" and "Verdicts of an offer", over one room of bytes.
 
 A held slot is judged by making it anew: from its own id, signature and text there is just one slot. So no field has a
-test of its own here. What was offered is an Event, or the number of the row that refuses it.
+test of its own here. What was offered is an Event, or the Refusal of it.
 """
 
 import hashlib
@@ -9,7 +9,7 @@ from functools import lru_cache
 from typing import NamedTuple
 
 from parts import LINE_BYTES, body_faults, class_answer, d_place, hex_part, lowest, number
-from rows import EVENT, TEXT_BYTES, offered, read_message, read_text, spelled, text_of
+from rows import EVENT, TEXT_BYTES, Refusal, offered, read_message, read_text, spelled, text_of
 from sha256 import sha256
 
 HEADER, SLOT, MOST = 16, 4208, 1024  # MOST: 02, Wish 6
@@ -68,28 +68,28 @@ def d_of(tags):
 
 @lru_cache(maxsize=None)
 def message_event(message):
-    """A message: its event, or the row that refuses it."""
-    row, _ = offered(message)
-    if row:
-        return row
+    """A message: its event, or the Refusal."""
+    refusal, _ = offered(message)
+    if refusal.row:
+        return refusal
     fields = read_message(message)[1]
     return event_of(bytes.fromhex(fields["id"]), bytes.fromhex(fields["sig"]), fields)
 
 
 @lru_cache(maxsize=None)
 def parts_event(lent, identity, id_length, start, length, time, kind, tags, inner, inner_length, sig, sig_length):
-    """Parts of lent bytes: their event, or the row that refuses them."""
+    """Parts of lent bytes: their event, or the Refusal, which has no offset."""
     id_faults, said = hex_part(lent, (identity, id_length), 64)
     sig_faults, signature = hex_part(lent, (sig, sig_length), 128)
     faults, fields = body_faults(lent, (start, length), time, kind, tags, (inner, inner_length))
     row = lowest(id_faults | sig_faults | faults)
     if row:
-        return row
+        return Refusal(row)
     text = text_of(fields)
     if len(text) > TEXT_BYTES:
-        return 9
+        return Refusal(9)
     if said != sha256(text):
-        return 10
+        return Refusal(10)
     return event_of(bytes.fromhex(said), bytes.fromhex(signature), fields)
 
 
@@ -160,9 +160,9 @@ def verdict(events, capacity, event):
 
 
 def offer(table, event):
-    """The answer in words, and what is written, for an Event or the row that refuses one."""
-    if isinstance(event, int):
-        return "%d refused" % event, {}
+    """The answer in words, and what is written, for an Event or the Refusal of one."""
+    if isinstance(event, Refusal):
+        return "%s refused" % str(event), {}
     events = held(table)
     if events is None:
         return "11 refused", {}

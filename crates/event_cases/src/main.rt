@@ -1,6 +1,7 @@
 // Events on standard input, one a line. A line is a message: the lowest of rows 1 to 10 that refuses it when offered,
-// or 0, and, where none of rows 1 to 9 does, the SHA-256 of its text in hex and the text. A line that begins with `T`
-// and a space is a text to read back alone: 9, 5, or 0 and what writing it again gives.
+// with `@` and the offset of rows 6 and 7, or 0, and, where none of rows 1 to 9 does, the SHA-256 of its text in hex and
+// the text. A line that begins with `T` and a space is a text to read back alone: 9, 5, or 0 and what writing it again
+// gives.
 use event::Written;
 use json::Out;
 use json::Start;
@@ -8,6 +9,7 @@ use message::Body;
 use message::EventParts;
 use message::Message;
 use message::Span;
+use shape::Refusal;
 use text::Text;
 use text::TextAnswer;
 
@@ -83,12 +85,12 @@ fn put_event(out: &mut [u8], s: &[u8], p: EventParts) -> usize {
 }
 
 // Row 5 also if the message is no EVENT; rows 1 to 4 go first.
-fn put_refused(out: &mut [u8], s: &[u8], row: u8) -> usize {
-    if row <= 5 {
-        return put_row(out, 0, row);
+fn put_refused(out: &mut [u8], s: &[u8], x: Refusal) -> usize {
+    if x.row <= 5 {
+        return fields::put_refusal(out, 0, x);
     }
     if is_event(s) {
-        return put_row(out, 0, row);
+        return fields::put_refusal(out, 0, x);
     }
     put_row(out, 0, 5)
 }
@@ -99,7 +101,7 @@ fn put_offer(out: &mut [u8], s: &[u8]) -> usize {
         Message::Event(p) => put_event(out, s, p),
         Message::Req(_) => put_row(out, 0, 5),
         Message::Close(_) => put_row(out, 0, 5),
-        Message::Refused(n) => put_refused(out, s, n),
+        Message::Refused(x) => put_refused(out, s, x),
     }
 }
 

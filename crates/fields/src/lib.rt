@@ -12,12 +12,15 @@ ghost use Rattle.fields.specs.Number.{grownBy, naturalField, complementO
 ghost use Rattle.fields.specs.Room.{filled, firstByte, roomLength, emptyRoom, turnedOver, lengthAfter};
 ghost use Rattle.fields.specs.Room.{lentAfter, roomAfter};
 ghost use Rattle.fields.specs.Parts.{spanFields, bodyFields, eventFields, listedOf, boundOf, filterFields};
+ghost use Rattle.fields.specs.Refusal.{offsetField, refusalField};
 use message::Body;
 use message::Bound;
 use message::EventParts;
 use message::FilterParts;
 use message::Listed;
 use message::Span;
+use shape::Offset;
+use shape::Refusal;
 
 // ---- The fields of a line.
 // Where the first space stands from `at` on, or the end.
@@ -253,6 +256,27 @@ pub fn put_integer(out: &mut [u8], at: usize, z: i64) -> usize
 {
     let a = put_gap(out, at);
     numeral::put_decimal(out, a, z)
+}
+
+// What stands behind the row of a refusal: an @ and the offset, or nothing.
+fn put_offset(out: &mut [u8], at: usize, x: Offset) -> usize
+    ensures { λ r. ⌜ Puts (now (out .entry)) at (offsetField x) r (now (out .exit)) ⌝ }
+{
+    match x {
+        Offset::Absent => wire::put(out, at, b""),
+        Offset::At(n) => {
+            let a = wire::put(out, at, b"@");
+            numeral::put_natural(out, a, n as u64)
+        }
+    }
+}
+
+pub fn put_refusal(out: &mut [u8], at: usize, x: Refusal) -> usize
+    ensures { λ r. ⌜ Puts (now (out .entry)) at (gapOf at ++ refusalField x) r (now (out .exit)) ⌝ }
+{
+    let offset = x.offset;
+    let a = put_number(out, at, x.row as u64);
+    put_offset(out, a, offset)
 }
 
 // Every byte of a buffer becomes b.

@@ -1,15 +1,14 @@
 // Of each line of standard input the lowest of rows 1 to 4 that holds of it as a text, and the lowest of rows 1 to 8
-// that holds of it as a message; 0 for none. A line ends at 0A, which is no part of it; a last line without it counts
-// if it is not empty. Of a longer line the first 65,536 bytes are kept: they are row 1 too.
-use libc::STDOUT_FILENO;
-
-fn show(text: u8, message: u8) {
-    let out = [b'0' + text % 10, b' ', b'0' + message % 10, b'\n'];
-    io::write_all(STDOUT_FILENO, &out);
-}
+// that holds of it as a message, with `@` and the offset of rows 6 and 7; 0 for none. A line ends at 0A, which is no part
+// of it; a last line without it counts if it is not empty. Of a longer line the first 65,536 bytes are kept: they are
+// row 1 too.
 
 fn respond(s: &[u8]) {
-    show(rows::text_row(s), shape::message_row(s));
+    let mut buffer = io::buffer();
+    let out: &mut [u8] = &mut buffer;
+    let a = fields::put_number(out, 0, rows::text_row(s) as u64);
+    let n = fields::put_refusal(out, a, shape::message_refusal(s));
+    lines::write_line(out, n);
 }
 
 fn main() {

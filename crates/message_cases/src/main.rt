@@ -1,6 +1,6 @@
-// Client messages on standard input, one a line: the number of the row that refuses each, or 0 and the message spelled
-// anew from its parts: no white space, strings with the seven escapes, filter fields in the order of 01 and #
-// conditions by their letter's byte.
+// Client messages on standard input, one a line: the number of the row that refuses each, with `@` and the offset of
+// rows 6 and 7, or 0 and the message spelled anew from its parts: no white space, strings with the seven escapes, filter
+// fields in the order of 01 and # conditions by their letter's byte.
 use json::Next;
 use json::Out;
 use json::Start;
@@ -326,7 +326,7 @@ fn put_close(out: &mut [u8], at: usize, s: &[u8], p: Span) -> usize {
 fn put_answer(out: &mut [u8], line: &[u8]) -> usize {
     let m = message::read(line);
     match m {
-        Message::Refused(n) => wire::put_byte(out, 0, b'0' + n % 10),
+        Message::Refused(x) => fields::put_refusal(out, 0, x),
         Message::Event(e) => {
             let a = wire::put(out, 0, b"0 ");
             put_event(out, a, line, e)

@@ -6,7 +6,7 @@
 // `room` bytes
 //   E BUF id id_len (the seven of B) sig sig_len                             the row of an event, and of one offered
 //   F BUF ids authors kinds since until limit conditions                     the row of a filter
-//   M BUF a message: rows, what its reply names, its parts
+//   M BUF a message: rows, with `@` and the offset of rows 6 and 7, what its reply names, its parts
 //   N IDS len time time is the first event newer? The first id has len bytes
 //   K - kind                                                                 the class of a kind
 //   T BUF                                                                    a text read back: its parts, and d's bytes
@@ -21,6 +21,7 @@ use message::FilterParts;
 use message::Listed;
 use message::Message;
 use message::Named;
+use message::Naming;
 use message::ReqParts;
 use message::Span;
 use text::Class;
@@ -200,15 +201,21 @@ fn put_read(out: &mut [u8], at: usize, s: &[u8], m: Message) -> usize {
             let a = fields::put_word(out, at, b"CLOSE");
             put_span(out, a, p)
         }
-        Message::Refused(row) => put_row(out, at, row),
+        Message::Refused(x) => fields::put_refusal(out, at, x),
     }
+}
+
+fn put_naming(out: &mut [u8], at: usize, x: Naming) -> usize {
+    let refusal = x.refusal;
+    let named = x.named;
+    let a = fields::put_refusal(out, at, refusal);
+    put_named(out, a, named)
 }
 
 fn put_message(out: &mut [u8], s: &[u8]) -> usize {
     let a = put_row(out, 0, rows::text_row(s));
-    let b = put_row(out, a, shape::message_row(s));
-    let c = put_named(out, b, message::names(s));
-    put_read(out, c, s, message::read(s))
+    let b = put_naming(out, a, message::names(s));
+    put_read(out, b, s, message::read(s))
 }
 
 // ---- N and K: order and class.

@@ -18,7 +18,8 @@
 //   until limit conditions, and what is missing at the line's end is absent.
 //
 // A listing prints its row of 01, then the count and the row of numbers, up to the last that is not `fill`: also
-// numbers behind the lent ones would show.
+// numbers behind the lent ones would show. A message that is refused by row 6 or 7 has `@` and the offset behind the
+// row.
 ghost use Prim.Native.Nat.{_≤_};
 ghost use lib.ListN.{length};
 use message::EventParts;
@@ -143,7 +144,7 @@ fn put_req(out: &mut [u8], line: &[u8], lent: &[u8], table: &[u8]) -> usize {
             let fs = f.parts;
             put_list(out, line, table, m, fs, f.n)
         }
-        Message::Refused(row) => fields::put_number(out, 0, row as u64),
+        Message::Refused(x) => fields::put_refusal(out, 0, x),
         Message::Event(_) => wire::put(out, 0, b"no REQ"),
         Message::Close(_) => wire::put(out, 0, b"no REQ"),
     }
@@ -156,7 +157,7 @@ fn put_asked(out: &mut [u8], b: &[u8], p: EventParts, m: &[u8]) -> usize {
             let fs = f.parts;
             put_matched(out, matching::matched(b, p, m, fs, f.n))
         }
-        Message::Refused(row) => fields::put_number(out, 0, row as u64),
+        Message::Refused(x) => fields::put_refusal(out, 0, x),
         Message::Event(_) => wire::put(out, 0, b"no REQ"),
         Message::Close(_) => wire::put(out, 0, b"no REQ"),
     }
@@ -167,26 +168,26 @@ fn put_met(out: &mut [u8], line: &[u8], lent: &[u8]) -> usize {
     let m = wire::piece(lent, fields::count(line, 3), fields::count(line, 4));
     match message::read(b) {
         Message::Event(p) => put_asked(out, b, p, m),
-        Message::Refused(row) => fields::put_number(out, 0, row as u64),
+        Message::Refused(x) => fields::put_refusal(out, 0, x),
         Message::Req(_) => wire::put(out, 0, b"no EVENT"),
         Message::Close(_) => wire::put(out, 0, b"no EVENT"),
     }
 }
 
-fn row_of(x: Offered) -> u64 {
+fn put_offered(out: &mut [u8], x: Offered) -> usize {
     match x {
-        Offered::Ephemeral => 0,
-        Offered::Duplicate => 0,
-        Offered::Older => 0,
-        Offered::Stored => 0,
-        Offered::Refused(row) => row as u64,
+        Offered::Ephemeral => fields::put_number(out, 0, 0),
+        Offered::Duplicate => fields::put_number(out, 0, 0),
+        Offered::Older => fields::put_number(out, 0, 0),
+        Offered::Stored => fields::put_number(out, 0, 0),
+        Offered::Refused(r) => fields::put_refusal(out, 0, r),
     }
 }
 
 // The row of an offer, and the table's count.
 fn put_offer(out: &mut [u8], line: &[u8], lent: &[u8], table: &mut [u8]) -> usize {
     let m = wire::piece(lent, fields::count(line, 1), fields::count(line, 2));
-    let a = fields::put_number(out, 0, row_of(offers::offer_message(table, m)));
+    let a = put_offered(out, offers::offer_message(table, m));
     fields::put_number(out, a, wire::le_at(table, slots::COUNT_PLACE, 4))
 }
 

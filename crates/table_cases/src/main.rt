@@ -13,7 +13,7 @@
 //   X at bits turns these bits of a byte of the room over; is the table then sound?
 //
 // Each line prints its answer, the table's count and a print of the table and the 64 bytes behind it: what a call wrote
-// shows in it.
+// shows in it. A message that is refused by row 6 or 7 has `@` and the offset behind the row, parts have not.
 use slots::Shown;
 use table::Offered;
 
@@ -55,8 +55,8 @@ fn put_offered(out: &mut [u8], x: Offered) -> usize {
         Offered::Duplicate => fields::put_word(out, 0, b"0 duplicate"),
         Offered::Older => fields::put_word(out, 0, b"0 older"),
         Offered::Stored => fields::put_word(out, 0, b"0 stored"),
-        Offered::Refused(row) => {
-            let a = fields::put_number(out, 0, row as u64);
+        Offered::Refused(r) => {
+            let a = fields::put_refusal(out, 0, r);
             fields::put_word(out, a, b"refused")
         }
     }
