@@ -12,7 +12,7 @@ mod stack;
 mod table;
 
 use plain_json::MOST;
-use plain_message::{Body, Message};
+use plain_message::{Body, Message, Refusal};
 use std::hint::black_box;
 use std::time::Instant;
 
@@ -25,8 +25,8 @@ extern "C" {
     fn plavdrosa_digest_update(state: *mut u8, state_len: usize, bytes: *const u8, len: usize) -> u8;
     fn plavdrosa_digest_finish(state: *const u8, state_len: usize, out: *mut u8, out_len: usize) -> u8;
     fn plavdrosa_text_row(bytes: *const u8, len: usize) -> u8;
-    fn plavdrosa_message_row(bytes: *const u8, len: usize) -> u8;
-    fn plavdrosa_read(bytes: *const u8, len: usize, out: *mut u64, out_len: usize) -> u8;
+    fn plavdrosa_message_row(bytes: *const u8, len: usize, offset: *mut usize) -> u8;
+    fn plavdrosa_read(bytes: *const u8, len: usize, out: *mut u64, out_len: usize, offset: *mut usize) -> u8;
     fn plavdrosa_read_text(bytes: *const u8, len: usize, out: *mut u64, out_len: usize) -> u8;
     fn plavdrosa_serialise(bytes: *const u8, len: usize, event: *const u64, event_len: usize, out: *mut u8, out_len: usize, written: *mut usize) -> u8;
     fn plavdrosa_id(bytes: *const u8, len: usize, event: *const u64, event_len: usize, out: *mut u8, out_len: usize) -> u8;
@@ -77,23 +77,34 @@ fn proved_text_row(bytes: &[u8]) -> u8 {
     unsafe { plavdrosa_text_row(bytes.as_ptr(), bytes.len()) }
 }
 
-fn proved_message_row(bytes: &[u8]) -> u8 {
-    unsafe { plavdrosa_message_row(bytes.as_ptr(), bytes.len()) }
+// What stands in a lent offset before a call, which leaves it where no place is given.
+pub const NO_PLACE: usize = usize::MAX;
+
+pub fn placed(row: u8, at: usize) -> Refusal {
+    Refusal { row, at: if at == NO_PLACE { None } else { Some(at) } }
+}
+
+fn proved_refusal(bytes: &[u8]) -> Refusal {
+    let mut at = NO_PLACE;
+    let row = unsafe { plavdrosa_message_row(bytes.as_ptr(), bytes.len(), &mut at) };
+    placed(row, at)
 }
 
 pub type Numbers = [u64; 44];
 
-pub fn proved_read(bytes: &[u8], out: &mut Numbers) -> u8 {
-    unsafe { plavdrosa_read(bytes.as_ptr(), bytes.len(), out.as_mut_ptr(), out.len()) }
+pub fn proved_read(bytes: &[u8], out: &mut Numbers) -> Refusal {
+    let mut at = NO_PLACE;
+    let row = unsafe { plavdrosa_read(bytes.as_ptr(), bytes.len(), out.as_mut_ptr(), out.len(), &mut at) };
+    placed(row, at)
 }
 
-fn plain_read(bytes: &[u8], out: &mut Numbers) -> u8 {
+fn plain_read(bytes: &[u8], out: &mut Numbers) -> Refusal {
     match plain_message::read(bytes) {
         Ok(m) => {
             m.numbers(out);
-            0
+            Refusal::plain(0)
         }
-        Err(row) => row,
+        Err(refusal) => refusal,
     }
 }
 
@@ -270,45 +281,58 @@ fn client_messages() -> [(&'static str, Vec<u8>); 11] {
     ]
 }
 
+// Messages that rows 6 and 7 refuse, with the place that is said.
+fn refused_messages() -> [(&'static str, Vec<u8>, Refusal); 3] {
+    let placed = |name, text: Vec<u8>, row, piece: &str| {
+        let at = text.windows(piece.len()).position(|w| w == piece.as_bytes());
+        (name, text, Refusal { row, at })
+    };
+    [
+        placed("an EVENT, a number wrong", messages::wrong_number(MOST), 6, "1.7e9"),
+        placed("a REQ, one id wrong", messages::wrong_hex(MOST, 1), 7, "\"F"),
+        placed("a REQ, all ids wrong", messages::wrong_hex(MOST, MOST), 7, "\"F"),
+    ]
+}
+
 fn message_row() {
     for line in lines(MESSAGE_CASES).chain(lines(EVENT_CASES)) {
-        assert_eq!(proved_message_row(line), plain_message::message_row(line), "{}", String::from_utf8_lossy(line));
+        assert_eq!(proved_refusal(line), plain_message::message_refusal(line), "{}", String::from_utf8_lossy(line));
     }
-    let texts = client_messages();
-    for (name, text) in &texts {
-        assert_eq!((proved_message_row(text), plain_message::message_row(text)), (0, 0), "{name}");
+    let texts = client_messages().map(|(name, text)| (name, text, Refusal::plain(0)));
+    for (name, text, want) in texts.iter().chain(&refused_messages()) {
+        assert_eq!((proved_refusal(text), plain_message::message_refusal(text)), (*want, *want), "{name}");
         let (proved, plain) = race(
             || {
-                black_box(proved_message_row(black_box(text)));
+                black_box(proved_refusal(black_box(text)));
             },
             || {
-                black_box(plain_message::message_row(black_box(text)));
+                black_box(plain_message::message_refusal(black_box(text)));
             },
         );
         row(&format!("rows 1 to 8, {name}, {} bytes", text.len()), proved, plain);
     }
     let used = stack::used(|| {
-        black_box(proved_message_row(black_box(&texts[3].1)));
+        black_box(proved_refusal(black_box(&texts[3].1)));
     });
     println!("stack of rows 1 to 8: {used} bytes");
 }
 
-// Both sides read alike: the row, and every part.
-fn read_alike(text: &[u8]) -> u8 {
+// Both sides read alike: the row, its place, and every part.
+fn read_alike(text: &[u8]) -> Refusal {
     let (mut proved, mut plain) = ([7; 44], [7; 44]);
-    let row = proved_read(text, &mut proved);
-    assert_eq!(row, plain_read(text, &mut plain), "{}", String::from_utf8_lossy(text));
+    let refusal = proved_read(text, &mut proved);
+    assert_eq!(refusal, plain_read(text, &mut plain), "{}", String::from_utf8_lossy(text));
     assert_eq!(proved, plain, "{}", String::from_utf8_lossy(text));
-    row
+    refusal
 }
 
 fn read() {
     for line in lines(MESSAGE_CASES).chain(lines(EVENT_CASES)) {
         read_alike(line);
     }
-    let texts = client_messages();
-    for (name, text) in &texts {
-        assert_eq!(read_alike(text), 0, "{name}");
+    let texts = client_messages().map(|(name, text)| (name, text, Refusal::plain(0)));
+    for (name, text, want) in texts.iter().chain(&refused_messages()) {
+        assert_eq!(read_alike(text), *want, "{name}");
         let (mut p, mut q) = ([0; 44], [0; 44]);
         let (proved, plain) = race(
             || {
@@ -323,7 +347,7 @@ fn read() {
         row(&format!("read, {name}, {} bytes", text.len()), proved, plain);
     }
     for k in [1, 3] {
-        let (name, text) = &texts[k];
+        let (name, text, _) = &texts[k];
         let used = stack::used(|| {
             black_box(proved_read(black_box(text), &mut [0; 44]));
         });

@@ -91,6 +91,24 @@ pub fn wide_req(size: usize) -> Vec<u8> {
     (1..=16).map(of).take_while(|m| m.len() <= size).last().unwrap()
 }
 
+// An EVENT with as many tags as there may be and a wrong number behind them.
+pub fn wrong_number(size: usize) -> Vec<u8> {
+    let text = String::from_utf8(tagged(size)).unwrap();
+    let moved = text.replace("\"created_at\":1700000000,", "").replace("\"}]", "\",\"created_at\":1.7e9}]");
+    moved.into_bytes()
+}
+
+// A REQ with full lists, in which so many ids and keys, from the last on, are no lower-case hex.
+pub fn wrong_hex(size: usize, count: usize) -> Vec<u8> {
+    let mut m = wide_req(size);
+    let quoted = |k: &usize| m[*k] == b'"' && m[*k + 1] == b'0';
+    let places: Vec<usize> = (0..m.len() - 1).filter(quoted).collect();
+    for k in places.into_iter().rev().take(count) {
+        m[k + 1] = b'F';
+    }
+    m
+}
+
 // An EVENT that is mostly content.
 pub fn content(size: usize) -> Vec<u8> {
     content_of(size, "a tile of floor 3, read by cart 17 ")

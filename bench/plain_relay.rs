@@ -10,7 +10,7 @@ mod plain_sha256;
 mod plain_table;
 
 use plain_json::MOST;
-use plain_message::{Message, Span};
+use plain_message::{Message, Refusal, Span};
 use plain_table::{number, slot, word, TEXT};
 use std::fs::File;
 use std::io::{Read, Write};
@@ -86,35 +86,53 @@ fn put_hex(out: &mut Vec<u8>, s: &[u8]) {
     }
 }
 
-fn notice(out: &mut Vec<u8>, row: u8) {
-    writeln!(out, "[\"NOTICE\",\"{}\"]", REASONS[row as usize]).unwrap();
+// The text of the row, and where the message is wrong if that is told.
+fn put_reason(out: &mut Vec<u8>, refusal: Refusal) {
+    out.extend_from_slice(REASONS[refusal.row as usize].as_bytes());
+    if let Some(at) = refusal.at {
+        write!(out, " at {at}").unwrap();
+    }
 }
 
-fn ok(out: &mut Vec<u8>, id: &[u8], accepted: bool, reason: &str) {
+fn notice(out: &mut Vec<u8>, refusal: Refusal) {
+    out.extend_from_slice(b"[\"NOTICE\",\"");
+    put_reason(out, refusal);
+    out.extend_from_slice(b"\"]\n");
+}
+
+fn accepted(out: &mut Vec<u8>, id: &[u8], reason: &str) {
     out.extend_from_slice(b"[\"OK\",");
     put_quoted(out, id);
-    out.extend_from_slice(if accepted { b",true,\"" } else { b",false,\"" });
+    out.extend_from_slice(b",true,\"");
     out.extend_from_slice(reason.as_bytes());
     out.extend_from_slice(b"\"]\n");
 }
 
-fn closed(out: &mut Vec<u8>, sub: &[u8], row: u8) {
+fn rejected(out: &mut Vec<u8>, id: &[u8], refusal: Refusal) {
+    out.extend_from_slice(b"[\"OK\",");
+    put_quoted(out, id);
+    out.extend_from_slice(b",false,\"");
+    put_reason(out, refusal);
+    out.extend_from_slice(b"\"]\n");
+}
+
+fn closed(out: &mut Vec<u8>, sub: &[u8], refusal: Refusal) {
     out.extend_from_slice(b"[\"CLOSED\",");
     put_quoted(out, sub);
     out.extend_from_slice(b",\"");
-    out.extend_from_slice(REASONS[row as usize].as_bytes());
+    put_reason(out, refusal);
     out.extend_from_slice(b"\"]\n");
 }
 
 // The reply to a message that a row from 6 on refuses.
-fn refusal(out: &mut Vec<u8>, m: &[u8], parts: &Message, row: u8) {
+fn refused(out: &mut Vec<u8>, m: &[u8], parts: &Message, refusal: Refusal) {
     match parts {
-        Message::Event(e) if plain_message::is_hex(span(m, e.id), 64) => ok(out, span(m, e.id), false, REASONS[row as usize]),
+        Message::Event(e) if plain_message::is_hex(span(m, e.id), 64) => rejected(out, span(m, e.id), refusal),
         Message::Req { subscription, .. } => {
             let n = plain_query::decoded(span(m, *subscription)).iter().filter(|b| **b & 0xc0 != 0x80).count();
-            if (1..=64).contains(&n) { closed(out, span(m, *subscription), row) } else { notice(out, row) }
+            if (1..=64).contains(&n) { closed(out, span(m, *subscription), refusal) } else { notice(out, refusal) }
         }
-        _ => notice(out, row),
+        _ => notice(out, refusal),
     }
 }
 
@@ -138,22 +156,22 @@ fn event(out: &mut Vec<u8>, sub: &[u8], s: &[u8]) {
 }
 
 fn respond(table: &mut [u8], m: &[u8], out: &mut Vec<u8>, test: bool) {
-    let (parts, row) = match plain_message::walk(m) {
+    let (parts, refusal) = match plain_message::walk(m) {
         Ok(read) => read,
-        Err(row) => return notice(out, row),
+        Err(refusal) => return notice(out, refusal),
     };
-    if row < 6 {
-        return notice(out, row);
+    if refusal.row < 6 {
+        return notice(out, refusal);
     }
-    if row < 9 {
-        return refusal(out, m, &parts, row);
+    if refusal.row < 9 {
+        return refused(out, m, &parts, refusal);
     }
     match &parts {
         Message::Event(e) => match plain_table::offer_event(table, m, e, test) {
-            0 | 100 => ok(out, span(m, e.id), true, ""),
-            101 => ok(out, span(m, e.id), true, "duplicate: already have this event"),
-            102 => ok(out, span(m, e.id), true, "duplicate: have a newer version"),
-            row => refusal(out, m, &parts, row),
+            0 | 100 => accepted(out, span(m, e.id), ""),
+            101 => accepted(out, span(m, e.id), "duplicate: already have this event"),
+            102 => accepted(out, span(m, e.id), "duplicate: have a newer version"),
+            row => refused(out, m, &parts, Refusal::plain(row)),
         },
         Message::Req { subscription, filters, count } => {
             let mut slots = [0; SLOTS];
@@ -167,7 +185,7 @@ fn respond(table: &mut [u8], m: &[u8], out: &mut Vec<u8>, test: bool) {
                     put_quoted(out, sub);
                     out.extend_from_slice(b"]\n");
                 }
-                Err(row) => refusal(out, m, &parts, row),
+                Err(row) => refused(out, m, &parts, Refusal::plain(row)),
             }
         }
         Message::Close(_) => (),

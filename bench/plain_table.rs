@@ -1,7 +1,7 @@
 // A table in plain Rust, with the same layout: soundness by one pass over the slots, offers as a message and as parts, a slot shown.
 // Ids and keys are told apart by marks of eight bytes in a hash table, and compared whole where marks meet.
 use crate::plain_event::{self, Text, MOST_TEXT};
-use crate::plain_message::{self, Event, Span};
+use crate::plain_message::{self, Event, Refusal, Span};
 use crate::plain_sha256;
 
 pub const MOST_SLOTS: usize = 1024;
@@ -220,10 +220,10 @@ fn verdict(b: &mut [u8], new: &[u8; SLOT]) -> u8 {
     0
 }
 
-pub fn offer(b: &mut [u8], m: &[u8]) -> u8 {
+pub fn offer(b: &mut [u8], m: &[u8]) -> Refusal {
     match plain_message::read_event(m) {
-        Ok(e) => offer_event(b, m, &e, true),
-        Err(row) => row,
+        Ok(e) => Refusal::plain(offer_event(b, m, &e, true)),
+        Err(refusal) => refusal,
     }
 }
 

@@ -63,7 +63,7 @@ fn req(filters: &str) -> Req {
 fn req_of(text: Vec<u8>) -> Option<Req> {
     let mut numbers = [0; 44];
     let Ok(Message::Req { filters, count, .. }) = plain_message::read(&text) else { return None };
-    assert_eq!(proved_read(&text, &mut numbers), 0);
+    assert_eq!(proved_read(&text, &mut numbers).row, 0);
     Some(Req { text, numbers, filters: filters[..count].to_vec() })
 }
 
@@ -130,7 +130,7 @@ fn alike(tables: &[Vec<u8>], reqs: &[Req]) {
     for m in cases() {
         let Ok(Message::Event(e)) = plain_message::read(m) else { continue };
         let mut numbers = [0; 44];
-        assert_eq!(proved_read(m, &mut numbers), 0);
+        assert_eq!(proved_read(m, &mut numbers).row, 0);
         for r in reqs.iter().chain(&others) {
             match_alike(m, &e, &numbers, r).ok();
         }
@@ -244,7 +244,7 @@ pub fn run() {
     }
     let m = event(1, ascii);
     let mut numbers = [0; 44];
-    assert_eq!(proved_read(&m, &mut numbers), 0);
+    assert_eq!(proved_read(&m, &mut numbers).row, 0);
     let used = stack::used(|| {
         black_box(matched(black_box(&m), &numbers[..12], &reqs[8].text, &reqs[8].numbers)).ok();
     });

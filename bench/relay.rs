@@ -92,6 +92,7 @@ fn main() {
         ("REQs over 8 tiles of 4 KB", requests(4000, full)),
         ("EVENTs of 4 KB, control characters", events(5000, controls)),
         ("REQs over 8 tiles, control characters", requests(4000, controls)),
+        ("EVENTs of 4 KB, a number wrong", events(5000, full).into_iter().map(|e| e.replacen(":30000,", ":3e4,", 1)).collect()),
         ("mixed", mixed(5000)),
     ];
     println!("{:<40} {:>8} {:>12} {:>12} {:>7} {:>12} {:>7}", "lines a second of processor time", "lines", "proved", "plain", "ratio", "untested", "ratio");

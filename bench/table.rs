@@ -1,8 +1,8 @@
 // The calls on a table beside plain Rust: every line of table_cases answered alike, then times and stack. `run` has tables of 64 slots; `large`
 // has the same calls on tables of 64 slots and of the most, named alike, so that bench/run tells the cost of a slot in each.
-use crate::plain_message::{self, Body, Event, Span};
+use crate::plain_message::{self, Body, Event, Refusal, Span};
 use crate::plain_table::{self, HEADER, MOST_SLOTS, SLOT};
-use crate::{plain_sha256, race, row, stack};
+use crate::{placed, plain_sha256, race, row, stack, NO_PLACE};
 use std::cell::RefCell;
 use std::hint::black_box;
 
@@ -14,7 +14,7 @@ pub const SIZES: [usize; 2] = [FEW, MOST_SLOTS];
 extern "C" {
     fn plavdrosa_format(table: *mut u8, len: usize, capacity: usize) -> u8;
     fn plavdrosa_sound(table: *const u8, len: usize) -> u8;
-    fn plavdrosa_offer(table: *mut u8, len: usize, message: *const u8, message_len: usize) -> u8;
+    fn plavdrosa_offer(table: *mut u8, len: usize, message: *const u8, message_len: usize, offset: *mut usize) -> u8;
     fn plavdrosa_offer_parts(table: *mut u8, len: usize, bytes: *const u8, bytes_len: usize, event: *const u64, event_len: usize) -> u8;
     fn plavdrosa_show(table: *const u8, len: usize, slot: usize, place: *mut usize, text_len: *mut usize) -> u8;
 }
@@ -27,8 +27,10 @@ fn sound(t: &[u8]) -> bool {
     unsafe { plavdrosa_sound(t.as_ptr(), t.len()) == 0 }
 }
 
-fn offer(t: &mut [u8], m: &[u8]) -> u8 {
-    unsafe { plavdrosa_offer(t.as_mut_ptr(), t.len(), m.as_ptr(), m.len()) }
+fn offer(t: &mut [u8], m: &[u8]) -> Refusal {
+    let mut at = NO_PLACE;
+    let row = unsafe { plavdrosa_offer(t.as_mut_ptr(), t.len(), m.as_ptr(), m.len(), &mut at) };
+    placed(row, at)
 }
 
 fn offer_parts(t: &mut [u8], m: &[u8], e: &Event) -> u8 {
@@ -239,7 +241,7 @@ fn offers_timed(name: &str, t: &[u8], held: usize, content: &str) {
     wrong[17] = if wrong[17] == b'0' { b'1' } else { b'0' };
     let slot = held.saturating_sub(1);
     let as_message = |what: &str, want: u8, m: &[u8]| {
-        offer_timed(&format!("{what}, {name}"), t, slot, want, |t| offer(t, m), |t| plain_table::offer(t, m));
+        offer_timed(&format!("{what}, {name}"), t, slot, want, |t| offer(t, m).row, |t| plain_table::offer(t, m).row);
     };
     as_message("stored", 0, &newer);
     let e = plain_message::read_event(&newer).unwrap();
@@ -311,7 +313,7 @@ fn format_timed(capacity: usize) {
 // An offer as a message and as parts.
 fn both_timed(name: &str, t: &[u8], slot: usize, want: u8, m: &[u8]) {
     let e = plain_message::read_event(m).unwrap();
-    offer_timed(name, t, slot, want, |t| offer(t, m), |t| plain_table::offer(t, m));
+    offer_timed(name, t, slot, want, |t| offer(t, m).row, |t| plain_table::offer(t, m).row);
     offer_timed(&format!("{name}, parts"), t, slot, want, |t| offer_parts(t, m, &e), |t| plain_table::offer_parts(t, m, &e));
 }
 

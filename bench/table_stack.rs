@@ -7,17 +7,17 @@ use std::hint::black_box;
 
 extern "C" {
     fn plavdrosa_text_row(bytes: *const u8, len: usize) -> u8;
-    fn plavdrosa_message_row(bytes: *const u8, len: usize) -> u8;
-    fn plavdrosa_read(bytes: *const u8, len: usize, out: *mut u64, out_len: usize) -> u8;
+    fn plavdrosa_message_row(bytes: *const u8, len: usize, offset: *mut usize) -> u8;
+    fn plavdrosa_read(bytes: *const u8, len: usize, out: *mut u64, out_len: usize, offset: *mut usize) -> u8;
     fn plavdrosa_read_text(bytes: *const u8, len: usize, out: *mut u64, out_len: usize) -> u8;
     fn plavdrosa_serialise(bytes: *const u8, len: usize, event: *const u64, event_len: usize, out: *mut u8, out_len: usize, written: *mut usize) -> u8;
     fn plavdrosa_id(bytes: *const u8, len: usize, event: *const u64, event_len: usize, out: *mut u8, out_len: usize) -> u8;
     fn plavdrosa_digest(bytes: *const u8, len: usize, out: *mut u8, out_len: usize) -> u8;
     fn plavdrosa_format(table: *mut u8, len: usize, capacity: usize) -> u8;
     fn plavdrosa_sound(table: *const u8, len: usize) -> u8;
-    fn plavdrosa_offer(table: *mut u8, len: usize, message: *const u8, message_len: usize) -> u8;
+    fn plavdrosa_offer(table: *mut u8, len: usize, message: *const u8, message_len: usize, offset: *mut usize) -> u8;
     fn plavdrosa_offer_parts(table: *mut u8, len: usize, bytes: *const u8, bytes_len: usize, event: *const u64, event_len: usize) -> u8;
-    fn plavdrosa_judge(table: *const u8, len: usize, message: *const u8, message_len: usize) -> u8;
+    fn plavdrosa_judge(table: *const u8, len: usize, message: *const u8, message_len: usize, offset: *mut usize) -> u8;
     fn plavdrosa_show(table: *const u8, len: usize, slot: usize, place: *mut usize, text_len: *mut usize) -> u8;
     fn plavdrosa_match(bytes: *const u8, len: usize, event: *const u64, event_len: usize, message: *const u8, message_len: usize, request: *const u64, request_len: usize) -> u8;
     fn plavdrosa_list(table: *const u8, len: usize, message: *const u8, message_len: usize, request: *const u64, request_len: usize, row: *mut u16, row_len: usize, count: *mut usize) -> u8;
@@ -103,7 +103,7 @@ fn wide() -> String {
 
 fn numbers(m: &[u8]) -> Vec<u64> {
     let mut l = vec![0; 44];
-    assert_eq!(unsafe { plavdrosa_read(m.as_ptr(), m.len(), l.as_mut_ptr(), 44) }, 0);
+    assert_eq!(unsafe { plavdrosa_read(m.as_ptr(), m.len(), l.as_mut_ptr(), 44, &mut 0) }, 0);
     l
 }
 
@@ -113,22 +113,29 @@ fn table(count: usize) -> Vec<u8> {
     assert_eq!(unsafe { plavdrosa_format(t.as_mut_ptr(), t.len(), SLOTS) }, 0);
     for k in 0..count {
         let m = held(k);
-        assert_eq!(unsafe { plavdrosa_offer(t.as_mut_ptr(), t.len(), m.as_ptr(), m.len()) }, 0);
+        assert_eq!(unsafe { plavdrosa_offer(t.as_mut_ptr(), t.len(), m.as_ptr(), m.len(), &mut 0) }, 0);
     }
     t
 }
 
 // ---- The calls.
+fn message_row(m: &[u8]) -> u8 {
+    unsafe { plavdrosa_message_row(m.as_ptr(), m.len(), &mut 0) }
+}
+
 fn texts(found: &mut Found) {
     let deep = vec!["[[[[[[[]]]]]]]"; MESSAGE / 15].join(",");
     let parts = offered(1800000000, 30000, &tile(0));
-    let texts = [padded(format!("[{deep}]").into_bytes()), parts.clone(), req("{}"), req(&wide()), vec![b'['; MESSAGE], vec![b' '; MESSAGE + 1], vec![0xff; MESSAGE]];
+    let deep = padded(format!("[{deep}]").into_bytes());
+    // every number of one and every id of the other is wrong
+    let (number, hex) = (req(&wide().replace("900", "9e2").replace("30000", "3e4")), req(&wide().replace("\"5c", "\"5C")));
+    let texts = [deep, parts.clone(), req("{}"), req(&wide()), number, hex, vec![b'['; MESSAGE], vec![b' '; MESSAGE + 1], vec![0xff; MESSAGE]];
     let mut l = vec![0u64; 44];
     for m in &texts {
-        let row = |f: unsafe extern "C" fn(*const u8, usize) -> u8| unsafe { f(m.as_ptr(), m.len()) };
-        found.call("rows 1 to 4", row(plavdrosa_text_row), || row(plavdrosa_text_row));
-        found.call("rows 1 to 8", row(plavdrosa_message_row), || row(plavdrosa_message_row));
-        found.call("reading a message", row(plavdrosa_message_row), || unsafe { plavdrosa_read(m.as_ptr(), m.len(), l.as_mut_ptr(), l.len()) });
+        let text_row = || unsafe { plavdrosa_text_row(m.as_ptr(), m.len()) };
+        found.call("rows 1 to 4", text_row(), text_row);
+        found.call("rows 1 to 8", message_row(m), || message_row(m));
+        found.call("reading a message", message_row(m), || unsafe { plavdrosa_read(m.as_ptr(), m.len(), l.as_mut_ptr(), l.len(), &mut 0) });
     }
     let e = numbers(&parts);
     let (mut out, mut n) = (vec![0u8; MESSAGE], 0);
@@ -158,11 +165,11 @@ fn offers(found: &mut Found, t: &[u8], slot: usize, cases: &[(u8, Vec<u8>)]) {
     let (mut line, mut out, mut n) = (vec![0u8; MESSAGE + 1], vec![0u8; REPLIES], 0);
     for (want, m) in cases {
         found.call("an offer of a message", *want, || {
-            let row = unsafe { plavdrosa_offer(u.as_mut_ptr(), u.len(), m.as_ptr(), m.len()) };
+            let row = unsafe { plavdrosa_offer(u.as_mut_ptr(), u.len(), m.as_ptr(), m.len(), &mut 0) };
             back(&mut u);
             row
         });
-        found.call("judging a message", *want, || unsafe { plavdrosa_judge(t.as_ptr(), t.len(), m.as_ptr(), m.len()) });
+        found.call("judging a message", *want, || unsafe { plavdrosa_judge(t.as_ptr(), t.len(), m.as_ptr(), m.len(), &mut 0) });
         if *want > 8 || *want == 0 {
             let e = numbers(m);
             found.call("an offer of parts", *want, || {
@@ -249,6 +256,7 @@ fn main() {
         (100, offered(1800000000, 20000, "")),
         (9, padded(event(1800000000, 1, "", 4000, "a"))),
         (id_row(&id), id),
+        (6, offered(1 << 60, 30000, &last)),
         (1, vec![b' '; MESSAGE + 1]),
         (5, req("{}")),
         (5, req(&wide())),
@@ -268,7 +276,7 @@ fn main() {
 
 // 10, or 7 where the digit that was changed is none any more.
 fn id_row(m: &[u8]) -> u8 {
-    match unsafe { plavdrosa_message_row(m.as_ptr(), m.len()) } {
+    match message_row(m) {
         0 => 10,
         row => row,
     }
