@@ -1,13 +1,13 @@
 -- A row that was read begins with the message's numbers, whatever stands behind them; a state lent as bytes is the
 -- state of what was fed.
-use mathlib.Core.Path.{◌≡◌, refl, sym, ap, ◌∙◌}
+use mathlib.Core.Path.{◌≡◌, refl, ap, ◌∙◌}
 use mathlib.Core.Bool.{Bool, true, false, cond}
 use mathlib.Core.List.{List, [], ◌∷◌, ◌++◌, append_assoc, append-nil}
-use Prim.Native.Nat.{ℕ, ◌+◌, ◌≤◌, ◌<◌}
+use Prim.Native.Nat.{ℕ, ◌+◌, ◌≤◌}
 use native.Mathlib.Omega.{arith}
 use borrow.Author.Tests.{le-leb, leb-true}
 use lib.Dec.{leb}
-use lib.ListN.{length, take, drop, length-append}
+use lib.ListN.{length, drop, length-append}
 use lib.Seq.{take_at, drop_at}
 use Rattle.wire.specs.Put.{put}
 use Rattle.wire.proofs.Laws.{put_over}
@@ -21,21 +21,16 @@ use Rattle.digest.specs.Claims.{joined, update_stands, finish_stands}
 use Rattle.digest.specs.Bytes.{state_bytes, state_lent, update_row, update_out}
 use Rattle.digest.specs.Back.{length_state, fed_back}
 use Rattle.message.specs.Read.{read_of, read_number}
-use Rattle.message.specs.Parts.{filters_at}
-use Rattle.message.specs.declared.EventParts.{EventParts}
-use Rattle.message.specs.declared.ReqParts.{ReqParts}
 use Rattle.message.specs.declared.Message.{Message}
-use Rattle.message.specs.declared.Message.TheVariants.{Event, Req}
 use Rattle.message.proofs.Taken.{filters_taken}
-use Rattle.numbers.specs.Numbers.{message_numbers, event_numbers, request_numbers}
-use Rattle.numbers.specs.Parts.{event_from, filters_from, filter_count}
+use Rattle.numbers.specs.Numbers.{message_numbers}
+use Rattle.numbers.specs.Parts.{filters_from, filter_count}
 use Rattle.numbers.specs.Claims.{SameFilters}
 use Rattle.numbers.proofs.Rows.{event_back_lem, filters_back}
-use Rattle.query.specs.Answer.{filter_parts_at}
 use Rattle.query.proofs.ReadFilters.{read_listing}
 use Rattle.capi.specs.Calls.{lent_row, lent_out, read_row, read_out}
-use Rattle.capi.specs.Digest.{start_out, end_row, end_out}
-use Rattle.capi.specs.Claims.{ReadOffered, Answered, ReadListed, fed_all, PiecesWhole}
+use Rattle.capi.specs.Digest.{start_out, end_out}
+use Rattle.capi.specs.Claims.{ReadOffered, ReadListed, fed_all, PiecesWhole}
 
 -- ---- what was written stands at the row's start
 written : (l out : List ℕ) → lent_row 0 (length l) out ≡ 0 → lent_out 0 (length l) l out ≡ l ++ drop (length l) out
@@ -81,9 +76,9 @@ module _ (l x : List ℕ) (h : length l ≤ most) where
   unfolding state_lent
   lent_is = rw (take_at bytes x 104 length_bytes) (fed_back l (omega arith))
 
-  total-is : (state_lent (bytes ++ x)).total ≡ length l
+  total_is : (state_lent (bytes ++ x)).total ≡ length l
   unfolding state_after
-  total-is = ap (λ (s : Sha256). s.total) lent_is
+  total_is = ap (λ (s : Sha256). s.total) lent_is
 
 module _ (l d x : List ℕ) (h : length l + length d ≤ most) where
   before : length l ≤ most
@@ -93,24 +88,24 @@ module _ (l d x : List ℕ) (h : length l + length d ≤ most) where
   unfolding update_row
   taken =
       rw (le-leb 104 (length (state_bytes (state_of l) ++ x)) (long l x before))
-      (ap (λ (n : ℕ). count_row (n + length d)) (total-is l x before) ∙ rw (le-leb (length l + length d) most h) refl)
+      (ap (λ (n : ℕ). count_row (n + length d)) (total_is l x before) ∙ rw (le-leb (length l + length d) most h) refl)
 
-  state-is : (updated (state_lent (state_bytes (state_of l) ++ x)) d).state ≡ state_of (l ++ d)
-  state-is = ap (λ (s : Sha256). (updated s d).state) (lent_is l x before) ∙ ap (λ (u : Updated). u.state) (update_stands l d h)
+  state_is : (updated (state_lent (state_bytes (state_of l) ++ x)) d).state ≡ state_of (l ++ d)
+  state_is = ap (λ (s : Sha256). (updated s d).state) (lent_is l x before) ∙ ap (λ (u : Updated). u.state) (update_stands l d h)
 
-  fed-on : update_out (state_bytes (state_of l) ++ x) d ≡ state_bytes (state_of (l ++ d)) ++ x
+  fed_on : update_out (state_bytes (state_of l) ++ x) d ≡ state_bytes (state_of (l ++ d)) ++ x
   unfolding update_out
-  fed-on =
+  fed_on =
       let b : List ℕ = state_bytes (state_of l) in
       let c : List ℕ = state_bytes (state_of (l ++ d)) in
-      rw (taken, state-is) (ap (λ (y : List ℕ). c ++ y) (drop_at b x 104 (length_bytes l x before)))
+      rw (taken, state_is) (ap (λ (y : List ℕ). c ++ y) (drop_at b x 104 (length_bytes l x before)))
 
 all_fed : (l x : List ℕ) (ds : List (List ℕ)) → length l + length (joined ds) ≤ most → fed_all (state_bytes (state_of l) ++ x) ds ≡ state_bytes (state_of (l ++ joined ds)) ++ x
 unfolding fed_all joined
 all_fed l x [] h = rw (append-nil l) refl
 all_fed l x (d ∷ ds) h =
     let e = length-append d (joined ds) in
-    rw (fed-on l d x (omega arith), ← append_assoc) (all_fed (l ++ d) x ds (simp length-append (omega arith)))
+    rw (fed_on l d x (omega arith), ← append_assoc) (all_fed (l ++ d) x ds (simp length-append (omega arith)))
 
 length_digest : (l : List ℕ) → length (digest l) ≡ 32
 unfolding digest digest_bytes
@@ -127,7 +122,7 @@ unfolding end_out
 ended l x out h k =
     let st : List ℕ = state_bytes (state_of l) ++ x in
     rw (le-leb 104 (length st) (long l x h))
-    (ap (λ (n : ℕ). lent_out (count_row n) 32 (finished (state_lent st)).bytes out) (total-is l x h)
+    (ap (λ (n : ℕ). lent_out (count_row n) 32 (finished (state_lent st)).bytes out) (total_is l x h)
     ∙ ap (λ (s : Sha256). lent_out (count_row (length l)) 32 (finished s).bytes out) (lent_is l x h)
     ∙ ap (λ (f : Finished). lent_out (count_row (length l)) 32 f.bytes out) (finish_stands l h)
     ∙ lent_digest l out h k)

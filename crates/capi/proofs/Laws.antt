@@ -50,6 +50,13 @@ module _ (r k : ℕ) (l out : List ℕ) where
         let b = le-leb k (length out) h in
         (simp (a, b), rw (a, b, sym e) p.bytes)
 
+-- the row has no room for k
+pub short_row : (k : ℕ) (out : List ℕ) → length out < k → 13 ≡ lent_row 0 k out
+short_row k out h = (lent_short 0 k [] out refl h).0
+
+pub short_out : (k : ℕ) (l out : List ℕ) → length out < k → out ≡ lent_out 0 k l out
+short_out k l out h = (lent_short 0 k l out refl h).1
+
 -- what was put where no row refuses it
 pub lent_on : (r k : ℕ) (l m out : List ℕ) {o : List ℕ} {x : ℕ} → r ≡ 0 → l ≡ m → x ≡ lent_row 0 k out → o ≡ lent_out 0 k l out → (x ≡ lent_row r k out) × (o ≡ lent_out r k m out)
 lent_on r k l m out z e a b = rw (z, sym e) (a, b)
@@ -62,13 +69,13 @@ module _ (b : List ℕ) (p : Body) (out : List ℕ) {x : Body} {w : Written} {o 
   written_as : {v : Written} → w ≡ v → v ≡ serialised b p out
   written_as h = sym h ∙ e ∙ ap (λ (y : Body). serialised b y out) g
 
-  bytes-as : o ≡ serialised_out b p out
-  bytes-as = f ∙ ap (λ (y : Body). serialised_out b y out) g
+  bytes_as : o ≡ serialised_out b p out
+  bytes_as = f ∙ ap (λ (y : Body). serialised_out b y out) g
 
   -- what is answered and left, with m in the lent number
   pub said_length : {v : Written} (m : ℕ) → w ≡ v →
       (written_number v ≡ written_number (serialised b p out)) × ((o ≡ serialised_out b p out) × (length_or v m ≡ length_or (serialised b p out) m))
-  said_length m h = (ap written_number (written_as h), (bytes-as, ap (λ z. length_or z m) (written_as h)))
+  said_length m h = (ap written_number (written_as h), (bytes_as, ap (λ z. length_or z m) (written_as h)))
 
 -- the filters of a REQ stand in four places
 pub four_parts : (s : List ℕ) (at : ℕ) {f : Filters} → f ≡ filters_at s at → length f.parts ≡ 4

@@ -7,7 +7,7 @@ use Rattle.shape.specs.declared.Refusal.{Refusal}
 use Rattle.message.specs.declared.EventParts.{EventParts}
 use Rattle.table.specs.Sound.{sound}
 use Rattle.table.specs.Format.{shown_row}
-use Rattle.table.specs.Offer.{asParts, answer, next}
+use Rattle.table.specs.Offer.{as_parts, answer, next}
 use Rattle.table.specs.declared.Offered.{Offered}
 use Rattle.table.specs.declared.Offered.TheVariants as offered
 use Rattle.slots.specs.Shown.{shown_at, shown_number}
@@ -23,10 +23,10 @@ pub unsound_11 : (t : List ℕ) {x : Bool} → x ≡ sound t → x ≡ false →
 unfolding sound_row
 unsound_11 t e h = rw (sym e ∙ h) refl
 
-pub offered_as : (t b : List ℕ) {p q : EventParts} {x : Offered} {o : List ℕ} {r : ℕ} → p ≡ q → r ≡ offered_number x → x ≡ answer t (asParts b p) →
-    o ≡ next t (asParts b p) → (r ≡ offered_number (answer t (asParts b q))) × (o ≡ next t (asParts b q))
+pub offered_as : (t b : List ℕ) {p q : EventParts} {x : Offered} {o : List ℕ} {r : ℕ} → p ≡ q → r ≡ offered_number x → x ≡ answer t (as_parts b p) →
+    o ≡ next t (as_parts b p) → (r ≡ offered_number (answer t (as_parts b q))) × (o ≡ next t (as_parts b q))
 offered_as t b e f g h =
-    (f ∙ ap offered_number (g ∙ ap (λ (y : EventParts). answer t (asParts b y)) e), h ∙ ap (λ (y : EventParts). next t (asParts b y)) e)
+    (f ∙ ap offered_number (g ∙ ap (λ (y : EventParts). answer t (as_parts b y)) e), h ∙ ap (λ (y : EventParts). next t (as_parts b y)) e)
 
 -- a refusal's offset, and an answer told, with k in the lent number
 pub offset_told : (k : ℕ) {x : Offered} {r : Refusal} {o : ℕ} → x ≡ offered.Refused r → o ≡ offset_or r k → o ≡ offered_offset x k

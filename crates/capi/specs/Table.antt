@@ -1,5 +1,5 @@
 -- Calls on a table for Rust and C: what they answer as numbers.
-use Rattle.std.specs.Prelude.{ℕ, List, cond}
+use Rattle.std.specs.Prelude.{ℕ, cond}
 use Rattle.table.specs.Sound.{sound}
 use Rattle.table.specs.declared.Offered.{Offered}
 use Rattle.table.specs.declared.Offered.TheVariants as offered

@@ -10,6 +10,7 @@ use digest::{Answer, Sha256};
 const STATE_SIZE: usize = 104;
 
 // A digest into the first 32 bytes of `out`: 13 if it has fewer, or 0.
+#[tactic(auto, using(crate::proofs::Laws::short_row, crate::proofs::Laws::short_out))]
 pub(crate) fn put_digest(out: &mut [u8], b: [u8; 32]) -> u8
     ensures value { result ≡ lent_row 0 32 out.old }
     ensures out_after { out.new ≡ lent_out 0 32 b out.old }
@@ -22,8 +23,7 @@ pub(crate) fn put_digest(out: &mut [u8], b: [u8; 32]) -> u8
 }
 
 // The SHA-256 of `bytes` into the first 32 bytes of `out`: 0, 8 or 13.
-#[unsafe(no_mangle)]
-pub extern "C" fn plavdrosa_digest(bytes: &[u8], out: &mut [u8]) -> u8
+pub fn plavdrosa_digest(bytes: &[u8], out: &mut [u8]) -> u8
     ensures value { result ≡ digest_row bytes.now out.old }
     ensures out_after { out.new ≡ digest_out bytes.now out.old }
 {
@@ -39,8 +39,7 @@ pub extern "C" fn plavdrosa_digest(bytes: &[u8], out: &mut [u8]) -> u8
 }
 
 // A state of nothing fed, into the first 104 bytes of `state`: 13 or 0.
-#[unsafe(no_mangle)]
-pub extern "C" fn plavdrosa_digest_start(state: &mut [u8]) -> u8
+pub fn plavdrosa_digest_start(state: &mut [u8]) -> u8
     ensures value { result ≡ start_row state.old }
     ensures state_after { state.new ≡ start_out state.old }
 {
@@ -63,8 +62,7 @@ fn state_in(state: &[u8]) -> Sha256
 }
 
 // A piece more: the state of it and of what was fed before. 13, 8 or 0; on a refusal the state stays as found.
-#[unsafe(no_mangle)]
-pub extern "C" fn plavdrosa_digest_update(state: &mut [u8], bytes: &[u8]) -> u8
+pub fn plavdrosa_digest_update(state: &mut [u8], bytes: &[u8]) -> u8
     ensures value { result ≡ update_row state.old bytes.now }
     ensures state_after { state.new ≡ update_out state.old bytes.now }
 {
@@ -72,8 +70,7 @@ pub extern "C" fn plavdrosa_digest_update(state: &mut [u8], bytes: &[u8]) -> u8
 }
 
 // The digest of all that was fed, into the first 32 bytes of `out`: 13, 8 or 0. The state is only read.
-#[unsafe(no_mangle)]
-pub extern "C" fn plavdrosa_digest_finish(state: &[u8], out: &mut [u8]) -> u8
+pub fn plavdrosa_digest_finish(state: &[u8], out: &mut [u8]) -> u8
     ensures value { result ≡ end_row state.now out.old }
     ensures out_after { out.new ≡ end_out state.now out.old }
 {

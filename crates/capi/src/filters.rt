@@ -5,13 +5,7 @@ ghost use Rattle.capi.specs.Query.{match_of, matched_number, list_of, list_out, 
 
 // Whether an event over `bytes` matches some of the filters over `message`: 0 if it does, 103 if it does not, or the
 // row that refuses the parts.
-#[unsafe(no_mangle)]
-pub extern "C" fn plavdrosa_match(
-    bytes: &[u8],
-    event: &[u64],
-    message: &[u8],
-    request: &[u64],
-) -> u8
+pub fn plavdrosa_match(bytes: &[u8], event: &[u64], message: &[u8], request: &[u64]) -> u8
     ensures { result ≡ matched_number (match_of bytes.now event.now message.now
         request.now) }
 {
@@ -27,8 +21,7 @@ pub extern "C" fn plavdrosa_match(
 
 // The slots that a REQ with the filters over `message` is answered with, newest first, into `row`, and how many they
 // are into `count`: the row that refuses the filters, 11, 13, or 0. On a refusal both stay as found.
-#[unsafe(no_mangle)]
-pub extern "C" fn plavdrosa_list(
+pub fn plavdrosa_list(
     table: &[u8],
     message: &[u8],
     request: &[u64],

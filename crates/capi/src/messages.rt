@@ -10,8 +10,7 @@ use message::{Message, ReqParts};
 use shape::{Offset, Refusal};
 
 // The lowest of rows 1 to 4 that holds of a text, or 0.
-#[unsafe(no_mangle)]
-pub extern "C" fn plavdrosa_text_row(bytes: &[u8]) -> u8
+pub fn plavdrosa_text_row(bytes: &[u8]) -> u8
     ensures { result ≡ text_row bytes.now }
 {
     rows::text_row(bytes)
@@ -32,8 +31,7 @@ pub(crate) fn put_offset(offset: &mut usize, x: Refusal)
 
 // Rows 1 to 8 of a client message: the lowest that holds, or 0. With rows 6 and 7 the offset of the earliest number, or
 // opening quote of a string, that breaks that row goes into `offset`, which else stays as found.
-#[unsafe(no_mangle)]
-pub extern "C" fn plavdrosa_message_row(bytes: &[u8], offset: &mut usize) -> u8
+pub fn plavdrosa_message_row(bytes: &[u8], offset: &mut usize) -> u8
     ensures value { result ≡ message_row bytes.now }
     ensures offset_after { offset.new ≡ offset_or (refusal_of bytes.now) offset.old }
 {
@@ -78,8 +76,7 @@ fn put_request(out: &mut [u64], s: &[u8], p: ReqParts) -> u8
 // A client message read, and its parts as numbers into `out`: the lowest of rows 1 to 8 that holds, 13 if `out` has no
 // room for them, or 0. The first number says what was read: 1 an EVENT (12 numbers), 2 a REQ (4, of which the last says
 // how many filters follow, and 10 a filter), 3 a CLOSE (3). `offset` is as plavdrosa_message_row leaves it.
-#[unsafe(no_mangle)]
-pub extern "C" fn plavdrosa_read(bytes: &[u8], out: &mut [u64], offset: &mut usize) -> u8
+pub fn plavdrosa_read(bytes: &[u8], out: &mut [u64], offset: &mut usize) -> u8
     ensures value { result ≡ read_row bytes.now out.old }
     ensures out_after { out.new ≡ read_out bytes.now out.old }
     ensures offset_after { offset.new ≡ offset_or (refusal_of bytes.now) offset.old }

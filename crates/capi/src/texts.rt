@@ -11,8 +11,7 @@ const TEXT_NUMBERS: usize = 7;
 
 // A text read back alone, and its parts as numbers into `out`: 9, 5, 13 if `out` has room for fewer than seven numbers,
 // or 0.
-#[unsafe(no_mangle)]
-pub extern "C" fn plavdrosa_read_text(bytes: &[u8], out: &mut [u64]) -> u8
+pub fn plavdrosa_read_text(bytes: &[u8], out: &mut [u64]) -> u8
     ensures value { result ≡ read_text_row bytes.now out.old }
     ensures out_after { out.new ≡ read_text_out bytes.now out.old }
 {
@@ -32,13 +31,7 @@ pub extern "C" fn plavdrosa_read_text(bytes: &[u8], out: &mut [u64]) -> u8
 
 // The text of the event that the row gives, from the start of `out`, and how many bytes it has into `len`: the row that
 // refuses it, 13, or 0. On a refusal both stay as found.
-#[unsafe(no_mangle)]
-pub extern "C" fn plavdrosa_serialise(
-    bytes: &[u8],
-    event: &[u64],
-    out: &mut [u8],
-    len: &mut usize,
-) -> u8
+pub fn plavdrosa_serialise(bytes: &[u8], event: &[u64], out: &mut [u8], len: &mut usize) -> u8
     ensures value { result ≡ serialise_row bytes.now event.now out.old }
     ensures out_after { out.new ≡ serialise_out bytes.now event.now out.old }
     ensures len_after { len.new ≡ serialise_length bytes.now event.now out.old
@@ -56,8 +49,7 @@ pub extern "C" fn plavdrosa_serialise(
 }
 
 // The id of the event that the row gives, into the first 32 bytes of `out`: the row that refuses it, 13, or 0.
-#[unsafe(no_mangle)]
-pub extern "C" fn plavdrosa_id(bytes: &[u8], event: &[u64], out: &mut [u8]) -> u8
+pub fn plavdrosa_id(bytes: &[u8], event: &[u64], out: &mut [u8]) -> u8
     ensures value { result ≡ id_row bytes.now event.now out.old }
     ensures out_after { out.new ≡ id_out bytes.now event.now out.old }
 {

@@ -64,14 +64,14 @@ module _ (b l out : List ℕ) where
   unfolding written_reply written_reply_out
   no_form m h = rw h (refl, (refl, refl))
 
-  some-form : {p : ReplyParts} {x : Written} {o : List ℕ} → is_form (reply_form l) ≡ true → p ≡ reply_from (reply_form l) l → x ≡ replied b p out →
+  some_form : {p : ReplyParts} {x : Written} {o : List ℕ} → is_form (reply_form l) ≡ true → p ≡ reply_from (reply_form l) l → x ≡ replied b p out →
       o ≡ replied_out b p out → (x ≡ written_reply b l out) × (o ≡ written_reply_out b l out)
   unfolding written_reply written_reply_out
-  some-form h e a c = rw (h, sym e) (a, c)
+  some_form h e a c = rw (h, sym e) (a, c)
 
   pub said_form : {f : ℕ} {p : ReplyParts} {x : Written} {o : List ℕ} {r n : ℕ} (m : ℕ) → f ≡ reply_form l → is_form (reply_form l) ≡ true →
       p ≡ reply_from f l → x ≡ replied b p out → o ≡ replied_out b p out → r ≡ written_number x → n ≡ length_or x m →
       (r ≡ written_number (written_reply b l out)) × ((o ≡ written_reply_out b l out) × (n ≡ length_or (written_reply b l out) m))
   said_form m g h e a c r n =
-      let z = some-form h (e ∙ ap (λ y. reply_from y l) g) a c in
+      let z = some_form h (e ∙ ap (λ y. reply_from y l) g) a c in
       (r ∙ ap written_number z.0, (z.1, length_as m n z.0))

@@ -1,5 +1,7 @@
-// The calls that answer messages and write replies, for Rust or C to link (`rt staticlib capi_relay`), in the manner of
-// crate capi: a count or a length goes to a lent number, and on a refusal every lent number stays as found.
+// The calls that answer messages and write replies, for Rust or C to link (crate capi_relay_c exports them), in the manner
+// of crate capi: a count or a length goes to a lent number, and on a refusal every lent number stays as found.
+#![tactic(auto)]
+
 ghost use Rattle.std.specs.Prelude.{◌≡◌};
 ghost use Rattle.event.specs.Answer.{written_number};
 ghost use Rattle.text.specs.Kinds.{class_of};
@@ -36,8 +38,7 @@ fn told(x: Written, written: &mut usize) -> u8
 
 // ---- Messages.
 // One message answered into `out`, each reply ended with 0A, and the table updated: 13 or 0.
-#[unsafe(no_mangle)]
-pub extern "C" fn plavdrosa_respond(
+pub fn plavdrosa_respond(
     table: &mut [u8],
     message: &[u8],
     out: &mut [u8],
@@ -55,8 +56,7 @@ pub extern "C" fn plavdrosa_respond(
 
 // A piece of the input fed up to its first line's end, and with it; where the first `kept` bytes of `line` are the line
 // so far and more of it come, up to its end, which the next call takes: 13 or 0.
-#[unsafe(no_mangle)]
-pub extern "C" fn plavdrosa_turn(
+pub fn plavdrosa_turn(
     table: &mut [u8],
     line: &mut [u8],
     kept: &mut usize,
@@ -94,8 +94,7 @@ pub extern "C" fn plavdrosa_turn(
 }
 
 // The end of the input: a last line without 0A is answered if it is not empty: 13 or 0.
-#[unsafe(no_mangle)]
-pub extern "C" fn plavdrosa_finish(
+pub fn plavdrosa_finish(
     table: &mut [u8],
     line: &[u8],
     kept: usize,
@@ -113,13 +112,7 @@ pub extern "C" fn plavdrosa_finish(
 }
 
 // The reply that a message gets which the row refuses, without 0A: 13 or 0.
-#[unsafe(no_mangle)]
-pub extern "C" fn plavdrosa_refused(
-    message: &[u8],
-    row: u8,
-    out: &mut [u8],
-    written: &mut usize,
-) -> u8
+pub fn plavdrosa_refused(message: &[u8], row: u8, out: &mut [u8], written: &mut usize) -> u8
     ensures value { result ≡ refused_row message.now row out.old }
     ensures out_after { out.new ≡ refused_out message.now row out.old }
     ensures written_after { written.new ≡ length_or (refused_reply message.now row out.old)
@@ -132,8 +125,7 @@ pub extern "C" fn plavdrosa_refused(
 // ---- Replies.
 // The EVENT of a slot, for the subscription id that is a part of `message`, without 0A: the row that refuses the id,
 // 11, 14, 13 or 0.
-#[unsafe(no_mangle)]
-pub extern "C" fn plavdrosa_slot_event(
+pub fn plavdrosa_slot_event(
     table: &[u8],
     slot: usize,
     message: &[u8],
@@ -159,8 +151,7 @@ pub extern "C" fn plavdrosa_slot_event(
 
 // The EVENTs of some slots, each ended with 0A, as many as fit whole: the row that refuses the subscription id, 11, 13,
 // 14 or 0.
-#[unsafe(no_mangle)]
-pub extern "C" fn plavdrosa_events(
+pub fn plavdrosa_events(
     table: &[u8],
     slots: &[u16],
     message: &[u8],
@@ -196,13 +187,7 @@ pub extern "C" fn plavdrosa_events(
 
 // A reply of parts of `bytes`, without 0A: 5 if the first number is that of no reply, the row that refuses the parts,
 // 13 or 0.
-#[unsafe(no_mangle)]
-pub extern "C" fn plavdrosa_reply(
-    bytes: &[u8],
-    reply: &[u64],
-    out: &mut [u8],
-    written: &mut usize,
-) -> u8
+pub fn plavdrosa_reply(bytes: &[u8], reply: &[u64], out: &mut [u8], written: &mut usize) -> u8
     ensures value { result ≡ written_number (written_reply bytes.now reply.now out.old) }
     ensures out_after { out.new ≡ written_reply_out bytes.now reply.now out.old }
     ensures written_after { written.new ≡ length_or (written_reply bytes.now reply.now
@@ -233,8 +218,7 @@ fn class_number(x: Class) -> u8
 }
 
 // The class of a kind: 0 regular, 1 replaceable, 2 ephemeral, 3 addressable.
-#[unsafe(no_mangle)]
-pub extern "C" fn plavdrosa_class(kind: u16) -> u8
+pub fn plavdrosa_class(kind: u16) -> u8
     ensures { result ≡ class_number (class_of kind) }
 {
     class_number(text::class_of(kind))

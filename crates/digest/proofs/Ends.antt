@@ -28,11 +28,11 @@ one_rest l k = drop_of_length-le l {i = 64 * blocks l} (omega arith)
 
 -- a block l and then m
 module _ (h l m : List ℕ) (full : length l ≡ 64) where
-  block-hashed : hashed (compress h (take 64 l)) m ≡ hashed h (l ++ m)
-  block-hashed = rw (one_hashed h l full, one_rest l full) at (hashed_more h l m)
+  block_hashed : hashed (compress h (take 64 l)) m ≡ hashed h (l ++ m)
+  block_hashed = rw (one_hashed h l full, one_rest l full) at (hashed_more h l m)
 
-  block-rest : rest m ≡ rest (l ++ m)
-  block-rest = rw (one_rest l full) at (rest_more h l m)
+  block_rest : rest m ≡ rest (l ++ m)
+  block_rest = rw (one_rest l full) at (rest_more h l m)
 
 -- a part up to the end
 to_end : (l : List ℕ) (i : ℕ) → take (length l - i) (drop i l) ≡ drop i l
@@ -60,8 +60,8 @@ module _ (h b d : List ℕ) (n : ℕ) (k : n < 64) (long : length b ≡ 64) (fit
       let q : List ℕ = drop (64 - n) d in
       let i : end ≡ 64 - n + 64 * blocks q = omega (arith, length-drop (64 - n) d) in
       let r : drop end d ≡ rest q = rw (i, drop-drop) in (
-        e₃ ∙ rw (to_end d (64 - n), e₂, e₁, first_all first 64 full, ← parts) (block-hashed h first q full),
-        e₄ ∙ rw (to_end d end, r, ← parts, block-rest h first q full),
+        e₃ ∙ rw (to_end d (64 - n), e₂, e₁, first_all first 64 full, ← parts) (block_hashed h first q full),
+        e₄ ∙ rw (to_end d end, r, ← parts, block_rest h first q full),
       )
 
 -- zeros past the end
@@ -93,8 +93,8 @@ module _ (h b : List ℕ) (t : ℕ) (long : length b ≡ 64) where
   size : length begun ≡ fill + 1
   size = simp (length-append, length-take-le fill b (omega arith))
 
-  zeros-behind : (k m : ℕ) → m ≡ fill + 1 + k → first_bytes begun m ≡ begun ++ replicate k 0
-  zeros-behind k m e = first_zeros begun k m (omega (arith, size))
+  zeros_behind : (k m : ℕ) → m ≡ fill + 1 + k → first_bytes begun m ≡ begun ++ replicate k 0
+  zeros_behind k m e = first_zeros begun k m (omega (arith, size))
 
   pub near : {b₁ b₂ : List ℕ} → fill < 56 → b₁ ≡ first_bytes begun 64 → b₂ ≡ take 56 b₁ ++ big_endian (t * 8) 8
       → compress h (take 64 b₂) ≡ hashed h whole
@@ -102,7 +102,7 @@ module _ (h b : List ℕ) (t : ℕ) (long : length b ≡ 64) where
   near {b₁} {b₂} k e₁ e₂ =
       let z : 55 - fill ≡ zeros t = omega arith in
       let g : b₂ ≡ whole =
-      e₂ ∙ rw (e₁, take_first begun 56 8, zeros-behind (55 - fill) 56 (omega arith), z) (simp append_assoc) in
+      e₂ ∙ rw (e₁, take_first begun 56 8, zeros_behind (55 - fill) 56 (omega arith), z) (simp append_assoc) in
       rw g (sym (one_hashed h whole
       (simp (length-append, length-take-le fill b (omega arith), length-replicate, length_bytes) (omega arith))))
 
@@ -115,10 +115,10 @@ module _ (h b : List ℕ) (t : ℕ) (long : length b ≡ 64) where
       let z : 63 - fill + 56 ≡ zeros t = omega arith in
       let y = rw z at (replicate-append-replicate {A = ℕ} (63 - fill) 56 0) in
       let g : l ++ m ≡ whole =
-      rw (zeros-behind (63 - fill) 64 (omega arith), first_zeros [] 56 56 refl, ← y) (simp append_assoc) in
+      rw (zeros_behind (63 - fill) 64 (omega arith), first_zeros [] 56 56 refl, ← y) (simp append_assoc) in
       rw (e₄, e₃, e₂, e₁, take_first [] 56 8, ← g)
       (sym (one_hashed _ m (simp (length-append, length_first, length_bytes)))
-      ∙ block-hashed h l m (length_first begun 64))
+      ∙ block_hashed h l m (length_first begun 64))
 
 -- what `digest_of` does: whole blocks, and the end of what waits behind them
 pub ends : (l : List ℕ) {h h₁ h₂ b : List ℕ} → h ≡ H0 → h₁ ≡ hashed h l

@@ -80,19 +80,19 @@ module _ (w x : List ℕ) (h : HashValue w) where
   at_front i k = get_or-append (digest_bytes w 32) x 0 i (omega (arith, length_hash w 32)) ∙ at_hash w 32 i k
 
   -- byte j of word t
-  at-word : (t j : ℕ) → t < 8 → j < 4 → at written (4 * t + j) ≡ at w t / 2 ^ (8 * (3 - j)) % 256
-  at-word t j k m =
+  at_word : (t j : ℕ) → t < 8 → j < 4 → at written (4 * t + j) ≡ at w t / 2 ^ (8 * (3 - j)) % 256
+  at_word t j k m =
       let e : (4 * t + j) / 4 ≡ t = omega arith in
       let f : (4 * t + j) % 4 ≡ j = omega arith in
       at_front (4 * t + j) (omega arith) ∙ rw (e, f) refl
 
   word_back : (t : ℕ) → t < 8 → block_word written (4 * t) ≡ at w t
   word_back t k =
-      let a = at-word t 1 k (omega arith) in
-      let b = at-word t 2 k (omega arith) in
-      let c = at-word t 3 k (omega arith) in
+      let a = at_word t 1 k (omega arith) in
+      let b = at_word t 2 k (omega arith) in
+      let c = at_word t 3 k (omega arith) in
       let z : 4 * t ≡ 4 * t + 0 = omega arith in
-      let d : at written (4 * t) ≡ at w t / 2 ^ 24 % 256 = ap (at written) z ∙ at-word t 0 k (omega arith) in
+      let d : at written (4 * t) ≡ at w t / 2 ^ 24 % 256 = ap (at written) z ∙ at_word t 0 k (omega arith) in
       let s = h.small t in
       let e : at w t % 2 ^ 32 ≡ at w t = omega arith in
       rw (a, b, c, d) (four (at w t) (at w t / 2 ^ 0) (omega arith) ∙ e)
@@ -126,8 +126,8 @@ module _ (a : List ℕ) (x : ℕ) (long : length a ≡ 96) where
       )
       (four (x / 2 ^ 32) (x / 2 ^ 32) refl)
 
-  total-back : x < 2 ^ 64 → total_in (a ++ big_endian x 8) ≡ x
-  total-back h = rw (low, high) (omega arith)
+  total_back : x < 2 ^ 64 → total_in (a ++ big_endian x 8) ≡ x
+  total_back h = rw (low, high) (omega arith)
 
 -- ---- a state whose fields have the widths of the struct's
 pub state_back : (s : Sha256) → HashValue s.words → length s.block ≡ 64 → s.total < 2 ^ 64 →
@@ -142,7 +142,7 @@ state_back s w b t =
     take_at s.block (big_endian s.total 8) 64 b in
     let l : length (digest_bytes s.words 32 ++ s.block) ≡ 96 = simp (length-append, length_hash, b) in
     let e : total_in (digest_bytes s.words 32 ++ x) ≡ s.total =
-    rw (← append_assoc) (total-back (digest_bytes s.words 32 ++ s.block) s.total l t) in
+    rw (← append_assoc) (total_back (digest_bytes s.words 32 ++ s.block) s.total l t) in
     rw (words_back s.words x w 8 (omega arith), take_all 8 s.words (omega (arith, w.eight)), d, f, e) refl
 
 -- ---- the state of some bytes fed: its words are sums modulo 2 ^ 32

@@ -59,14 +59,14 @@ hash_more h l m a zero e = rw add-zero (hash_append h l m a e)
 hash_more h l m a (suc b) e = rw add-suc (ap₂ compress (hash_more h l m a b e) (rw (behind l m a b e)))
 
 module _ (h l m : List ℕ) where
-  more-blocks : blocks (l ++ m) ≡ blocks l + blocks (rest l ++ m)
-  more-blocks = simp (length-append, length-drop) (omega arith)
+  more_blocks : blocks (l ++ m) ≡ blocks l + blocks (rest l ++ m)
+  more_blocks = simp (length-append, length-drop) (omega arith)
 
   pub hashed_more : hashed (hashed h l) (rest l ++ m) ≡ hashed h (l ++ m)
-  hashed_more = sym (rw more-blocks (hash_more h l m (blocks l) (blocks (rest l ++ m)) (omega arith)))
+  hashed_more = sym (rw more_blocks (hash_more h l m (blocks l) (blocks (rest l ++ m)) (omega arith)))
 
   pub rest_more : rest (rest l ++ m) ≡ rest (l ++ m)
-  rest_more = sym (rw more-blocks (behind l m (blocks l) (blocks (rest l ++ m)) (omega arith)))
+  rest_more = sym (rw more_blocks (behind l m (blocks l) (blocks (rest l ++ m)) (omega arith)))
 
   -- so the state too
   pub state_more : (n : ℕ) → state_after (hashed h l) (rest l ++ m) n ≡ state_after h (l ++ m) n

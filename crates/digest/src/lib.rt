@@ -1,6 +1,8 @@
 // SHA-256 (FIPS 180-4), whole or fed piece by piece. Contracts cite specs/: Words, Block and Digest are the standard's
 // sections, State is what the calls answer for any state. Theorems over these: Claims, that any pieces have the digest
 // of the whole, and Examples, the standard's.
+#![tactic(auto)]
+
 ghost use Rattle.std.specs.Prelude.{◌≡◌, ◌+◌, ◌*◌, ◌%◌, ◌<◌, ◌≤◌, [], ◌++◌, length, take};
 ghost use Rattle.digest.specs.Block.{H0};
 ghost use Rattle.digest.specs.Digest.{big_endian, padding, hashed, rest, digest_bytes};
@@ -114,7 +116,7 @@ fn initial() -> [u32; 8]
 
 // A hash under way: the hash value, the block that is being filled, and how many bytes were fed. The first `total` % 64
 // bytes of the block are those that wait.
-#[derive(Drop)]
+#[derive(Clone, Copy)]
 pub struct Sha256 {
     words: [u32; 8],
     block: [u8; 64],
@@ -122,21 +124,21 @@ pub struct Sha256 {
 }
 
 // 01's numbers 0 and 8.
-#[derive(Drop)]
+#[derive(Clone, Copy)]
 pub enum Answer {
     Done,
     TooLong,
 }
 
 // What a piece more comes to.
-#[derive(Drop)]
+#[derive(Clone, Copy)]
 pub struct Updated {
     pub answer: Answer,
     pub state: Sha256,
 }
 
 // What finishing comes to.
-#[derive(Drop)]
+#[derive(Clone, Copy)]
 pub struct Finished {
     pub answer: Answer,
     pub state: Sha256,
@@ -144,7 +146,7 @@ pub struct Finished {
 }
 
 // What a digest of the whole comes to.
-#[derive(Drop)]
+#[derive(Clone, Copy)]
 pub struct Digest {
     pub answer: Answer,
     pub bytes: [u8; 32],

@@ -1,10 +1,14 @@
 // Digests of the messages on standard input. A line is a message in lower-case hex (`-` for the empty one) of up to
 // 8,192 bytes and then, after a space, the lengths of the pieces it is fed in, with commas; what is left over is the
 // last piece. The answer is the digest in hex, or `bad line`.
+#![tactic(auto)]
+
 ghost use Rattle.std.specs.Prelude.{◌≤◌, length};
 
 use digest::Sha256;
-use libc::STDOUT_FILENO;
+use lines::Output;
+use std::io;
+use std::io::Write;
 
 // The number of a hex digit, 16 for any other byte.
 fn nibble(b: u8) -> u8
@@ -26,7 +30,7 @@ fn nibble(b: u8) -> u8
 }
 
 // How many bytes were read, where all was well.
-#[derive(Drop)]
+#[derive(Clone, Copy)]
 struct Count {
     ok: bool,
     n: usize,
@@ -126,7 +130,7 @@ fn number(p: &[u8]) -> usize {
     v
 }
 
-#[derive(Drop)]
+#[derive(Clone, Copy)]
 struct Fed {
     ok: bool,
     at: usize,
@@ -208,7 +212,7 @@ fn digit(x: u8) -> u8 {
     }
 }
 
-fn show(state: Sha256) {
+fn show<W: Write>(output: &mut Output<W>, state: Sha256) -> io::Result<()> {
     let f = state.finish();
     let d = f.bytes;
     let mut out = [b'\n'; 65];
@@ -218,45 +222,60 @@ fn show(state: Sha256) {
         out[2 * i + 1] = digit(d[i] % 16);
         i += 1;
     }
-    io::write_all(STDOUT_FILENO, &out);
+    lines::write(output, &out)
 }
 
-fn refuse() {
-    io::write_all(STDOUT_FILENO, b"bad line\n");
+fn refuse<W: Write>(output: &mut Output<W>) -> io::Result<()> {
+    lines::write(output, b"bad line\n")
 }
 
 // The answer to a line.
-fn respond(line: &[u8]) {
+fn respond<W: Write>(output: &mut Output<W>, line: &[u8]) -> io::Result<()> {
     let end = find(line, 0, b' ');
     let mut buf = [0u8; 8192];
     let m = message(line, end, &mut buf);
     let n = m.n;
     if !m.ok {
-        refuse();
-        return;
+        return refuse(output);
     }
     if end == line.len() {
         let u = Sha256::new().update(&buf[..n]);
         let s = u.state;
-        show(s);
-        return;
+        return show(output, s);
     }
     let f = pieces(&buf[..n], line, end + 1);
     let s = f.state;
     if f.ok {
-        show(s);
+        show(output, s)
     } else {
-        refuse();
+        refuse(output)
     }
 }
 
 // A line of 65,536 bytes or more is a bad one.
-fn main() {
-    let mut line = io::large_buffer();
-    let mut chunk = io::large_buffer();
-    let mut l = lines::next_within(&mut line, &mut chunk, lines::none(), b"bad line\n");
+fn main(rt: HostRuntime) -> io::Result<()> {
+    let mut input = lines::from_reader(rt.stdin());
+    let mut output = lines::to_writer(rt.stdout());
+    let mut line = [0u8; 65536];
+    let mut chunk = [0u8; 65536];
+    let mut l = lines::next_within(
+        &mut input,
+        &mut output,
+        &mut line,
+        &mut chunk,
+        lines::none(),
+        b"bad line\n",
+    )?;
     while 0 < l.left {
-        respond(wire::piece(&line, 0, l.n));
-        l = lines::next_within(&mut line, &mut chunk, l, b"bad line\n");
+        respond(&mut output, wire::piece(&line, 0, l.n))?;
+        l = lines::next_within(
+            &mut input,
+            &mut output,
+            &mut line,
+            &mut chunk,
+            l,
+            b"bad line\n",
+        )?;
     }
+    Ok(())
 }

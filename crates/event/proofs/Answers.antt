@@ -151,9 +151,9 @@ wrote-is zero n e = (refl, cc)
 wrote-is (suc r) n {x} e =
     absurd (let q : Wrote x ≡ Refused (suc r) = e ∙ rw (ne_eqb (suc r) 0 (λ q. omega arith)) in let z : ◌≡◌ {A = ℕ} 0 1 = cc in omega arith)
 
-pub refused-is : (r n : ℕ) {x : ℕ} → Refused x ≡ answered r n → (x ≡ r) × (x ≡ 0 → ⊥)
-refused-is zero n e = absurd (let z : ◌≡◌ {A = ℕ} 0 1 = cc in omega arith)
-refused-is (suc r) n {x} e =
+pub refused_is : (r n : ℕ) {x : ℕ} → Refused x ≡ answered r n → (x ≡ r) × (x ≡ 0 → ⊥)
+refused_is zero n e = absurd (let z : ◌≡◌ {A = ℕ} 0 1 = cc in omega arith)
+refused_is (suc r) n {x} e =
     let q : Refused x ≡ Refused (suc r) = e ∙ rw (ne_eqb (suc r) 0 (λ q. omega arith)) in
     let y : x ≡ suc r = cc in
     (y, λ z. omega arith)
@@ -255,7 +255,7 @@ module _ (b : List ℕ) (p : EventParts) {r : ℕ} (e : r ≡ event_row b p) (n 
 module _ (b : List ℕ) (p : EventParts) {w : Written} {t : List ℕ} (k : Tested b p w t) {x : ℕ} where
   module _ (e : w ≡ Refused x) where
     refusal : (x ≡ offered_row b p) × (x ≡ 0 → ⊥)
-    refusal = refused-is (offered_row b p) (length (text_of b p.body)) (sym e ∙ k.says)
+    refusal = refused_is (offered_row b p) (length (text_of b p.body)) (sym e ∙ k.says)
 
     pub row_of : x ≡ offered_row b p
     row_of = refusal.0
@@ -265,26 +265,26 @@ module _ (b : List ℕ) (p : EventParts) {w : Written} {t : List ℕ} (k : Teste
     rows_first out = refused (text_of b p.body) out (offered_row b p) (short_row (text_of b p.body) out) refusal.0 refusal.1
 
   module _ (e : w ≡ Wrote x) where
-    length-is : x ≡ length (text_of b p.body)
-    length-is = (wrote-is (offered_row b p) (length (text_of b p.body)) (sym e ∙ k.says)).1
+    length_is : x ≡ length (text_of b p.body)
+    length_is = (wrote-is (offered_row b p) (length (text_of b p.body)) (sym e ∙ k.says)).1
 
     pub row_none : 0 ≡ offered_row b p
     row_none = sym (wrote-is (offered_row b p) (length (text_of b p.body)) (sym e ∙ k.says)).0
 
-    text-is : take x t ≡ text_of b p.body
-    text-is = rw length-is (k.there (sym row_none))
+    text_is : take x t ≡ text_of b p.body
+    text_is = rw length_is (k.there (sym row_none))
 
-    pub text-length : x ≡ length (take x t)
-    text-length = length-is ∙ ap length (sym text-is)
+    pub text_length : x ≡ length (take x t)
+    text_length = length_is ∙ ap length (sym text_is)
 
     pub text-inside : x ≤ length t
-    text-inside = omega (arith, text-length, length-take x t)
+    text-inside = omega (arith, text_length, length-take x t)
 
     pub then-given : (out : List ℕ) {v : Written} {o : List ℕ} → v ≡ answered (short_row (take x t) out) (length (take x t)) → o ≡ output_after (short_row (take x t) out) (take x t) out
         → AsOffered b p out v o
     unfolding offered offered_out offered_text_row
     then-given out f g =
-        passed (text_of b p.body) out (offered_row b p) (short_row (text_of b p.body) out) (sym row_none) (rw text-is at f) (rw text-is at g)
+        passed (text_of b p.body) out (offered_row b p) (short_row (text_of b p.body) out) (sym row_none) (rw text_is at f) (rw text_is at g)
 
 -- what is offered and refused by no row has a text of at most 4,096 bytes
 pub offered-small : (b : List ℕ) (p : EventParts) → offered_row b p ≡ 0 → length (text_of b p.body) ≤ 4096

@@ -16,10 +16,10 @@ use Rattle.wire.proofs.Json.{control_low}
 use Rattle.utf8.specs.Utf8.{next_want, utf8_from, is_utf8}
 use Rattle.utf8.specs.declared.Want.{Want}
 use Rattle.utf8.specs.declared.Want.TheVariants.{Lead}
-use Rattle.utf8.specs.Abnf.{Octets, utf8_1, utf8_2, utf8-3-e0, utf8-3-e1, utf8-3-ed, utf8-3-ee, utf8-4-f0, utf8-4-f1}
-use Rattle.utf8.specs.Abnf.{utf8-4-f4}
+use Rattle.utf8.specs.Abnf.{Octets, utf8_1, utf8_2, utf8_3_e0, utf8_3_e1, utf8_3_ed, utf8_3_ee, utf8_4_f0, utf8_4_f1}
+use Rattle.utf8.specs.Abnf.{utf8_4_f4}
 use Rattle.utf8.proofs.Abnf.{as_in_abnf}
-use Rattle.utf8.proofs.States.{Reached, lead-reached, next_reached, lead_low, low_lead}
+use Rattle.utf8.proofs.States.{Reached, lead_reached, next_reached, lead_low, low_lead}
 use Rattle.json_tree.specs.Grammar.{is_between, is_unescaped, in_class, chars_at, is_spelling}
 use Rattle.json_tree.proofs.Ends.{one_is, one_ends, byte_is}
 use Rattle.json_tree.proofs.Spelled.{Char, Chars, chars_sound}
@@ -147,9 +147,9 @@ module _ (l m : List ℕ) {c : spell.Char} (e : chars l ≡ c ∷ chars m) where
   unfolding decode chars_bytes
   decode_more = rw e
 
-  refuses-more : refuses l ≡ false → (is_surrogate c.code ≡ false) × (refuses m ≡ false)
+  refuses_more : refuses l ≡ false → (is_surrogate c.code ≡ false) × (refuses m ≡ false)
   unfolding refuses any is_refused
-  refuses-more h = or_neither (is_surrogate c.code) _ (rw e at h)
+  refuses_more h = or_neither (is_surrogate c.code) _ (rw e at h)
 
 -- ---- the code of an escape
 pub digit_few : (x : ℕ) → hex_val x ≤ 15
@@ -187,8 +187,8 @@ paired u x y v e =
 
 -- ---- the octets of a code point
 module _ (n : ℕ) where
-  not-surrogate : {A : Type 0} → (n < 0xd800 → A) → (0xdfff < n → A) → is_surrogate n ≡ false → A
-  not-surrogate f g e = elim (dec_lt n 0xd800) [
+  not_surrogate : {A : Type 0} → (n < 0xd800 → A) → (0xdfff < n → A) → is_surrogate n ≡ false → A
+  not_surrogate f g e = elim (dec_lt n 0xd800) [
     | yes h ↦ f h
     | no h ↦ elim (dec_lt 0xdfff n) [
       | yes k ↦ g k
@@ -198,46 +198,46 @@ module _ (n : ℕ) where
 
   module _ (t : List ℕ) (o : Octets t) where
     three : 0x800 ≤ n → n < 0x10000 → is_surrogate n ≡ false → Octets ((0xe0 + n / 0x1000) ∷ (0x80 + n / 0x40 % 0x40) ∷ (0x80 + n % 0x40) ∷ t)
-    three h k e = not-surrogate low high e
+    three h k e = not_surrogate low high e
       where
         low : n < 0xd800 → Octets ((0xe0 + n / 0x1000) ∷ (0x80 + n / 0x40 % 0x40) ∷ (0x80 + n % 0x40) ∷ t)
         low l = elim (dec_lt n 0x1000) [
           | yes a ↦
               let z : 0xe0 + n / 0x1000 ≡ 0xe0 = omega arith in
-              rw z (utf8-3-e0 {b = 0x80 + n / 0x40 % 0x40} {c = 0x80 + n % 0x40} (record { low = omega arith; high = omega arith }) (record { low = omega arith; high = omega arith }) o)
+              rw z (utf8_3_e0 {b = 0x80 + n / 0x40 % 0x40} {c = 0x80 + n % 0x40} (record { low = omega arith; high = omega arith }) (record { low = omega arith; high = omega arith }) o)
           | no a ↦ elim (dec_lt n 0xd000) [
-            | yes b ↦ utf8-3-e1 {a = 0xe0 + n / 0x1000} {b = 0x80 + n / 0x40 % 0x40} {c = 0x80 + n % 0x40} (record { low = omega arith; high = omega arith }) (record { low = omega arith; high = omega arith }) (record { low = omega arith; high = omega arith }) o
+            | yes b ↦ utf8_3_e1 {a = 0xe0 + n / 0x1000} {b = 0x80 + n / 0x40 % 0x40} {c = 0x80 + n % 0x40} (record { low = omega arith; high = omega arith }) (record { low = omega arith; high = omega arith }) (record { low = omega arith; high = omega arith }) o
             | no b ↦
                 let z : 0xe0 + n / 0x1000 ≡ 0xed = omega arith in
-                rw z (utf8-3-ed {b = 0x80 + n / 0x40 % 0x40} {c = 0x80 + n % 0x40} (record { low = omega arith; high = omega arith }) (record { low = omega arith; high = omega arith }) o)
+                rw z (utf8_3_ed {b = 0x80 + n / 0x40 % 0x40} {c = 0x80 + n % 0x40} (record { low = omega arith; high = omega arith }) (record { low = omega arith; high = omega arith }) o)
           ]
         ]
 
         high : 0xdfff < n → Octets ((0xe0 + n / 0x1000) ∷ (0x80 + n / 0x40 % 0x40) ∷ (0x80 + n % 0x40) ∷ t)
-        high l = utf8-3-ee {a = 0xe0 + n / 0x1000} {b = 0x80 + n / 0x40 % 0x40} {c = 0x80 + n % 0x40} (record { low = omega arith; high = omega arith }) (record { low = omega arith; high = omega arith }) (record { low = omega arith; high = omega arith }) o
+        high l = utf8_3_ee {a = 0xe0 + n / 0x1000} {b = 0x80 + n / 0x40 % 0x40} {c = 0x80 + n % 0x40} (record { low = omega arith; high = omega arith }) (record { low = omega arith; high = omega arith }) (record { low = omega arith; high = omega arith }) o
 
-    four-octets : 0x10000 ≤ n → n ≤ 0x10ffff → Octets ((0xf0 + n / 0x40000) ∷ (0x80 + n / 0x1000 % 0x40) ∷ (0x80 + n / 0x40 % 0x40) ∷ (0x80 + n % 0x40) ∷ t)
-    four-octets h k = elim (dec_lt n 0x40000) [
+    four_octets : 0x10000 ≤ n → n ≤ 0x10ffff → Octets ((0xf0 + n / 0x40000) ∷ (0x80 + n / 0x1000 % 0x40) ∷ (0x80 + n / 0x40 % 0x40) ∷ (0x80 + n % 0x40) ∷ t)
+    four_octets h k = elim (dec_lt n 0x40000) [
       | yes a ↦
           let z : 0xf0 + n / 0x40000 ≡ 0xf0 = omega arith in
-          rw z (utf8-4-f0 {b = 0x80 + n / 0x1000 % 0x40} {c = 0x80 + n / 0x40 % 0x40} {d = 0x80 + n % 0x40} (record { low = omega arith; high = omega arith }) (record { low = omega arith; high = omega arith }) (record { low = omega arith; high = omega arith }) o)
+          rw z (utf8_4_f0 {b = 0x80 + n / 0x1000 % 0x40} {c = 0x80 + n / 0x40 % 0x40} {d = 0x80 + n % 0x40} (record { low = omega arith; high = omega arith }) (record { low = omega arith; high = omega arith }) (record { low = omega arith; high = omega arith }) o)
       | no a ↦ elim (dec_lt n 0x100000) [
-        | yes b ↦ utf8-4-f1 {a = 0xf0 + n / 0x40000} {b = 0x80 + n / 0x1000 % 0x40} {c = 0x80 + n / 0x40 % 0x40} {d = 0x80 + n % 0x40} (record { low = omega arith; high = omega arith }) (record { low = omega arith; high = omega arith }) (record { low = omega arith; high = omega arith }) (record { low = omega arith; high = omega arith }) o
+        | yes b ↦ utf8_4_f1 {a = 0xf0 + n / 0x40000} {b = 0x80 + n / 0x1000 % 0x40} {c = 0x80 + n / 0x40 % 0x40} {d = 0x80 + n % 0x40} (record { low = omega arith; high = omega arith }) (record { low = omega arith; high = omega arith }) (record { low = omega arith; high = omega arith }) (record { low = omega arith; high = omega arith }) o
         | no b ↦
             let z : 0xf0 + n / 0x40000 ≡ 0xf4 = omega arith in
-            rw z (utf8-4-f4 {b = 0x80 + n / 0x1000 % 0x40} {c = 0x80 + n / 0x40 % 0x40} {d = 0x80 + n % 0x40} (record { low = omega arith; high = omega arith }) (record { low = omega arith; high = omega arith }) (record { low = omega arith; high = omega arith }) o)
+            rw z (utf8_4_f4 {b = 0x80 + n / 0x1000 % 0x40} {c = 0x80 + n / 0x40 % 0x40} {d = 0x80 + n % 0x40} (record { low = omega arith; high = omega arith }) (record { low = omega arith; high = omega arith }) (record { low = omega arith; high = omega arith }) o)
       ]
     ]
 
-    octets-of : n ≤ 0x10ffff → is_surrogate n ≡ false → Octets (utf8_of n ++ t)
+    octets_of : n ≤ 0x10ffff → is_surrogate n ≡ false → Octets (utf8_of n ++ t)
     unfolding utf8_of
-    octets-of h e = elim (dec_lt n 0x80) [
+    octets_of h e = elim (dec_lt n 0x80) [
       | yes a ↦ rw (lt-ltb n 0x80 a) (utf8_1 {a = n} (record { low = omega arith; high = omega arith }) o)
       | no a ↦ elim (dec_lt n 0x800) [
         | yes b ↦ rw (le-ltb n 0x80 (omega arith), lt-ltb n 0x800 b) (utf8_2 {a = 0xc0 + n / 0x40} {b = 0x80 + n % 0x40} (record { low = omega arith; high = omega arith }) (record { low = omega arith; high = omega arith }) o)
         | no b ↦ elim (dec_lt n 0x10000) [
           | yes c ↦ rw (le-ltb n 0x80 (omega arith), le-ltb n 0x800 (omega arith), lt-ltb n 0x10000 c) (three (omega arith) c e)
-          | no c ↦ rw (le-ltb n 0x80 (omega arith), le-ltb n 0x800 (omega arith), le-ltb n 0x10000 (omega arith)) (four-octets (omega arith) h)
+          | no c ↦ rw (le-ltb n 0x80 (omega arith), le-ltb n 0x800 (omega arith), le-ltb n 0x10000 (omega arith)) (four_octets (omega arith) h)
         ]
       ]
     ]
@@ -245,7 +245,7 @@ module _ (n : ℕ) where
 -- ---- UTF-8 from a state on
 lead_of_lem : (n : ℕ) (t : List ℕ) → n ≤ 0x10ffff → is_surrogate n ≡ false → utf8_from Lead t ≡ true → utf8_from Lead (utf8_of n ++ t) ≡ true
 unfolding is_utf8
-lead_of_lem n t h e u = (as_in_abnf (utf8_of n ++ t)).1 (octets-of n t ((as_in_abnf t).0 u) h e)
+lead_of_lem n t h e u = (as_in_abnf (utf8_of n ++ t)).1 (octets_of n t ((as_in_abnf t).0 u) h e)
 
 -- ---- the whole
 abbrev Good : Want → List ℕ → Type 0
@@ -256,58 +256,58 @@ step_plain : (x : ℕ) (l : List ℕ) → (x ≡ 0x5c → ⊥) → (w : Want) �
 unfolding utf8_from char_bytes
 step_plain x l n w r u ih =
     let e = chars_plain x l n in
-    rw (decode_more (x ∷ l) l e) (ih (refuses-more (x ∷ l) l e r).1 u)
+    rw (decode_more (x ∷ l) l e) (ih (refuses_more (x ∷ l) l e r).1 u)
 
 step_short : (y : ℕ) (l : List ℕ) → Short y → (w : Want) → Reached w → refuses (0x5c ∷ y ∷ l) ≡ false → utf8_from w (0x5c ∷ y ∷ l) ≡ true
     → (refuses l ≡ false → utf8_from Lead l ≡ true → Good Lead (decode l)) → Good w (decode (0x5c ∷ y ∷ l))
 unfolding char_bytes
 step_short y l s w v r u ih =
     let (z, u₁) = low_lead w 0x5c (y ∷ l) v (omega arith) u in
-    let u₂ = (low_lead Lead y l lead-reached s.low u₁).1 in
+    let u₂ = (low_lead Lead y l lead_reached s.low u₁).1 in
     let e = chars_short y l s.other in
-    rw (decode_more (0x5c ∷ y ∷ l) l e, z) (lead_low (short_of y) (decode l) s.means (ih (refuses-more (0x5c ∷ y ∷ l) l e r).1 u₂))
+    rw (decode_more (0x5c ∷ y ∷ l) l e, z) (lead_low (short_of y) (decode l) s.means (ih (refuses_more (0x5c ∷ y ∷ l) l e r).1 u₂))
 
 module _ {a b c d : ℕ} (ha : a < 128) (hb : b < 128) (hc : c < 128) (hd : d < 128) where
   -- an escape stands only where a character may begin
   pub six_lead : (w : Want) (l : List ℕ) → Reached w → utf8_from w (0x5c ∷ 0x75 ∷ a ∷ b ∷ c ∷ d ∷ l) ≡ true → (w ≡ Lead) × (utf8_from Lead l ≡ true)
   six_lead w l v u =
       let (z, u₁) = low_lead w 0x5c (0x75 ∷ a ∷ b ∷ c ∷ d ∷ l) v (omega arith) u in
-      let u₂ = (low_lead Lead 0x75 (a ∷ b ∷ c ∷ d ∷ l) lead-reached (omega arith) u₁).1 in
-      let u₃ = (low_lead Lead a (b ∷ c ∷ d ∷ l) lead-reached ha u₂).1 in
-      let u₄ = (low_lead Lead b (c ∷ d ∷ l) lead-reached hb u₃).1 in
-      let u₅ = (low_lead Lead c (d ∷ l) lead-reached hc u₄).1 in
-      (z, (low_lead Lead d l lead-reached hd u₅).1)
+      let u₂ = (low_lead Lead 0x75 (a ∷ b ∷ c ∷ d ∷ l) lead_reached (omega arith) u₁).1 in
+      let u₃ = (low_lead Lead a (b ∷ c ∷ d ∷ l) lead_reached ha u₂).1 in
+      let u₄ = (low_lead Lead b (c ∷ d ∷ l) lead_reached hb u₃).1 in
+      let u₅ = (low_lead Lead c (d ∷ l) lead_reached hc u₄).1 in
+      (z, (low_lead Lead d l lead_reached hd u₅).1)
 
 -- a character of an escape, of a code point n, before m
 step_code : (l m : List ℕ) (n k : ℕ) (w : Want) → w ≡ Lead → n ≤ 0x10ffff → chars l ≡ record { code = n; raw = false; width = k } ∷ chars m → refuses l ≡ false
     → (refuses m ≡ false → Good Lead (decode m)) → Good w (decode l)
 unfolding char_bytes
 step_code l m n k w z h e r ih =
-    let q = refuses-more l m e r in
+    let q = refuses_more l m e r in
     rw (decode_more l m e, z) (lead_of_lem n (decode m) h q.0 (ih q.1))
 
 module _ (a b c d : ℕ) (ha : a < 128) (hb : b < 128) (hc : c < 128) (hd : d < 128) (w : Want) (v : Reached w) where
   abbrev Rest : List ℕ → Type 0
   Rest l = (m : List ℕ) → length m ≤ length l → Spelling m → refuses m ≡ false → utf8_from Lead m ≡ true → Good Lead (decode m)
 
-  step-pair : {l : List ℕ} → Spelling l → is_pair (four a b c d) (get_or l 0 0) (get_or l 1 0) (four_at l 2) ≡ true → Rest l
+  step_pair : {l : List ℕ} → Spelling l → is_pair (four a b c d) (get_or l 0 0) (get_or l 1 0) (four_at l 2) ≡ true → Rest l
       → refuses (0x5c ∷ 0x75 ∷ a ∷ b ∷ c ∷ d ∷ l) ≡ false → utf8_from w (0x5c ∷ 0x75 ∷ a ∷ b ∷ c ∷ d ∷ l) ≡ true → Good w (decode (0x5c ∷ 0x75 ∷ a ∷ b ∷ c ∷ d ∷ l))
   unfolding four_at pair_of
-  step-pair end e ih r u = let p = paired _ _ _ _ e in absurd (omega (arith, p.slash))
-  step-pair (plain n s) e ih r u = let p = paired _ _ _ _ e in absurd (n p.slash)
-  step-pair (short y s) e ih r u = let p = paired _ _ _ _ e in absurd (y.other p.letter)
-  step-pair (code {a = i} {b = j} {c = x} {d = y} {l = m} hi hj hx hy s) e ih r u =
+  step_pair end e ih r u = let p = paired _ _ _ _ e in absurd (omega (arith, p.slash))
+  step_pair (plain n s) e ih r u = let p = paired _ _ _ _ e in absurd (n p.slash)
+  step_pair (short y s) e ih r u = let p = paired _ _ _ _ e in absurd (y.other p.letter)
+  step_pair (code {a = i} {b = j} {c = x} {d = y} {l = m} hi hj hx hy s) e ih r u =
       let p = paired (four a b c d) 0x5c 0x75 (four i j x y) e in
       let (z, u₁) = six_lead ha hb hc hd w (0x5c ∷ 0x75 ∷ i ∷ j ∷ x ∷ y ∷ m) v u in
-      let u₂ = (six_lead hi hj hx hy Lead m lead-reached u₁).1 in
+      let u₂ = (six_lead hi hj hx hy Lead m lead_reached u₁).1 in
       step_code _ m (pair_of (four a b c d) (four i j x y)) 12 w z (omega (arith, p.high, p.low)) (chars_pair a b c d i j x y m e) r (λ q. ih m (omega arith) s q u₂)
 
-  step-escape : {l : List ℕ} → Spelling l → Rest l → refuses (0x5c ∷ 0x75 ∷ a ∷ b ∷ c ∷ d ∷ l) ≡ false → utf8_from w (0x5c ∷ 0x75 ∷ a ∷ b ∷ c ∷ d ∷ l) ≡ true
+  step_escape : {l : List ℕ} → Spelling l → Rest l → refuses (0x5c ∷ 0x75 ∷ a ∷ b ∷ c ∷ d ∷ l) ≡ false → utf8_from w (0x5c ∷ 0x75 ∷ a ∷ b ∷ c ∷ d ∷ l) ≡ true
       → Good w (decode (0x5c ∷ 0x75 ∷ a ∷ b ∷ c ∷ d ∷ l))
-  step-escape {l} s ih r u = go (is_pair (four a b c d) (get_or l 0 0) (get_or l 1 0) (four_at l 2)) refl
+  step_escape {l} s ih r u = go (is_pair (four a b c d) (get_or l 0 0) (get_or l 1 0) (four_at l 2)) refl
     where
       go : (t : Bool) → is_pair (four a b c d) (get_or l 0 0) (get_or l 1 0) (four_at l 2) ≡ t → Good w (decode (0x5c ∷ 0x75 ∷ a ∷ b ∷ c ∷ d ∷ l))
-      go true e = step-pair s e ih r u
+      go true e = step_pair s e ih r u
       go false e =
           let (z, u₁) = six_lead ha hb hc hd w l v u in
           step_code _ l (four a b c d) 6 w z (omega (arith, four_few a b c d)) (chars_one a b c d l e) r (λ q. ih l (omega arith) s q u₁)
@@ -322,9 +322,9 @@ none_decoded w u = u
 longer : (k : ℕ) → Upto k → Upto (suc k)
 longer k ih l h end w v r u = none_decoded w u
 longer k ih l h (plain {x = x} {l = m} n s) w v r u = step_plain x m n w r u (λ e f. ih m (omega arith) s (next_want w x) (next_reached w x v) e f)
-longer k ih l h (short {y = y} {l = m} t s) w v r u = step_short y m t w v r u (λ e f. ih m (omega arith) s Lead lead-reached e f)
+longer k ih l h (short {y = y} {l = m} t s) w v r u = step_short y m t w v r u (λ e f. ih m (omega arith) s Lead lead_reached e f)
 longer k ih l h (code {a = a} {b = b} {c = c} {d = d} {l = m} ha hb hc hd s) w v r u =
-    step-escape a b c d ha hb hc hd w v s (λ i g t e f. ih i (omega arith) t Lead lead-reached e f) r u
+    step_escape a b c d ha hb hc hd w v s (λ i g t e f. ih i (omega arith) t Lead lead_reached e f) r u
 
 shortest : Upto 0
 shortest [] h s w v r u = none_decoded w u
@@ -337,4 +337,4 @@ decoded (suc k) = longer k (decoded k)
 -- the theorem
 pub decoded_string : (l : List ℕ) → is_utf8 l ≡ true → is_spelling l ≡ true → refuses l ≡ false → is_string_bytes (decode l) ≡ true
 unfolding is_utf8 is_string_bytes
-decoded_string l u s r = decoded (length l) l (omega arith) (is_spelling_lem l s) Lead lead-reached r u
+decoded_string l u s r = decoded (length l) l (omega arith) (is_spelling_lem l s) Lead lead_reached r u

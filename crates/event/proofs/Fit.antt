@@ -12,7 +12,7 @@ use lib.ListN.{length, get_or, take, drop}
 use lib.Seq.{take-add, drop-drop, drop-cons}
 use Rattle.utf8.specs.Utf8.{utf8_from, is_utf8}
 use Rattle.utf8.specs.declared.Want.TheVariants.{Lead}
-use Rattle.utf8.proofs.States.{lead-reached, utf8_cut}
+use Rattle.utf8.proofs.States.{lead_reached, utf8_cut}
 use Rattle.json_tree.specs.Grammar.{case, past, chars_at, token_at, opened_at, string_at, scalar_at, start_at, next_at, ws_at}
 use Rattle.json_tree.specs.Grammar.{is_spelling}
 use Rattle.json_tree.specs.Tree.{Json, str, arr, Items, nil, item, Got, none, got, on_leaf, items_at, group_at, tree_at, depth}
@@ -88,19 +88,19 @@ module _ (s : List ℕ) where
       let k₂ : v + 1 + (e - v - 2) < length s = omega arith in
       let z₁ = apart lo (v - lo) (e - v - 2 + suc (hi - e)) k₁ in
       let u₁ : utf8_from Lead (take (v - lo) (drop lo s) ++ (34 ∷ take (e - v - 2 + suc (hi - e)) (drop (v + 1) s))) ≡ true = rw (n₁, z₁, n₂, p) at u in
-      let u₂ = (utf8_cut (take (v - lo) (drop lo s)) 34 _ Lead lead-reached (lit< tt) u₁).1 in
+      let u₂ = (utf8_cut (take (v - lo) (drop lo s)) 34 _ Lead lead_reached (lit< tt) u₁).1 in
       let z₂ = apart (v + 1) (e - v - 2) (hi - e) k₂ in
       let u₃ : utf8_from Lead (take (e - v - 2) (drop (v + 1) s) ++ (34 ∷ take (hi - e) (drop (e - 1 + 1) s))) ≡ true = rw (z₂, n₃, r) at u₂ in
-      (utf8_cut (take (e - v - 2) (drop (v + 1) s)) 34 _ Lead lead-reached (lit< tt) u₃).0
+      (utf8_cut (take (e - v - 2) (drop (v + 1) s)) 34 _ Lead lead_reached (lit< tt) u₃).0
 
   -- ---- what is read ends no earlier than it begins
   pub ws_after : (at : ℕ) → at ≤ ws_at s at
   unfolding past
   ws_after at = omega arith
 
-  token-after : (b at n : ℕ) → token_at s b at ≡ End n → at ≤ n
+  token_after : (b at n : ℕ) → token_at s b at ≡ End n → at ≤ n
   unfolding token_at
-  token-after b at n e =
+  token_after b at n e =
       let (m, p, q) = then_end _ _ e in
       let z = byte_is s b at p in
       spaced m (one_is s _ at p).1 q
@@ -112,7 +112,7 @@ module _ (s : List ℕ) where
   more_after m j e = go (token_at s 0x2C m) refl (token_at s 0x5D m) e
     where
       go : (o : Out) → token_at s 0x2C m ≡ o → (p : Out) → case o More (case p Done Wrong) ≡ More j → m ≤ j
-      go (End a) q p e = let z : a ≡ j = cc in token-after 0x2C m j (rw z at q)
+      go (End a) q p e = let z : a ≡ j = cc in token_after 0x2C m j (rw z at q)
       go Bad q (End a) e = absurd (let z : ◌≡◌ {A = ℕ} 0 1 = cc in omega arith)
       go Bad q Bad e = absurd (let z : ◌≡◌ {A = ℕ} 0 1 = cc in omega arith)
 
@@ -121,15 +121,15 @@ module _ (s : List ℕ) where
     where
       go : (o p : Out) → token_at s 0x5D m ≡ p → case o More (case p Done Wrong) ≡ Done n → m ≤ n
       go (End a) p q e = absurd (let z : ◌≡◌ {A = ℕ} 0 1 = cc in omega arith)
-      go Bad (End a) q e = let z : a ≡ n = cc in token-after 0x5D m n (rw z at q)
+      go Bad (End a) q e = let z : a ≡ n = cc in token_after 0x5D m n (rw z at q)
       go Bad Bad q e = absurd (let z : ◌≡◌ {A = ℕ} 0 1 = cc in omega arith)
 
   -- an array that is empty, and one that holds items
-  empty-after : (at m : ℕ) → start_at s at ≡ Empty m false → at ≤ m
-  empty-after at m e = one (token_at s 0x5B at) refl e
+  empty_after : (at m : ℕ) → start_at s at ≡ Empty m false → at ≤ m
+  empty_after at m e = one (token_at s 0x5B at) refl e
     where
       closed : (n : ℕ) (o : Out) → token_at s 0x5D n ≡ o → case o (λ k. Empty k false) (Many n false) ≡ Empty m false → n ≤ m
-      closed n (End a) q e = let z : a ≡ m = cc in token-after 0x5D n m (rw z at q)
+      closed n (End a) q e = let z : a ≡ m = cc in token_after 0x5D n m (rw z at q)
       closed n Bad q e = absurd (let z : ◌≡◌ {A = ℕ} 0 1 = cc in omega arith)
 
       object : {A : Type 0} (n : ℕ) (o : Out) → case o (λ k. Empty k true) (Many n true) ≡ Empty m false → A
@@ -141,11 +141,11 @@ module _ (s : List ℕ) where
       two Bad e = absurd (let z : ◌≡◌ {A = ℕ} 0 1 = cc in omega arith)
 
       one : (o : Out) → token_at s 0x5B at ≡ o → case o (λ n. opened_at s n false) (case (token_at s 0x7B at) (λ n. opened_at s n true) Leaf) ≡ Empty m false → at ≤ m
-      one (End n) q e = let h = closed n (token_at s 0x5D n) refl e in omega (arith, token-after 0x5B at n q)
+      one (End n) q e = let h = closed n (token_at s 0x5D n) refl e in omega (arith, token_after 0x5B at n q)
       one Bad q e = two (token_at s 0x7B at) e
 
-  many-after : (at i : ℕ) → start_at s at ≡ Many i false → at ≤ i
-  many-after at i e = one (token_at s 0x5B at) refl e
+  many_after : (at i : ℕ) → start_at s at ≡ Many i false → at ≤ i
+  many_after at i e = one (token_at s 0x5B at) refl e
     where
       open_at : (n : ℕ) (o : Out) → case o (λ k. Empty k false) (Many n false) ≡ Many i false → n ≡ i
       open_at n (End a) e = absurd (let z : ◌≡◌ {A = ℕ} 0 1 = cc in omega arith)
@@ -160,7 +160,7 @@ module _ (s : List ℕ) where
       two Bad e = absurd (let z : ◌≡◌ {A = ℕ} 0 1 = cc in omega arith)
 
       one : (o : Out) → token_at s 0x5B at ≡ o → case o (λ n. opened_at s n false) (case (token_at s 0x7B at) (λ n. opened_at s n true) Leaf) ≡ Many i false → at ≤ i
-      one (End n) q e = omega (arith, token-after 0x5B at n q, open_at n (token_at s 0x5D n) e)
+      one (End n) q e = omega (arith, token_after 0x5B at n q, open_at n (token_at s 0x5D n) e)
       one Bad q e = two (token_at s 0x7B at) e
 
   -- ---- strings and arrays as they stand in the text
@@ -204,11 +204,11 @@ module _ (s : List ℕ) where
       on : (r : Start) → start_at s v ≡ r → group_at (tree_at s d) s v r ≡ got t m → Array d v t m
       on Leaf z q = leaf (scalar_at s v) q
       on (Empty k true) z q = other _ _ q refl
-      on (Empty k false) z q = is (arr nil) k q (bare (empty-after v k z))
+      on (Empty k false) z q = is (arr nil) k q (bare (empty_after v k z))
       on (Many i true) z q = let (us, k, g, h) = bind_got (items_at (tree_at s d) s true (length s) i) _ q in other _ _ h refl
       on (Many i false) z q =
           let (us, k, g, h) = bind_got (items_at (tree_at s d) s false (length s) i) _ q in
-          is (arr us) k h (full (many-after v i z) (walk_of (tree_at s d) s (length s) i us k g))
+          is (arr us) k h (full (many_after v i z) (walk_of (tree_at s d) s (length s) i us k g))
 
   pub string_after_lem : (d v : ℕ) (t : Json) (m : ℕ) → tree_at s (suc d) v ≡ got t m → shape.is_string t ≡ true → v ≤ m
   string_after_lem d v t m w e = let q = quoted d v t m w e in omega (arith, (quotes v q.end q.string).2, ws_after q.end, q.after)
@@ -249,28 +249,28 @@ module _ (b : List ℕ) where
 
 -- from lo to hi the buffer is UTF-8
 module _ (b : List ℕ) (lo hi : ℕ) (clear : is_utf8 (part b lo (hi - lo)) ≡ true) where
-  string-fits : (v : ℕ) (t : Json) (m : ℕ) → tree_at b 6 v ≡ got t m → lo ≤ v → m ≤ hi → shape.is_string t ≡ true → refused_in b t ≡ false → is_string_bytes (string_of b t) ≡ true
+  string_fits : (v : ℕ) (t : Json) (m : ℕ) → tree_at b 6 v ≡ got t m → lo ≤ v → m ≤ hi → shape.is_string t ≡ true → refused_in b t ≡ false → is_string_bytes (string_of b t) ≡ true
   unfolding refused_in
-  string-fits v t m w l h s r =
+  string_fits v t m w l h s r =
       let q = quoted b 5 v t m w s in
       let f : refuses (part b (v + 1) (q.end - v - 2)) ≡ false = rw q.is at r in
       let u = inner b lo hi v q.end clear l (omega (arith, ws_after b q.end, q.after)) q.string in
       rw q.is (decoded_string (part b (v + 1) (q.end - v - 2)) u (string_spelled b v q.end q.string) f)
 
-  strings-fit : {k i n : ℕ} {us : Items} → Walk (tree_at b 6) b k i us n → lo ≤ i → n ≤ hi → all_items (λ p t. shape.is_string t) us ≡ true → refused_items b false us ≡ false
+  strings_fit : {k i n : ℕ} {us : Items} → Walk (tree_at b 6) b k i us n → lo ≤ i → n ≤ hi → all_items (λ p t. shape.is_string t) us ≡ true → refused_items b false us ≡ false
       → all is_string_bytes (strings_of b us) ≡ true
   unfolding all_items refused_items strings_of all
-  strings-fit (last {i = i} {m = m} {n = n} {t = t} w q) l h s r =
+  strings_fit (last {i = i} {m = m} {n = n} {t = t} w q) l h s r =
       let a = and_both (shape.is_string t) _ s in
       let c = or_neither (refused_in b t) _ r in
-      both_true _ _ (string-fits i t m w l (omega (arith, done_after b m n q)) a.0 c.0) refl
-  strings-fit (more {i = i} {m = m} {j = j} {n = n} {t = t} w q y) l h s r =
+      both_true _ _ (string_fits i t m w l (omega (arith, done_after b m n q)) a.0 c.0) refl
+  strings_fit (more {i = i} {m = m} {j = j} {n = n} {t = t} w q y) l h s r =
       let a = and_both (shape.is_string t) _ s in
       let c = or_neither (refused_in b t) _ r in
       let x = string_after_lem b 5 i t m w a.0 in
       let z = more_after b m j q in
       let e = walk_after b shape.is_string 6 (string_after_lem b 5) y a.1 in
-      both_true _ _ (string-fits i t m w l (omega arith) a.0 c.0) (strings-fit y (omega arith) h a.1 c.1)
+      both_true _ _ (string_fits i t m w l (omega arith) a.0 c.0) (strings_fit y (omega arith) h a.1 c.1)
 
   tag_fits : (v : ℕ) (t : Json) (m : ℕ) → tree_at b 7 v ≡ got t m → lo ≤ v → m ≤ hi → is_array_of shape.is_string t ≡ true → refused_in b t ≡ false → wrong_tag t ≡ false → is_tag (tag_of b t) ≡ true
   unfolding is_tag wrong_tag refused_in strings_of all
@@ -284,24 +284,24 @@ module _ (b : List ℕ) (lo hi : ℕ) (clear : is_utf8 (part b lo (hi - lo)) ≡
 
       go : {t : Json} → Array b 6 v t m → is_array_of shape.is_string t ≡ true → refused_in b t ≡ false → wrong_tag t ≡ false → is_tag (tag_of b t) ≡ true
       go (bare k) s r c = counted nil c refl
-      go (full {us = us} k y) s r c = counted us c (strings-fit y (omega arith) h s r)
+      go (full {us = us} k y) s r c = counted us c (strings_fit y (omega arith) h s r)
 
-  tags-fit : {k i n : ℕ} {ts : Items} → Walk (tree_at b 7) b k i ts n → lo ≤ i → n ≤ hi → all_items (λ p t. is_array_of shape.is_string t) ts ≡ true → refused_items b false ts ≡ false
+  tags_fit : {k i n : ℕ} {ts : Items} → Walk (tree_at b 7) b k i ts n → lo ≤ i → n ≤ hi → all_items (λ p t. is_array_of shape.is_string t) ts ≡ true → refused_items b false ts ≡ false
       → any_item (λ p t. wrong_tag t) ts ≡ false → all is_tag (tags_of b ts) ≡ true
   unfolding all_items any_item refused_items tags_of all
-  tags-fit (last {i = i} {m = m} {n = n} {t = t} w q) l h s r e =
+  tags_fit (last {i = i} {m = m} {n = n} {t = t} w q) l h s r e =
       let a = and_both (is_array_of shape.is_string t) _ s in
       let c = or_neither (refused_in b t) _ r in
       let d = or_neither (wrong_tag t) _ e in
       both_true _ _ (tag_fits i t m w l (omega (arith, done_after b m n q)) a.0 c.0 d.0) refl
-  tags-fit (more {i = i} {m = m} {j = j} {n = n} {t = t} w q y) l h s r e =
+  tags_fit (more {i = i} {m = m} {j = j} {n = n} {t = t} w q y) l h s r e =
       let a = and_both (is_array_of shape.is_string t) _ s in
       let c = or_neither (refused_in b t) _ r in
       let d = or_neither (wrong_tag t) _ e in
       let x = tag_after b i t m w a.0 in
       let z = more_after b m j q in
       let o = walk_after b (is_array_of shape.is_string) 7 (tag_after b) y a.1 in
-      both_true _ _ (tag_fits i t m w l (omega arith) a.0 c.0 d.0) (tags-fit y (omega arith) h a.1 c.1 d.1)
+      both_true _ _ (tag_fits i t m w l (omega arith) a.0 c.0 d.0) (tags_fit y (omega arith) h a.1 c.1 d.1)
 
 -- the array of the tags
 value_fits : (b : List ℕ) (at : ℕ) → value2 b at ≡ false → value4 b at ≡ false → value5 lent.is_tags_shape b at ≡ false → on_value wrong_tags (tree_at b depth at) ≡ false → is_tags (lent_tags_at b at) ≡ true
@@ -318,7 +318,7 @@ value_fits b at r2 r4 r5 r8 = go (tree_at b depth at) refl r2 r4 r5 r8
     on (bare h) u r s c = counted nil (or_neither (outside 0 64 0) _ c).0 refl
     on {n = n} (full {us = us} h y) u r s c =
         let (c₁, c₂) = or_neither (outside 0 64 (count us)) _ c in
-        counted us c₁ (tags-fit b at n u y h (omega arith) s r c₂)
+        counted us c₁ (tags_fit b at n u y h (omega arith) s r c₂)
 
     go : (g : Got Json) → tree_at b depth at ≡ g → own_text b at g ≡ false → on_value (refused_in b) g ≡ false → not (on_value lent.is_tags_shape g) ≡ false → on_value wrong_tags g ≡ false → is_tags (tags_in b g) ≡ true
     go none w r2 r4 r5 r8 = absurd (let z : ◌≡◌ {A = ℕ} 0 1 = cc in omega arith)
@@ -345,9 +345,9 @@ module _ (b : List ℕ) (p : Span) (r5 : string5 b p ≡ false) where
       let u = not_false (is_utf8 s) (and_fails (is_inside b p) _ i r2) in
       decoded_string s u q (and_fails _ (refuses s) spelled r4)
 
-  hex-fits : string7 64 b p ≡ false → is_pubkey (said b p) ≡ true
+  hex_fits : string7 64 b p ≡ false → is_pubkey (said b p) ≡ true
   unfolding string7 is_pubkey
-  hex-fits r7 =
+  hex_fits r7 =
       let s = part b p.start p.len in
       let h = not_false (is_hex_of 64 s) (and_fails (is_spelled b p) _ spelled r7) in
       rw (eq-eqb (length (decode s)) 64 (hex_length_lem 64 s h)) (digits (decode s) (hex_all 64 s h))
@@ -394,7 +394,7 @@ lent_fit b p e =
     let (k5, x5) = or_neither (string5 b p.pubkey) _ r.row5 in
     let (t5, c5) = or_neither (value5 lent.is_tags_shape b p.tags) _ x5 in
     let (t6, k6) = or_neither (lent.time6 p.created_at) _ r.row6 in
-    both_true _ _ (hex-fits b p.pubkey k5 r.row7)
+    both_true _ _ (hex_fits b p.pubkey k5 r.row7)
     (both_true _ _ (not_false (is_within (Value p.created_at) (neg_ℤ (pos widest)) (pos widest)) t6)
     (both_true _ _ (kind_fits p.kind k6) (both_true _ _ (value_fits b p.tags t2 t4 t5 r.row8) (span_fits b p.content c5 c2 c4))))
 

@@ -1,16 +1,16 @@
 -- What is escaped, in the text or in a reply: piece by piece, fixed bytes, and how long it is.
 use mathlib.Core.Bool.{Bool, true, false, ◌||◌}
-use mathlib.Core.Path.{◌≡◌, refl, sym, ap, ◌∙◌}
+use mathlib.Core.Path.{◌≡◌, refl, ◌∙◌}
 use mathlib.Core.List.{List, [], ◌∷◌, ◌++◌}
-use Prim.Native.Nat.{ℕ, suc, ◌+◌, ◌*◌, ◌/◌, ◌%◌, ◌≤◌, ◌<◌, min}
+use Prim.Native.Nat.{ℕ, suc, ◌+◌, ◌/◌, ◌%◌, ◌≤◌, ◌<◌, min}
 use native.Mathlib.Omega.{arith}
 use lib.IntN.{ℤ, pos, negsuc}
-use lib.ListN.{length, length-append}
+use lib.ListN.{length}
 use Rattle.wire.specs.Bytes.{is_control, has_control}
 use Rattle.wire.specs.Put.{Puts}
-use Rattle.wire.specs.Escape.{escape, json_of, control_count}
+use Rattle.wire.specs.Escape.{escape, control_count}
 use Rattle.wire.proofs.Escapes.{control_high}
-use Rattle.wire.proofs.Json.{json_append, json_same, json_length, count_none, count_append, count_cons, count_escape}
+use Rattle.wire.proofs.Json.{json_append, json_same, json_length, count_none, count_append}
 use Rattle.numeral.specs.Decimal.{digits, decimal}
 use Rattle.numeral.proofs.Digits.{digits_one, digits_split, by_digits}
 use Rattle.text.specs.Event.{Event, opening, closing, comma, bracket, quoted, tags_text, serialise}

@@ -31,7 +31,7 @@ use Rattle.event.specs.declared.Written.{Written}
 use Rattle.event.specs.declared.Written.TheVariants as written
 use Rattle.event.specs.declared.SentText.{SentText}
 use Rattle.event.specs.declared.SentText.TheVariants as sent
-use Rattle.event.proofs.Answers.{AsOffered, wrote-is, refused-is}
+use Rattle.event.proofs.Answers.{AsOffered, wrote-is, refused_is}
 
 -- what is promised where the reader answers x, and of the message m
 abbrev pub AsRead : List ℕ → List ℕ → Message → SentText → List ℕ → Type 0
@@ -53,7 +53,7 @@ module _ (m out : List ℕ) (p : EventParts) {w : Written} {o : List ℕ} (k : A
   unfolding offered
   event_refused e f =
       let r = offered_text_row m p out in
-      let (y, n) = refused-is r (length (text_of m p.body)) (sym e ∙ k.0) in
+      let (y, n) = refused_is r (length (text_of m p.body)) (sym e ∙ k.0) in
       (simp (f, ne_eqb r 0 (λ q. n (y ∙ q)), y), (ap (λ z. z.row) f ∙ y, k.1.1))
 
 -- ---- a message
@@ -62,34 +62,34 @@ pub passes : (m : List ℕ) {x : Message} {p : EventParts} → x ≡ read_of m �
 passes m {p = p} a e = event_passes m p (sym a ∙ e)
 
 module _ (m out : List ℕ) {x : Message} (a : x ≡ read_of m) where
-  as-sent : {y : Message} {s : SentText} {o : List ℕ} → x ≡ y → AsRead m out y s o → AsSent m out s o
+  as_sent : {y : Message} {s : SentText} {o : List ℕ} → x ≡ y → AsRead m out y s o → AsSent m out s o
   unfolding sent_text sent_row sent_out
-  as-sent {y} e k =
+  as_sent {y} e k =
       let z : y ≡ read_of m = sym e ∙ a in
       (k.0 ∙ ap (sent_text_of m out) z, (k.1.0 ∙ ap (sent_row_of m out) z, k.1.1 ∙ ap (sent_out_of m out) z))
 
   pub from_event : {p : EventParts} {s : SentText} {o : List ℕ} → x ≡ message.Event p → AsRead m out (message.Event p) s o → AsSent m out s o
-  from_event e k = as-sent e k
+  from_event e k = as_sent e k
 
   pub from_req : {p : ReqParts} {z : Refusal} → x ≡ message.Req p → z ≡ plain_refusal 5 → AsSent m out (sent.Refused z) out
-  from_req e f = as-sent e (ap sent.Refused f, (ap (λ z. z.row) f, refl))
+  from_req e f = as_sent e (ap sent.Refused f, (ap (λ z. z.row) f, refl))
 
   pub from_close : {p : Span} {z : Refusal} → x ≡ message.Close p → z ≡ plain_refusal 5 → AsSent m out (sent.Refused z) out
-  from_close e f = as-sent e (ap sent.Refused f, (ap (λ z. z.row) f, refl))
+  from_close e f = as_sent e (ap sent.Refused f, (ap (λ z. z.row) f, refl))
 
   pub from_refused : {r z : Refusal} → x ≡ message.Refused r → z ≡ unread_refusal m r → AsSent m out (sent.Refused z) out
-  from_refused e f = as-sent e (ap sent.Refused f, (ap (λ z. z.row) f, refl))
+  from_refused e f = as_sent e (ap sent.Refused f, (ap (λ z. z.row) f, refl))
 
 -- ---- what an answer says of the message
 module _ (q : EventParts) (l : ℕ) where
-  as-wrote : (r : ℕ) {p : EventParts} {n : ℕ} → sent_as r q l ≡ sent.Wrote p n → (r ≡ 0) × ((q ≡ p) × (l ≡ n))
-  as-wrote zero e = (refl, (cc, cc))
-  as-wrote (suc r) {p} {n} e =
+  as_wrote : (r : ℕ) {p : EventParts} {n : ℕ} → sent_as r q l ≡ sent.Wrote p n → (r ≡ 0) × ((q ≡ p) × (l ≡ n))
+  as_wrote zero e = (refl, (cc, cc))
+  as_wrote (suc r) {p} {n} e =
       absurd (let f : sent.Refused (plain_refusal (suc r)) ≡ sent.Wrote p n = sym (rw (ne_eqb (suc r) 0 (λ q. omega arith))) ∙ e in let z : ◌≡◌ {A = ℕ} 0 1 = cc in omega arith)
 
-  as-refused : (r : ℕ) {x : Refusal} → sent_as r q l ≡ sent.Refused x → (plain_refusal r ≡ x) × (r ≡ 0 → ⊥)
-  as-refused zero e = absurd (let y : ◌≡◌ {A = ℕ} 0 1 = cc in omega arith)
-  as-refused (suc r) {x} e =
+  as_refused : (r : ℕ) {x : Refusal} → sent_as r q l ≡ sent.Refused x → (plain_refusal r ≡ x) × (r ≡ 0 → ⊥)
+  as_refused zero e = absurd (let y : ◌≡◌ {A = ℕ} 0 1 = cc in omega arith)
+  as_refused (suc r) {x} e =
       let f : sent.Refused (plain_refusal (suc r)) ≡ sent.Refused x = sym (rw (ne_eqb (suc r) 0 (λ q. omega arith))) ∙ e in
       (cc, λ z. omega arith)
 
@@ -139,7 +139,7 @@ module _ (m : List ℕ) where
             → (x ≡ message.Event p) × AsOffered m p out (written.Wrote n) (sent_out_of m out x)
         go (message.Event q) e f =
             let r = offered_text_row m q out in
-            let (z, (h, l)) = as-wrote q (length (text_of m q.body)) r f in
+            let (z, (h, l)) = as_wrote q (length (text_of m q.body)) r f in
             let k : AsOffered m q out (written.Wrote n) (offered_out m q out) = (rw (eq-eqb r 0 z, l), (sym z, refl)) in
             (ap message.Event h, moved h k)
         go (message.Req q) e f = absurd (let y : ◌≡◌ {A = ℕ} 0 1 = cc in omega arith)
@@ -166,7 +166,7 @@ module _ (m : List ℕ) where
         go : (x : Message) → read_of m ≡ x → sent_text_of m out x ≡ sent.Refused r → Refuses m r
         go (message.Event q) e f =
             let n = offered_text_row m q out in
-            let (y, z) = as-refused q (length (text_of m q.body)) n f in
+            let (y, z) = as_refused q (length (text_of m q.body)) n f in
             moved (without n (offset_other m n (λ w. z (w ∙ sym (row_read m) ∙ ap read_number e))) z) y
         go (message.Req q) e f = moved five cc
         go (message.Close q) e f = moved five cc

@@ -2,7 +2,7 @@
 use mathlib.Core.Path.{◌≡◌, refl, sym, ap, ◌∙◌}
 use mathlib.Core.Bool.{Bool, true, false}
 use mathlib.Core.List.{List, [], ◌∷◌}
-use Prim.Native.Nat.{ℕ, suc, ◌+◌, ◌-◌, ◌<◌, ◌≤◌}
+use Prim.Native.Nat.{ℕ, suc, ◌+◌, ◌-◌, ◌≤◌}
 use native.Mathlib.Omega.{arith}
 use borrow.Author.Tests.{ltb-true}
 use lib.IntN.{ℤ, pos, negsuc}
@@ -67,27 +67,27 @@ pub string_ends : (s : List ℕ) (v : ℕ) {n : ℕ} → string_at s v ≡ End n
 string_ends s v {n} e = let p = string_parts s v n e in (p.3, p.4)
 
 module _ (s : List ℕ) (v : ℕ) where
-  string-leaf : (n : ℕ) → string_at s v ≡ End n → start_at s v ≡ Leaf
+  string_leaf : (n : ℕ) → string_at s v ≡ End n → start_at s v ≡ Leaf
   unfolding token_at one_at in_class
-  string-leaf n e = simp (byte_is s 0x22 v (string_parts s v n e).0)
+  string_leaf n e = simp (byte_is s 0x22 v (string_parts s v n e).0)
 
   pub string_tree : (d n : ℕ) → string_at s v ≡ End n → tree_at s (suc d) v ≡ got (str (v + 1) (n - v - 2)) (ws_at s n)
   unfolding tree_at scalar_at
-  string_tree d n e = rw (string-leaf n e, e)
+  string_tree d n e = rw (string_leaf n e, e)
 
   -- where no string stands, the tree is another value
   module _ (P : Json → Type 0) (words : (a n : ℕ) → P (word a n)) (nums : (a n : ℕ) → P (num a n)) (arrays : (ts : Items) → P (arr ts)) (objects : (ts : Items) → P (obj ts)) (t : Json) (n : ℕ) where
     same : (u : Json) (m : ℕ) → got u m ≡ got t n → P u → P t
     same u m e q = let z : u ≡ t = cc in rw z at q
 
-    leaf-out : (p q : Out) → on_leaf s v (case p Num (case q Word None)) ≡ got t n → P t
-    leaf-out (End m) q e = same _ _ e (nums _ _)
-    leaf-out Bad (End m) e = same _ _ e (words _ _)
-    leaf-out Bad Bad e = never e
+    leaf_out : (p q : Out) → on_leaf s v (case p Num (case q Word None)) ≡ got t n → P t
+    leaf_out (End m) q e = same _ _ e (nums _ _)
+    leaf_out Bad (End m) e = same _ _ e (words _ _)
+    leaf_out Bad Bad e = never e
 
-    node-out : (named : Bool) (us : Items) (m : ℕ) → got (node named us) m ≡ got t n → P t
-    node-out true us m e = same _ _ e (objects us)
-    node-out false us m e = same _ _ e (arrays us)
+    node_out : (named : Bool) (us : Items) (m : ℕ) → got (node named us) m ≡ got t n → P t
+    node_out true us m e = same _ _ e (objects us)
+    node_out false us m e = same _ _ e (arrays us)
 
     pub string_out : (d : ℕ) → string_at s v ≡ Bad → tree_at s (suc d) v ≡ got t n → P t
     unfolding scalar_at
@@ -95,11 +95,11 @@ module _ (s : List ℕ) (v : ℕ) where
       where
         many : (named : Bool) (g : Got Items) → (bind g λ us m. got (node named us) m) ≡ got t n → P t
         many named none q = never q
-        many named (got us m) q = node-out named us m q
+        many named (got us m) q = node_out named us m q
 
         on : (r : Start) → group_at (tree_at s d) s v r ≡ got t n → P t
-        on Leaf q = leaf-out (number_at s v) (literal_at s v) (rw e at q)
-        on (Empty m named) q = node-out named nil m q
+        on Leaf q = leaf_out (number_at s v) (literal_at s v) (rw e at q)
+        on (Empty m named) q = node_out named nil m q
         on (Many i named) q = many named (items_at (tree_at s d) s named (length s) i) q
 
 -- the string that is spelled at the place of a value says what the value says: nothing where it is none

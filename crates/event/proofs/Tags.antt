@@ -41,9 +41,9 @@ module _ (b : List ℕ) (t : Json) (n : ℕ) where
   same : (u : Json) (m : ℕ) → got u m ≡ got t n → tag_of b u ≡ [] → tag_of b t ≡ []
   same u m e q = let z : u ≡ t = cc in rw (← z) q
 
-  no-tag : (d v : ℕ) → is_bare (start_at b v) ≡ true → tree_at b (suc d) v ≡ got t n → tag_of b t ≡ []
+  no_tag : (d v : ℕ) → is_bare (start_at b v) ≡ true → tree_at b (suc d) v ≡ got t n → tag_of b t ≡ []
   unfolding strings_of
-  no-tag d v e w = on (start_at b v) e (sym (tree_open b d v (start_at b v) refl) ∙ w)
+  no_tag d v e w = on (start_at b v) e (sym (tree_open b d v (start_at b v) refl) ∙ w)
     where
       leaf : (k : Kind) → on_leaf b v k ≡ got t n → tag_of b t ≡ []
       leaf (Str m) q = same _ _ q refl
@@ -61,7 +61,7 @@ module _ (b : List ℕ) (t : Json) (n : ℕ) where
 module _ {S : Type 0} {does : S → List ℕ → S → Type 0} (b : List ℕ) (v : ℕ) {x y : S} {next : ℕ} where
   pub tag_bare : is_bare (start_at b v) ≡ true → does x (91 ∷ 93 ∷ []) y → next ≡ case (end_of (tree_at b 7 v)) (λ n. n) v → Does does (tree_at b 7 v) (one_tag_text b) x y next
   unfolding one_tag_text tag_text members_text
-  tag_bare e p q = record { done = λ t m w. rw (no-tag b t m 6 v e w) p; ends = λ t m w. q ∙ rw w }
+  tag_bare e p q = record { done = λ t m w. rw (no_tag b t m 6 v e w) p; ends = λ t m w. q ∙ rw w }
 
   pub tag_empty : {named : Bool} → start_at b v ≡ Empty next named → does x (91 ∷ 93 ∷ []) y → Does does (tree_at b 7 v) (one_tag_text b) x y next
   tag_empty {named} e p = tag_bare (ap is_bare e) p (sym (ap (λ (g : Got Json). case (end_of g) (λ n. n) v) (tree_open b 6 v (Empty next named) (sym e))))

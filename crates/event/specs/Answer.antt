@@ -1,6 +1,6 @@
 -- 01, "Numbers the relay answers with", of an event given as parts p over the buffer b: what serialising, identifying
 -- and offering it answer.
-use Rattle.std.specs.Prelude.{ℕ, ◌+◌, ◌/◌, ◌%◌, Bool, cond, List, [], ◌∷◌, eqb, ltb, length, replicate}
+use Rattle.std.specs.Prelude.{ℕ, ◌/◌, ◌%◌, Bool, cond, [], ◌∷◌, eqb, ltb, length, replicate}
 use Rattle.wire.specs.Limits.{most_text}
 use Rattle.wire.specs.Bytes.{Bytes, Row, same_bytes, hex_digit}
 pub use Rattle.wire.specs.Put.{short_row, output_after}

@@ -1,6 +1,6 @@
 -- 01, "Numbers the relay answers with", of an event that is offered as a client message m: what testing it answers, and
 -- its text in a lent output.
-use Rattle.std.specs.Prelude.{ℕ, cond, ◌||◌, List, eqb, leb, length}
+use Rattle.std.specs.Prelude.{ℕ, cond, ◌||◌, eqb, leb, length}
 use Rattle.shape.specs.Offsets.{plain_refusal}
 use Rattle.shape.specs.declared.Refusal.{Refusal}
 use Rattle.message.specs.Read.{is_event, read_of}

@@ -1,4 +1,6 @@
 // An event given as parts: its text serialised, its id, and the order of two events.
+#![tactic(auto)]
+
 ghost use Rattle.std.specs.Prelude.{◌≡◌, length};
 ghost use Rattle.wire.specs.Put.{Puts};
 ghost use Rattle.wire.specs.Escape.{escape, json_of};
@@ -16,28 +18,28 @@ mod tested;
 mod writing;
 
 // Where a writer stopped in its output or what a counter counted, and where what it read ends.
-#[derive(Drop)]
+#[derive(Clone, Copy)]
 struct Reached {
     at: usize,
     next: usize,
 }
 
 // What serialising answers: how many bytes it wrote, or the row that refuses the parts.
-#[derive(Drop)]
+#[derive(Clone, Copy)]
 pub enum Written {
     Wrote(usize),
     Refused(u8),
 }
 
 // The event of a message: its parts, and how many bytes its text has; or what refuses the message.
-#[derive(Drop)]
+#[derive(Clone, Copy)]
 pub enum SentText {
     Wrote(message::EventParts, usize),
     Refused(shape::Refusal),
 }
 
 // A row, or 0, and beside it the id; zeros where a row refuses the parts.
-#[derive(Drop)]
+#[derive(Clone, Copy)]
 pub struct Identified {
     pub row: u8,
     pub id: [u8; 32],

@@ -2,10 +2,13 @@
 // with `@` and the offset of rows 6 and 7, or 0, and, where none of rows 1 to 9 does, the SHA-256 of its text in hex and
 // the text. A line that begins with `T` and a space is a text to read back alone: 9, 5, or 0 and what writing it again
 // gives.
+#![tactic(auto)]
+
 use event::Written;
 use json_tree::{Out, Start};
 use message::{Body, EventParts, Message, Span};
 use shape::Refusal;
+use std::io;
 use text::{Text, TextAnswer};
 
 // Whether the string that begins at a place is the word EVENT.
@@ -44,7 +47,7 @@ fn put_row(out: &mut [u8], at: usize, row: u8) -> usize {
 
 // The text of a body, after a space; nothing where it is refused.
 fn put_text(out: &mut [u8], at: usize, s: &[u8], b: Body) -> usize {
-    let mut buffer = io::buffer();
+    let mut buffer = [0u8; 4096];
     match event::serialise(s, b, &mut buffer) {
         Written::Wrote(n) => {
             if n <= 4096 {
@@ -135,14 +138,17 @@ fn put_answer(out: &mut [u8], line: &[u8]) -> usize {
 }
 
 // Of a line over 65,536 bytes the first of them are kept, which the same rows refuse.
-fn main() {
-    let mut line = io::large_buffer();
-    let mut chunk = io::large_buffer();
-    let mut out = io::large_buffer();
-    let mut l = lines::next(&mut line, &mut chunk, lines::none());
+fn main(rt: HostRuntime) -> io::Result<()> {
+    let mut input = lines::from_reader(rt.stdin());
+    let mut output = lines::to_writer(rt.stdout());
+    let mut line = [0u8; 65536];
+    let mut chunk = [0u8; 65536];
+    let mut out = [0u8; 65536];
+    let mut l = lines::next(&mut input, &mut line, &mut chunk, lines::none())?;
     while 0 < l.left {
         let k = put_answer(&mut out, wire::piece(&line, 0, l.n));
-        lines::write_line(&mut out, k);
-        l = lines::next(&mut line, &mut chunk, l);
+        lines::write_line(&mut output, &mut out, k)?;
+        l = lines::next(&mut input, &mut line, &mut chunk, l)?;
     }
+    Ok(())
 }

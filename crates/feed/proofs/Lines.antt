@@ -132,14 +132,14 @@ module _ (line : List ℕ) (n : ℕ) (p : List ℕ) (wide : most_line ≤ length
   length_so_far : length (take many line) ≡ many
   length_so_far = length-take many line ∙ omega arith
 
-  grown-is : grown line n p ≡ take many line ++ more
+  grown_is : grown line n p ≡ take many line ++ more
   unfolding grown
-  grown-is =
+  grown_is =
       let z : most_line ≡ length (take many line) + (most_line - many) = omega (arith, length_so_far) in
       ap (λ l. kept (l ++ p)) (so_far n line) ∙ ap (λ k. take k (take many line ++ p)) z ∙ take-append-add (take many line) p (most_line - many)
 
   grown_length : length (grown line n p) ≡ many + length more
-  grown_length = ap length grown-is ∙ length-append (take many line) more ∙ ap (◌+ length more) length_so_far
+  grown_length = ap length grown_is ∙ length-append (take many line) more ∙ ap (◌+ length more) length_so_far
 
   fits_line : many + length more ≤ most_line
   fits_line = omega (arith, length-take (most_line - many) p)
@@ -170,8 +170,8 @@ module _ (p : List ℕ) where
       go (yes h) = take_all (length (before p)) p h ∙ sym (whole p h).is_before
       go (no h) = (within p (omega arith)).is_before
 
-  before-plain : any is_end (before p) ≡ false
-  before-plain = go (dec_le (length p) (length (before p)))
+  before_plain : any is_end (before p) ≡ false
+  before_plain = go (dec_le (length p) (length (before p)))
     where
       go : Dec (length p ≤ length (before p)) → any is_end (before p) ≡ false
       go (yes h) = ap (any is_end) (whole p h).is_before ∙ (whole p h).ends
@@ -205,12 +205,12 @@ module _ (p : List ℕ) where
         go : (s t : Bool) → eqb n 0 ≡ s → eqb (length (before p)) 0 ≡ t → let l = cond s p (cond t p (before p)) in any is_end l ≡ true → length (before l) ≡ 0
         go true t e f h = absurd (ne (eqb-true n 0 e))
         go false true e f h = eqb-true (length (before p)) 0 f
-        go false false e f h = absurd (false≢true (sym before-plain ∙ h))
+        go false false e f h = absurd (false≢true (sym before_plain ∙ h))
 
     -- it begins the piece, and is none only of none
-    looked-begins : take (length (looked_at n p)) p ≡ looked_at n p
+    looked_begins : take (length (looked_at n p)) p ≡ looked_at n p
     unfolding looked_at
-    looked-begins = go (eqb n 0) (eqb (length (before p)) 0)
+    looked_begins = go (eqb n 0) (eqb (length (before p)) 0)
       where
         go : (s t : Bool) → let l = cond s p (cond t p (before p)) in take (length l) p ≡ l
         go true t = take-length p
@@ -218,7 +218,7 @@ module _ (p : List ℕ) where
         go false false = before_taken
 
     pub looked_few : length (looked_at n p) ≤ length p
-    looked_few = let e = ap length looked-begins in omega (arith, e, length-take (length (looked_at n p)) p)
+    looked_few = let e = ap length looked_begins in omega (arith, e, length-take (length (looked_at n p)) p)
 
     pub looked_some : 1 ≤ length p → 1 ≤ length (looked_at n p)
     unfolding looked_at
@@ -230,7 +230,7 @@ module _ (p : List ℕ) where
         go false false f = let z = eqb-false (length (before p)) 0 f in omega (arith, z)
 
     pub looked_taken : (u : ℕ) → u ≤ length (looked_at n p) → take u (looked_at n p) ≡ take u p
-    looked_taken u h = ap (take u) (sym looked-begins) ∙ take-take u (length (looked_at n p)) p h
+    looked_taken u h = ap (take u) (sym looked_begins) ∙ take-take u (length (looked_at n p)) p h
 
 -- ---- the state after a piece
 abbrev at : List ℕ → List ℕ → State

@@ -27,17 +27,17 @@ use Rattle.feed.proofs.Lines.{within, whole, state_unended, state_ended}
 
 -- ---- the output
 module _ (b out : List ℕ) (h : enough_for (capacity_of b) ≤ length out) where
-  response-fits : (m : List ℕ) → length (response b m) ≤ length out
+  response_fits : (m : List ℕ) → length (response b m) ≤ length out
   unfolding respond_row
-  response-fits m = fits_if (response b m) out (enough b m out h)
+  response_fits m = fits_if (response b m) out (enough b m out h)
 
   some_fits : (e : Bool) (m : List ℕ) → length (cond e (response b m) []) ≤ length out
-  some_fits true m = response-fits m
+  some_fits true m = response_fits m
   some_fits false m = omega arith
 
   last_fits : (m : List ℕ) → length (last_line b m) ≤ length out
   last_fits [] = omega arith
-  last_fits (x ∷ m) = response-fits (x ∷ m)
+  last_fits (x ∷ m) = response_fits (x ∷ m)
 
 pub turn_fits : TurnFits
 turn_fits b line n piece out wide h =

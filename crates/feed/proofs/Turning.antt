@@ -45,8 +45,8 @@ module _ (b m out : List ℕ) where
   number : written_number (responded b m out) ≡ respond_row b m out
   number = (responded_means b m out).0.number
 
-  wrote-row : {w : ℕ} → sent.Wrote w ≡ responded b m out → (respond_row b m out ≡ 0) × (w ≡ length (response b m))
-  wrote-row e = let z = sym number ∙ sym (ap written_number e) in (z, ap written_length e ∙ (responded_means b m out).0.value z)
+  wrote_row : {w : ℕ} → sent.Wrote w ≡ responded b m out → (respond_row b m out ≡ 0) × (w ≡ length (response b m))
+  wrote_row e = let z = sym number ∙ sym (ap written_number e) in (z, ap written_length e ∙ (responded_means b m out).0.value z)
 
   refused_row_lem : {k : ℕ} → sent.Refused k ≡ responded b m out → (respond_row b m out ≢ 0) × (k ≡ respond_row b m out)
   refused_row_lem {k} e = (λ z. let w = e ∙ (responded_means b m out).0.wrote z in let y : ◌≡◌ {A = ℕ} 0 1 = cc in omega arith, ap written_number e ∙ number)
@@ -76,8 +76,8 @@ module _ (b line : List ℕ) (n : ℕ) (piece out : List ℕ) where
   abbrev state : State
   state = turn_state b line n piece
 
-  abbrev lineAfter : List ℕ → List ℕ
-  lineAfter p = put line (min n most_line) (take (most_line - min n most_line) p)
+  abbrev line_after : List ℕ → List ℕ
+  line_after p = put line (min n most_line) (take (most_line - min n most_line) p)
 
   refusing : (k : ℕ) → row ≡ k → k ≢ 0 → Turning (turning.Refused k) b line out
   unfolding turned turn_table turn_line turn_out
@@ -86,7 +86,7 @@ module _ (b line : List ℕ) (n : ℕ) (piece out : List ℕ) where
       (rw z (ap turning.Refused (sym e)), (sym e, (rw z, (rw z, rw z))))
 
   feeding : row ≡ 0 → {u k w : ℕ} {b' line' o : List ℕ} → u ≡ used_of piece → k ≡ length state.line → w ≡ length text → b' ≡ state.table
-      → line' ≡ lineAfter (before piece) → o ≡ text ++ drop (length text) out → Turning (turning.Fed u k w) b' line' o
+      → line' ≡ line_after (before piece) → o ≡ text ++ drop (length text) out → Turning (turning.Fed u k w) b' line' o
   unfolding turned turn_table turn_line turn_out
   feeding e p q s t l o =
       let z = eq-eqb row 0 e in
@@ -110,33 +110,33 @@ module _ (b line : List ℕ) (n : ℕ) (piece out : List ℕ) where
         let w = state_unended b line n piece u in
         feeding ((turn_row_is b line n piece out).1 (wide, omega (arith, ap length t)))
         (q ∙ ap length u.is_before ∙ sym u.used) (s.many ∙ sym (ap (λ x. length x.line) w)) (sym (ap length t)) (sym (ap (λ x. x.table) w))
-        (s.bytes ∙ sym (ap lineAfter u.is_before)) (rw t)
+        (s.bytes ∙ sym (ap line_after u.is_before)) (rw t)
 
     -- the piece ends a line at e
     module _ {e : ℕ} (q : e ≡ length (before piece)) (h : e < length piece) where
-      part-is : take e piece ≡ before piece
-      part-is = ap (λ k. take k piece) q ∙ (within piece (omega arith)).is_before
+      part_is : take e piece ≡ before piece
+      part_is = ap (λ k. take k piece) q ∙ (within piece (omega arith)).is_before
 
       -- a line that the buffer has bytes of has no more of them here
       pub part_empty : InOnePlace n piece → (n ≡ 0 → ⊥) → length (take e piece) ≡ 0
-      part_empty w ne = ap length part-is ∙ w ne (within piece (omega arith)).ends
+      part_empty w ne = ap length part_is ∙ w ne (within piece (omega arith)).ends
 
       abbrev message : List ℕ
       message = grown line n (take e piece)
 
-      text-is : text ≡ response b message
-      text-is = says ∙ rw ((within piece (omega arith)).ends, part-is)
+      text_is : text ≡ response b message
+      text_is = says ∙ rw ((within piece (omega arith)).ends, part_is)
 
       pub ended : {r : Written} {w j : ℕ} {b' o line' : List ℕ} → Answers b message out r b' o → r ≡ sent.Wrote w → Keeps line n (take e piece) j line'
           → Turning (turning.Fed (e + 1) 0 w) b' line' o
       ended a x s =
           let u = within piece (omega arith) in
-          let (z, k) = wrote-row b message out (sym x ∙ a.answer) in
+          let (z, k) = wrote_row b message out (sym x ∙ a.answer) in
           let y = state_ended b line n piece u in
-          feeding ((turn_row_is b line n piece out).1 (wide, omega (arith, has_room b message out z, ap length text-is)))
-          (ap (◌+ 1) q ∙ sym u.used) (sym (ap (λ v. length v.line) y)) (k ∙ sym (ap length text-is))
-          (a.table ∙ (responded_means b message out).1 z ∙ ap (λ v. table_after b (grown line n v)) part-is ∙ sym (ap (λ v. v.table) y))
-          (s.bytes ∙ ap lineAfter part-is) (a.output ∙ out_written b message out z ∙ sym (ap (λ t. t ++ drop (length t) out) text-is))
+          feeding ((turn_row_is b line n piece out).1 (wide, omega (arith, has_room b message out z, ap length text_is)))
+          (ap (◌+ 1) q ∙ sym u.used) (sym (ap (λ v. length v.line) y)) (k ∙ sym (ap length text_is))
+          (a.table ∙ (responded_means b message out).1 z ∙ ap (λ v. table_after b (grown line n v)) part_is ∙ sym (ap (λ v. v.table) y))
+          (s.bytes ∙ ap line_after part_is) (a.output ∙ out_written b message out z ∙ sym (ap (λ t. t ++ drop (length t) out) text_is))
 
       pub ended_refused : {r : Written} {k : ℕ} {b' o : List ℕ} → Answers b message out r b' o → r ≡ sent.Refused k → Turning (turning.Refused k) b' line o
       unfolding turn_row respond_row
@@ -144,7 +144,7 @@ module _ (b line : List ℕ) (n : ℕ) (piece out : List ℕ) where
           let (ne, i) = refused_row_lem b message out (sym x ∙ a.answer) in
           let t = a.table ∙ (responded_means b message out).2 ne in
           let o = a.output ∙ ((responded_means b message out).0.refused ne).2 in
-          let v = refusing k (rw (le-ltb (length line) most_line wide, text-is) (sym i)) (λ z. ne (sym i ∙ z)) in
+          let v = refusing k (rw (le-ltb (length line) most_line wide, text_is) (sym i)) (λ z. ne (sym i ∙ z)) in
           rw (t, o) v
 
 -- ---- the end of the input
@@ -154,17 +154,17 @@ module _ (b line : List ℕ) (n : ℕ) (out : List ℕ) where
       (r ≡ feed_finished b line n out)
       × ((written_number r ≡ finish_row b line n out) × ((b' ≡ finish_table b line n out) × (o ≡ finish_out b line n out)))
 
-  abbrev lineSoFar : List ℕ
-  lineSoFar = take n (kept line)
+  abbrev line_so_far : List ℕ
+  line_so_far = take n (kept line)
 
   module _ {k : ℕ} {m : List ℕ} (e : k ≡ min n most_line) (i : m ≡ part line 0 k) where
-    line_is : m ≡ lineSoFar
+    line_is : m ≡ line_so_far
     line_is = i ∙ ap (λ v. take v line) e ∙ sym (so_far n line)
 
     pub no_line_lem : length m ≡ 0 → Finishes (sent.Wrote 0) b out
     unfolding feed_finished finish_row finish_table finish_out finish_text said_last
     no_line_lem z =
-        let y : lineSoFar ≡ [] = sym line_is ∙ none m z in
+        let y : line_so_far ≡ [] = sym line_is ∙ none m z in
         let r = le-ltb (length out) 0 (omega arith) in
         (rw (y, r), (rw (y, r), (rw (y, r), rw (y, r))))
       where
@@ -175,7 +175,7 @@ module _ (b line : List ℕ) (n : ℕ) (out : List ℕ) where
     pub last_line_lem : {r : Written} {b' o : List ℕ} → (length m ≡ 0 → ⊥) → Responds b m out r b' o → Finishes r b' o
     unfolding feed_finished finish_row finish_table finish_out finish_text said_last responded respond_row responded_out responded_table
     last_line_lem ne (p, (q, (s, t))) =
-        let (x, y) = some lineSoFar (λ z. ne (ap length line_is ∙ z)) in
+        let (x, y) = some line_so_far (λ z. ne (ap length line_is ∙ z)) in
         (rw (line_is, ← x) at p, (rw (line_is, ← x) at q, (rw (line_is, ← x, ← y) at t, rw (line_is, ← x) at s)))
       where
         some : (l : List ℕ) → (length l ≡ 0 → ⊥) → (last_line b l ≡ response b l) × (last_table b l ≡ table_after b l)

@@ -1,5 +1,7 @@
 // The program's input, fed in pieces: a call takes a piece up to its first line's end, and answers the line that ends
 // there. The line so far stands in a lent buffer.
+#![tactic(auto)]
+
 ghost use Rattle.std.specs.Prelude.{◌≡◌, true, ◌+◌, ◌≤◌, min, length};
 ghost use Rattle.event.specs.Answer.{written_number};
 ghost use Rattle.program.specs.Feed.{most_line, before, turned, turn_row, turn_table, turn_line, turn_out, turned_number};

@@ -1,7 +1,9 @@
 // The fields of a line: parts with single spaces between, numbers in decimal. They are read by their number, counted
 // from 0, and written one behind the other. Every call is total: past the last field all are empty, and what spells no
 // number has a number all the same.
-ghost use Rattle.std.specs.Prelude.{◌≡◌, ◌++◌, ◌+◌, ◌%◌, ◌≤◌, length, drop, replicate};
+#![tactic(auto)]
+
+ghost use Rattle.std.specs.Prelude.{◌≡◌, ◌++◌, ◌+◌, ◌%◌, ◌≤◌, length, drop, replicate, IfOk, vec_len};
 ghost use Rattle.wire.specs.Put.{Puts};
 ghost use Rattle.numeral.specs.Decimal.{digits, decimal};
 ghost use Rattle.fields.specs.Line.{space_in, rest_of_line, fields_from, field_of, gap_of};
@@ -13,6 +15,7 @@ ghost use Rattle.fields.specs.Refusal.{offset_field, refusal_field};
 
 use message::{Body, Bound, EventParts, FilterParts, Listed, Span};
 use shape::{Offset, Refusal};
+use std::alloc::{AllocError, Global};
 
 // ---- The fields of a line.
 // Where the first space stands from `at` on, or the end.
@@ -300,12 +303,12 @@ pub fn letter(line: &[u8]) -> u8
 // As many bytes as a table of the most slots has, and 256 more.
 pub const ROOM: usize = 16 + wire::MOST_SLOTS * 4208 + 256;
 
-// The room before the first line: zeros.
-pub fn empty_room() -> [u8; ROOM]
-    ensures value { result ≡ empty_room }
-    ensures room_length_value { room_length ≡ length result }
+// The room before the first line: zeros. An error comes only where there is no memory for it.
+pub fn empty_room(alloc: Global) -> Result<Vec<u8>, AllocError>
+    ensures value { IfOk result (λ room. room.items ≡ empty_room) }
+    ensures room_length_value { IfOk result (λ room. room_length ≡ vec_len room) }
 {
-    [0; ROOM]
+    Vec::from_elem(alloc, 0u8, ROOM)
 }
 
 // Bits of a byte turned over, where there is one.

@@ -92,8 +92,8 @@ module _ (s : List ℕ) where
   abbrev Cleans : Rule → Type 0
   Cleans R = (at n : ℕ) → R at n → Clean s at n
 
-  byte-clean : (p : ℕ → Bool) → Free p → Cleans (byte s p)
-  byte-clean p f at n o k l h = let e = o.2 in let z : k ≡ at = omega arith in rw z (f (get_or s at 0) o.1)
+  byte_clean : (p : ℕ → Bool) → Free p → Cleans (byte s p)
+  byte_clean p f at n o k l h = let e = o.2 in let z : k ≡ at = omega arith in rw z (f (get_or s at 0) o.1)
 
   joined : {at m n : ℕ} → Clean s at m → Clean s m n → Clean s at n
   joined {at} {m} {n} a b k l h = elim (dec_lt k m) [
@@ -104,87 +104,87 @@ module _ (s : List ℕ) where
   nothing : (at n : ℕ) → at ≡ n → Clean s at n
   nothing at n e k l h = absurd (omega arith)
 
-  then-clean : (R Q : Rule) → Cleans R → Cleans Q → Cleans (R ⨾ Q)
-  then-clean R Q f g at n (m, r, q) = joined (f at m r) (g m n q)
+  then_clean : (R Q : Rule) → Cleans R → Cleans Q → Cleans (R ⨾ Q)
+  then_clean R Q f g at n (m, r, q) = joined (f at m r) (g m n q)
 
-  or-clean : (R Q : Rule) → Cleans R → Cleans Q → Cleans (R ∣ Q)
-  or-clean R Q f g at n (inl r) = f at n r
-  or-clean R Q f g at n (inr q) = g at n q
+  or_clean : (R Q : Rule) → Cleans R → Cleans Q → Cleans (R ∣ Q)
+  or_clean R Q f g at n (inl r) = f at n r
+  or_clean R Q f g at n (inr q) = g at n q
 
-  opt-clean : (R : Rule) → Cleans R → Cleans (opt R)
-  opt-clean R f at n (inl e) = nothing at n e
-  opt-clean R f at n (inr r) = f at n r
+  opt_clean : (R : Rule) → Cleans R → Cleans (opt R)
+  opt_clean R f at n (inl e) = nothing at n e
+  opt_clean R f at n (inr r) = f at n r
 
-  star-clean : (R : Rule) → Cleans R → Cleans (Star R)
-  star-clean R f at n stop = nothing at at refl
-  star-clean R f at n (step {m = m} r q) = joined (f at m r) (star-clean R f m n q)
+  star_clean : (R : Rule) → Cleans R → Cleans (Star R)
+  star_clean R f at n stop = nothing at at refl
+  star_clean R f at n (step {m = m} r q) = joined (f at m r) (star_clean R f m n q)
 
   -- ---- the rules
-  ws-clean : Cleans (ws s)
-  ws-clean = star-clean _ (byte-clean (in_class Space) space_free)
+  ws_clean : Cleans (ws s)
+  ws_clean = star_clean _ (byte_clean (in_class Space) space_free)
 
-  this-clean : (b : ℕ) → is_control b ≡ false → Cleans (one s (Byte b))
-  this-clean b z = byte-clean (in_class (Byte b)) (byte_free b z)
+  this_clean : (b : ℕ) → is_control b ≡ false → Cleans (one s (Byte b))
+  this_clean b z = byte_clean (in_class (Byte b)) (byte_free b z)
 
-  token-clean : (b : ℕ) → is_control b ≡ false → Cleans (token s b)
-  token-clean b z = then-clean _ _ ws-clean (then-clean _ _ (this-clean b z) ws-clean)
+  token_clean : (b : ℕ) → is_control b ≡ false → Cleans (token s b)
+  token_clean b z = then_clean _ _ ws_clean (then_clean _ _ (this_clean b z) ws_clean)
 
-  name-clean : (w : List ℕ) → has_control w ≡ false → Cleans (name s w)
-  name-clean [] z at n e = nothing at n e
-  name-clean (b ∷ w) z at n (m, o, r) =
-      joined (this-clean b (no_left (is_control b) (has_control w) z) at m o) (name-clean w (no_right (is_control b) (has_control w) z) m n r)
+  name_clean : (w : List ℕ) → has_control w ≡ false → Cleans (name s w)
+  name_clean [] z at n e = nothing at n e
+  name_clean (b ∷ w) z at n (m, o, r) =
+      joined (this_clean b (no_left (is_control b) (has_control w) z) at m o) (name_clean w (no_right (is_control b) (has_control w) z) m n r)
 
-  digits-clean : Cleans (digits s)
-  digits-clean = then-clean _ _ (byte-clean _ digit_free) (star-clean _ (byte-clean _ digit_free))
+  digits_clean : Cleans (digits s)
+  digits_clean = then_clean _ _ (byte_clean _ digit_free) (star_clean _ (byte_clean _ digit_free))
 
-  int-clean : Cleans (int s)
-  int-clean = or-clean _ _ (this-clean 0x30 refl) (then-clean _ _ (byte-clean _ nonzero_free) (star-clean _ (byte-clean _ digit_free)))
+  int_clean : Cleans (int s)
+  int_clean = or_clean _ _ (this_clean 0x30 refl) (then_clean _ _ (byte_clean _ nonzero_free) (star_clean _ (byte_clean _ digit_free)))
 
-  number-clean : Cleans (number s)
-  number-clean =
-      then-clean _ _ (opt-clean _ (this-clean 0x2D refl)) (then-clean _ _ int-clean (then-clean _ _ (opt-clean _ (then-clean _ _ (this-clean 0x2E refl) digits-clean))
-      (opt-clean _ (then-clean _ _ (byte-clean _ exponent_free) (then-clean _ _ (opt-clean _ (byte-clean _ sign_free)) digits-clean)))))
+  number_clean : Cleans (number s)
+  number_clean =
+      then_clean _ _ (opt_clean _ (this_clean 0x2D refl)) (then_clean _ _ int_clean (then_clean _ _ (opt_clean _ (then_clean _ _ (this_clean 0x2E refl) digits_clean))
+      (opt_clean _ (then_clean _ _ (byte_clean _ exponent_free) (then_clean _ _ (opt_clean _ (byte_clean _ sign_free)) digits_clean)))))
 
-  char-clean : Cleans (char s)
-  char-clean =
-      or-clean _ _ (byte-clean _ unescaped_free) (then-clean _ _ (this-clean 0x5C refl) (or-clean _ _ (byte-clean _ short_free)
-      (then-clean _ _ (this-clean 0x75 refl) (then-clean _ _ hex (then-clean _ _ hex (then-clean _ _ hex hex))))))
+  char_clean : Cleans (char s)
+  char_clean =
+      or_clean _ _ (byte_clean _ unescaped_free) (then_clean _ _ (this_clean 0x5C refl) (or_clean _ _ (byte_clean _ short_free)
+      (then_clean _ _ (this_clean 0x75 refl) (then_clean _ _ hex (then_clean _ _ hex (then_clean _ _ hex hex))))))
     where
       hex : Cleans (one s Hex)
-      hex = byte-clean _ hex_free
+      hex = byte_clean _ hex_free
 
   string_clean : Cleans (string s)
-  string_clean = then-clean _ _ (this-clean 0x22 refl) (then-clean _ _ (star-clean _ char-clean) (this-clean 0x22 refl))
+  string_clean = then_clean _ _ (this_clean 0x22 refl) (then_clean _ _ (star_clean _ char_clean) (this_clean 0x22 refl))
 
-  plain-clean : Cleans (literal s ∣ number s ∣ string s)
-  plain-clean =
-      or-clean _ _ (or-clean _ _ (name-clean false_name refl) (or-clean _ _ (name-clean null_name refl) (name-clean true_name refl)))
-      (or-clean _ _ number-clean string_clean)
+  plain_clean : Cleans (literal s ∣ number s ∣ string s)
+  plain_clean =
+      or_clean _ _ (or_clean _ _ (name_clean false_name refl) (or_clean _ _ (name_clean null_name refl) (name_clean true_name refl)))
+      (or_clean _ _ number_clean string_clean)
 
-  open-clean : (named : Bool) → Cleans (token s (open_of named))
-  open-clean true = token-clean 0x7B refl
-  open-clean false = token-clean 0x5B refl
+  open_clean : (named : Bool) → Cleans (token s (open_of named))
+  open_clean true = token_clean 0x7B refl
+  open_clean false = token_clean 0x5B refl
 
-  close-clean : (named : Bool) → Cleans (token s (close_of named))
-  close-clean true = token-clean 0x7D refl
-  close-clean false = token-clean 0x5D refl
+  close_clean : (named : Bool) → Cleans (token s (close_of named))
+  close_clean true = token_clean 0x7D refl
+  close_clean false = token_clean 0x5D refl
 
 mutual
   value_clean : (s : List ℕ) (d at n : ℕ) → Value s d at n → Clean s at n
-  value_clean s d at n (plain e) = plain-clean s at n e
-  value_clean s d at n (empty {a = a} named o c) = joined s (open-clean s named at a o) (close-clean s named a n c)
+  value_clean s d at n (plain e) = plain_clean s at n e
+  value_clean s d at n (empty {a = a} named o c) = joined s (open_clean s named at a o) (close_clean s named a n c)
   value_clean s d at n (group {d = k} {a = a} {b = b} named o is c) =
-      joined s (open-clean s named at a o) (joined s (items-clean s k named a b is) (close-clean s named b n c))
+      joined s (open_clean s named at a o) (joined s (items_clean s k named a b is) (close_clean s named b n c))
 
-  items-clean : (s : List ℕ) (d : ℕ) (named : Bool) (at n : ℕ) → Items s d named at n → Clean s at n
-  items-clean s d named at n (last i) = item-clean s d named at n i
-  items-clean s d named at n (more {a = a} {b = b} i t is) =
-      joined s (item-clean s d named at a i) (joined s (token-clean s 0x2C refl a b t) (items-clean s d named b n is))
+  items_clean : (s : List ℕ) (d : ℕ) (named : Bool) (at n : ℕ) → Items s d named at n → Clean s at n
+  items_clean s d named at n (last i) = item_clean s d named at n i
+  items_clean s d named at n (more {a = a} {b = b} i t is) =
+      joined s (item_clean s d named at a i) (joined s (token_clean s 0x2C refl a b t) (items_clean s d named b n is))
 
-  item-clean : (s : List ℕ) (d : ℕ) (named : Bool) (at n : ℕ) → Item s d named at n → Clean s at n
-  item-clean s d named at n (value v) = value_clean s d at n v
-  item-clean s d named at n (member {a = a} {b = b} e t v) =
-      joined s (string_clean s at a e) (joined s (token-clean s 0x3A refl a b t) (value_clean s d b n v))
+  item_clean : (s : List ℕ) (d : ℕ) (named : Bool) (at n : ℕ) → Item s d named at n → Clean s at n
+  item_clean s d named at n (value v) = value_clean s d at n v
+  item_clean s d named at n (member {a = a} {b = b} e t v) =
+      joined s (string_clean s at a e) (joined s (token_clean s 0x3A refl a b t) (value_clean s d b n v))
 
 pub text_clean : (s : List ℕ) → Text s → has_control s ≡ false
-text_clean s t = clean_none s (then-clean s _ _ (ws-clean s) (then-clean s _ _ (value_clean s depth) (ws-clean s)) 0 (length s) t)
+text_clean s t = clean_none s (then_clean s _ _ (ws_clean s) (then_clean s _ _ (value_clean s depth) (ws_clean s)) 0 (length s) t)

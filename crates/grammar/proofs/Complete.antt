@@ -1,4 +1,4 @@
--- What is a value by the rules is taken by json's definition, from and up to the white space at its two ends.
+-- What is a value by the rules is taken by json_tree's definition, from and up to the white space at its two ends.
 use mathlib.Core.Path.{◌≡◌, refl, sym, ap, ◌∙◌}
 use mathlib.Core.Logic.{inr}
 use mathlib.Core.List.{List}
@@ -44,65 +44,65 @@ close_quiet true = (refl, refl, refl)
 close_quiet false = (refl, refl, refl)
 
 module _ (s : List ℕ) where
-  token-stops : (b at n : ℕ) → Quiet b → token s b at n → Stops s at
-  token-stops b at n q t = ws_quiet s at t.0 t.1 (rw (token_byte s b at n t) q)
+  token_stops : (b at n : ℕ) → Quiet b → token s b at n → Stops s at
+  token_stops b at n q t = ws_quiet s at t.0 t.1 (rw (token_byte s b at n t) q)
 
   token_is : (b at n : ℕ) → token_at s b at ≡ End n → get_or s at 0 ≡ b
   unfolding token_at
   token_is b at n e = byte_is s b at (then_end (one_at s (Byte b) at) _ e).1
 
-  token-bad : (b at : ℕ) → (get_or s at 0 ≡ b → ⊥) → token_at s b at ≡ Bad
-  token-bad b at h = go (token_at s b at) refl
+  token_bad : (b at : ℕ) → (get_or s at 0 ≡ b → ⊥) → token_at s b at ≡ Bad
+  token_bad b at h = go (token_at s b at) refl
     where
       go : (o : Out) → token_at s b at ≡ o → o ≡ Bad
       go (End n) e = absurd (h (token_is b at n e))
       go Bad e = refl
 
   -- ---- what begins at a place
-  start-open : (named : Bool) (at a : ℕ) → token_at s (open_of named) at ≡ End a → start_at s at ≡ opened_at s a named
-  start-open false at a e = rw e
-  start-open true at a e = let r = token_is 0x7B at a e in rw (token-bad 0x5B at (λ q. omega arith), e)
+  start_open : (named : Bool) (at a : ℕ) → token_at s (open_of named) at ≡ End a → start_at s at ≡ opened_at s a named
+  start_open false at a e = rw e
+  start_open true at a e = let r = token_is 0x7B at a e in rw (token_bad 0x5B at (λ q. omega arith), e)
 
-  start-leaf : (at n : ℕ) → (literal s ∣ number s ∣ string s) at n → start_at s at ≡ Leaf
+  start_leaf : (at n : ℕ) → (literal s ∣ number s ∣ string s) at n → start_at s at ≡ Leaf
   unfolding in_class
-  start-leaf at n e =
-      let p = token-bad 0x5B at (λ q. lead s at n e (rw q (refl, refl, refl, refl, refl, refl, refl))) in
-      let r = token-bad 0x7B at (λ q. lead s at n e (rw q (refl, refl, refl, refl, refl, refl, refl))) in
+  start_leaf at n e =
+      let p = token_bad 0x5B at (λ q. lead s at n e (rw q (refl, refl, refl, refl, refl, refl, refl))) in
+      let r = token_bad 0x7B at (λ q. lead s at n e (rw q (refl, refl, refl, refl, refl, refl, refl))) in
       rw (p, r)
 
-  leaf-taken : (d at n : ℕ) → Stops s n → (literal s ∣ number s ∣ string s) at n → end_of (tree_at s d (ws_at s at)) ≡ End (ws_at s n)
+  leaf_taken : (d at n : ℕ) → Stops s n → (literal s ∣ number s ∣ string s) at n → end_of (tree_at s d (ws_at s at)) ≡ End (ws_at s n)
   unfolding tree_at
-  leaf-taken zero at n t e = let (k, p, q) = plain_taken s at n t e in rw (plain_place s at n e, p) q
-  leaf-taken (suc d) at n t e =
+  leaf_taken zero at n t e = let (k, p, q) = plain_taken s at n t e in rw (plain_place s at n e, p) q
+  leaf_taken (suc d) at n t e =
       let (k, p, q) = plain_taken s at n t e in
-      rw (plain_place s at n e) (ap end_of (tree_open s d at Leaf (sym (start-leaf at n e))) ∙ rw p q)
+      rw (plain_place s at n e) (ap end_of (tree_open s d at Leaf (sym (start_leaf at n e))) ∙ rw p q)
 
   -- ---- items begin with no closing bracket or brace
-  open-first : (named : Bool) (at a : ℕ) → token s (open_of named) at a → get_or s (ws_at s at) 0 ≡ 0x5D → ⊥
-  open-first true at a t q = let e = token_is 0x7B (ws_at s at) (ws_at s a) (token_taken s 0x7B at a (open_solid true) t) in omega arith
-  open-first false at a t q = let e = token_is 0x5B (ws_at s at) (ws_at s a) (token_taken s 0x5B at a (open_solid false) t) in omega arith
+  open_first : (named : Bool) (at a : ℕ) → token s (open_of named) at a → get_or s (ws_at s at) 0 ≡ 0x5D → ⊥
+  open_first true at a t q = let e = token_is 0x7B (ws_at s at) (ws_at s a) (token_taken s 0x7B at a (open_solid true) t) in omega arith
+  open_first false at a t q = let e = token_is 0x5B (ws_at s at) (ws_at s a) (token_taken s 0x5B at a (open_solid false) t) in omega arith
 
-  item-first : (d : ℕ) (named : Bool) (at n : ℕ) → Item s d named at n → get_or s (ws_at s at) 0 ≡ close_of named → ⊥
+  item_first : (d : ℕ) (named : Bool) (at n : ℕ) → Item s d named at n → get_or s (ws_at s at) 0 ≡ close_of named → ⊥
   unfolding in_class
-  item-first d named at n (value (plain e)) q = lead s at n e (rw (sym (plain_place s at n e), q) (refl, refl, refl, refl, refl, refl, refl))
-  item-first d named at n (value (empty {a = a} inner t r)) q = open-first inner at a t q
-  item-first d named at n (value (group {a = a} inner t is r)) q = open-first inner at a t q
-  item-first d named at n (member {a = a} e t v) q = lead s at a (inr (inr e)) (rw (sym (plain_place s at a (inr (inr e))), q) (refl, refl, refl, refl, refl, refl, refl))
+  item_first d named at n (value (plain e)) q = lead s at n e (rw (sym (plain_place s at n e), q) (refl, refl, refl, refl, refl, refl, refl))
+  item_first d named at n (value (empty {a = a} inner t r)) q = open_first inner at a t q
+  item_first d named at n (value (group {a = a} inner t is r)) q = open_first inner at a t q
+  item_first d named at n (member {a = a} e t v) q = lead s at a (inr (inr e)) (rw (sym (plain_place s at a (inr (inr e))), q) (refl, refl, refl, refl, refl, refl, refl))
 
-  items-first : (d : ℕ) (named : Bool) (at n : ℕ) → Items s d named at n → token_at s (close_of named) (ws_at s at) ≡ Bad
-  items-first d named at n (last i) = token-bad (close_of named) (ws_at s at) (item-first d named at n i)
-  items-first d named at n (more {a = a} i t is) = token-bad (close_of named) (ws_at s at) (item-first d named at a i)
+  items_first : (d : ℕ) (named : Bool) (at n : ℕ) → Items s d named at n → token_at s (close_of named) (ws_at s at) ≡ Bad
+  items_first d named at n (last i) = token_bad (close_of named) (ws_at s at) (item_first d named at n i)
+  items_first d named at n (more {a = a} i t is) = token_bad (close_of named) (ws_at s at) (item_first d named at a i)
 
   -- ---- what follows an item
   done : (named : Bool) (at n : ℕ) → token s (close_of named) at n → next_at s (ws_at s at) named ≡ Done (ws_at s n)
   done true at n t =
       let e = token_taken s 0x7D at n (close_solid true) t in
       let r = token_is 0x7D (ws_at s at) (ws_at s n) e in
-      rw (token-bad 0x2C (ws_at s at) (λ q. omega arith), e)
+      rw (token_bad 0x2C (ws_at s at) (λ q. omega arith), e)
   done false at n t =
       let e = token_taken s 0x5D at n (close_solid false) t in
       let r = token_is 0x5D (ws_at s at) (ws_at s n) e in
-      rw (token-bad 0x2C (ws_at s at) (λ q. omega arith), e)
+      rw (token_bad 0x2C (ws_at s at) (λ q. omega arith), e)
 
   next : (named : Bool) (at n : ℕ) → token s 0x2C at n → next_at s (ws_at s at) named ≡ More (ws_at s n)
   unfolding in_class
@@ -114,29 +114,29 @@ module _ (s : List ℕ) where
 
 -- ---- no rule goes back
 mutual
-  value-from : (s : List ℕ) (d at n : ℕ) → Value s d at n → at ≤ n
-  value-from s d at n (plain e) = plain_from s at n e
-  value-from s d at n (empty {a = a} named t r) = let p = token_from s (open_of named) at a t in let q = token_from s (close_of named) a n r in omega arith
-  value-from s d at n (group {d = k} {a = a} {b = b} named t is r) =
+  value_from_lem : (s : List ℕ) (d at n : ℕ) → Value s d at n → at ≤ n
+  value_from_lem s d at n (plain e) = plain_from s at n e
+  value_from_lem s d at n (empty {a = a} named t r) = let p = token_from s (open_of named) at a t in let q = token_from s (close_of named) a n r in omega arith
+  value_from_lem s d at n (group {d = k} {a = a} {b = b} named t is r) =
       let p = token_from s (open_of named) at a t in
-      let h = items-from s k named a b is in
+      let h = items_from s k named a b is in
       let q = token_from s (close_of named) b n r in
       omega arith
 
-  items-from : (s : List ℕ) (d : ℕ) (named : Bool) (at n : ℕ) → Items s d named at n → at ≤ n
-  items-from s d named at n (last i) = item_from s d named at n i
-  items-from s d named at n (more {a = a} {b = b} i t is) =
+  items_from : (s : List ℕ) (d : ℕ) (named : Bool) (at n : ℕ) → Items s d named at n → at ≤ n
+  items_from s d named at n (last i) = item_from s d named at n i
+  items_from s d named at n (more {a = a} {b = b} i t is) =
       let p = item_from s d named at a i in
       let q = token_from s 0x2C a b t in
-      let h = items-from s d named b n is in
+      let h = items_from s d named b n is in
       omega arith
 
   item_from : (s : List ℕ) (d : ℕ) (named : Bool) (at n : ℕ) → Item s d named at n → at ≤ n
-  item_from s d named at n (value v) = value-from s d at n v
+  item_from s d named at n (value v) = value_from_lem s d at n v
   item_from s d named at n (member {a = a} {b = b} e t v) =
       let p = string_from s at a e in
       let q = token_from s 0x3A a b t in
-      let h = value-from s d b n v in
+      let h = value_from_lem s d b n v in
       omega arith
 
 -- ---- the definition takes what the rules take
@@ -144,37 +144,37 @@ mutual
   unfolding in_class
 
   pub value_taken : (s : List ℕ) (d at n : ℕ) → Value s d at n → Stops s n → end_of (tree_at s d (ws_at s at)) ≡ End (ws_at s n)
-  value_taken s d at n (plain e) t = leaf-taken s d at n t e
+  value_taken s d at n (plain e) t = leaf_taken s d at n t e
   value_taken s d at n (empty {d = k} {a = a} named o c) t =
-      let p = start-open s named (ws_at s at) (ws_at s a) (token_taken s (open_of named) at a (open_solid named) o) in
+      let p = start_open s named (ws_at s at) (ws_at s a) (token_taken s (open_of named) at a (open_solid named) o) in
       let q = token_taken s (close_of named) a n (close_solid named) c in
       ap end_of (tree_open s k (ws_at s at) (Empty (ws_at s n) named) (sym (p ∙ rw q)))
   value_taken s d at n (group {d = k} {a = a} {b = b} named o is c) t =
-      let p = start-open s named (ws_at s at) (ws_at s a) (token_taken s (open_of named) at a (open_solid named) o) in
-      let q = items-first s k named a b is in
+      let p = start_open s named (ws_at s at) (ws_at s a) (token_taken s (open_of named) at a (open_solid named) o) in
+      let q = items_first s k named a b is in
       ap end_of (tree_open s k (ws_at s at) (Many (ws_at s a) named) (sym (p ∙ rw q)))
       ∙ sym (end_items_lem (node named) (items_at (tree_at s k) s named (length s) (ws_at s a)))
-      ∙ (rw sub-zero at (items-taken s k named a b is n c 0 (omega arith)))
+      ∙ (rw sub-zero at (items_taken s k named a b is n c 0 (omega arith)))
 
   -- k items were read before, so there is fuel for the rest
-  items-taken : (s : List ℕ) (d : ℕ) (named : Bool) (at b : ℕ) → Items s d named at b → (n : ℕ) → token s (close_of named) b n
+  items_taken : (s : List ℕ) (d : ℕ) (named : Bool) (at b : ℕ) → Items s d named at b → (n : ℕ) → token s (close_of named) b n
       → (k : ℕ) → k ≤ at → end_items (items_at (tree_at s d) s named (length s - k) (ws_at s at)) ≡ End (ws_at s n)
-  items-taken s d named at b (last i) n c k l =
-      let (v, h, e) = item-taken s d named at b i (token-stops s (close_of named) b n (close_quiet named) c) in
+  items_taken s d named at b (last i) n c k l =
+      let (v, h, e) = item_taken s d named at b i (token_stops s (close_of named) b n (close_quiet named) c) in
       let p = item_from s d named at b i in
       let q = token_from s (close_of named) b n c in
-      fold_next _ _ _ _ (tree_at s d) s named k (ws_at s at) v (ws_at s b) (Done (ws_at s n)) (tt {0}) (omega arith) h e (done s named b n c) (λ t q. refl)
-  items-taken s d named at b (more {a = a} {b = j} i t is) n c k l =
-      let (v, h, e) = item-taken s d named at a i (token-stops s 0x2C a j (refl, refl, refl) t) in
+      fold_next _ _ (λ a m. End m) _ (tree_at s d) s named k (ws_at s at) v (ws_at s b) (Done (ws_at s n)) (tt {0}) (omega arith) h e (done s named b n c) (λ t q. refl)
+  items_taken s d named at b (more {a = a} {b = j} i t is) n c k l =
+      let (v, h, e) = item_taken s d named at a i (token_stops s 0x2C a j (refl, refl, refl) t) in
       let p = item_from s d named at a i in
       let q = token_from s 0x2C a j t in
-      fold_next _ _ _ _ (tree_at s d) s named k (ws_at s at) v (ws_at s a) (More (ws_at s j)) (tt {0}) (omega arith) h e (next s named a j t) (λ t q. refl)
-      ∙ items-taken s d named j b is n c (k + 1) (omega arith)
+      fold_next _ _ (λ a m. End m) _ (tree_at s d) s named k (ws_at s at) v (ws_at s a) (More (ws_at s j)) (tt {0}) (omega arith) h e (next s named a j t) (λ t q. refl)
+      ∙ items_taken s d named j b is n c (k + 1) (omega arith)
 
-  item-taken : (s : List ℕ) (d : ℕ) (named : Bool) (at n : ℕ) → Item s d named at n → Stops s n
+  item_taken : (s : List ℕ) (d : ℕ) (named : Bool) (at n : ℕ) → Item s d named at n → Stops s n
       → (v : ℕ) × (head_at s (ws_at s at) named ≡ End v) × (end_of (tree_at s d v) ≡ End (ws_at s n))
-  item-taken s d named at n (value v) t = (ws_at s at, refl, value_taken s d at n v t)
-  item-taken s d named at n (member {a = a} {b = b} e c v) t = (ws_at s b, name_taken s at a b e c, value_taken s d b n v t)
+  item_taken s d named at n (value v) t = (ws_at s at, refl, value_taken s d at n v t)
+  item_taken s d named at n (member {a = a} {b = b} e c v) t = (ws_at s b, name_taken s at a b e c, value_taken s d b n v t)
 
 pub text_taken : (s : List ℕ) → Text s → is_text s ≡ true
 unfolding in_class

@@ -47,16 +47,16 @@ module _ (s : List ℕ) where
   differ : (class : Class) (at n : ℕ) → one s class at n → in_class class (get_or s at 0) ≡ false → ⊥
   differ class at n o e = false≢true (sym e ∙ o.1)
 
-  number-lead : (at n : ℕ) → number s at n → Lacks (get_or s at 0) → ⊥
-  number-lead at n (a, inr o, r) l = differ (Byte 0x2D) at a o l.1
-  number-lead at n (a, inl e, (b, inl o, r)) l = differ (Byte 0x30) at b (rw e o) l.2
-  number-lead at n (a, inl e, (b, inr (c, o, q), r)) l = differ Digit at c (rw e (first_digit s a c o).0) l.3
+  number_lead : (at n : ℕ) → number s at n → Lacks (get_or s at 0) → ⊥
+  number_lead at n (a, inr o, r) l = differ (Byte 0x2D) at a o l.1
+  number_lead at n (a, inl e, (b, inl o, r)) l = differ (Byte 0x30) at b (rw e o) l.2
+  number_lead at n (a, inl e, (b, inr (c, o, q), r)) l = differ Digit at c (rw e (first_digit s a c o).0) l.3
 
   pub lead : (at n : ℕ) → (literal s ∣ number s ∣ string s) at n → Lacks (get_or s at 0) → ⊥
   lead at n (inl (inl (m, o, r))) l = differ (Byte 0x66) at m o l.4
   lead at n (inl (inr (inl (m, o, r)))) l = differ (Byte 0x6E) at m o l.5
   lead at n (inl (inr (inr (m, o, r)))) l = differ (Byte 0x74) at m o l.6
-  lead at n (inr (inl e)) l = number-lead at n e l
+  lead at n (inr (inl e)) l = number_lead at n e l
   lead at n (inr (inr (m, o, r))) l = differ (Byte 0x22) at m o l.0
 
   -- so there is no white space before it
@@ -68,9 +68,9 @@ module _ (s : List ℕ) where
       go false q = refl
 
   -- ---- which picks the rule
-  no-string : (x at n : ℕ) → in_class (Byte 0x22) x ≡ false → one s (Byte x) at n → string_at s at ≡ Bad
+  no_string : (x at n : ℕ) → in_class (Byte 0x22) x ≡ false → one s (Byte x) at n → string_at s at ≡ Bad
   unfolding string_at
-  no-string x at n z o = rw (byte_not s x (Byte 0x22) at z (one_taken s (Byte x) at n o))
+  no_string x at n z o = rw (byte_not s x (Byte 0x22) at z (one_taken s (Byte x) at n o))
 
   no_number : (x at n : ℕ) → (in_class (Byte 0x2D) x ≡ false) × (in_class (Byte 0x30) x ≡ false) × (in_class Digit x ≡ false) → one s (Byte x) at n → number_at s at ≡ Bad
   unfolding number_at int_at digits_at
@@ -80,33 +80,33 @@ module _ (s : List ℕ) where
   unfolding word_at
   no_word x y at n w z o = rw (byte_not s x (Byte y) at z (one_taken s (Byte x) at n o))
 
-  number-no-string : (at n : ℕ) → number s at n → string_at s at ≡ Bad
+  number_no_string : (at n : ℕ) → number s at n → string_at s at ≡ Bad
   unfolding string_at in_class
-  number-no-string at n (a, inr o, r) = rw (byte_not s 0x2D (Byte 0x22) at refl (one_taken s (Byte 0x2D) at a o))
-  number-no-string at n (a, inl e, (b, inl o, r)) = rw (byte_not s 0x30 (Byte 0x22) at refl (one_taken s (Byte 0x30) at b (rw e o)))
-  number-no-string at n (a, inl e, (b, inr (c, o, q), r)) = rw (not_byte s 0x22 Digit at refl (one_taken s Digit at c (rw e (first_digit s a c o).0)))
+  number_no_string at n (a, inr o, r) = rw (byte_not s 0x2D (Byte 0x22) at refl (one_taken s (Byte 0x2D) at a o))
+  number_no_string at n (a, inl e, (b, inl o, r)) = rw (byte_not s 0x30 (Byte 0x22) at refl (one_taken s (Byte 0x30) at b (rw e o)))
+  number_no_string at n (a, inl e, (b, inr (c, o, q), r)) = rw (not_byte s 0x22 Digit at refl (one_taken s Digit at c (rw e (first_digit s a c o).0)))
 
   pub plain_taken : (at n : ℕ) → Stops s n → (literal s ∣ number s ∣ string s) at n → (k : Kind) × (scalar_at s at ≡ k) × (end_of (on_leaf s at k) ≡ End (ws_at s n))
   unfolding scalar_at literal_at in_class
   plain_taken at n t (inl (inl e)) =
-      (Word n, rw (no-string 0x66 at e.0 refl e.1, no_number 0x66 at e.0 (refl, refl, refl) e.1, name_taken s false_name at n e), refl)
+      (Word n, rw (no_string 0x66 at e.0 refl e.1, no_number 0x66 at e.0 (refl, refl, refl) e.1, name_taken s false_name at n e), refl)
   plain_taken at n t (inl (inr (inl e))) =
-      (Word n, rw (no-string 0x6E at e.0 refl e.1, no_number 0x6E at e.0 (refl, refl, refl) e.1, no_word 0x6E 0x66 at e.0 _ refl e.1, name_taken s null_name at n e), refl)
+      (Word n, rw (no_string 0x6E at e.0 refl e.1, no_number 0x6E at e.0 (refl, refl, refl) e.1, no_word 0x6E 0x66 at e.0 _ refl e.1, name_taken s null_name at n e), refl)
   plain_taken at n t (inl (inr (inr e))) =
-      (Word n, rw (no-string 0x74 at e.0 refl e.1, no_number 0x74 at e.0 (refl, refl, refl) e.1, no_word 0x74 0x66 at e.0 _ refl e.1, no_word 0x74 0x6E at e.0 _ refl e.1, name_taken s true_name at n e), refl)
-  plain_taken at n t (inr (inl e)) = (Num n, rw (number-no-string at n e, number_taken s at n t e), refl)
+      (Word n, rw (no_string 0x74 at e.0 refl e.1, no_number 0x74 at e.0 (refl, refl, refl) e.1, no_word 0x74 0x66 at e.0 _ refl e.1, no_word 0x74 0x6E at e.0 _ refl e.1, name_taken s true_name at n e), refl)
+  plain_taken at n t (inr (inl e)) = (Num n, rw (number_no_string at n e, number_taken s at n t e), refl)
   plain_taken at n t (inr (inr e)) = (Str n, rw (string_taken s at n e), refl)
 
   -- ---- no rule goes back
-  name-from : (w : List ℕ) (at n : ℕ) → name s w at n → at ≤ n
-  name-from [] at n e = omega arith
-  name-from (b ∷ w) at n e = let h = name-from w e.0 n e.2 in let q = e.1.2 in omega arith
+  name_from_lem : (w : List ℕ) (at n : ℕ) → name s w at n → at ≤ n
+  name_from_lem [] at n e = omega arith
+  name_from_lem (b ∷ w) at n e = let h = name_from_lem w e.0 n e.2 in let q = e.1.2 in omega arith
 
   digits_from : (at n : ℕ) → digits s at n → at ≤ n
   digits_from at n (m, o, r) = let h = star_from s Digit m n r in let q = o.2 in omega arith
 
-  number-from : (at n : ℕ) → number s at n → at ≤ n
-  number-from at n (a, g, (b, i, (c, f, e))) =
+  number_from_lem : (at n : ℕ) → number s at n → at ≤ n
+  number_from_lem at n (a, g, (b, i, (c, f, e))) =
       let p = minus g in
       let q = whole i in
       let r = part f in
@@ -137,10 +137,10 @@ module _ (s : List ℕ) where
   string_from at n e = let h = (string_parts s at n (string_taken s at n e)).3 in omega arith
 
   pub plain_from : (at n : ℕ) → (literal s ∣ number s ∣ string s) at n → at ≤ n
-  plain_from at n (inl (inl e)) = name-from false_name at n e
-  plain_from at n (inl (inr (inl e))) = name-from null_name at n e
-  plain_from at n (inl (inr (inr e))) = name-from true_name at n e
-  plain_from at n (inr (inl e)) = number-from at n e
+  plain_from at n (inl (inl e)) = name_from_lem false_name at n e
+  plain_from at n (inl (inr (inl e))) = name_from_lem null_name at n e
+  plain_from at n (inl (inr (inr e))) = name_from_lem true_name at n e
+  plain_from at n (inr (inl e)) = number_from_lem at n e
   plain_from at n (inr (inr e)) = string_from at n e
 
   pub token_from : (b at n : ℕ) (t : token s b at n) → (at ≤ t.0) × (t.0 < n) × (t.0 < length s)

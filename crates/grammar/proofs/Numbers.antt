@@ -45,43 +45,43 @@ exponent_no_digit x e = go (eqb x 0x65) refl e
 
 module _ (s : List ℕ) where
   -- ---- what the functions take is a number
-  digits-sound : (at n : ℕ) → digits_at s at ≡ End n → digits s at n
+  digits_sound : (at n : ℕ) → digits_at s at ≡ End n → digits s at n
   unfolding digits_at in_class
-  digits-sound at n e =
+  digits_sound at n e =
       let (m, p, q) = then_end (one_at s Digit at) _ e in
       (m, one_sound s Digit at m refl p, star_sound s Digit refl m n (same_end q))
 
-  int-sound : (at n : ℕ) → int_at s at ≡ End n → int s at n
+  int_sound : (at n : ℕ) → int_at s at ≡ End n → int s at n
   unfolding int_at digits_at in_class
-  int-sound at n e = go (one_at s (Byte 0x30) at) refl e
+  int_sound at n e = go (one_at s (Byte 0x30) at) refl e
     where
       go : (o : Out) → one_at s (Byte 0x30) at ≡ o → case o End (digits_at s at) ≡ End n → int s at n
       go (End m) p q = inl (one_sound s (Byte 0x30) at n refl (p ∙ q))
       go Bad p q =
-          let (m, o, r) = digits-sound at n q in
+          let (m, o, r) = digits_sound at n q in
           inr (m, (o.0, nonzero (get_or s at 0) o.1 (one_bad s (Byte 0x30) at p), o.2), r)
 
-  frac-sound : (at n : ℕ) → frac_at s at ≡ End n → opt (frac s) at n
+  frac_sound : (at n : ℕ) → frac_at s at ≡ End n → opt (frac s) at n
   unfolding frac_at in_class
-  frac-sound at n e = go (one_at s (Byte 0x2E) at) refl e
+  frac_sound at n e = go (one_at s (Byte 0x2E) at) refl e
     where
       go : (o : Out) → one_at s (Byte 0x2E) at ≡ o → case o (digits_at s) (End at) ≡ End n → opt (frac s) at n
-      go (End m) p q = inr (m, one_sound s (Byte 0x2E) at m refl p, digits-sound m n q)
+      go (End m) p q = inr (m, one_sound s (Byte 0x2E) at m refl p, digits_sound m n q)
       go Bad p q = inl (same_end q)
 
-  opt-sound : (class : Class) (at : ℕ) → in_class class 0 ≡ false → opt (one s class) at (opt_at s class at)
-  opt-sound class at z = go (one_at s class at) refl
+  opt_sound : (class : Class) (at : ℕ) → in_class class 0 ≡ false → opt (one s class) at (opt_at s class at)
+  opt_sound class at z = go (one_at s class at) refl
     where
       go : (o : Out) → one_at s class at ≡ o → opt (one s class) at (case o (λ n. n) at)
       go (End m) p = inr (one_sound s class at m z p)
       go Bad p = inl refl
 
-  exp-sound : (at n : ℕ) → exp_at s at ≡ End n → opt (exp s) at n
+  exp_sound : (at n : ℕ) → exp_at s at ≡ End n → opt (exp s) at n
   unfolding exp_at in_class
-  exp-sound at n e = go (one_at s Exponent at) refl e
+  exp_sound at n e = go (one_at s Exponent at) refl e
     where
       go : (o : Out) → one_at s Exponent at ≡ o → case o (λ m. digits_at s (opt_at s Sign m)) (End at) ≡ End n → opt (exp s) at n
-      go (End m) p q = inr (m, one_sound s Exponent at m refl p, (opt_at s Sign m, opt-sound Sign m refl, digits-sound (opt_at s Sign m) n q))
+      go (End m) p q = inr (m, one_sound s Exponent at m refl p, (opt_at s Sign m, opt_sound Sign m refl, digits_sound (opt_at s Sign m) n q))
       go Bad p q = inl (same_end q)
 
   pub number_sound : (at n : ℕ) → number_at s at ≡ End n → number s at n
@@ -90,42 +90,42 @@ module _ (s : List ℕ) where
       let a = opt_at s (Byte 0x2D) at in
       let (b, p, q) = then_end (int_at s a) _ e in
       let (c, r, x) = then_end (frac_at s b) _ q in
-      (a, opt-sound (Byte 0x2D) at refl, (b, int-sound a b p, (c, frac-sound b c r, exp-sound c n x)))
+      (a, opt_sound (Byte 0x2D) at refl, (b, int_sound a b p, (c, frac_sound b c r, exp_sound c n x)))
 
   -- ---- a number is taken where it cannot go on
   abbrev pub Stops : ℕ → Type 0
   Stops n = (one_at s Digit n ≡ Bad) × (one_at s (Byte 0x2E) n ≡ Bad) × (one_at s Exponent n ≡ Bad)
 
-  opt-taken : (class : Class) (at n : ℕ) → one_at s class n ≡ Bad → opt (one s class) at n → opt_at s class at ≡ n
-  opt-taken class at n b (inl e) = rw (e, b)
-  opt-taken class at n b (inr o) = rw (one_taken s class at n o)
+  opt_taken : (class : Class) (at n : ℕ) → one_at s class n ≡ Bad → opt (one s class) at n → opt_at s class at ≡ n
+  opt_taken class at n b (inl e) = rw (e, b)
+  opt_taken class at n b (inr o) = rw (one_taken s class at n o)
 
-  digits-taken : (at n : ℕ) → one_at s Digit n ≡ Bad → digits s at n → digits_at s at ≡ End n
+  digits_taken : (at n : ℕ) → one_at s Digit n ≡ Bad → digits s at n → digits_at s at ≡ End n
   unfolding digits_at
-  digits-taken at n b (m, o, r) = rw (one_taken s Digit at m o) (ap End (star_past s Digit m n r ∙ past_none Digit s n (one_bad s Digit n b)))
+  digits_taken at n b (m, o, r) = rw (one_taken s Digit at m o) (ap End (star_past s Digit m n r ∙ past_none Digit s n (one_bad s Digit n b)))
 
-  exp-taken : (at n : ℕ) → Stops n → opt (exp s) at n → exp_at s at ≡ End n
+  exp_taken : (at n : ℕ) → Stops n → opt (exp s) at n → exp_at s at ≡ End n
   unfolding exp_at
-  exp-taken at n t (inl e) = rw (e, t.2)
-  exp-taken at n t (inr (m, o, (k, g, r))) =
+  exp_taken at n t (inl e) = rw (e, t.2)
+  exp_taken at n t (inr (m, o, (k, g, r))) =
       let b = one_not s Sign k (digit_no_sign (get_or s k 0) r.1.1) in
-      rw (one_taken s Exponent at m o, opt-taken Sign m k b g) (digits-taken k n t.0 r)
+      rw (one_taken s Exponent at m o, opt_taken Sign m k b g) (digits_taken k n t.0 r)
 
-  exp-first : (at n : ℕ) → Stops n → opt (exp s) at n → (one_at s Digit at ≡ Bad) × (one_at s (Byte 0x2E) at ≡ Bad)
+  exp_first : (at n : ℕ) → Stops n → opt (exp s) at n → (one_at s Digit at ≡ Bad) × (one_at s (Byte 0x2E) at ≡ Bad)
   unfolding in_class
-  exp-first at n t (inl e) = rw e (t.0, t.1)
-  exp-first at n t (inr (m, o, r)) =
+  exp_first at n t (inl e) = rw e (t.0, t.1)
+  exp_first at n t (inr (m, o, r)) =
       (one_not s Digit at (exponent_no_digit (get_or s at 0) o.1), not_byte s 0x2E Exponent at refl (one_taken s Exponent at m o))
 
-  frac-taken : (at n : ℕ) → (one_at s Digit n ≡ Bad) × (one_at s (Byte 0x2E) n ≡ Bad) → opt (frac s) at n → frac_at s at ≡ End n
+  frac_taken : (at n : ℕ) → (one_at s Digit n ≡ Bad) × (one_at s (Byte 0x2E) n ≡ Bad) → opt (frac s) at n → frac_at s at ≡ End n
   unfolding frac_at
-  frac-taken at n t (inl e) = rw (e, t.1)
-  frac-taken at n t (inr (m, o, r)) = rw (one_taken s (Byte 0x2E) at m o) (digits-taken m n t.0 r)
+  frac_taken at n t (inl e) = rw (e, t.1)
+  frac_taken at n t (inr (m, o, r)) = rw (one_taken s (Byte 0x2E) at m o) (digits_taken m n t.0 r)
 
-  frac-first : (at n : ℕ) → one_at s Digit n ≡ Bad → opt (frac s) at n → one_at s Digit at ≡ Bad
+  frac_first : (at n : ℕ) → one_at s Digit n ≡ Bad → opt (frac s) at n → one_at s Digit at ≡ Bad
   unfolding in_class
-  frac-first at n t (inl e) = rw e t
-  frac-first at n t (inr (m, o, r)) = byte_not s 0x2E Digit at refl (one_taken s (Byte 0x2E) at m o)
+  frac_first at n t (inl e) = rw e t
+  frac_first at n t (inr (m, o, r)) = byte_not s 0x2E Digit at refl (one_taken s (Byte 0x2E) at m o)
 
   -- a digit from 1 on is a digit, and not zero
   pub first_digit : (at n : ℕ) → byte s (is_between 0x31 0x39) at n → one s Digit at n × (one_at s (Byte 0x30) at ≡ Bad)
@@ -136,19 +136,19 @@ module _ (s : List ℕ) where
       let l' = leb-true 0x31 x l in
       ((h, rw (le-leb 0x30 x (omega arith)) r, e), one_not s (Byte 0x30) at (ne_eqb x 0x30 (λ z. omega arith)))
 
-  int-taken : (at n : ℕ) → one_at s Digit n ≡ Bad → int s at n → int_at s at ≡ End n
+  int_taken : (at n : ℕ) → one_at s Digit n ≡ Bad → int s at n → int_at s at ≡ End n
   unfolding int_at
-  int-taken at n t (inl o) = rw (one_taken s (Byte 0x30) at n o)
-  int-taken at n t (inr (m, o, r)) = let (d, z) = first_digit at m o in rw z (digits-taken at n t (m, d, r))
+  int_taken at n t (inl o) = rw (one_taken s (Byte 0x30) at n o)
+  int_taken at n t (inr (m, o, r)) = let (d, z) = first_digit at m o in rw z (digits_taken at n t (m, d, r))
 
-  int-no-minus : (at n : ℕ) → int s at n → one_at s (Byte 0x2D) at ≡ Bad
+  int_no_minus : (at n : ℕ) → int s at n → one_at s (Byte 0x2D) at ≡ Bad
   unfolding in_class
-  int-no-minus at n (inl o) = byte_not s 0x30 (Byte 0x2D) at refl (one_taken s (Byte 0x30) at n o)
-  int-no-minus at n (inr (m, o, r)) = not_byte s 0x2D Digit at refl (one_taken s Digit at m (first_digit at m o).0)
+  int_no_minus at n (inl o) = byte_not s 0x30 (Byte 0x2D) at refl (one_taken s (Byte 0x30) at n o)
+  int_no_minus at n (inr (m, o, r)) = not_byte s 0x2D Digit at refl (one_taken s Digit at m (first_digit at m o).0)
 
   pub number_taken : (at n : ℕ) → Stops n → number s at n → number_at s at ≡ End n
   unfolding number_at
   number_taken at n t (a, g, (b, i, (c, f, e))) =
-      let p = exp-first c n t e in
-      let q = frac-first b c p.0 f in
-      rw (opt-taken (Byte 0x2D) at a (int-no-minus a b i) g, int-taken a b q i, frac-taken b c p f) (exp-taken c n t e)
+      let p = exp_first c n t e in
+      let q = frac_first b c p.0 f in
+      rw (opt_taken (Byte 0x2D) at a (int_no_minus a b i) g, int_taken a b q i, frac_taken b c p f) (exp_taken c n t e)

@@ -1,5 +1,5 @@
--- json's definition of a text, row 3, says what RFC 8259's ABNF says with 01's limit: in both directions, for every
--- text.
+-- json_tree's definition of a text, row 3, says what RFC 8259's ABNF says with 01's limit: in both directions, for
+-- every text.
 use mathlib.Core.Path.{◌≡◌}
 use mathlib.Core.Logic.{◌↔◌}
 use mathlib.Core.List.{List}

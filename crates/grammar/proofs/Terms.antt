@@ -1,5 +1,5 @@
--- One byte, a run of bytes, a structural character and a name: json's functions say what the rules say. White space is
--- taken whole by a function and piecemeal by a rule, so a place is compared after the white space that stands there.
+-- One byte, a run of bytes, a structural character and a name: json_tree's functions say what the rules say. White space
+-- is taken whole by a function and piecemeal by a rule, so a place is compared after the white space that stands there.
 use mathlib.Core.Path.{◌≡◌, refl, sym, ap, ◌∙◌}
 use mathlib.Core.List.{List, [], ◌∷◌}
 use mathlib.Core.Bool.{Bool, true, false, cond, ◌||◌}
@@ -55,15 +55,15 @@ module _ (s : List ℕ) where
 
   -- ---- *class
   module _ (class : Class) (z : in_class class 0 ≡ false) where
-    step-sound : (at : ℕ) (b : Bool) → in_class class (get_or s at 0) ≡ b → (at < length s → Star (one s class) (at + 1) (past class s (at + 1))) → Star (one s class) at (past class s at)
-    step-sound at true q rest =
+    step_sound : (at : ℕ) (b : Bool) → in_class class (get_or s at 0) ≡ b → (at < length s → Star (one s class) (at + 1) (past class s (at + 1))) → Star (one s class) at (past class s at)
+    step_sound at true q rest =
         let h = class_within class s at z q in
         step (h, q, refl) (rw (past_more class s at h q) at (rest h))
-    step-sound at false q rest = rw (past_none class s at q) stop
+    step_sound at false q rest = rw (past_none class s at q) stop
 
     run_sound : (k at : ℕ) → length s ≤ k + at → Star (one s class) at (past class s at)
-    run_sound zero at h = step-sound at (in_class class (get_or s at 0)) refl (λ l. absurd (omega arith))
-    run_sound (suc k) at h = step-sound at (in_class class (get_or s at 0)) refl (λ l. run_sound k (at + 1) (omega arith))
+    run_sound zero at h = step_sound at (in_class class (get_or s at 0)) refl (λ l. absurd (omega arith))
+    run_sound (suc k) at h = step_sound at (in_class class (get_or s at 0)) refl (λ l. run_sound k (at + 1) (omega arith))
 
     pub star_sound : (at n : ℕ) → past class s at ≡ n → Star (one s class) at n
     star_sound at n e = rw (← e) (run_sound (length s) at (omega arith))

@@ -1,7 +1,7 @@
 -- RFC 8259's ABNF, sections 2 to 7, rule by rule, with 01's limit of brackets and braces open at once. A rule holds of
--- two places in a text: what stands from the first up to the second matches it. Which bytes a terminal takes is json's
--- in_class, and is_unescaped for unescaped, functions both, and so is the byte at a place; all else here is a rule, with
--- no order of trial and no fuel.
+-- two places in a text: what stands from the first up to the second matches it. Which bytes a terminal takes is
+-- json_tree's in_class, and is_unescaped for unescaped, functions both, and so is the byte at a place; all else here is
+-- a rule, with no order of trial and no fuel.
 use Rattle.std.specs.Prelude.{ℕ, suc, ◌+◌, ◌<◌, ◌≡◌, ◌⊎◌, List, [], ◌∷◌, Bool, true, false, length, get_or}
 use Rattle.json_tree.specs.Grammar.{is_between, is_unescaped, in_class, false_name, null_name, true_name, close_of}
 use Rattle.json_tree.specs.Tree.{depth}

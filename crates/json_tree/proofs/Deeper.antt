@@ -29,9 +29,9 @@ abbrev pub Lacks : ℕ → Type 0
 Lacks b = (in_class (Byte 0x22) b ≡ false) × (in_class (Byte 0x2D) b ≡ false) × (in_class (Byte 0x30) b ≡ false) × (in_class Digit b ≡ false) × (in_class (Byte 0x66) b ≡ false) × (in_class (Byte 0x6E) b ≡ false) × (in_class (Byte 0x74) b ≡ false)
 
 module _ (s : List ℕ) where
-  no-scalar : (b at : ℕ) {m : ℕ} → one_at s (Byte b) at ≡ End m → Lacks b → scalar_at s at ≡ None
+  no_scalar : (b at : ℕ) {m : ℕ} → one_at s (Byte b) at ≡ End m → Lacks b → scalar_at s at ≡ None
   unfolding scalar_at string_at number_at int_at digits_at literal_at word_at
-  no-scalar b at e z =
+  no_scalar b at e z =
       simp (
         byte_not s b (Byte 0x22) at z.0 e,
         byte_not s b (Byte 0x2D) at z.1 e,
@@ -42,22 +42,22 @@ module _ (s : List ℕ) where
         byte_not s b (Byte 0x74) at z.6 e,
       )
 
-  leaf-starts : (at : ℕ) {t : Json} {n : ℕ} → on_leaf s at (scalar_at s at) ≡ got t n → start_at s at ≡ Leaf
+  leaf_starts : (at : ℕ) {t : Json} {n : ℕ} → on_leaf s at (scalar_at s at) ≡ got t n → start_at s at ≡ Leaf
   unfolding token_at in_class
-  leaf-starts at {t} {n} e = rw (bad 0x5B (refl, refl, refl, refl, refl, refl, refl), bad 0x7B (refl, refl, refl, refl, refl, refl, refl))
+  leaf_starts at {t} {n} e = rw (bad 0x5B (refl, refl, refl, refl, refl, refl, refl), bad 0x7B (refl, refl, refl, refl, refl, refl, refl))
     where
       bad : (b : ℕ) → Lacks b → one_at s (Byte b) at ≡ Bad
       bad b z = go (one_at s (Byte b) at) refl
         where
           go : (o : Out) → one_at s (Byte b) at ≡ o → o ≡ Bad
-          go (End m) q = got_none (sym (ap (on_leaf s at) (no-scalar b at q z)) ∙ e)
+          go (End m) q = got_none (sym (ap (on_leaf s at) (no_scalar b at q z)) ∙ e)
           go Bad q = refl
 
   module _ (U X : ℕ → Got Json) (up : (v : ℕ) (t : Json) (n : ℕ) → U v ≡ got t n → X v ≡ got t n) where
-    more-items : (named : Bool) (f i : ℕ) (ts : Items) (n : ℕ) → items_at U s named f i ≡ got ts n → items_at X s named f i ≡ got ts n
+    more_items : (named : Bool) (f i : ℕ) (ts : Items) (n : ℕ) → items_at U s named f i ≡ got ts n → items_at X s named f i ≡ got ts n
     unfolding items_at
-    more-items named zero i ts n e = got_none e
-    more-items named (suc f) i ts n e = head (head_at s i named) e (more-items named f)
+    more_items named zero i ts n e = got_none e
+    more_items named (suc f) i ts n e = head (head_at s i named) e (more_items named f)
       where
         rest : (x : Next) (v : ℕ) (t : Json) → ((j : ℕ) (us : Items) (m : ℕ) → items_at U s named f j ≡ got us m → items_at X s named f j ≡ got us m)
             → follow (item i v t) x (items_at U s named f) ≡ got ts n → follow (item i v t) x (items_at X s named f) ≡ got ts n
@@ -81,20 +81,20 @@ module _ (s : List ℕ) where
         head (End v) q ih = body v (U v) refl ih q
         head Bad q ih = got_none q
 
-    more-group : (at : ℕ) (t : Json) (n : ℕ) (r : Start) → group_at U s at r ≡ got t n → group_at X s at r ≡ got t n
-    more-group at t n Leaf e = e
-    more-group at t n (Empty m named) e = e
-    more-group at t n (Many first named) e = go (items_at U s named (length s) first) refl e
+    more_group : (at : ℕ) (t : Json) (n : ℕ) (r : Start) → group_at U s at r ≡ got t n → group_at X s at r ≡ got t n
+    more_group at t n Leaf e = e
+    more_group at t n (Empty m named) e = e
+    more_group at t n (Many first named) e = go (items_at U s named (length s) first) refl e
       where
         go : (g : Got Items) → items_at U s named (length s) first ≡ g → (bind g λ ts m. got (node named ts) m) ≡ got t n
             → (bind (items_at X s named (length s) first) λ ts m. got (node named ts) m) ≡ got t n
         go none p q = got_none q
-        go (got ts m) p q = rw (more-items named (length s) first ts m p) q
+        go (got ts m) p q = rw (more_items named (length s) first ts m p) q
 
   once : (d at : ℕ) (t : Json) (n : ℕ) → tree_at s d at ≡ got t n → tree_at s (suc d) at ≡ got t n
   unfolding tree_at
-  once zero at t n e = rw (leaf-starts at e) e
-  once (suc d) at t n e = more-group (tree_at s d) (tree_at s (suc d)) (once d) at t n (start_at s at) e
+  once zero at t n e = rw (leaf_starts at e) e
+  once (suc d) at t n e = more_group (tree_at s d) (tree_at s (suc d)) (once d) at t n (start_at s at) e
 
   pub deeper : (k d at : ℕ) (t : Json) (n : ℕ) → tree_at s d at ≡ got t n → tree_at s (k + d) at ≡ got t n
   deeper zero d at t n e = rw (zero-add d) e

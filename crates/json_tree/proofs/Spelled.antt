@@ -1,7 +1,7 @@
 -- A character is known by its bytes, so what stands between quotation marks is a spelling wherever it stands.
 use mathlib.Core.Path.{◌≡◌, refl, sym, ap, ◌∙◌}
 use mathlib.Core.List.{List}
-use mathlib.Core.Bool.{true, false}
+use mathlib.Core.Bool.{true}
 use Prim.Native.Nat.{ℕ, zero, suc, ◌+◌, ◌-◌, ◌<◌, ◌≤◌}
 use native.Mathlib.Decide.{dec_lt}
 use native.Mathlib.Omega.{arith}
@@ -82,39 +82,39 @@ module _ (s : List ℕ) where
 -- ---- the bytes of s from lo to hi stand in t, each at its place by g
 module _ (s t : List ℕ) (g : ℕ → ℕ) (lo hi : ℕ) (within : (x : ℕ) → lo ≤ x → x < hi → g x < length t)
     (same : (x : ℕ) → lo ≤ x → x < hi → get_or t (g x) 0 ≡ get_or s x 0) (step : (x : ℕ) → lo ≤ x → g x + 1 ≡ g (x + 1)) where
-  one-moved : (class : Class) (x m : ℕ) → lo ≤ x → m ≤ hi → one_at s class x ≡ End m → (one_at t class (g x) ≡ End (g m)) × (lo ≤ m)
-  one-moved class x m l h e =
+  one_moved : (class : Class) (x m : ℕ) → lo ≤ x → m ≤ hi → one_at s class x ≡ End m → (one_at t class (g x) ≡ End (g m)) × (lo ≤ m)
+  one_moved class x m l h e =
       let (q, w) = one_is s class x e in
       let k : x < hi = omega arith in
       let p : in_class class (get_or t (g x) 0) ≡ true = rw (same x l k) q in
       (one_of t class (g x) p ∙ ap End (step x l ∙ ap g w), omega arith)
 
-  char-moved : (x m : ℕ) → lo ≤ x → m ≤ hi → Char s x m → Char t (g x) (g m)
+  char_moved : (x m : ℕ) → lo ≤ x → m ≤ hi → Char s x m → Char t (g x) (g m)
   unfolding in_class
-  char-moved x m l h (plain w e) = let q = (one_is s Plain x e).1 in plain (within x l (omega arith)) (one-moved Plain x m l h e).0
-  char-moved x m l h (short {a = a} e f) =
+  char_moved x m l h (plain w e) = let q = (one_is s Plain x e).1 in plain (within x l (omega arith)) (one_moved Plain x m l h e).0
+  char_moved x m l h (short {a = a} e f) =
       let q = one_ends s Short a refl m f in
-      let (p, k) = one-moved (Byte 0x5C) x a l (omega arith) e in
-      short p (one-moved Short a m k h f).0
-  char-moved x m l h (code {a = a} {b = b} {c = c} {d = d} {e = e} i j k o q r) =
+      let (p, k) = one_moved (Byte 0x5C) x a l (omega arith) e in
+      short p (one_moved Short a m k h f).0
+  char_moved x m l h (code {a = a} {b = b} {c = c} {d = d} {e = e} i j k o q r) =
       let h₄ = one_ends s Hex e refl m r in
       let h₃ = one_ends s Hex d refl e q in
       let h₂ = one_ends s Hex c refl d o in
       let h₁ = one_ends s Hex b refl c k in
       let h₀ = one_ends s (Byte 0x75) a refl b j in
-      let (e₀, l₀) = one-moved (Byte 0x5C) x a l (omega arith) i in
-      let (e₁, l₁) = one-moved (Byte 0x75) a b l₀ (omega arith) j in
-      let (e₂, l₂) = one-moved Hex b c l₁ (omega arith) k in
-      let (e₃, l₃) = one-moved Hex c d l₂ (omega arith) o in
-      let (e₄, l₄) = one-moved Hex d e l₃ (omega arith) q in
-      code e₀ e₁ e₂ e₃ e₄ (one-moved Hex e m l₄ h r).0
+      let (e₀, l₀) = one_moved (Byte 0x5C) x a l (omega arith) i in
+      let (e₁, l₁) = one_moved (Byte 0x75) a b l₀ (omega arith) j in
+      let (e₂, l₂) = one_moved Hex b c l₁ (omega arith) k in
+      let (e₃, l₃) = one_moved Hex c d l₂ (omega arith) o in
+      let (e₄, l₄) = one_moved Hex d e l₃ (omega arith) q in
+      code e₀ e₁ e₂ e₃ e₄ (one_moved Hex e m l₄ h r).0
 
-  chars-moved : (x m : ℕ) → lo ≤ x → m ≤ hi → Chars s x m → Chars t (g x) (g m)
-  chars-moved x m l h stop = stop
-  chars-moved x m l h (more {m = k} c r) =
+  chars_moved : (x m : ℕ) → lo ≤ x → m ≤ hi → Chars s x m → Chars t (g x) (g m)
+  chars_moved x m l h stop = stop
+  chars_moved x m l h (more {m = k} c r) =
       let p = char_ends s x k (char_taken s x k c) in
       let q = chars_from_lem s k m r in
-      more (char-moved x k l (omega arith) c) (chars-moved k m (omega arith) h r)
+      more (char_moved x k l (omega arith) c) (chars_moved k m (omega arith) h r)
 
 -- ---- strings
 -- a string is a quotation mark, characters, and a quotation mark
@@ -158,4 +158,4 @@ string_spelled s at n e = eq-eqb _ _ (ap (chars_at p) zeroth ∙ sym (chars_take
     size = simp (length-take, length-drop) (omega (arith, ends))
 
     moved : Chars p (g (at + 1)) (g m)
-    moved = chars-moved s p g (at + 1) m (λ x l h. omega (arith, size)) same (λ x l. omega arith) (at + 1) m (omega arith) (omega arith) (chars_sound s (at + 1))
+    moved = chars_moved s p g (at + 1) m (λ x l h. omega (arith, size)) same (λ x l. omega arith) (at + 1) m (omega arith) (omega arith) (chars_sound s (at + 1))

@@ -67,14 +67,14 @@ turned (Done e) z d k = d e
 turned Wrong z d k = z
 
 module _ {A B : Type 0} {W : A → Got Items → B} {f : A → ℕ → ℕ → Json → A} {z : B} {h : A → ℕ → B} (view : View W f z h) (a : A) where
-  view-follow : (p v : ℕ) (t : Json) (x : Next) (k : ℕ → Got Items) → W a (follow (item p v t) x k) ≡ turned x z (h (f a p v t)) (λ j. W (f a p v t) (k j))
-  view-follow p v t (More j) k = go (k j)
+  view_follow : (p v : ℕ) (t : Json) (x : Next) (k : ℕ → Got Items) → W a (follow (item p v t) x k) ≡ turned x z (h (f a p v t)) (λ j. W (f a p v t) (k j))
+  view_follow p v t (More j) k = go (k j)
     where
       go : (g : Got Items) → W a (bind g λ ts m. got (item p v t ts) m) ≡ W (f a p v t) g
       go none = view.on_none a ∙ sym (view.on_none (f a p v t))
       go (got ts m) = view.on_item a p v t ts m
-  view-follow p v t (Done e) k = view.on_item a p v t nil e ∙ view.on_nil (f a p v t) e
-  view-follow p v t Wrong k = view.on_none a
+  view_follow p v t (Done e) k = view.on_item a p v t nil e ∙ view.on_nil (f a p v t) e
+  view_follow p v t Wrong k = view.on_none a
 
   module _ (value : ℕ → Got Json) (s : List ℕ) (named : Bool) (k i : ℕ) where
     pub view_gone : length s ≤ k → W a (items_at value s named (length s - k) i) ≡ z
@@ -101,7 +101,7 @@ module _ {A B : Type 0} {W : A → Got Items → B} {f : A → ℕ → ℕ → J
         go (got t m) q r =
             let c : m ≡ n = cc in
             let q' : value v ≡ got t n = rw c at q in
-            rw (made t q') (ap (W a) (items_are value s named k i v n t x l e q' y) ∙ view-follow i v t x (items_at value s named (length s - (k + 1))))
+            rw (made t q') (ap (W a) (items_are value s named k i v n t x l e q' y) ∙ view_follow i v t x (items_at value s named (length s - (k + 1))))
 
 -- ---- a left fold over the items
 abbrev pub fold_to : {A B : Type 0} → (A → ℕ → ℕ → Json → A) → B → (A → ℕ → B) → A → Got Items → B

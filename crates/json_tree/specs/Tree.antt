@@ -1,6 +1,6 @@
 -- RFC 8259, sections 2 to 5: a text read into a tree, whose leaves are places in the text, each a start and a length.
 -- Every later rule is defined on the tree.
-use Rattle.std.specs.Prelude.{ℕ, zero, suc, ◌+◌, ◌-◌, List, Bool, true, false, not, ◌&&◌, length, eqb}
+use Rattle.std.specs.Prelude.{ℕ, zero, suc, ◌+◌, ◌-◌, Bool, true, false, not, ◌&&◌, length, eqb}
 use Rattle.json_tree.specs.declared.Out.{Out}
 use Rattle.json_tree.specs.declared.Out.TheVariants.{End, Bad}
 use Rattle.json_tree.specs.declared.Kind.{Kind}

@@ -1,6 +1,8 @@
 // RFC 8259's grammar by recursive descent, with at most DEPTH brackets and braces open at once (01, row 3), and the
 // calls by which a text is walked. A place may be any number: past the end stands 0, which no rule takes but a string's
 // characters, and these test the end.
+#![tactic(auto)]
+
 ghost use Rattle.std.specs.Prelude.{◌≡◌, ◌<◌};
 ghost use Rattle.json_tree.specs.Grammar.{is_between, ws_at, string_at, is_spelling, scalar_at, close_of, opened_at, start_at};
 ghost use Rattle.json_tree.specs.Grammar.{head_at, next_at};
@@ -14,7 +16,7 @@ pub const DEPTH: usize = 8;
 
 // The classes of bytes that the rules name; `Byte` is one byte. Public for the proofs of other crates: no call takes
 // one.
-#[derive(Drop)]
+#[derive(Clone, Copy)]
 pub enum Class {
     Space,
     Digit,
@@ -27,7 +29,7 @@ pub enum Class {
 }
 
 // The place after a part of the text, or that no such part stands there.
-#[derive(Drop)]
+#[derive(Clone, Copy)]
 pub enum Out {
     End(usize),
     Bad,
@@ -65,7 +67,7 @@ pub fn spelling(p: &[u8]) -> bool
 }
 
 // A value that holds no value: its kind and the place after it.
-#[derive(Drop)]
+#[derive(Clone, Copy)]
 pub enum Kind {
     Str(usize),
     Num(usize),
@@ -103,7 +105,7 @@ fn leaf(s: &[u8], at: usize) -> Out
 
 // What begins at a place: a value that holds none; brackets or braces (true) around nothing, and the place after them;
 // or brackets or braces around items, and the place of the first.
-#[derive(Drop)]
+#[derive(Clone, Copy)]
 pub enum Start {
     Leaf,
     Empty(usize, bool),
@@ -155,7 +157,7 @@ pub fn head(s: &[u8], at: usize, named: bool) -> Out
 }
 
 // After an item: another one's place, or the place after what closes, or neither.
-#[derive(Drop)]
+#[derive(Clone, Copy)]
 pub enum Next {
     More(usize),
     Done(usize),

@@ -10,11 +10,11 @@ use lib.IntN.{ℤ, pos, negsuc}
 use lib.ListN.{replicate}
 use Rattle.law.specs.Lists.{◌∈◌}
 use Rattle.law.specs.Table.{Class, ephemeral, regular, keyed, Events, Laws}
-use Rattle.law.specs.Table.{Verdict, refused, wasEphemeral, duplicate, older, stored, noRoom}
-use Rattle.law.specs.Table.{Table, Offer, verdict, after, Valid, Held, IdPremise, Settled, slotsNeeded}
+use Rattle.law.specs.Table.{Verdict, refused, was_ephemeral, duplicate, older, stored, no_room}
+use Rattle.law.specs.Table.{Table, Offer, verdict, after, Valid, Held, IdPremise, Settled, slots_needed}
 use Rattle.wire.specs.Bytes.{same_bytes}
 use Rattle.law.specs.Event.{Event, newer, events}
-use Rattle.law.specs.Signature.{withSignature}
+use Rattle.law.specs.Signature.{with_signature}
 use Rattle.law.specs.Demand3.{Machine, Demand3On, ExchangesOn}
 use Rattle.law.proofs.Run.{run, verdicts, lacks}
 use Rattle.law.proofs.Relays.{Relay, moment, end, Tells, Exchange, both, Fits}
@@ -92,14 +92,14 @@ answers =
     ∷ refused
     ∷ stored
     ∷ duplicate
-    ∷ wasEphemeral
+    ∷ was_ephemeral
     ∷ older
     ∷ stored
     ∷ older
     ∷ older
     ∷ stored
-    ∷ noRoom
-    ∷ noRoom
+    ∷ no_room
+    ∷ no_room
     ∷ duplicate
     ∷ []
 
@@ -112,7 +112,7 @@ unfolding run after verdict same_bytes
 kept = refl
 
 -- they need four slots: three are too few, and four are enough
-needed : slotsNeeded Toy offers ≡ 4
+needed : slots_needed Toy offers ≡ 4
 unfolding same_bytes
 needed = refl
 
@@ -144,16 +144,16 @@ module _ (E : Events) where
       of (a, m, q) = let p : e ≡ a = cc in Memᴰ.cast p m
 
   module _ (N M : ℕ) (H K : List (Offer E)) where
-    abbrev relayA : Relay E
-    relayA = record { capacity = N; history = H; early = map some (run E M [] K); late = [] }
+    abbrev relay_a : Relay E
+    relay_a = record { capacity = N; history = H; early = map some (run E M [] K); late = [] }
 
-    abbrev relayB : Relay E
-    relayB = record { capacity = M; history = K; early = []; late = map some (moment E relayA) }
+    abbrev relay_b : Relay E
+    relay_b = record { capacity = M; history = K; early = []; late = map some (moment E relay_a) }
 
-    exchange : Exchange E relayA relayB
+    exchange : Exchange E relay_a relay_b
     exchange = record {
       to_A = λ e. rw (append-nil K, append-nil (map some (run E M [] K))) (all_told (run E M [] K) e);
-      to_B = all_told (moment E relayA);
+      to_B = all_told (moment E relay_a);
       at_an_end = inr refl;
     }
 
@@ -164,11 +164,11 @@ history_a = tile 5 3 4 ∷ note 1 ∷ []
 abbrev history_b : List (Offer Toy)
 history_b = note 2 ∷ tile 6 4 4 ∷ []
 
-example_A : end Toy (relayA Toy 4 4 history_a history_b) ≡ event 6 (1 ∷ 4 ∷ 4 ∷ []) ∷ event 1 (0 ∷ []) ∷ event 2 (0 ∷ []) ∷ []
+example_A : end Toy (relay_a Toy 4 4 history_a history_b) ≡ event 6 (1 ∷ 4 ∷ 4 ∷ []) ∷ event 1 (0 ∷ []) ∷ event 2 (0 ∷ []) ∷ []
 unfolding run after verdict same_bytes
 example_A = refl
 
-example_B : end Toy (relayB Toy 4 4 history_a history_b) ≡ event 2 (0 ∷ []) ∷ event 6 (1 ∷ 4 ∷ 4 ∷ []) ∷ event 1 (0 ∷ []) ∷ []
+example_B : end Toy (relay_b Toy 4 4 history_a history_b) ≡ event 2 (0 ∷ []) ∷ event 6 (1 ∷ 4 ∷ 4 ∷ []) ∷ event 1 (0 ∷ []) ∷ []
 unfolding run after verdict same_bytes
 example_B = refl
 
@@ -196,16 +196,16 @@ an_end_is_needed agree =
 module _ (E : Events) (Sig : Type 0) where
   pub record Listed : Type 0 where
     pub capacity : ℕ
-    pub held : Table (withSignature E Sig)
+    pub held : Table (with_signature E Sig)
 
   abbrev model : Machine E Sig
   model = record {
     State = Listed;
-    Offering = Offer (withSignature E Sig);
+    Offering = Offer (with_signature E Sig);
     Answer = Verdict;
     Fresh = λ b. b.held ≡ [];
-    answer = λ b o. verdict (withSignature E Sig) b.capacity b.held o;
-    next = λ b o. record { capacity = b.capacity; held = after (withSignature E Sig) b.capacity b.held o };
+    answer = λ b o. verdict (with_signature E Sig) b.capacity b.held o;
+    next = λ b o. record { capacity = b.capacity; held = after (with_signature E Sig) b.capacity b.held o };
     verdict_of = λ v. v;
     capacity = λ b. b.capacity;
     slots = λ b. b.held;
@@ -213,11 +213,11 @@ module _ (E : Events) (Sig : Type 0) where
     AsParts = λ o s. o ≡ some s;
   }
 
-  abbrev any-table : Listed → Type 0
-  any-table b = Unit {0}
+  abbrev any_table : Listed → Type 0
+  any_table b = Unit {0}
 
-  model-faithful : Faithful E Sig model any-table
-  model-faithful = record {
+  model_faithful : Faithful E Sig model any_table
+  model_faithful = record {
     fresh = λ b f. tt;
     empty = λ b f. f;
     good = λ b o g. tt;
@@ -226,8 +226,8 @@ module _ (E : Events) (Sig : Type 0) where
     does = λ b o g. refl;
   }
 
-  model-meets : Laws E → Demand3On E Sig model
-  model-meets L = demand_3_on E Sig model any-table model-faithful L (λ b o s g m p. p)
+  model_meets : Laws E → Demand3On E Sig model
+  model_meets L = demand_3_on E Sig model any_table model_faithful L (λ b o s g m p. p)
 
-  model-exchanges : ExchangesOn E Sig model
-  model-exchanges = exchanges_on E Sig model any-table model-faithful (λ b s g m. (some s, refl))
+  model_exchanges : ExchangesOn E Sig model
+  model_exchanges = exchanges_on E Sig model any_table model_faithful (λ b s g m. (some s, refl))

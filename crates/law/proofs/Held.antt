@@ -11,7 +11,7 @@ use lib.Dec.{T, T_not}
 use Rattle.law.specs.Lists.{◌∈◌, any, store, Once}
 use Rattle.law.specs.Table.{Class, ephemeral, regular, keyed, Events, Laws, is_ephemeral, share_key, is_stored}
 use Rattle.law.specs.Table.{first_verdict}
-use Rattle.law.specs.Table.{Table, Offer, has_id, has_key, hasKeyNewer, Valid, IdPremise, WinsAs, Wins}
+use Rattle.law.specs.Table.{Table, Offer, has_id, has_key, has_key_newer, Valid, IdPremise, WinsAs, Wins}
 use Rattle.law.proofs.Lists.{either, and_both, and_left, and_right, any_yes, any_no, once_same}
 use Rattle.law.proofs.Lists.{store_in, store_keeps, store_from, store_pairwise}
 
@@ -32,30 +32,30 @@ module _ (E : Events) (L : Laws E) where
   abbrev pub place : Event → Place Id Key
   place e = place_of (id_of e) (class_of e)
 
-  key-place : (i j : Id) (c d : Class Key) → T (share_key same_key c d) → place_of i c ≡ place_of j d
-  key-place i j ephemeral d t = absurd t
-  key-place i j regular d t = absurd t
-  key-place i j (keyed k) ephemeral t = absurd t
-  key-place i j (keyed k) regular t = absurd t
-  key-place i j (keyed k) (keyed m) t = ap shared ((key_eq k m).0 t)
+  key_place : (i j : Id) (c d : Class Key) → T (share_key same_key c d) → place_of i c ≡ place_of j d
+  key_place i j ephemeral d t = absurd t
+  key_place i j regular d t = absurd t
+  key_place i j (keyed k) ephemeral t = absurd t
+  key_place i j (keyed k) regular t = absurd t
+  key_place i j (keyed k) (keyed m) t = ap shared ((key_eq k m).0 t)
 
-  place-key : (i j : Id) (c d : Class Key) → place_of i c ≡ place_of j d → (i ≡ j) ⊎ T (share_key same_key c d)
-  place-key i j ephemeral ephemeral p = inl cc
-  place-key i j ephemeral regular p = inl cc
-  place-key i j ephemeral (keyed m) p = inl cc
-  place-key i j regular ephemeral p = inl cc
-  place-key i j regular regular p = inl cc
-  place-key i j regular (keyed m) p = inl cc
-  place-key i j (keyed k) ephemeral p = inl cc
-  place-key i j (keyed k) regular p = inl cc
-  place-key i j (keyed k) (keyed m) p = inr ((key_eq k m).1 cc)
+  place_key : (i j : Id) (c d : Class Key) → place_of i c ≡ place_of j d → (i ≡ j) ⊎ T (share_key same_key c d)
+  place_key i j ephemeral ephemeral p = inl cc
+  place_key i j ephemeral regular p = inl cc
+  place_key i j ephemeral (keyed m) p = inl cc
+  place_key i j regular ephemeral p = inl cc
+  place_key i j regular regular p = inl cc
+  place_key i j regular (keyed m) p = inl cc
+  place_key i j (keyed k) ephemeral p = inl cc
+  place_key i j (keyed k) regular p = inl cc
+  place_key i j (keyed k) (keyed m) p = inr ((key_eq k m).1 cc)
 
   -- one key, one place; and events of one place have one id or one key
   pub key_shares : (e h : Event) → T (has_key E e h) → place h ≡ place e
-  key_shares e h t = key-place (id_of h) (id_of e) (class_of h) (class_of e) t
+  key_shares e h t = key_place (id_of h) (id_of e) (class_of h) (class_of e) t
 
   pub place_shares : (e h : Event) → place h ≡ place e → (id_of h ≡ id_of e) ⊎ T (has_key E e h)
-  place_shares e h p = place-key (id_of h) (id_of e) (class_of h) (class_of e) p
+  place_shares e h p = place_key (id_of h) (id_of e) (class_of h) (class_of e) p
 
   -- a is b, or stands at the place of b and is newer
   abbrev pub Beats : Event → Event → Type 0
@@ -75,25 +75,25 @@ module _ (E : Events) (L : Laws E) where
   -- ---- a stored event
 
   -- e is stored: no held event has its id, and none with its key is newer
-  module _ (e : Event) (t : Table E) (no_id : T (not (any (has_id E e) t))) (noNewer : T (not (any (hasKeyNewer E e) t))) where
+  module _ (e : Event) (t : Table E) (no_id : T (not (any (has_id E e) t))) (noNewer : T (not (any (has_key_newer E e) t))) where
     pub other_id : (x : Event) → x ∈ t → id_of x ≢ id_of e
     other_id x m q = any_no (has_id E e) m no_id ((id_eq (id_of x) (id_of e)).1 q)
 
-    beats-replaced : (u : Event) → u ∈ t → T (has_key E e u) → Beats e u
-    beats-replaced u m h = (sym (key_shares e u h), inr (⊎_elim (λ n. absurd (not-newer n)) (λ n. n) (total u e (other_id u m))))
+    beats_replaced : (u : Event) → u ∈ t → T (has_key E e u) → Beats e u
+    beats_replaced u m h = (sym (key_shares e u h), inr (⊎_elim (λ n. absurd (not_newer n)) (λ n. n) (total u e (other_id u m))))
       where
-        not-newer : T (newer u e) → ⊥
-        not-newer n = any_no (hasKeyNewer E e) m noNewer (and_both (has_key E e u) (newer u e) h n)
+        not_newer : T (newer u e) → ⊥
+        not_newer n = any_no (has_key_newer E e) m noNewer (and_both (has_key E e u) (newer u e) h n)
 
     pub store_covers : (s : Event) → Covered s t → Covered s (store (has_key E e) e t)
     store_covers s (u, m, b) = go (either (has_key E e u))
       where
         go : T (has_key E e u) ⊎ T (not (has_key E e u)) → Covered s (store (has_key E e) e t)
-        go (inl h) = (e, store_in (has_key E e) e t, beats_trans e u s (beats-replaced u m h) b)
+        go (inl h) = (e, store_in (has_key E e) e t, beats_trans e u s (beats_replaced u m h) b)
         go (inr h) = (u, store_keeps (has_key E e) e m (T_not (has_key E e u) h), b)
 
-    store-once : Once place t → Once place (store (has_key E e) e t)
-    store-once o = store_pairwise (has_key E e) e (λ x y. place x ≢ place y) t
+    store_once : Once place t → Once place (store (has_key E e) e t)
+    store_once o = store_pairwise (has_key E e) e (λ x y. place x ≢ place y) t
         (λ x y m k h ne q. ne (key_shares e x h ∙ q))
         (λ x m nk p. ⊎_elim (other_id x m) nk (place_shares e x p)) o
 
@@ -122,7 +122,7 @@ module _ (E : Events) (L : Laws E) where
   abbrev pub put : Table E → Offer E → Table E
   put t none = t
   put t (some e) =
-      cond (is_stored (first_verdict (is_ephemeral (class_of e)) (any (has_id E e) t) (any (hasKeyNewer E e) t) false)) (store (has_key E e) e t) t
+      cond (is_stored (first_verdict (is_ephemeral (class_of e)) (any (has_id E e) t) (any (has_key_newer E e) t) false)) (store (has_key E e) e t) t
 
   abbrev pub PutsOf : Table E → List (Offer E) → Table E
   PutsOf t [] = t
@@ -140,21 +140,21 @@ module _ (E : Events) (L : Laws E) where
 
     -- the next offer is stored
     add : (e : Event) (rest : List (Offer E)) (t : Table E) → S e → Lasting e
-        → T (not (any (has_id E e) t)) → T (not (any (hasKeyNewer E e) t))
+        → T (not (any (has_id E e) t)) → T (not (any (has_key_newer E e) t))
         → Right S (some e ∷ rest) t → Right S rest (store (has_key E e) e t)
     add e rest t se le no_id noNewer r = record {
       from = λ x m. ⊎_elim (λ q. rw q (se, le)) (r.from x) (store_from (has_key E e) e t m);
       best = λ s ss st. ⊎_elim (λ v. ⊎_elim (itself s) inl (valid_cases v)) (λ c. inr (store_covers e t no_id noNewer s c)) (r.best s ss st);
-      once = store-once e t no_id noNewer r.once;
+      once = store_once e t no_id noNewer r.once;
     }
       where
         itself : (s : Event) → s ≡ e → Valid E s rest ⊎ Covered s (store (has_key E e) e t)
         itself s q = inr (e, store_in (has_key E e) e t, (ap place (sym q), inl (sym q)))
 
     step : (e : Event) (rest : List (Offer E)) (t : Table E) → S e → Right S (some e ∷ rest) t → Right S rest (put t (some e))
-    step e rest t se r = go (is_ephemeral (class_of e)) (any (has_id E e) t) (any (hasKeyNewer E e) t) refl refl refl
+    step e rest t se r = go (is_ephemeral (class_of e)) (any (has_id E e) t) (any (has_key_newer E e) t) refl refl refl
       where
-        go : (a b c : Bool) → is_ephemeral (class_of e) ≡ a → any (has_id E e) t ≡ b → any (hasKeyNewer E e) t ≡ c
+        go : (a b c : Bool) → is_ephemeral (class_of e) ≡ a → any (has_id E e) t ≡ b → any (has_key_newer E e) t ≡ c
             → Right S rest (cond (is_stored (first_verdict a b c false)) (store (has_key E e) e t) t)
         go true b c p q n = keep e rest t r (λ st. absurd (rw p at st))
         go false true c p q n =
@@ -162,7 +162,7 @@ module _ (E : Events) (L : Laws E) where
             let same = ids u e (r.from u m).0 se ((id_eq (id_of u) (id_of e)).0 h) in
             keep e rest t r (λ st. (u, m, (ap place same, inl same)))
         go false false true p q n =
-            let (u, m, h) = any_yes (hasKeyNewer E e) t (rw n tt) in
+            let (u, m, h) = any_yes (has_key_newer E e) t (rw n tt) in
             let beats : Beats u e = (key_shares e u (and_left (has_key E e u) (newer u e) h), inr (and_right (has_key E e u) (newer u e) h)) in
             keep e rest t r (λ st. (u, m, beats))
         go false false false p q n = add e rest t se (rw p tt) (rw q tt) (rw n tt) r
@@ -186,20 +186,20 @@ module _ (E : Events) (L : Laws E) where
 
   -- ---- what is held
 
-  regular-no-key : (c : Class Key) → T (share_key same_key c regular) → ⊥
-  regular-no-key ephemeral t = t
-  regular-no-key regular t = t
-  regular-no-key (keyed k) t = t
+  regular_no_key : (c : Class Key) → T (share_key same_key c regular) → ⊥
+  regular_no_key ephemeral t = t
+  regular_no_key regular t = t
+  regular_no_key (keyed k) t = t
 
-  key-keyed : (c : Class Key) (k : Key) → T (share_key same_key c (keyed k)) → c ≡ keyed k
-  key-keyed ephemeral k t = absurd t
-  key-keyed regular k t = absurd t
-  key-keyed (keyed m) k t = ap keyed ((key_eq m k).0 t)
+  key_keyed : (c : Class Key) (k : Key) → T (share_key same_key c (keyed k)) → c ≡ keyed k
+  key_keyed ephemeral k t = absurd t
+  key_keyed regular k t = absurd t
+  key_keyed (keyed m) k t = ap keyed ((key_eq m k).0 t)
 
-  wins-lasts : (c : Class Key) (e : Event) (os : List (Offer E)) → WinsAs E c e os → T (not (is_ephemeral c))
-  wins-lasts ephemeral e os w = absurd w
-  wins-lasts regular e os w = tt
-  wins-lasts (keyed k) e os w = tt
+  wins_lasts : (c : Class Key) (e : Event) (os : List (Offer E)) → WinsAs E c e os → T (not (is_ephemeral c))
+  wins_lasts ephemeral e os w = absurd w
+  wins_lasts regular e os w = tt
+  wins_lasts (keyed k) e os w = tt
 
   module _ (os : List (Offer E)) (ids : IdPremise E os) (t : Table E) (r : Right (λ e. Valid E e os) [] t) where
     pub held_wins : (e : Event) → e ∈ t → Wins E e os
@@ -217,13 +217,13 @@ module _ (E : Events) (L : Laws E) where
     unbeaten : (e u : Event) → Valid E e os → (c : Class Key) → class_of e ≡ c → WinsAs E c e os
         → u ∈ t → T (has_key E e u) → T (newer u e) → ⊥
     unbeaten e u v ephemeral p w m k n = w
-    unbeaten e u v regular p w m k n = regular-no-key (class_of u) (rw p at k)
+    unbeaten e u v regular p w m k n = regular_no_key (class_of u) (rw p at k)
     unbeaten e u v (keyed x) p w m k n =
-        let back : T (newer e u) = w u (r.from u m).0 (key-keyed (class_of u) x (rw p at k)) (λ i. irreflexive u (rw (← i) at n)) in
+        let back : T (newer e u) = w u (r.from u m).0 (key_keyed (class_of u) x (rw p at k)) (λ i. irreflexive u (rw (← i) at n)) in
         irreflexive u (transitive u e u n back)
 
     pub wins_held : (e : Event) → Wins E e os → e ∈ t
-    wins_held e (v, w) = go (covers r e v (wins-lasts (class_of e) e os w))
+    wins_held e (v, w) = go (covers r e v (wins_lasts (class_of e) e os w))
       where
         go : Covered e t → e ∈ t
         go (u, m, (q, inl i)) = Memᴰ.cast (sym i) m

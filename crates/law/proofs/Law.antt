@@ -8,7 +8,7 @@ use native.Mathlib.Omega.{arith}
 use lib.Dec.{T}
 use lib.ListN.{length}
 use Rattle.law.specs.Table.{Class, ephemeral, regular, keyed, Events, Laws, Table, Offer}
-use Rattle.law.specs.Table.{Valid, IdPremise, WinsAs, Wins, SameValid, SameHeld, Settled, slotsNeeded}
+use Rattle.law.specs.Table.{Valid, IdPremise, WinsAs, Wins, SameValid, SameHeld, Settled, slots_needed}
 use Rattle.law.proofs.Run.{run, lacks, NoneLacks}
 use Rattle.law.proofs.Lists.{once_weaker, same_length}
 use Rattle.law.proofs.Held.{place, beats_trans, Right, covers, PutsOf, right, held_wins, wins_held}
@@ -31,7 +31,7 @@ module _ (E : Events) (L : Laws E) where
   settled_length t u os s r = same_length t u s.once r.once (settled_same t u os s r)
 
   -- and these are as many as the valid events need
-  pub settled_count : (t : Table E) (os : List (Offer E)) → IdPremise E os → Settled E t os → length t ≡ slotsNeeded E os
+  pub settled_count : (t : Table E) (os : List (Offer E)) → IdPremise E os → Settled E t os → length t ≡ slots_needed E os
   settled_count t os ids s =
       settled_length t (PutsOf E L [] os) os s (settled os ids (PutsOf E L [] os) (right E L os ids)) ∙ puts_count E L os ids
 
@@ -67,7 +67,7 @@ module _ (E : Events) (L : Laws E) where
         once = r.once;
       }
 
-  pub enough_count : (os ps : List (Offer E)) → IdPremise E ps → Enough os ps → length (PutsOf E L [] os) ≡ slotsNeeded E ps
+  pub enough_count : (os ps : List (Offer E)) → IdPremise E ps → Enough os ps → length (PutsOf E L [] os) ≡ slots_needed E ps
   enough_count os ps ids n = right_count E L ps (PutsOf E L [] os) (enough_right os ps ids n)
 
   pub enough_itself : (os : List (Offer E)) → Enough os os
@@ -99,5 +99,5 @@ module _ (E : Events) (L : Laws E) where
       let s = enough_law M ps os ids n fit' in
       (fit', settled_same (run E M [] ps) (run E N [] os) os s r, settled_length (run E M [] ps) (run E N [] os) os s r)
 
-  pub room_law : (N : ℕ) (os : List (Offer E)) → IdPremise E os → T (lacks E N [] os) ↔ (N < slotsNeeded E os)
+  pub room_law : (N : ℕ) (os : List (Offer E)) → IdPremise E os → T (lacks E N [] os) ↔ (N < slots_needed E os)
   room_law N os ids = rw (puts_count E L os ids) at (lacks_long E L N os)

@@ -171,10 +171,10 @@ module _ {A : Type 0} where
   without (Memᴰ.head {xs = ys} e) = ys
   without (Memᴰ.tail {x = y} m) = y ∷ without m
 
-  without-length : {x : A} {xs : List A} (m : x ∈ xs) → length xs ≡ suc (length (without m))
+  without_length : {x : A} {xs : List A} (m : x ∈ xs) → length xs ≡ suc (length (without m))
   unfolding without
-  without-length (Memᴰ.head e) = refl
-  without-length (Memᴰ.tail m) = ap suc (without-length m)
+  without_length (Memᴰ.head e) = refl
+  without_length (Memᴰ.tail m) = ap suc (without_length m)
 
   without_from : {x y : A} {xs : List A} (m : x ∈ xs) → y ∈ without m → y ∈ xs
   unfolding without
@@ -182,17 +182,17 @@ module _ {A : Type 0} where
   without_from (Memᴰ.tail m) k =
       ⊎_elim (λ e. Memᴰ.head e) (λ j. Memᴰ.tail (without_from m j)) (Memᴰ.cases_cons k)
 
-  without-keeps : {x y : A} {xs : List A} (m : x ∈ xs) → y ∈ xs → y ≢ x → y ∈ without m
+  without_keeps : {x y : A} {xs : List A} (m : x ∈ xs) → y ∈ xs → y ≢ x → y ∈ without m
   unfolding without
-  without-keeps (Memᴰ.head e) k ne = ⊎_elim (λ q. absurd (ne (q ∙ sym e))) (λ j. j) (Memᴰ.cases_cons k)
-  without-keeps (Memᴰ.tail m) k ne =
-      ⊎_elim (λ q. Memᴰ.head q) (λ j. Memᴰ.tail (without-keeps m j ne)) (Memᴰ.cases_cons k)
+  without_keeps (Memᴰ.head e) k ne = ⊎_elim (λ q. absurd (ne (q ∙ sym e))) (λ j. j) (Memᴰ.cases_cons k)
+  without_keeps (Memᴰ.tail m) k ne =
+      ⊎_elim (λ q. Memᴰ.head q) (λ j. Memᴰ.tail (without_keeps m j ne)) (Memᴰ.cases_cons k)
 
   module _ {B : Type 0} (f : A → B) where
-    without-once : {x : A} {xs : List A} (m : x ∈ xs) → Once f xs → Once f (without m)
+    without_once : {x : A} {xs : List A} (m : x ∈ xs) → Once f xs → Once f (without m)
     unfolding without
-    without-once (Memᴰ.head e) o = o.1
-    without-once (Memᴰ.tail m) o = (λ y k. o.0 y (without_from m k), without-once m o.1)
+    without_once (Memᴰ.head e) o = o.1
+    without_once (Memᴰ.tail m) o = (λ y k. o.0 y (without_from m k), without_once m o.1)
 
     without_other : {x : A} {xs : List A} (m : x ∈ xs) → Once f xs → (y : A) → y ∈ without m → f y ≢ f x
     unfolding without
@@ -207,11 +207,11 @@ module _ {A : Type 0} where
   same_length [] (y ∷ ys) o r same = absurd (Memᴰ.not-nil ((same y).1 (Memᴰ.head refl)))
   same_length (x ∷ xs) ys o r same =
       let m = (same x).0 (Memᴰ.head refl) in
-      ap suc (same_length xs (without m) o.1 (without-once (λ x. x) m r) (λ y. (
-        λ k. without-keeps m ((same y).0 (Memᴰ.tail k)) (λ q. o.0 y k (sym q)),
+      ap suc (same_length xs (without m) o.1 (without_once (λ x. x) m r) (λ y. (
+        λ k. without_keeps m ((same y).0 (Memᴰ.tail k)) (λ q. o.0 y k (sym q)),
         λ k. ⊎_elim (λ q. absurd (without_other (λ x. x) m r y k q)) (λ j. j) (Memᴰ.cases_cons ((same y).1 (without_from m k))),
       )))
-      ∙ sym (without-length m)
+      ∙ sym (without_length m)
 
 -- ---- the count of different entries
 
@@ -238,7 +238,7 @@ module _ {A B : Type 0} (f : A → B) (same : B → B → Bool) (eq : (a b : B) 
           ih xs o (λ x m. ⊎_elim (λ e. Memᴰ.cast (e ∙ (eq y z).0 q) k) (λ j. j) (Memᴰ.cases_cons (to x m))) (λ z m. from z (Memᴰ.tail m))
       go false again all ih =
           let (x₀, m₀, p₀) = from y (Memᴰ.head refl) in
-          without-length m₀ ∙ ap suc (ih (without m₀) (without-once f m₀ o)
+          without_length m₀ ∙ ap suc (ih (without m₀) (without_once f m₀ o)
           (λ x m. ⊎_elim (λ e. absurd (without_other f m₀ o x m (e ∙ sym p₀))) (λ j. j) (Memᴰ.cases_cons (to x (without_from m₀ m))))
           (λ z m. let (x, k, p) = from z (Memᴰ.tail m) in
-          (x, without-keeps m₀ k (λ q. all (any_has (same y) m ((eq y z).1 (sym p₀ ∙ ap f (sym q) ∙ p)))), p)))
+          (x, without_keeps m₀ k (λ q. all (any_has (same y) m ((eq y z).1 (sym p₀ ∙ ap f (sym q) ∙ p)))), p)))

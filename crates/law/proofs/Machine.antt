@@ -11,11 +11,11 @@ use lib.Dec.{T}
 use lib.ListN.{length, length-map}
 use Rattle.law.specs.Lists.{◌∈◌}
 use Rattle.law.specs.Table.{Events, Laws, is_no_room, Offer, verdict, after, Valid, Held, IdPremise, Settled}
-use Rattle.law.specs.Signature.{Slot, withSignature, event, withoutSignature}
-use Rattle.law.specs.Demand3.{Machine, view, judged, runOn, answersOn, lacksOn, NoneLacksOn}
+use Rattle.law.specs.Signature.{Slot, with_signature, event, without_signature}
+use Rattle.law.specs.Demand3.{Machine, view, judged, run_on, answers_on, lacks_on, NoneLacksOn}
 use Rattle.law.specs.Demand3.{HeldSetOn, BeginningsOn, OrderFreeOn, RoomLawOn, StoredBy, SignatureStoredOn}
 use Rattle.law.specs.Demand3.{SignatureStaysOn}
-use Rattle.law.specs.Demand3.{RelayOn, toldOn, momentOn, endOn, FitsOn, TellsOn, ExchangeOn}
+use Rattle.law.specs.Demand3.{RelayOn, told_on, moment_on, end_on, FitsOn, TellsOn, ExchangeOn}
 use Rattle.law.specs.Demand3.{RelaysAgreeOn, RelaysFitOn, ExchangesOn, Demand3On}
 use Rattle.law.proofs.Run.{run, verdicts, lacks}
 use Rattle.law.proofs.Sound.{StoredIn, run_from}
@@ -35,8 +35,8 @@ module _ (E : Events) (Sig : Type 0) (M : Machine E Sig) where
     pub empty : (b : State) → Fresh b → slots b ≡ []
     pub good : (b : State) (o : Offering) → Good b → Good (next b o)
     pub keeps : (b : State) (o : Offering) → Good b → capacity (next b o) ≡ capacity b
-    pub says : (b : State) (o : Offering) → Good b → verdict_of (answer b o) ≡ verdict (withSignature E Sig) (capacity b) (slots b) (judge o)
-    pub does : (b : State) (o : Offering) → Good b → slots (next b o) ≡ after (withSignature E Sig) (capacity b) (slots b) (judge o)
+    pub says : (b : State) (o : Offering) → Good b → verdict_of (answer b o) ≡ verdict (with_signature E Sig) (capacity b) (slots b) (judge o)
+    pub does : (b : State) (o : Offering) → Good b → slots (next b o) ≡ after (with_signature E Sig) (capacity b) (slots b) (judge o)
 
   -- a held slot that is offered as parts passes rows 1 to 10 again
   abbrev pub Passes : (State → Type 0) → Type 0
@@ -52,87 +52,87 @@ module _ (E : Events) (Sig : Type 0) (M : Machine E Sig) (Good : M.State → Typ
   open M use {State, Offering, Fresh, answer, next, verdict_of, capacity, slots, judge, AsParts}
 
   abbrev S : Events
-  S = withSignature E Sig
+  S = with_signature E Sig
 
   abbrev ran : State → List Offering → State
-  ran b os = runOn E Sig M b os
+  ran b os = run_on E Sig M b os
 
   abbrev valid : List Offering → List (Offer E)
   valid os = judged E Sig M os
 
   -- ---- a run of the machine is a run of the definition
 
-  good-from : (os : List Offering) (b : State) → Good b → Good (ran b os)
-  unfolding runOn
-  good-from [] b g = g
-  good-from (o ∷ os) b g = good-from os (next b o) (F.good b o g)
+  good_from : (os : List Offering) (b : State) → Good b → Good (ran b os)
+  unfolding run_on
+  good_from [] b g = g
+  good_from (o ∷ os) b g = good_from os (next b o) (F.good b o g)
 
   -- the tables that lists of offers lead to are good
   pub good_run : (b : State) (os : List Offering) → Fresh b → Good (ran b os)
-  good_run b os f = good-from os b (F.fresh b f)
+  good_run b os f = good_from os b (F.fresh b f)
 
-  keeps-run : (os : List Offering) (b : State) → Good b → capacity (ran b os) ≡ capacity b
-  unfolding runOn
-  keeps-run [] b g = refl
-  keeps-run (o ∷ os) b g = keeps-run os (next b o) (F.good b o g) ∙ F.keeps b o g
+  keeps_run : (os : List Offering) (b : State) → Good b → capacity (ran b os) ≡ capacity b
+  unfolding run_on
+  keeps_run [] b g = refl
+  keeps_run (o ∷ os) b g = keeps_run os (next b o) (F.good b o g) ∙ F.keeps b o g
 
-  slots-run : (os : List Offering) (b : State) → Good b → slots (ran b os) ≡ run S (capacity b) (slots b) (map judge os)
-  unfolding runOn run
-  slots-run [] b g = refl
-  slots-run (o ∷ os) b g =
-      slots-run os (next b o) (F.good b o g)
+  slots_run : (os : List Offering) (b : State) → Good b → slots (ran b os) ≡ run S (capacity b) (slots b) (map judge os)
+  unfolding run_on run
+  slots_run [] b g = refl
+  slots_run (o ∷ os) b g =
+      slots_run os (next b o) (F.good b o g)
       ∙ ap₂ (λ N t. run S N t (map judge os)) (F.keeps b o g) (F.does b o g)
 
-  lacks-run : (os : List Offering) (b : State) → Good b → lacksOn E Sig M b os ≡ lacks S (capacity b) (slots b) (map judge os)
-  unfolding answersOn verdicts
-  lacks-run [] b g = refl
-  lacks-run (o ∷ os) b g = ap₂ (λ v l. is_no_room v || l)
+  lacks_run : (os : List Offering) (b : State) → Good b → lacks_on E Sig M b os ≡ lacks S (capacity b) (slots b) (map judge os)
+  unfolding answers_on verdicts
+  lacks_run [] b g = refl
+  lacks_run (o ∷ os) b g = ap₂ (λ v l. is_no_room v || l)
       (F.says b o g)
-      (lacks-run os (next b o) (F.good b o g) ∙ ap₂ (λ N t. lacks S N t (map judge os)) (F.keeps b o g) (F.does b o g))
+      (lacks_run os (next b o) (F.good b o g) ∙ ap₂ (λ N t. lacks S N t (map judge os)) (F.keeps b o g) (F.does b o g))
 
   module _ (b : State) (os : List Offering) (f : Fresh b) where
-    slots-is : slots (ran b os) ≡ run S (capacity b) [] (map judge os)
-    slots-is = rw (F.empty b f) at (slots-run os b (F.fresh b f))
+    slots_is : slots (ran b os) ≡ run S (capacity b) [] (map judge os)
+    slots_is = rw (F.empty b f) at (slots_run os b (F.fresh b f))
 
     table_is : view E Sig M (ran b os) ≡ run E (capacity b) [] (valid os)
-    table_is = ap (map (event E Sig)) slots-is ∙ run_event E Sig (capacity b) (map judge os) []
+    table_is = ap (map (event E Sig)) slots_is ∙ run_event E Sig (capacity b) (map judge os) []
 
-    length-is : length (slots (ran b os)) ≡ length (run E (capacity b) [] (valid os))
-    length-is = sym (length-map (slots (ran b os)) (event E Sig)) ∙ ap length table_is
+    length_is : length (slots (ran b os)) ≡ length (run E (capacity b) [] (valid os))
+    length_is = sym (length-map (slots (ran b os)) (event E Sig)) ∙ ap length table_is
 
-    lacks-is : lacksOn E Sig M b os ≡ lacks E (capacity b) [] (valid os)
-    lacks-is = (rw (F.empty b f) at (lacks-run os b (F.fresh b f))) ∙ lacks_event E Sig (capacity b) (map judge os) []
+    lacks_is : lacks_on E Sig M b os ≡ lacks E (capacity b) [] (valid os)
+    lacks_is = (rw (F.empty b f) at (lacks_run os b (F.fresh b f))) ∙ lacks_event E Sig (capacity b) (map judge os) []
 
-  valid-append : (os ps : List Offering) → valid (os ++ ps) ≡ valid os ++ valid ps
-  valid-append os ps = ap (map (withoutSignature E Sig)) (map-append judge os ps) ∙ map-append (withoutSignature E Sig) (map judge os) (map judge ps)
+  valid_append : (os ps : List Offering) → valid (os ++ ps) ≡ valid os ++ valid ps
+  valid_append os ps = ap (map (without_signature E Sig)) (map-append judge os ps) ∙ map-append (without_signature E Sig) (map judge os) (map judge ps)
 
   -- ---- one list
 
   module _ (L : Laws E) where
     pub held_set_on : HeldSetOn E Sig M
-    held_set_on b os f ids fit = rw (table_is b os f) (held_set E L (capacity b) (valid os) ids (rw (lacks-is b os f) at fit))
+    held_set_on b os f ids fit = rw (table_is b os f) (held_set E L (capacity b) (valid os) ids (rw (lacks_is b os f) at fit))
 
     pub beginnings_on : BeginningsOn E Sig M
     beginnings_on b os ps f ids fit = rw (table_is b os f) (beginnings E L (capacity b) (valid os) (valid ps)
-        (rw (valid-append os ps) at ids) (rw (lacks-is b (os ++ ps) f, valid-append os ps) at fit))
+        (rw (valid_append os ps) at ids) (rw (lacks_is b (os ++ ps) f, valid_append os ps) at fit))
 
     pub order_free_on : OrderFreeOn E Sig M
     order_free_on b c os ps f g ids fit same le =
-        rw (table_is b os f, table_is c ps g, lacks-is c ps g, length-is b os f, length-is c ps g)
-        (order_free E L (capacity b) (capacity c) (valid os) (valid ps) ids (rw (lacks-is b os f) at fit) same le)
+        rw (table_is b os f, table_is c ps g, lacks_is c ps g, length_is b os f, length_is c ps g)
+        (order_free E L (capacity b) (capacity c) (valid os) (valid ps) ids (rw (lacks_is b os f) at fit) same le)
 
     pub room_law_on : RoomLawOn E Sig M
-    room_law_on b os f ids = rw (lacks-is b os f) (room_law E L (capacity b) (valid os) ids)
+    room_law_on b os f ids = rw (lacks_is b os f) (room_law E L (capacity b) (valid os) ids)
 
     -- a list that has enough of another list's valid events leaves what that would
     pub enough_law_on : (b : State) (os ps : List Offering) → Fresh b → IdPremise E (valid ps) → Enough E L (valid os) (valid ps)
         → NoneLacksOn E Sig M b os → Settled E (view E Sig M (ran b os)) (valid ps)
     enough_law_on b os ps f ids n fit = rw (table_is b os f)
-        (enough_law E L (capacity b) (valid os) (valid ps) ids n (rw (lacks-is b os f) at fit))
+        (enough_law E L (capacity b) (valid os) (valid ps) ids n (rw (lacks_is b os f) at fit))
 
     pub signature_stays_on : SignatureStaysOn E Sig M
     signature_stays_on b os ps e s r f m k = signature_stays E Sig L (capacity b) (map judge os) (map judge ps) e s r
-        (rw (slots-is b os f) at m) (rw (slots-is b (os ++ ps) f, map-append judge os ps) at k)
+        (rw (slots_is b os f) at m) (rw (slots_is b (os ++ ps) f, map-append judge os ps) at k)
 
   -- ---- signatures
 
@@ -145,9 +145,9 @@ module _ (E : Events) (Sig : Type 0) (M : Machine E Sig) (Good : M.State → Typ
     same : map judge before ≡ ps
     brings : judge offer ≡ j
 
-  split-behind : (o : Offering) (os : List Offering) (p : Offer S) (ps : List (Offer S)) (j : Offer S)
+  split_behind : (o : Offering) (os : List Offering) (p : Offer S) (ps : List (Offer S)) (j : Offer S)
       → judge o ≡ p → Split os ps j → Split (o ∷ os) (p ∷ ps) j
-  split-behind o os p ps j q s = record {
+  split_behind o os p ps j q s = record {
     before = o ∷ s.before;
     offer = s.offer;
     later = s.later;
@@ -156,23 +156,23 @@ module _ (E : Events) (Sig : Type 0) (M : Machine E Sig) (Good : M.State → Typ
     brings = s.brings;
   }
 
-  judged-split : (os : List Offering) (ps qs : List (Offer S)) (j : Offer S) → map judge os ≡ ps ++ (j ∷ qs) → Split os ps j
-  judged-split [] [] qs j e = absurd (let z : ◌≡◌ {A = ℕ} 0 1 = cc in omega arith)
-  judged-split [] (p ∷ ps) qs j e = absurd (let z : ◌≡◌ {A = ℕ} 0 1 = cc in omega arith)
-  judged-split (o ∷ os) [] qs j e = record { before = []; offer = o; later = os; splits = refl; same = refl; brings = cc }
-  judged-split (o ∷ os) (p ∷ ps) qs j e =
+  judged_split : (os : List Offering) (ps qs : List (Offer S)) (j : Offer S) → map judge os ≡ ps ++ (j ∷ qs) → Split os ps j
+  judged_split [] [] qs j e = absurd (let z : ◌≡◌ {A = ℕ} 0 1 = cc in omega arith)
+  judged_split [] (p ∷ ps) qs j e = absurd (let z : ◌≡◌ {A = ℕ} 0 1 = cc in omega arith)
+  judged_split (o ∷ os) [] qs j e = record { before = []; offer = o; later = os; splits = refl; same = refl; brings = cc }
+  judged_split (o ∷ os) (p ∷ ps) qs j e =
       let q : judge o ≡ p = cc in
       let r : map judge os ≡ ps ++ (j ∷ qs) = cc in
-      split-behind o os p ps j q (judged-split os ps qs j r)
+      split_behind o os p ps j q (judged_split os ps qs j r)
 
   pub signature_stored_on : SignatureStoredOn E Sig M
   signature_stored_on b os s f m =
-      ⊎_elim (λ k. absurd (Memᴰ.not-nil k)) stored-by (run_from S (capacity b) (map judge os) [] s (rw (slots-is b os f) at m))
+      ⊎_elim (λ k. absurd (Memᴰ.not-nil k)) stored_by (run_from S (capacity b) (map judge os) [] s (rw (slots_is b os f) at m))
     where
-      stored-by : StoredIn S (capacity b) [] (map judge os) s → StoredBy E Sig M b os s
-      stored-by i =
-          let x = judged-split os i.before i.later (some s) i.splits in
-          let c = keeps-run x.before b (F.fresh b f) in
+      stored_by : StoredIn S (capacity b) [] (map judge os) s → StoredBy E Sig M b os s
+      stored_by i =
+          let x = judged_split os i.before i.later (some s) i.splits in
+          let c = keeps_run x.before b (F.fresh b f) in
           record {
             before = x.before;
             offer = x.offer;
@@ -181,7 +181,7 @@ module _ (E : Events) (Sig : Type 0) (M : Machine E Sig) (Good : M.State → Typ
             brings = x.brings;
             says =
                 F.says (ran b x.before) x.offer (good_run b x.before f)
-                ∙ ap₂ (λ N t. verdict S N t (judge x.offer)) c (slots-is b x.before f ∙ ap (run S (capacity b) []) x.same)
+                ∙ ap₂ (λ N t. verdict S N t (judge x.offer)) c (slots_is b x.before f ∙ ap (run S (capacity b) []) x.same)
                 ∙ ap (verdict S (capacity b) (run S (capacity b) [] i.before)) x.brings
                 ∙ i.says;
           }
@@ -198,56 +198,56 @@ module _ (E : Events) (Sig : Type 0) (M : Machine E Sig) (Good : M.State → Typ
     }
 
     module _ (A : RelayOn E Sig M) where
-      told_is : valid (toldOn E Sig M A) ≡ told E (relay A)
-      told_is = valid-append A.early A.late
+      told_is : valid (told_on E Sig M A) ≡ told E (relay A)
+      told_is = valid_append A.early A.late
 
-      whole_is : valid (A.history ++ toldOn E Sig M A) ≡ whole E (relay A)
-      whole_is = valid-append A.history (toldOn E Sig M A) ∙ ap (valid A.history ++◌) told_is
+      whole_is : valid (A.history ++ told_on E Sig M A) ≡ whole E (relay A)
+      whole_is = valid_append A.history (told_on E Sig M A) ∙ ap (valid A.history ++◌) told_is
 
-      moment-is : view E Sig M (momentOn E Sig M A) ≡ moment E (relay A)
-      moment-is =
+      moment_is : view E Sig M (moment_on E Sig M A) ≡ moment E (relay A)
+      moment_is =
           table_is A.table (A.history ++ A.early) A.fresh
-          ∙ ap (run E (capacity A.table) []) (valid-append A.history A.early)
+          ∙ ap (run E (capacity A.table) []) (valid_append A.history A.early)
 
-      end_is : view E Sig M (endOn E Sig M A) ≡ end E (relay A)
+      end_is : view E Sig M (end_on E Sig M A) ≡ end E (relay A)
       end_is =
-          table_is A.table (A.history ++ toldOn E Sig M A) A.fresh
+          table_is A.table (A.history ++ told_on E Sig M A) A.fresh
           ∙ ap (run E (capacity A.table) []) whole_is
 
       fits_is : FitsOn E Sig M A ≡ Fits E (relay A)
       fits_is = ap (λ l. T (not l))
-          (lacks-is A.table (A.history ++ toldOn E Sig M A) A.fresh ∙ ap (lacks E (capacity A.table) []) whole_is)
+          (lacks_is A.table (A.history ++ told_on E Sig M A) A.fresh ∙ ap (lacks E (capacity A.table) []) whole_is)
 
     -- what is told is judged to be what is held
-    tells_is : (B A : RelayOn E Sig M) → TellsOn E Sig M (slots (momentOn E Sig M B)) (toldOn E Sig M A) → Tells E (relay B) (relay A)
-    tells_is B A x e = rw (← told_is A, ← moment-is B) (valid-held, held-valid)
+    tells_is : (B A : RelayOn E Sig M) → TellsOn E Sig M (slots (moment_on E Sig M B)) (told_on E Sig M A) → Tells E (relay B) (relay A)
+    tells_is B A x e = rw (← told_is A, ← moment_is B) (valid_held, held_valid)
       where
         b : State
-        b = momentOn E Sig M B
+        b = moment_on E Sig M B
 
         os : List Offering
-        os = toldOn E Sig M A
+        os = told_on E Sig M A
 
         passes : (o : Offering) (s : Slot E Sig) → s ∈ slots b → AsParts o s → judge o ≡ some s
         passes o s m p = P b o s (good_run B.table (B.history ++ B.early) B.fresh) m p
 
-        valid-held : Valid E e (valid os) → Held E e (view E Sig M b)
-        valid-held v =
-            let (j, k, p) = Memᴰ.of_map (withoutSignature E Sig) (map judge os) v in
+        valid_held : Valid E e (valid os) → Held E e (view E Sig M b)
+        valid_held v =
+            let (j, k, p) = Memᴰ.of_map (without_signature E Sig) (map judge os) v in
             let (o, n, q) = Memᴰ.of_map judge os k in
             let (s, m, t) = x.no_other o n in
-            let r : some e ≡ some s.0 = sym p ∙ ap (withoutSignature E Sig) (sym q ∙ passes o s m t) in
+            let r : some e ≡ some s.0 = sym p ∙ ap (without_signature E Sig) (sym q ∙ passes o s m t) in
             let i : e ≡ s.0 = cc in
             Memᴰ.cast i (Memᴰ.map (event E Sig) m)
 
-        held-valid : Held E e (view E Sig M b) → Valid E e (valid os)
-        held-valid h =
+        held_valid : Held E e (view E Sig M b) → Valid E e (valid os)
+        held_valid h =
             let (s, m, p) = Memᴰ.of_map (event E Sig) (slots b) h in
             let (o, n, t) = x.each s m in
-            Memᴰ.cast (ap some (sym p) ∙ ap (withoutSignature E Sig) (sym (passes o s m t))) (Memᴰ.map (withoutSignature E Sig) (Memᴰ.map judge n))
+            Memᴰ.cast (ap some (sym p) ∙ ap (without_signature E Sig) (sym (passes o s m t))) (Memᴰ.map (without_signature E Sig) (Memᴰ.map judge n))
 
-    exchange-is : (A B : RelayOn E Sig M) → ExchangeOn E Sig M A B → Exchange E (relay A) (relay B)
-    exchange-is A B x = record {
+    exchange_is : (A B : RelayOn E Sig M) → ExchangeOn E Sig M A B → Exchange E (relay A) (relay B)
+    exchange_is A B x = record {
       to_A = tells_is B A x.to_A;
       to_B = tells_is A B x.to_B;
       at_an_end = ⊎_elim (λ p. inl (ap valid p)) (λ p. inr (ap valid p)) x.at_an_end;
@@ -255,10 +255,10 @@ module _ (E : Events) (Sig : Type 0) (M : Machine E Sig) (Good : M.State → Typ
 
     pub relays_agree_on : RelaysAgreeOn E Sig M
     relays_agree_on A B x ids fit fit' = rw (end_is A, end_is B)
-        (relays_agree E L (relay A) (relay B) (exchange-is A B x) ids (rw (fits_is A) at fit) (rw (fits_is B) at fit'))
+        (relays_agree E L (relay A) (relay B) (exchange_is A B x) ids (rw (fits_is A) at fit) (rw (fits_is B) at fit'))
 
     pub relays_fit_on : RelaysFitOn E Sig M
-    relays_fit_on A B x ids = rw (fits_is A, fits_is B) (relays_fit E L (relay A) (relay B) (exchange-is A B x) ids)
+    relays_fit_on A B x ids = rw (fits_is A, fits_is B) (relays_fit E L (relay A) (relay B) (exchange_is A B x) ids)
 
     pub demand_3_on : Demand3On E Sig M
     demand_3_on = record {

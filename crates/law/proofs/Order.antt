@@ -87,16 +87,16 @@ strict_times = record { irreflexive = irr; transitive = trans; total = tri }
     trans (negsuc a) (negsuc b) (pos c) t u = tt
     trans (negsuc a) (negsuc b) (negsuc c) t u = strict_ℕ.transitive c b a u t
 
-    tri-neg : (a b : ℕ) → T (ltb b a) ⊎ ((b ≡ a) ⊎ T (ltb a b)) → T (ltb b a) ⊎ ((negsuc a ≡ negsuc b) ⊎ T (ltb a b))
-    tri-neg a b (inl t) = inl t
-    tri-neg a b (inr (inl q)) = inr (inl (ap negsuc (sym q)))
-    tri-neg a b (inr (inr t)) = inr (inr t)
+    tri_neg : (a b : ℕ) → T (ltb b a) ⊎ ((b ≡ a) ⊎ T (ltb a b)) → T (ltb b a) ⊎ ((negsuc a ≡ negsuc b) ⊎ T (ltb a b))
+    tri_neg a b (inl t) = inl t
+    tri_neg a b (inr (inl q)) = inr (inl (ap negsuc (sym q)))
+    tri_neg a b (inr (inr t)) = inr (inr t)
 
     tri : (a b : ℤ) → T (earlier a b) ⊎ ((a ≡ b) ⊎ T (earlier b a))
     tri (pos a) (pos b) = ⊎_elim inl (λ s. inr (⊎_elim (λ q. inl (ap pos q)) inr s)) (strict_ℕ.total a b)
     tri (pos a) (negsuc b) = inr (inr tt)
     tri (negsuc a) (pos b) = inl tt
-    tri (negsuc a) (negsuc b) = tri-neg a b (strict_ℕ.total b a)
+    tri (negsuc a) (negsuc b) = tri_neg a b (strict_ℕ.total b a)
 
 pub strict_bytes : Strict lower
 strict_bytes = record { irreflexive = irr; transitive = trans; total = tri }
@@ -143,16 +143,16 @@ module _ (time : List ℕ → ℤ) where
         (λ p. lexical_then earlier strict_times (time_of f) (time_of e) (lower e.id f.id) p.0 p.1),
   )
 
-  newer-irreflexive : (a : Event) → T (newer time a a) → ⊥
-  newer-irreflexive a t = ⊎_elim (strict_times.irreflexive (time_of a)) (λ p. strict_bytes.irreflexive a.id p.1) ((newer_means a a).0 t)
+  newer_irreflexive : (a : Event) → T (newer time a a) → ⊥
+  newer_irreflexive a t = ⊎_elim (strict_times.irreflexive (time_of a)) (λ p. strict_bytes.irreflexive a.id p.1) ((newer_means a a).0 t)
 
-  newer-transitive : (a b c : Event) → T (newer time a b) → T (newer time b c) → T (newer time a c)
-  newer-transitive a b c t u =
+  newer_transitive : (a b c : Event) → T (newer time a b) → T (newer time b c) → T (newer time a c)
+  newer_transitive a b c t u =
       lexical_trans earlier strict_times (time_of c) (time_of b) (time_of a) (lower b.id c.id) (lower a.id b.id) (lower a.id c.id)
       (λ x y. strict_bytes.transitive a.id b.id c.id y x) u t
 
-  newer-total : (a b : Event) → a.id ≢ b.id → T (newer time a b) ⊎ T (newer time b a)
-  newer-total a b ne = go (strict_times.total (time_of b) (time_of a)) (strict_bytes.total a.id b.id)
+  newer_total : (a b : Event) → a.id ≢ b.id → T (newer time a b) ⊎ T (newer time b a)
+  newer_total a b ne = go (strict_times.total (time_of b) (time_of a)) (strict_bytes.total a.id b.id)
     where
       go : T (earlier (time_of b) (time_of a)) ⊎ ((time_of b ≡ time_of a) ⊎ T (earlier (time_of a) (time_of b)))
           → T (lower a.id b.id) ⊎ ((a.id ≡ b.id) ⊎ T (lower b.id a.id)) → T (newer time a b) ⊎ T (newer time b a)
@@ -168,7 +168,7 @@ pub laws : (Key : Type 0) (same_key : Key → Key → Bool) → ((a b : Key) →
 laws Key same_key same_key_lem class time = record {
   id_eq = same_bytes_lem;
   key_eq = same_key_lem;
-  irreflexive = newer-irreflexive time;
-  transitive = newer-transitive time;
-  total = newer-total time;
+  irreflexive = newer_irreflexive time;
+  transitive = newer_transitive time;
+  total = newer_total time;
 }

@@ -12,8 +12,8 @@ use lib.ListN.{length}
 use Rattle.law.specs.Lists.{◌∈◌, any, store, different}
 use Rattle.law.specs.Table.{Class, ephemeral, regular, keyed, Events, Laws, is_ephemeral, is_no_room, is_stored}
 use Rattle.law.specs.Table.{first_verdict}
-use Rattle.law.specs.Table.{Table, Offer, has_id, has_key, hasKeyNewer, verdict, after}
-use Rattle.law.specs.Table.{Valid, IdPremise, idIfRegular, keyIfKeyed, regularIds, keys, slotsNeeded}
+use Rattle.law.specs.Table.{Table, Offer, has_id, has_key, has_key_newer, verdict, after}
+use Rattle.law.specs.Table.{Valid, IdPremise, id_if_regular, key_if_keyed, regular_ids, keys, slots_needed}
 use Rattle.law.proofs.Run.{run, verdicts, lacks, NoneLacks}
 use Rattle.law.proofs.Lists.{store_length, count_law}
 use Rattle.law.proofs.Held.{Place, own, shared, place_of, place, Lasting, Right, covers, right}
@@ -25,10 +25,10 @@ module _ (E : Events) (L : Laws E) where
 
   -- ---- a table grows, and a run does what it does where there is always room, until it lacks room
 
-  put-grows : (t : Table E) (o : Offer E) → length t ≤ length (put E L t o)
-  put-grows t none = omega arith
-  put-grows t (some e) =
-      go (is_stored (first_verdict (is_ephemeral (class_of e)) (any (has_id E e) t) (any (hasKeyNewer E e) t) false)) (any (has_key E e) t) (store_length (has_key E e) e t)
+  put_grows : (t : Table E) (o : Offer E) → length t ≤ length (put E L t o)
+  put_grows t none = omega arith
+  put_grows t (some e) =
+      go (is_stored (first_verdict (is_ephemeral (class_of e)) (any (has_id E e) t) (any (has_key_newer E e) t) false)) (any (has_key E e) t) (store_length (has_key E e) e t)
     where
       go : (s k : Bool) → length (store (has_key E e) e t) ≡ cond k (length t) (suc (length t))
           → length t ≤ length (cond s (store (has_key E e) e t) t)
@@ -38,7 +38,7 @@ module _ (E : Events) (L : Laws E) where
 
   pub puts_grow : (os : List (Offer E)) (t : Table E) → length t ≤ length (PutsOf E L t os)
   puts_grow [] t = omega arith
-  puts_grow (o ∷ os) t = omega (arith, put-grows t o, puts_grow os (put E L t o))
+  puts_grow (o ∷ os) t = omega (arith, put_grows t o, puts_grow os (put E L t o))
 
   pub puts_append : (os ps : List (Offer E)) (t : Table E) → PutsOf E L t (os ++ ps) ≡ PutsOf E L (PutsOf E L t os) ps
   puts_append [] ps t = refl
@@ -49,11 +49,11 @@ module _ (E : Events) (L : Laws E) where
     abbrev Outcome : Bool → Table E → Table E → Type 0
     Outcome lack t u = (T lack × (N < length u)) ⊎ (T (not lack) × (t ≡ u) × (length u ≤ N))
 
-    after-put : (t : Table E) (o : Offer E) → length t ≤ N → Outcome (is_no_room (verdict E N t o)) (after E N t o) (put E L t o)
+    after_put : (t : Table E) (o : Offer E) → length t ≤ N → Outcome (is_no_room (verdict E N t o)) (after E N t o) (put E L t o)
     unfolding verdict after
-    after-put t none h = inr (tt, refl, h)
-    after-put t (some e) h =
-        go (is_ephemeral (class_of e)) (any (has_id E e) t) (any (hasKeyNewer E e) t) (any (has_key E e) t) (leb N (length t)) refl (store_length (has_key E e) e t)
+    after_put t none h = inr (tt, refl, h)
+    after_put t (some e) h =
+        go (is_ephemeral (class_of e)) (any (has_id E e) t) (any (has_key_newer E e) t) (any (has_key E e) t) (leb N (length t)) refl (store_length (has_key E e) e t)
       where
         u : Table E
         u = store (has_key E e) e t
@@ -68,10 +68,10 @@ module _ (E : Events) (L : Laws E) where
         go false false false false true p q = inl (tt, omega (arith, leb→le N (length t) (rw p tt)))
         go false false false false false p q = inr (tt, refl, omega (arith, nleb→lt N (length t) (rw p tt)))
 
-    run-puts : (os : List (Offer E)) (t : Table E) → length t ≤ N → Outcome (lacks E N t os) (run E N t os) (PutsOf E L t os)
+    run_puts : (os : List (Offer E)) (t : Table E) → length t ≤ N → Outcome (lacks E N t os) (run E N t os) (PutsOf E L t os)
     unfolding run verdicts
-    run-puts [] t h = inr (tt, refl, h)
-    run-puts (o ∷ os) t h = go (is_no_room (verdict E N t o)) (after E N t o) (after-put t o h) (λ t'. run-puts os t')
+    run_puts [] t h = inr (tt, refl, h)
+    run_puts (o ∷ os) t h = go (is_no_room (verdict E N t o)) (after E N t o) (after_put t o h) (λ t'. run_puts os t')
       where
         go : (b : Bool) (t' : Table E) → Outcome b t' (put E L t o)
             → ((t' : Table E) → length t' ≤ N → Outcome (lacks E N t' os) (run E N t' os) (PutsOf E L t' os))
@@ -83,29 +83,29 @@ module _ (E : Events) (L : Laws E) where
 
     pub lacks_long : (os : List (Offer E)) → T (lacks E N [] os) ↔ (N < length (PutsOf E L [] os))
     lacks_long os = (
-      λ t. ⊎_elim (λ f. f.1) (λ f. absurd (T_not (lacks E N [] os) f.0 t)) (run-puts os [] (omega arith)),
-      λ h. ⊎_elim (λ f. f.0) (λ f. absurd (omega (arith, f.2))) (run-puts os [] (omega arith)),
+      λ t. ⊎_elim (λ f. f.1) (λ f. absurd (T_not (lacks E N [] os) f.0 t)) (run_puts os [] (omega arith)),
+      λ h. ⊎_elim (λ f. f.0) (λ f. absurd (omega (arith, f.2))) (run_puts os [] (omega arith)),
     )
 
     pub fits_run : (os : List (Offer E)) → NoneLacks E N os → (run E N [] os ≡ PutsOf E L [] os) × (length (PutsOf E L [] os) ≤ N)
-    fits_run os h = ⊎_elim (λ f. absurd (T_not (lacks E N [] os) h f.0)) (λ f. (f.1, f.2)) (run-puts os [] (omega arith))
+    fits_run os h = ⊎_elim (λ f. absurd (T_not (lacks E N [] os) h f.0)) (λ f. (f.1, f.2)) (run_puts os [] (omega arith))
 
     pub short_fits : (os : List (Offer E)) → length (PutsOf E L [] os) ≤ N → NoneLacks E N os
-    short_fits os h = ⊎_elim (λ f. absurd (omega (arith, f.1))) (λ f. f.0) (run-puts os [] (omega arith))
+    short_fits os h = ⊎_elim (λ f. absurd (omega (arith, f.1))) (λ f. f.0) (run_puts os [] (omega arith))
 
   -- ---- the places of the valid events of a list
 
-  abbrev samePlace : Place Id Key → Place Id Key → Bool
-  samePlace (own i) (own j) = same_id i j
-  samePlace (own i) (shared m) = false
-  samePlace (shared k) (own j) = false
-  samePlace (shared k) (shared m) = same_key k m
+  abbrev same_place : Place Id Key → Place Id Key → Bool
+  same_place (own i) (own j) = same_id i j
+  same_place (own i) (shared m) = false
+  same_place (shared k) (own j) = false
+  same_place (shared k) (shared m) = same_key k m
 
-  place-eq : (a b : Place Id Key) → T (samePlace a b) ↔ (a ≡ b)
-  place-eq (own i) (own j) = (λ t. ap own ((id_eq i j).0 t), λ p. (id_eq i j).1 cc)
-  place-eq (own i) (shared m) = (λ t. absurd t, λ p. let z : ◌≡◌ {A = ℕ} 0 1 = cc in omega arith)
-  place-eq (shared k) (own j) = (λ t. absurd t, λ p. let z : ◌≡◌ {A = ℕ} 0 1 = cc in omega arith)
-  place-eq (shared k) (shared m) = (λ t. ap shared ((key_eq k m).0 t), λ p. (key_eq k m).1 cc)
+  place_eq : (a b : Place Id Key) → T (same_place a b) ↔ (a ≡ b)
+  place_eq (own i) (own j) = (λ t. ap own ((id_eq i j).0 t), λ p. (id_eq i j).1 cc)
+  place_eq (own i) (shared m) = (λ t. absurd t, λ p. let z : ◌≡◌ {A = ℕ} 0 1 = cc in omega arith)
+  place_eq (shared k) (own j) = (λ t. absurd t, λ p. let z : ◌≡◌ {A = ℕ} 0 1 = cc in omega arith)
+  place_eq (shared k) (shared m) = (λ t. ap shared ((key_eq k m).0 t), λ p. (key_eq k m).1 cc)
 
   abbrev place_in : Class Key → Id → List (Place Id Key) → List (Place Id Key)
   place_in ephemeral i ps = ps
@@ -117,39 +117,39 @@ module _ (E : Events) (L : Laws E) where
   places (none ∷ os) = places os
   places (some e ∷ os) = place_in (class_of e) (id_of e) (places os)
 
-  placeIn-has : (c : Class Key) (i : Id) (ps : List (Place Id Key)) → T (not (is_ephemeral c)) → place_of i c ∈ place_in c i ps
-  placeIn-has ephemeral i ps st = absurd st
-  placeIn-has regular i ps st = Memᴰ.head refl
-  placeIn-has (keyed k) i ps st = Memᴰ.head refl
+  place_in_has : (c : Class Key) (i : Id) (ps : List (Place Id Key)) → T (not (is_ephemeral c)) → place_of i c ∈ place_in c i ps
+  place_in_has ephemeral i ps st = absurd st
+  place_in_has regular i ps st = Memᴰ.head refl
+  place_in_has (keyed k) i ps st = Memᴰ.head refl
 
-  placeIn-keeps : (c : Class Key) (i : Id) (ps : List (Place Id Key)) {z : Place Id Key} → z ∈ ps → z ∈ place_in c i ps
-  placeIn-keeps ephemeral i ps m = m
-  placeIn-keeps regular i ps m = Memᴰ.tail m
-  placeIn-keeps (keyed k) i ps m = Memᴰ.tail m
+  place_in_keeps : (c : Class Key) (i : Id) (ps : List (Place Id Key)) {z : Place Id Key} → z ∈ ps → z ∈ place_in c i ps
+  place_in_keeps ephemeral i ps m = m
+  place_in_keeps regular i ps m = Memᴰ.tail m
+  place_in_keeps (keyed k) i ps m = Memᴰ.tail m
 
-  placeIn-from : (c : Class Key) (i : Id) (ps : List (Place Id Key)) (z : Place Id Key) → z ∈ place_in c i ps
+  place_in_from : (c : Class Key) (i : Id) (ps : List (Place Id Key)) (z : Place Id Key) → z ∈ place_in c i ps
       → (T (not (is_ephemeral c)) × (place_of i c ≡ z)) ⊎ (z ∈ ps)
-  placeIn-from ephemeral i ps z m = inr m
-  placeIn-from regular i ps z m = ⊎_elim (λ q. inl (tt, sym q)) inr (Memᴰ.cases_cons m)
-  placeIn-from (keyed k) i ps z m = ⊎_elim (λ q. inl (tt, sym q)) inr (Memᴰ.cases_cons m)
+  place_in_from ephemeral i ps z m = inr m
+  place_in_from regular i ps z m = ⊎_elim (λ q. inl (tt, sym q)) inr (Memᴰ.cases_cons m)
+  place_in_from (keyed k) i ps z m = ⊎_elim (λ q. inl (tt, sym q)) inr (Memᴰ.cases_cons m)
 
-  places-has : (os : List (Offer E)) (e : Event) → Valid E e os → Lasting E L e → place E L e ∈ places os
-  places-has [] e v st = absurd (Memᴰ.not-nil v)
-  places-has (none ∷ os) e v st = places-has os e (valid_skip E L v) st
-  places-has (some f ∷ os) e v st = go (λ w. places-has os e w st) (valid_cases E L v)
+  places_has : (os : List (Offer E)) (e : Event) → Valid E e os → Lasting E L e → place E L e ∈ places os
+  places_has [] e v st = absurd (Memᴰ.not-nil v)
+  places_has (none ∷ os) e v st = places_has os e (valid_skip E L v) st
+  places_has (some f ∷ os) e v st = go (λ w. places_has os e w st) (valid_cases E L v)
     where
       go : (Valid E e os → place E L e ∈ places os) → (e ≡ f) ⊎ Valid E e os → place E L e ∈ place_in (class_of f) (id_of f) (places os)
-      go ih (inl q) = rw q (placeIn-has (class_of f) (id_of f) (places os) (rw q at st))
-      go ih (inr w) = placeIn-keeps (class_of f) (id_of f) (places os) (ih w)
+      go ih (inl q) = rw q (place_in_has (class_of f) (id_of f) (places os) (rw q at st))
+      go ih (inr w) = place_in_keeps (class_of f) (id_of f) (places os) (ih w)
 
   -- a valid event of the list stands at z
   abbrev Stood : Place Id Key → List (Offer E) → Type 0
   Stood z os = (e : Event) × Valid E e os × Lasting E L e × (place E L e ≡ z)
 
-  places-from : (os : List (Offer E)) (z : Place Id Key) → z ∈ places os → Stood z os
-  places-from [] z m = absurd (Memᴰ.not-nil m)
-  places-from (none ∷ os) z m = let (e, v, st, p) = places-from os z m in (e, Memᴰ.tail v, st, p)
-  places-from (some f ∷ os) z m = go (λ w. places-from os z w) (placeIn-from (class_of f) (id_of f) (places os) z m)
+  places_from_lem : (os : List (Offer E)) (z : Place Id Key) → z ∈ places os → Stood z os
+  places_from_lem [] z m = absurd (Memᴰ.not-nil m)
+  places_from_lem (none ∷ os) z m = let (e, v, st, p) = places_from_lem os z m in (e, Memᴰ.tail v, st, p)
+  places_from_lem (some f ∷ os) z m = go (λ w. places_from_lem os z w) (place_in_from (class_of f) (id_of f) (places os) z m)
     where
       go : (z ∈ places os → Stood z os) → (Lasting E L f × (place E L f ≡ z)) ⊎ (z ∈ places os) → Stood z (some f ∷ os)
       go ih (inl q) = (f, Memᴰ.head refl, q.0, q.1)
@@ -157,24 +157,24 @@ module _ (E : Events) (L : Laws E) where
 
   -- ---- different places are different ids of regular events and different keys
 
-  any-own : (i : Id) (os : List (Offer E)) → any (samePlace (own i)) (places os) ≡ any (same_id i) (regularIds E os)
-  any-own i [] = refl
-  any-own i (none ∷ os) = any-own i os
-  any-own i (some e ∷ os) = go (class_of e) (any-own i os)
+  any_own : (i : Id) (os : List (Offer E)) → any (same_place (own i)) (places os) ≡ any (same_id i) (regular_ids E os)
+  any_own i [] = refl
+  any_own i (none ∷ os) = any_own i os
+  any_own i (some e ∷ os) = go (class_of e) (any_own i os)
     where
-      go : (c : Class Key) → any (samePlace (own i)) (places os) ≡ any (same_id i) (regularIds E os)
-          → any (samePlace (own i)) (place_in c (id_of e) (places os)) ≡ any (same_id i) (idIfRegular E c (id_of e) (regularIds E os))
+      go : (c : Class Key) → any (same_place (own i)) (places os) ≡ any (same_id i) (regular_ids E os)
+          → any (same_place (own i)) (place_in c (id_of e) (places os)) ≡ any (same_id i) (id_if_regular E c (id_of e) (regular_ids E os))
       go ephemeral h = h
       go regular h = cc
       go (keyed k) h = h
 
-  any-shared : (k : Key) (os : List (Offer E)) → any (samePlace (shared k)) (places os) ≡ any (same_key k) (keys E os)
-  any-shared k [] = refl
-  any-shared k (none ∷ os) = any-shared k os
-  any-shared k (some e ∷ os) = go (class_of e) (any-shared k os)
+  any_shared : (k : Key) (os : List (Offer E)) → any (same_place (shared k)) (places os) ≡ any (same_key k) (keys E os)
+  any_shared k [] = refl
+  any_shared k (none ∷ os) = any_shared k os
+  any_shared k (some e ∷ os) = go (class_of e) (any_shared k os)
     where
-      go : (c : Class Key) → any (samePlace (shared k)) (places os) ≡ any (same_key k) (keys E os)
-          → any (samePlace (shared k)) (place_in c (id_of e) (places os)) ≡ any (same_key k) (keyIfKeyed E c (keys E os))
+      go : (c : Class Key) → any (same_place (shared k)) (places os) ≡ any (same_key k) (keys E os)
+          → any (same_place (shared k)) (place_in c (id_of e) (places os)) ≡ any (same_key k) (key_if_keyed E c (keys E os))
       go ephemeral h = h
       go regular h = h
       go (keyed m) h = cc
@@ -183,31 +183,31 @@ module _ (E : Events) (L : Laws E) where
   count_left true d i k h = h
   count_left false d i k h = omega arith
 
-  count-right : (b : Bool) (d i k : ℕ) → d ≡ i + k → cond b d (suc d) ≡ i + cond b k (suc k)
-  count-right true d i k h = h
-  count-right false d i k h = omega arith
+  count_right : (b : Bool) (d i k : ℕ) → d ≡ i + k → cond b d (suc d) ≡ i + cond b k (suc k)
+  count_right true d i k h = h
+  count_right false d i k h = omega arith
 
-  places-needed : (os : List (Offer E)) → different samePlace (places os) ≡ slotsNeeded E os
-  places-needed [] = refl
-  places-needed (none ∷ os) = places-needed os
-  places-needed (some e ∷ os) = go (class_of e) (places-needed os)
+  places_needed : (os : List (Offer E)) → different same_place (places os) ≡ slots_needed E os
+  places_needed [] = refl
+  places_needed (none ∷ os) = places_needed os
+  places_needed (some e ∷ os) = go (class_of e) (places_needed os)
     where
-      go : (c : Class Key) → different samePlace (places os) ≡ slotsNeeded E os
-          → different samePlace (place_in c (id_of e) (places os))
-          ≡ different same_id (idIfRegular E c (id_of e) (regularIds E os)) + different same_key (keyIfKeyed E c (keys E os))
+      go : (c : Class Key) → different same_place (places os) ≡ slots_needed E os
+          → different same_place (place_in c (id_of e) (places os))
+          ≡ different same_id (id_if_regular E c (id_of e) (regular_ids E os)) + different same_key (key_if_keyed E c (keys E os))
       go ephemeral h = h
-      go regular h = rw (any-own (id_of e) os) (count_left (any (same_id (id_of e)) (regularIds E os)) _ _ _ h)
-      go (keyed k) h = rw (any-shared k os) (count-right (any (same_key k) (keys E os)) _ _ _ h)
+      go regular h = rw (any_own (id_of e) os) (count_left (any (same_id (id_of e)) (regular_ids E os)) _ _ _ h)
+      go (keyed k) h = rw (any_shared k os) (count_right (any (same_key k) (keys E os)) _ _ _ h)
 
   -- a table that is right for the valid events of a list has as many slots as they need
-  pub right_count : (os : List (Offer E)) (t : Table E) → Right E L (λ e. Valid E e os) [] t → length t ≡ slotsNeeded E os
+  pub right_count : (os : List (Offer E)) (t : Table E) → Right E L (λ e. Valid E e os) [] t → length t ≡ slots_needed E os
   right_count os t r =
-      count_law (place E L) samePlace place-eq (places os) t r.once
-      (λ x m. places-has os x (r.from x m).0 (r.from x m).1) (λ z m. stood z (places-from os z m))
-      ∙ places-needed os
+      count_law (place E L) same_place place_eq (places os) t r.once
+      (λ x m. places_has os x (r.from x m).0 (r.from x m).1) (λ z m. stood z (places_from_lem os z m))
+      ∙ places_needed os
     where
       stood : (z : Place Id Key) → Stood z os → (x : Event) × (x ∈ t) × (place E L x ≡ z)
       stood z (e, v, st, p) = let (u, m, (q, b)) = covers E L r e v st in (u, m, q ∙ p)
 
-  pub puts_count : (os : List (Offer E)) → IdPremise E os → length (PutsOf E L [] os) ≡ slotsNeeded E os
+  pub puts_count : (os : List (Offer E)) → IdPremise E os → length (PutsOf E L [] os) ≡ slots_needed E os
   puts_count os ids = right_count os (PutsOf E L [] os) (right E L os ids)

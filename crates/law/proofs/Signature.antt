@@ -7,9 +7,9 @@ use mathlib.Core.List.{List, [], ◌∷◌, ◌++◌, map}
 use Prim.Native.Nat.{ℕ}
 use lib.ListN.{length-map}
 use Rattle.law.specs.Lists.{◌∈◌, any, store}
-use Rattle.law.specs.Table.{Events, Laws, is_no_room, is_stored, Table, Offer, has_id, has_key, hasKeyNewer}
+use Rattle.law.specs.Table.{Events, Laws, is_no_room, is_stored, Table, Offer, has_id, has_key, has_key_newer}
 use Rattle.law.specs.Table.{verdict, after}
-use Rattle.law.specs.Signature.{withSignature, event, withoutSignature}
+use Rattle.law.specs.Signature.{with_signature, event, without_signature}
 use Rattle.law.proofs.Run.{run, verdicts, lacks}
 use Rattle.law.proofs.Sound.{later_beats}
 
@@ -22,51 +22,51 @@ module _ {A B : Type 0} (f : A → B) where
   cond_map true xs ys = refl
   cond_map false xs ys = refl
 
-  store-map : (p : B → Bool) (a : A) (xs : List A) → map f (store (λ x. p (f x)) a xs) ≡ store p (f a) (map f xs)
-  store-map p a [] = refl
-  store-map p a (x ∷ xs) =
+  store_map : (p : B → Bool) (a : A) (xs : List A) → map f (store (λ x. p (f x)) a xs) ≡ store p (f a) (map f xs)
+  store_map p a [] = refl
+  store_map p a (x ∷ xs) =
       cond_map (p (f x)) (a ∷ xs) (x ∷ store (λ x. p (f x)) a xs)
-      ∙ ap (λ ys. cond (p (f x)) (f a ∷ map f xs) (f x ∷ ys)) (store-map p a xs)
+      ∙ ap (λ ys. cond (p (f x)) (f a ∷ map f xs) (f x ∷ ys)) (store_map p a xs)
 
 module _ (E : Events) (Sig : Type 0) where
   abbrev S : Events
-  S = withSignature E Sig
+  S = with_signature E Sig
 
   -- the events of a table of slots, and of a list of offers
   abbrev bare : Table S → Table E
   bare t = map (event E Sig) t
 
   abbrev bares : List (Offer S) → List (Offer E)
-  bares os = map (withoutSignature E Sig) os
+  bares os = map (without_signature E Sig) os
 
-  verdict-event : (N : ℕ) (t : Table S) (o : Offer S) → verdict S N t o ≡ verdict E N (bare t) (withoutSignature E Sig o)
+  verdict_event : (N : ℕ) (t : Table S) (o : Offer S) → verdict S N t o ≡ verdict E N (bare t) (without_signature E Sig o)
   unfolding verdict
-  verdict-event N t none = refl
-  verdict-event N t (some s) = rw (
+  verdict_event N t none = refl
+  verdict_event N t (some s) = rw (
     any_map (event E Sig) (has_id E s.0) t,
-    any_map (event E Sig) (hasKeyNewer E s.0) t,
+    any_map (event E Sig) (has_key_newer E s.0) t,
     any_map (event E Sig) (has_key E s.0) t,
     length-map t (event E Sig),
   )
 
-  after-event : (N : ℕ) (t : Table S) (o : Offer S) → bare (after S N t o) ≡ after E N (bare t) (withoutSignature E Sig o)
+  after_event : (N : ℕ) (t : Table S) (o : Offer S) → bare (after S N t o) ≡ after E N (bare t) (without_signature E Sig o)
   unfolding after
-  after-event N t none = refl
-  after-event N t (some s) =
+  after_event N t none = refl
+  after_event N t (some s) =
       cond_map (event E Sig) (is_stored (verdict S N t (some s))) (store (has_key S s) s t) t
-      ∙ ap₂ (λ v u. cond (is_stored v) u (bare t)) (verdict-event N t (some s)) (store-map (event E Sig) (has_key E s.0) s t)
+      ∙ ap₂ (λ v u. cond (is_stored v) u (bare t)) (verdict_event N t (some s)) (store_map (event E Sig) (has_key E s.0) s t)
 
   pub run_event : (N : ℕ) (os : List (Offer S)) (t : Table S) → bare (run S N t os) ≡ run E N (bare t) (bares os)
   unfolding run
   run_event N [] t = refl
-  run_event N (o ∷ os) t = run_event N os (after S N t o) ∙ ap (λ u. run E N u (bares os)) (after-event N t o)
+  run_event N (o ∷ os) t = run_event N os (after S N t o) ∙ ap (λ u. run E N u (bares os)) (after_event N t o)
 
   pub lacks_event : (N : ℕ) (os : List (Offer S)) (t : Table S) → lacks S N t os ≡ lacks E N (bare t) (bares os)
   unfolding verdicts
   lacks_event N [] t = refl
   lacks_event N (o ∷ os) t = ap₂ (λ v l. is_no_room v || l)
-      (verdict-event N t o)
-      (lacks_event N os (after S N t o) ∙ ap (λ u. lacks E N u (bares os)) (after-event N t o))
+      (verdict_event N t o)
+      (lacks_event N os (after S N t o) ∙ ap (λ u. lacks E N u (bares os)) (after_event N t o))
 
   pub signed_laws : Laws E → Laws S
   signed_laws L = record {

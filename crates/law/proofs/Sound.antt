@@ -9,9 +9,9 @@ use mathlib.Core.List.{List, [], ◌∷◌, ◌++◌}
 use Prim.Native.Nat.{ℕ}
 use lib.Dec.{T}
 use Rattle.law.specs.Lists.{◌∈◌, any, store, Pairwise, Once}
-use Rattle.law.specs.Table.{Class, ephemeral, regular, keyed, Events, Laws, Verdict, refused, wasEphemeral}
-use Rattle.law.specs.Table.{duplicate, older, stored, noRoom, is_ephemeral, share_key, is_stored, first_verdict}
-use Rattle.law.specs.Table.{Table, Offer, has_id, has_key, hasKeyNewer, lacksSlot, verdict, after}
+use Rattle.law.specs.Table.{Class, ephemeral, regular, keyed, Events, Laws, Verdict, refused, was_ephemeral}
+use Rattle.law.specs.Table.{duplicate, older, stored, no_room, is_ephemeral, share_key, is_stored, first_verdict}
+use Rattle.law.specs.Table.{Table, Offer, has_id, has_key, has_key_newer, lacks_slot, verdict, after}
 use Rattle.law.proofs.Run.{run}
 use Rattle.law.proofs.Lists.{store_from, store_pairwise, once_same}
 use Rattle.law.proofs.Held.{place, place_shares, Beats, Lasting, Covered, other_id, store_covers}
@@ -59,22 +59,22 @@ module _ (E : Events) where
         where
           go : (v : Verdict) → verdict E N t (some e) ≡ v → x ∈ cond (is_stored v) (store (has_key E e) e t) t → (x ∈ t) ⊎ StoredIn N t (some e ∷ os) x
           go refused p k = inl k
-          go wasEphemeral p k = inl k
+          go was_ephemeral p k = inl k
           go duplicate p k = inl k
           go older p k = inl k
           go stored p k = ⊎_elim (λ q. inr (now e p q)) inl (store_from (has_key E e) e t k)
-          go noRoom p k = inl k
+          go no_room p k = inl k
 
 module _ (E : Events) (L : Laws E) where
   open E use {Event, Id, Key, id_of, class_of, same_key}
   open L use {key_eq}
 
   -- what holds of the table as it was and of the table with e stored holds afterwards
-  stored-or-not : (P : Table E → Type 0) (N : ℕ) (t : Table E) (e : Event) → P t
-      → (Lasting E L e → T (not (any (has_id E e) t)) → T (not (any (hasKeyNewer E e) t)) → P (store (has_key E e) e t))
+  stored_or_not : (P : Table E → Type 0) (N : ℕ) (t : Table E) (e : Event) → P t
+      → (Lasting E L e → T (not (any (has_id E e) t)) → T (not (any (has_key_newer E e) t)) → P (store (has_key E e) e t))
       → P (after E N t (some e))
   unfolding after verdict
-  stored-or-not P N t e p s = go (is_ephemeral (class_of e)) (any (has_id E e) t) (any (hasKeyNewer E e) t) (lacksSlot E N t e) s
+  stored_or_not P N t e p s = go (is_ephemeral (class_of e)) (any (has_id E e) t) (any (has_key_newer E e) t) (lacks_slot E N t e) s
     where
       go : (a b c l : Bool) → (T (not a) → T (not b) → T (not c) → P (store (has_key E e) e t))
           → P (cond (is_stored (first_verdict a b c l)) (store (has_key E e) e t) t)
@@ -93,12 +93,12 @@ module _ (E : Events) (L : Laws E) where
   same_keys (keyed k) (keyed m) regular t u = absurd u
   same_keys (keyed k) (keyed m) (keyed n) t u = (key_eq n k).1 ((key_eq n m).0 u ∙ sym ((key_eq k m).0 t))
 
-  swap-keys : (c d : Class Key) → T (share_key same_key c d) → T (share_key same_key d c)
-  swap-keys ephemeral d t = absurd t
-  swap-keys regular d t = absurd t
-  swap-keys (keyed k) ephemeral t = absurd t
-  swap-keys (keyed k) regular t = absurd t
-  swap-keys (keyed k) (keyed m) t = (key_eq m k).1 (sym ((key_eq k m).0 t))
+  swap_keys : (c d : Class Key) → T (share_key same_key c d) → T (share_key same_key d c)
+  swap_keys ephemeral d t = absurd t
+  swap_keys regular d t = absurd t
+  swap_keys (keyed k) ephemeral t = absurd t
+  swap_keys (keyed k) regular t = absurd t
+  swap_keys (keyed k) (keyed m) t = (key_eq m k).1 (sym ((key_eq k m).0 t))
 
   pub distinct_fresh : Distinct E []
   distinct_fresh = record { lasting = λ e m. absurd (Memᴰ.not-nil m); ids = tt; keys = tt }
@@ -106,14 +106,14 @@ module _ (E : Events) (L : Laws E) where
   pub distinct_after : (N : ℕ) (t : Table E) (o : Offer E) → Distinct E t → Distinct E (after E N t o)
   unfolding after
   distinct_after N t none d = d
-  distinct_after N t (some e) d = stored-or-not (Distinct E) N t e d (λ le no_id noNewer. record {
+  distinct_after N t (some e) d = stored_or_not (Distinct E) N t e d (λ le no_id noNewer. record {
     lasting = λ x m. ⊎_elim (λ q. rw q le) (d.lasting x) (store_from (has_key E e) e t m);
     ids = store_pairwise (has_key E e) e (λ x y. id_of x ≢ id_of y) t
         (λ x y m k h ne q. other_id E L e t no_id noNewer y k (sym q))
         (λ x m nk. other_id E L e t no_id noNewer x m) d.ids;
     keys = store_pairwise (has_key E e) e (λ x y. T (has_key E x y) → ⊥) t
         (λ x y m k h no' u. no' (same_keys (class_of x) (class_of e) (class_of y) h u))
-        (λ x m nk u. nk (swap-keys (class_of e) (class_of x) u)) d.keys;
+        (λ x m nk u. nk (swap_keys (class_of e) (class_of x) u)) d.keys;
   })
 
   pub distinct_run : (N : ℕ) (os : List (Offer E)) (t : Table E) → Distinct E t → Distinct E (run E N t os)
@@ -136,18 +136,18 @@ module _ (E : Events) (L : Laws E) where
   run_covers N (none ∷ os) t x c = run_covers N os t x c
   run_covers N (some e ∷ os) t x c =
       run_covers N os (after E N t (some e)) x
-      (stored-or-not (Covered E L x) N t e c (λ le no_id noNewer. store_covers E L e t no_id noNewer x c))
+      (stored_or_not (Covered E L x) N t e c (λ le no_id noNewer. store_covers E L e t no_id noNewer x c))
 
-  run-append : (N : ℕ) (os ps : List (Offer E)) (t : Table E) → run E N t (os ++ ps) ≡ run E N (run E N t os) ps
+  run_append : (N : ℕ) (os ps : List (Offer E)) (t : Table E) → run E N t (os ++ ps) ≡ run E N (run E N t os) ps
   unfolding run
-  run-append N [] ps t = refl
-  run-append N (o ∷ os) ps t = run-append N os ps (after E N t o)
+  run_append N [] ps t = refl
+  run_append N (o ∷ os) ps t = run_append N os ps (after E N t o)
 
   -- of two events of one place, held one after the other, the later is the same or newer
   pub later_beats : (N : ℕ) (os ps : List (Offer E)) (x y : Event) → x ∈ run E N [] os → y ∈ run E N [] (os ++ ps)
       → place E L x ≡ place E L y → Beats E L y x
   later_beats N os ps x y m k p =
-      let c : Covered E L x (run E N [] (os ++ ps)) = rw run-append (run_covers N ps (run E N [] os) x (x, m, (refl, inl refl))) in
+      let c : Covered E L x (run E N [] (os ++ ps)) = rw run_append (run_covers N ps (run E N [] os) x (x, m, (refl, inl refl))) in
       let o = distinct_places (run E N [] (os ++ ps)) (distinct_run N (os ++ ps) [] distinct_fresh) in
       go c o
     where

@@ -4,8 +4,8 @@ use Rattle.std.specs.Prelude.{◌≡◌, Bool, not, ◌↔◌, ◌⊎◌, List, 
 use Rattle.std.proofs.Math.Option.{some}
 use Rattle.law.specs.Lists.{◌∈◌, any}
 use Rattle.law.specs.Table.{Events, Verdict, stored, is_no_room, Table, Offer, IdPremise, SameValid, SameHeld}
-use Rattle.law.specs.Table.{Settled, slotsNeeded}
-use Rattle.law.specs.Signature.{Slot, withSignature, event, withoutSignature}
+use Rattle.law.specs.Table.{Settled, slots_needed}
+use Rattle.law.specs.Signature.{Slot, with_signature, event, without_signature}
 
 pub record Machine (E : Events) (Sig : Type 0) : Type 1 where
   -- a table, an offer "as messages or as parts", and an answer
@@ -22,7 +22,7 @@ pub record Machine (E : Events) (Sig : Type 0) : Type 1 where
   pub capacity : State → ℕ
   pub slots : State → List (Slot E Sig)
   -- the event and the signature that are offered, if none of rows 1 to 10 refuses the offer
-  pub judge : Offering → Offer (withSignature E Sig)
+  pub judge : Offering → Offer (with_signature E Sig)
   -- the offer is, as parts, 01: "with the id, text and signature held there"
   pub AsParts : Offering → Slot E Sig → Type 0
 
@@ -35,52 +35,52 @@ module _ (E : Events) (Sig : Type 0) (M : Machine E Sig) where
 
   -- the valid events of a list
   abbrev pub judged : List Offering → List (Offer E)
-  judged os = map (withoutSignature E Sig) (map judge os)
+  judged os = map (without_signature E Sig) (map judge os)
 
   -- "the first made to a fresh table and each other to the table the last one left". 01: "Nobody else writes the table
   -- meanwhile."
-  unfoldable pub runOn : State → List Offering → State
-  runOn b [] = b
-  runOn b (o ∷ os) = runOn (next b o) os
+  unfoldable pub run_on : State → List Offering → State
+  run_on b [] = b
+  run_on b (o ∷ os) = run_on (next b o) os
 
-  unfoldable pub answersOn : State → List Offering → List Answer
-  answersOn b [] = []
-  answersOn b (o ∷ os) = answer b o ∷ answersOn (next b o) os
+  unfoldable pub answers_on : State → List Offering → List Answer
+  answers_on b [] = []
+  answers_on b (o ∷ os) = answer b o ∷ answers_on (next b o) os
 
   -- some offer of the list lacks room
-  abbrev pub lacksOn : State → List Offering → Bool
-  lacksOn b os = any (λ a. is_no_room (verdict_of a)) (answersOn b os)
+  abbrev pub lacks_on : State → List Offering → Bool
+  lacks_on b os = any (λ a. is_no_room (verdict_of a)) (answers_on b os)
 
   -- "none lacked room"
   abbrev pub NoneLacksOn : State → List Offering → Type 0
-  NoneLacksOn b os = T (not (lacksOn b os))
+  NoneLacksOn b os = T (not (lacks_on b os))
 
   -- ---- One list
 
   -- "Suppose none lacked room and no two valid events .. share an id .. Then at the list's end .."
   abbrev pub HeldSetOn : Type 0
   HeldSetOn = (b : State) (os : List Offering) → Fresh b → IdPremise E (judged os) → NoneLacksOn b os →
-      Settled E (view (runOn b os)) (judged os)
+      Settled E (view (run_on b os)) (judged os)
 
   -- 01: "every beginning of a list is a list too, so it holds after each offer"
   abbrev pub BeginningsOn : Type 0
   BeginningsOn = (b : State) (os ps : List Offering) → Fresh b → IdPremise E (judged (os ++ ps)) →
       NoneLacksOn b (os ++ ps) →
-      Settled E (view (runOn b os)) (judged os)
+      Settled E (view (run_on b os)) (judged os)
 
   -- "any other list with the same valid events from a fresh table of no smaller capacity, whatever their order and
   -- repetition, leaves an equal set in as many slots"
   abbrev pub OrderFreeOn : Type 0
   OrderFreeOn = (b c : State) (os ps : List Offering) → Fresh b → Fresh c → IdPremise E (judged os) → NoneLacksOn b os →
       SameValid E (judged os) (judged ps) → capacity b ≤ capacity c →
-      NoneLacksOn c ps × SameHeld E (view (runOn c ps)) (view (runOn b os)) ×
-      (length (slots (runOn c ps)) ≡ length (slots (runOn b os)))
+      NoneLacksOn c ps × SameHeld E (view (run_on c ps)) (view (run_on b os)) ×
+      (length (slots (run_on c ps)) ≡ length (slots (run_on b os)))
 
   -- "Given the id premise alone, some offer of a list lacks room exactly when its distinct valid regular ids and
   -- distinct valid keys together outnumber the slots." 01: "some offer gives 12 exactly when the sum is over N"
   abbrev pub RoomLawOn : Type 0
   RoomLawOn = (b : State) (os : List Offering) → Fresh b → IdPremise E (judged os) →
-      T (lacksOn b os) ↔ (capacity b < slotsNeeded E (judged os))
+      T (lacks_on b os) ↔ (capacity b < slots_needed E (judged os))
 
   -- ---- Signatures
 
@@ -91,17 +91,17 @@ module _ (E : Events) (Sig : Type 0) (M : Machine E Sig) where
     pub later : List Offering
     pub splits : os ≡ before ++ (offer ∷ later)
     pub brings : judge offer ≡ some s
-    pub says : verdict_of (answer (runOn b before) offer) ≡ stored
+    pub says : verdict_of (answer (run_on b before) offer) ≡ stored
 
   -- the signature held is that of such an offer
   abbrev pub SignatureStoredOn : Type 0
-  SignatureStoredOn = (b : State) (os : List Offering) (s : Slot E Sig) → Fresh b → s ∈ slots (runOn b os) →
+  SignatureStoredOn = (b : State) (os : List Offering) (s : Slot E Sig) → Fresh b → s ∈ slots (run_on b os) →
       StoredBy b os s
 
   -- 01: "the signature first stored stays"
   abbrev pub SignatureStaysOn : Type 0
   SignatureStaysOn = (b : State) (os ps : List Offering) (e : E.Event) (s r : Sig) → Fresh b →
-      (e, s) ∈ slots (runOn b os) → (e, r) ∈ slots (runOn b (os ++ ps)) → r ≡ s
+      (e, s) ∈ slots (run_on b os) → (e, r) ∈ slots (run_on b (os ++ ps)) → r ≡ s
 
   -- ---- Two relays
 
@@ -115,20 +115,20 @@ module _ (E : Events) (Sig : Type 0) (M : Machine E Sig) where
     pub early : List Offering
     pub late : List Offering
 
-  abbrev pub toldOn : RelayOn → List Offering
-  toldOn A = A.early ++ A.late
+  abbrev pub told_on : RelayOn → List Offering
+  told_on A = A.early ++ A.late
 
   -- what a relay holds 01: "at one moment, at the end of that relay's history or later"
-  abbrev pub momentOn : RelayOn → State
-  momentOn A = runOn A.table (A.history ++ A.early)
+  abbrev pub moment_on : RelayOn → State
+  moment_on A = run_on A.table (A.history ++ A.early)
 
   -- 01: "Then each list goes on with offers .. of what the other relay holds"
-  abbrev pub endOn : RelayOn → State
-  endOn A = runOn A.table (A.history ++ toldOn A)
+  abbrev pub end_on : RelayOn → State
+  end_on A = run_on A.table (A.history ++ told_on A)
 
   -- it does not lack room
   abbrev pub FitsOn : RelayOn → Type 0
-  FitsOn A = NoneLacksOn A.table (A.history ++ toldOn A)
+  FitsOn A = NoneLacksOn A.table (A.history ++ told_on A)
 
   -- the offers os tell the slots xs, 01: "as parts .. each such event at least once, in any order, with the id, text
   -- and signature held there, and nothing else"
@@ -137,37 +137,37 @@ module _ (E : Events) (Sig : Type 0) (M : Machine E Sig) where
     pub no_other : (o : Offering) → o ∈ os → (s : Slot E Sig) × (s ∈ xs) × AsParts o s
 
   pub record ExchangeOn (A B : RelayOn) : Type 0 where
-    pub to_A : TellsOn (slots (momentOn B)) (toldOn A)
-    pub to_B : TellsOn (slots (momentOn A)) (toldOn B)
+    pub to_A : TellsOn (slots (moment_on B)) (told_on A)
+    pub to_B : TellsOn (slots (moment_on A)) (told_on B)
     -- 01: "At least one of the two moments is the end of its relay's history"
     pub at_an_end : (A.early ≡ []) ⊎ (B.early ≡ [])
 
   -- "both histories"
-  abbrev pub bothOn : RelayOn → RelayOn → List (Offer E)
-  bothOn A B = judged A.history ++ judged B.history
+  abbrev pub both_on : RelayOn → RelayOn → List (Offer E)
+  both_on A B = judged A.history ++ judged B.history
 
   -- "Two relays that offer each other, as parts, all they hold end with equal sets, if neither lacks room and the id
   -- premise holds over both histories." 01: "Both end with the set that demand 3 gives for the valid events of both
   -- histories together."
   abbrev pub RelaysAgreeOn : Type 0
-  RelaysAgreeOn = (A B : RelayOn) → ExchangeOn A B → IdPremise E (bothOn A B) → FitsOn A → FitsOn B →
-      Settled E (view (endOn A)) (bothOn A B) × Settled E (view (endOn B)) (bothOn A B) ×
-      SameHeld E (view (endOn A)) (view (endOn B))
+  RelaysAgreeOn = (A B : RelayOn) → ExchangeOn A B → IdPremise E (both_on A B) → FitsOn A → FitsOn B →
+      Settled E (view (end_on A)) (both_on A B) × Settled E (view (end_on B)) (both_on A B) ×
+      SameHeld E (view (end_on A)) (view (end_on B))
 
   -- neither lacks room exactly when the valid events of both histories fit both
   abbrev pub RelaysFitOn : Type 0
-  RelaysFitOn = (A B : RelayOn) → ExchangeOn A B → IdPremise E (bothOn A B) →
-      (FitsOn A × FitsOn B) ↔ ((slotsNeeded E (bothOn A B) ≤ capacity A.table) ×
-      (slotsNeeded E (bothOn A B) ≤ capacity B.table))
+  RelaysFitOn = (A B : RelayOn) → ExchangeOn A B → IdPremise E (both_on A B) →
+      (FitsOn A × FitsOn B) ↔ ((slots_needed E (both_on A B) ≤ capacity A.table) ×
+      (slots_needed E (both_on A B) ≤ capacity B.table))
 
   -- a relay whose moment is the end of its history
-  abbrev pub atItsEnd : (b : State) → Fresh b → (history told : List Offering) → RelayOn
-  atItsEnd b f hs xs = record { table = b; fresh = f; history = hs; early = []; late = xs }
+  abbrev pub at_its_end : (b : State) → Fresh b → (history told : List Offering) → RelayOn
+  at_its_end b f hs xs = record { table = b; fresh = f; history = hs; early = []; late = xs }
 
   -- whatever the histories, there is an exchange
   abbrev pub ExchangesOn : Type 0
   ExchangesOn = (b c : State) (f : Fresh b) (g : Fresh c) (hs ks : List Offering) →
-      (xs : List Offering) × (ys : List Offering) × ExchangeOn (atItsEnd b f hs xs) (atItsEnd c g ks ys)
+      (xs : List Offering) × (ys : List Offering) × ExchangeOn (at_its_end b f hs xs) (at_its_end c g ks ys)
 
   -- ---- All of it, in the order of demand 3
 

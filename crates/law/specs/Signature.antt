@@ -7,8 +7,8 @@ module _ (E : Events) (Sig : Type 0) where
   abbrev pub Slot : Type 0
   Slot = E.Event × Sig
 
-  abbrev pub withSignature : Events
-  withSignature = record {
+  abbrev pub with_signature : Events
+  with_signature = record {
     Event = Slot;
     Id = E.Id;
     Key = E.Key;
@@ -23,6 +23,6 @@ module _ (E : Events) (Sig : Type 0) where
   abbrev pub event : Slot → E.Event
   event s = s.0
 
-  abbrev pub withoutSignature : Offer withSignature → Offer E
-  withoutSignature none = none
-  withoutSignature (some s) = some s.0
+  abbrev pub without_signature : Offer with_signature → Offer E
+  without_signature none = none
+  without_signature (some s) = some s.0

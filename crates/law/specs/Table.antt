@@ -63,35 +63,35 @@ module _ (E : Events) where
 
 -- ---- Verdicts of an offer
 
--- refused: by one of rows 1 to 10; wasEphemeral: the verdict ephemeral; noRoom: row 12
+-- refused: by one of rows 1 to 10; was_ephemeral: the verdict ephemeral; no_room: row 12
 pub data Verdict : Type 0 where
-  refused wasEphemeral duplicate older stored noRoom : Verdict
+  refused was_ephemeral duplicate older stored no_room : Verdict
 
 -- "first that applies: ephemeral (nothing stored); duplicate, id held; older, a newer event with its key is held;
 -- stored", and where it would be stored but no slot is left, row 12
-abbrev pub first_verdict : (is_ephemeral idHeld newer_held lacksSlot : Bool) → Verdict
-first_verdict true i n l = wasEphemeral
+abbrev pub first_verdict : (is_ephemeral idHeld newer_held lacks_slot : Bool) → Verdict
+first_verdict true i n l = was_ephemeral
 first_verdict false true n l = duplicate
 first_verdict false false true l = older
-first_verdict false false false true = noRoom
+first_verdict false false false true = no_room
 first_verdict false false false false = stored
 
 abbrev pub is_stored : Verdict → Bool
 is_stored refused = false
-is_stored wasEphemeral = false
+is_stored was_ephemeral = false
 is_stored duplicate = false
 is_stored older = false
 is_stored stored = true
-is_stored noRoom = false
+is_stored no_room = false
 
 -- "An offer lacks room when its answer is 12."
 abbrev pub is_no_room : Verdict → Bool
 is_no_room refused = false
-is_no_room wasEphemeral = false
+is_no_room was_ephemeral = false
 is_no_room duplicate = false
 is_no_room older = false
 is_no_room stored = false
-is_no_room noRoom = true
+is_no_room no_room = true
 
 module _ (E : Events) where
   open E use {Event, Id, Key, id_of, class_of, same_id, same_key, newer}
@@ -102,18 +102,18 @@ module _ (E : Events) where
   Offer = Option Event
 
   -- the held event h has the key of e and is newer
-  abbrev pub hasKeyNewer : Event → Event → Bool
-  hasKeyNewer e h = has_key E e h && newer h e
+  abbrev pub has_key_newer : Event → Event → Bool
+  has_key_newer e h = has_key E e h && newer h e
 
   -- row 12, "new slot needed, all in use": no held event has the key of e, and C is N
-  abbrev pub lacksSlot : ℕ → Table E → Event → Bool
-  lacksSlot N t e = not (any (has_key E e) t) && leb N (length t)
+  abbrev pub lacks_slot : ℕ → Table E → Event → Bool
+  lacks_slot N t e = not (any (has_key E e) t) && leb N (length t)
 
   -- the verdict of an offer to a table of capacity N
   unfoldable pub verdict : ℕ → Table E → Offer → Verdict
   verdict N t none = refused
-  verdict N t (some e) = first_verdict (is_ephemeral (class_of e)) (any (has_id E e) t) (any (hasKeyNewer e) t)
-      (lacksSlot N t e)
+  verdict N t (some e) = first_verdict (is_ephemeral (class_of e)) (any (has_id E e) t) (any (has_key_newer e) t)
+      (lacks_slot N t e)
 
   -- the table after it: "stored, over the slot with its key, else in slot C"; with any other verdict as it was
   unfoldable pub after : ℕ → Table E → Offer → Table E
@@ -136,31 +136,31 @@ module _ (E : Events) where
 
   -- ---- When room runs out
 
-  abbrev pub idIfRegular : Class Key → Id → List Id → List Id
-  idIfRegular ephemeral i is = is
-  idIfRegular regular i is = i ∷ is
-  idIfRegular (keyed k) i is = is
+  abbrev pub id_if_regular : Class Key → Id → List Id → List Id
+  id_if_regular ephemeral i is = is
+  id_if_regular regular i is = i ∷ is
+  id_if_regular (keyed k) i is = is
 
-  abbrev pub keyIfKeyed : Class Key → List Key → List Key
-  keyIfKeyed ephemeral ks = ks
-  keyIfKeyed regular ks = ks
-  keyIfKeyed (keyed k) ks = k ∷ ks
+  abbrev pub key_if_keyed : Class Key → List Key → List Key
+  key_if_keyed ephemeral ks = ks
+  key_if_keyed regular ks = ks
+  key_if_keyed (keyed k) ks = k ∷ ks
 
   -- among a list's valid events "the .. ids of the regular ones"
-  abbrev pub regularIds : List Offer → List Id
-  regularIds [] = []
-  regularIds (none ∷ os) = regularIds os
-  regularIds (some e ∷ os) = idIfRegular (class_of e) (id_of e) (regularIds os)
+  abbrev pub regular_ids : List Offer → List Id
+  regular_ids [] = []
+  regular_ids (none ∷ os) = regular_ids os
+  regular_ids (some e ∷ os) = id_if_regular (class_of e) (id_of e) (regular_ids os)
 
   -- "the .. keys of those that have a key"
   abbrev pub keys : List Offer → List Key
   keys [] = []
   keys (none ∷ os) = keys os
-  keys (some e ∷ os) = keyIfKeyed (class_of e) (keys os)
+  keys (some e ∷ os) = key_if_keyed (class_of e) (keys os)
 
   -- "count the different ids .. and the different keys .. the sum"
-  abbrev pub slotsNeeded : List Offer → ℕ
-  slotsNeeded os = different same_id (regularIds os) + different same_key (keys os)
+  abbrev pub slots_needed : List Offer → ℕ
+  slots_needed os = different same_id (regular_ids os) + different same_key (keys os)
 
   -- ---- Demand 3
 

@@ -1,2 +1,2 @@
--- Ends: a line without 0A, a byte more of it, and a line after another.
+-- Ends: a line without 0A, and a byte more of it.
 pub mod Ends

@@ -12,9 +12,14 @@ pub record NoEnd (l : List ℕ) (n : ℕ) : Type 0 where
 
 -- after the line `before`: both buffers keep their lengths, the line lies in its own (what does not fit is dropped),
 -- and fewer are left
-pub record IsLine (line chunk : List ℕ) (before r : Line) (lineAfter chunkAfter : List ℕ) : Type 0 where
-  pub kept : length lineAfter ≡ length line
+pub record IsLine (line chunk : List ℕ) (before r : Line) (line_after chunkAfter : List ℕ) : Type 0 where
+  pub kept : length line_after ≡ length line
   pub chunk_kept : length chunkAfter ≡ length chunk
   pub fits : r.n ≤ length line
-  pub plain : NoEnd lineAfter r.n
+  pub plain : NoEnd line_after r.n
   pub fewer : 0 < before.left → r.left < before.left
+
+-- both buffers keep their lengths
+pub record KeepsLengths (line chunk line_after chunkAfter : List ℕ) : Type 0 where
+  pub line_kept : length line_after ≡ length line
+  pub chunk_kept : length chunkAfter ≡ length chunk

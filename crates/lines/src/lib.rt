@@ -1,17 +1,81 @@
 // Standard input by lines, one at a call: 0A ends a line and is no part of it; a last line without it counts if it is
 // not empty. And standard output by lines. A program reads so:
 //
-//   let mut l = lines::next(&mut line, &mut chunk, lines::none());
-//   while 0 < l.left { ..; l = lines::next(&mut line, &mut chunk, l); }
-ghost use Rattle.std.specs.Prelude.{◌≡◌, ◌∷◌, [], ◌≤◌, ◌<◌, length};
-ghost use Rattle.wire.specs.Put.{put};
-ghost use Rattle.lines.specs.Line.{no_line, NoEnd, IsLine};
+//   let mut input = lines::from_reader(rt.stdin());
+//   let mut l = lines::next(&mut input, &mut line, &mut chunk, lines::none())?;
+//   while 0 < l.left { ..; l = lines::next(&mut input, &mut line, &mut chunk, l)?; }
+#![tactic(auto)]
 
-use libc::{STDIN_FILENO, STDOUT_FILENO};
+ghost use Rattle.std.specs.Prelude.{◌≡◌, ◌∷◌, [], ◌≤◌, ◌<◌, length, false, IfOk, is_err, ◌||◌};
+ghost use Rattle.std.specs.Io.{ReadsAtMost};
+ghost use Rattle.wire.specs.Put.{put};
+ghost use Rattle.lines.specs.Line.{no_line, NoEnd, IsLine, KeepsLengths};
+
+use std::io;
+use std::io::{Read, Write};
+
+// Where lines are read from, and whether a read of it has failed.
+#[derive(Drop)]
+pub struct Input<R> {
+    reader: R,
+    failed: bool,
+}
+
+// Where lines are written to, and whether a write to it has failed.
+#[derive(Drop)]
+pub struct Output<W> {
+    writer: W,
+    failed: bool,
+}
+
+pub fn from_reader<R: Read>(reader: R) -> Input<R>
+    ensures { result.failed ≡ false }
+{
+    Input {
+        reader,
+        failed: false,
+    }
+}
+
+pub fn to_writer<W: Write>(writer: W) -> Output<W>
+    ensures { result.failed ≡ false }
+{
+    Output {
+        writer,
+        failed: false,
+    }
+}
+
+// What there is to read at the moment, as far as it fits the chunk; 0 at the end.
+fn read<R: Read>(input: &mut Input<R>, chunk: &mut [u8]) -> io::Result<usize>
+    ensures in_bounds { ReadsAtMost result chunk.new }
+    ensures failed { input.new.failed ≡ (input.old.failed || is_err result) }
+{
+    match input.reader.read(chunk) {
+        Ok(n) => Ok(n),
+        Err(e) => {
+            input.failed = true;
+            Err(e)
+        }
+    }
+}
+
+// These bytes to the output, before it returns. An error comes where a write failed, and only there.
+pub fn write<W: Write>(output: &mut Output<W>, bytes: &[u8]) -> io::Result<()>
+    ensures { output.new.failed ≡ (output.old.failed || is_err result) }
+{
+    match output.writer.write_all(bytes) {
+        Ok(()) => Ok(()),
+        Err(e) => {
+            output.failed = true;
+            Err(e)
+        }
+    }
+}
 
 // How many lines are left to read with this one, 0 where there was none; how many bytes of it the buffer holds; and
 // what of the chunk is still to be taken. A line that fills the buffer may have been longer.
-#[derive(Drop)]
+#[derive(Clone, Copy)]
 pub struct Line {
     pub left: u64,
     pub n: usize,
@@ -19,7 +83,7 @@ pub struct Line {
     pub end: usize,
 }
 
-#[derive(Drop)]
+#[derive(Clone, Copy)]
 struct Taken {
     done: bool,
     n: usize,
@@ -97,9 +161,17 @@ fn left_after(some: bool, left: u64) -> u64
     left - 1
 }
 
-// The line of standard input after the line `r`, into `line`; `chunk` holds what was read.
-pub fn next(line: &mut [u8], chunk: &mut [u8], r: Line) -> Line
-    ensures { IsLine line.old chunk.old r result line.new chunk.new }
+// The line of the input after the line `r`, into `line`; `chunk` holds what was read. An error comes where a read failed,
+// and only there; it leaves the buffers' lengths as they were.
+pub fn next<R: Read>(
+    input: &mut Input<R>,
+    line: &mut [u8],
+    chunk: &mut [u8],
+    r: Line,
+) -> io::Result<Line>
+    ensures line { IfOk result (λ l. IsLine line.old chunk.old r l line.new chunk.new) }
+    ensures kept { KeepsLengths line.old chunk.old line.new chunk.new }
+    ensures failed { input.new.failed ≡ (input.old.failed || is_err result) }
 {
     let mut n: usize = 0;
     let mut at = r.at;
@@ -109,56 +181,67 @@ pub fn next(line: &mut [u8], chunk: &mut [u8], r: Line) -> Line
         let t = take(line, n, chunk, at, end);
         n = t.n;
         if t.done {
-            return Line {
+            return Ok(Line {
                 left: left_after(true, r.left),
                 n,
                 at: t.at,
                 end,
-            };
+            });
         }
-        let got = libc::read(STDIN_FILENO, chunk);
-        let k = io::count(got, chunk);
+        let k = read(input, chunk)?;
         if k == 0 {
-            return Line {
+            return Ok(Line {
                 left: left_after(0 < n, r.left),
                 n,
                 at: 0,
                 end: 0,
-            };
+            });
         }
         at = 0;
         end = k;
         turns += 1;
     }
-    Line {
+    Ok(Line {
         left: 0,
         n,
         at: 0,
         end: 0,
-    }
+    })
 }
 
-// The same, but of a line that fills the buffer only the refusal is written to standard output, and the line after it
-// is taken.
-pub fn next_within(line: &mut [u8], chunk: &mut [u8], r: Line, refusal: &[u8]) -> Line
-    ensures line { IsLine line.old chunk.old r result line.new chunk.new }
-    ensures n_in_bounds { 0 < result.left → result.n < length line.old }
+// The same, but of a line that fills the buffer only the refusal is written to the output, and the line after it is
+// taken. An error comes where a read or a write failed, and only there.
+pub fn next_within<R: Read, W: Write>(
+    input: &mut Input<R>,
+    output: &mut Output<W>,
+    line: &mut [u8],
+    chunk: &mut [u8],
+    r: Line,
+    refusal: &[u8],
+) -> io::Result<Line>
+    ensures line { IfOk result (λ l. IsLine line.old chunk.old r l line.new chunk.new) }
+    ensures n_in_bounds { IfOk result (λ l. 0 < l.left → l.n < length line.old) }
+    ensures kept { KeepsLengths line.old chunk.old line.new chunk.new }
+    ensures failed { (input.new.failed || output.new.failed) ≡
+        ((input.old.failed || output.old.failed) || is_err result) }
 {
-    let mut l = next(line, chunk, r);
+    let mut l = next(input, line, chunk, r)?;
     while 0 < l.left {
         if l.n < line.len() {
-            return l;
+            return Ok(l);
         }
-        io::write_all(STDOUT_FILENO, refusal);
-        l = next(line, chunk, l);
+        write(output, refusal)?;
+        l = next(input, line, chunk, l)?;
     }
-    l
+    Ok(l)
 }
 
-// The first n bytes of `out` and 0A to standard output, which nothing is said of. The 0A is stored there, if it fits.
-pub fn write_line(out: &mut [u8], n: usize)
-    ensures { out.new ≡ put out.old n (10 ∷ []) }
+// The first n bytes of `out` and 0A to the output. The 0A is stored there, if it fits. An error comes where a write
+// failed, and only there.
+pub fn write_line<W: Write>(output: &mut Output<W>, out: &mut [u8], n: usize) -> io::Result<()>
+    ensures out_after { out.new ≡ put out.old n (10 ∷ []) }
+    ensures failed { output.new.failed ≡ (output.old.failed || is_err result) }
 {
     let e = wire::put_byte(out, n, b'\n');
-    io::write_all(STDOUT_FILENO, wire::piece(out, 0, e));
+    write(output, wire::piece(out, 0, e))
 }

@@ -1,5 +1,7 @@
 // Matching: whether an event matches a filter, and the answer of a REQ, in code. The definitions stand in query/specs
 // and, for the steps of the code, in specs/.
+#![tactic(auto)]
+
 ghost use Rattle.std.specs.Prelude.{◌≡◌};
 ghost use Rattle.query.specs.Answer.{matched_row, matched, match_number, listing_row, listed, listed_row, listing_number};
 
@@ -28,14 +30,14 @@ pub(crate) const CONDITIONS_PLACE: usize = KINDS_PLACE + KINDS_ROOM;
 pub(crate) const ROW_ROOM: usize = CONDITIONS_PLACE + wire::MOST_CONDITIONS * STRINGS_ROOM;
 
 // The members of a list that may be absent: where they stand in a row of numbers, and how many numbers they are there.
-#[derive(Drop)]
+#[derive(Clone, Copy)]
 pub(crate) enum Members {
     Absent,
     In(usize, usize),
 }
 
 // A # condition: its letter, and where its members stand in the row.
-#[derive(Drop)]
+#[derive(Clone, Copy)]
 pub(crate) struct Needed {
     pub letter: u8,
     pub from: usize,
@@ -43,14 +45,14 @@ pub(crate) struct Needed {
 }
 
 // The # conditions of a filter: the first n.
-#[derive(Drop)]
+#[derive(Clone, Copy)]
 pub(crate) struct Conditions {
     pub list: [Needed; 4],
     pub n: usize,
 }
 
 // A filter whose list members were found.
-#[derive(Drop)]
+#[derive(Clone, Copy)]
 pub(crate) struct Known {
     pub ids: Members,
     pub authors: Members,
@@ -63,7 +65,7 @@ pub(crate) struct Known {
 }
 
 // A tag's second string, between its quotes, if the tag is named as wanted.
-#[derive(Drop)]
+#[derive(Clone, Copy)]
 pub(crate) enum Second {
     Is(usize, usize),
     Not,

@@ -108,7 +108,7 @@ fn holds(b: &[u8], tags: usize, letter: u8, m: &[u8], spans: &[usize]) -> bool
 
 // Whether two slices hold the same bytes. Past the first they are compared with no way out of the loop, so that the
 // compiler takes many at a time.
-fn same_bytes_lem(p: &[u8], q: &[u8]) -> bool
+fn same_bytes(p: &[u8], q: &[u8]) -> bool
     ensures { result ≡ same_bytes p.now q.now }
 {
     if p.len() != q.len() {
@@ -135,7 +135,7 @@ fn among(v: &[u8], m: &[u8], spans: &[usize]) -> bool
     while j < spans.len() {
         let at = spans[j - 1];
         let n = spans[j];
-        if same_bytes_lem(v, wire::piece(m, at, n)) {
+        if same_bytes(v, wire::piece(m, at, n)) {
             return true;
         }
         if spell::same(v, wire::piece(m, at, n)) {

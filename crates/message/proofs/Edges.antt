@@ -3,7 +3,7 @@
 use mathlib.Core.Path.{◌≡◌, refl, sym, ap, ◌∙◌}
 use mathlib.Core.List.{List, [], ◌∷◌, ◌++◌}
 use mathlib.Core.Bool.{Bool, true, false, cond, ◌||◌, false≢true}
-use mathlib.Core.Logic.{◌⊎◌, ⊎_elim}
+use mathlib.Core.Logic.{⊎_elim}
 use Prim.Native.Nat.{ℕ, suc, ◌+◌, ◌-◌, ◌<◌, ◌≤◌}
 use native.Mathlib.Nat.{zero-add}
 use native.Mathlib.Numerals.{add-one}
@@ -16,7 +16,7 @@ use lib.Seq.{take-suc, take-nil, drop-cons, take-add}
 use Rattle.utf8.specs.declared.Want.{Want}
 use Rattle.utf8.specs.declared.Want.TheVariants.{Lead, Bad}
 use Rattle.utf8.specs.Utf8.{next_want, ends, utf8_from, is_utf8}
-use Rattle.utf8.proofs.States.{Reached, lead-reached, next_reached, low_next, low_turn}
+use Rattle.utf8.proofs.States.{Reached, lead_reached, next_reached, low_next, low_turn}
 use Rattle.json_tree.specs.Grammar.{case, in_class, run, past, ws_at, token_at, close_of, opened_at, start_at, chars_at, string_at}
 use Rattle.json_tree.specs.Tree.{Json, Items, Got}
 use Rattle.json_tree.specs.declared.Out.{Out}
@@ -58,7 +58,7 @@ Edge s x = state Lead (take x s) ≡ Lead
 module _ (s : List ℕ) (u : is_utf8 s ≡ true) where
   pub low_edges : (x : ℕ) → x < length s → get_or s x 0 < 0x80 → Edge s x × Edge s (x + 1)
   unfolding is_utf8
-  low_edges x h l = ⊎_elim here (λ q. absurd (false≢true (sym (stuck q) ∙ u))) (low_turn (get_or s x 0) l (state_reached Lead (take x s) lead-reached))
+  low_edges x h l = ⊎_elim here (λ q. absurd (false≢true (sym (stuck q) ∙ u))) (low_turn (get_or s x 0) l (state_reached Lead (take x s) lead_reached))
     where
       after : state Lead (take (x + 1) s) ≡ next_want (state Lead (take x s)) (get_or s x 0)
       after = rw (add-one, take-suc s x 0 h) (state_append Lead (take x s) (get_or s x 0 ∷ []))
@@ -134,74 +134,74 @@ held s x b h e = elim (dec_lt x (length s)) [
 ]
 
 module _ (s : List ℕ) (u : is_utf8 s ≡ true) where
-  byte-edges : (b x : ℕ) → 0 < b → b < 0x80 → get_or s x 0 ≡ b → Edge s x × Edge s (x + 1)
-  byte-edges b x h l e = low_edges s u x (held s x b h e) (omega arith)
+  byte_edges : (b x : ℕ) → 0 < b → b < 0x80 → get_or s x 0 ≡ b → Edge s x × Edge s (x + 1)
+  byte_edges b x h l e = low_edges s u x (held s x b h e) (omega arith)
 
-  token-edges : (b x n : ℕ) → 0 < b → b < 0x80 → token_at s b x ≡ out.End n → Edge s x × Edge s n
+  token_edges : (b x n : ℕ) → 0 < b → b < 0x80 → token_at s b x ≡ out.End n → Edge s x × Edge s n
   unfolding token_at
-  token-edges b x n h l e =
+  token_edges b x n h l e =
       let (k, p, r) = then_end _ _ e in
-      let (i, j) = byte-edges b x h l (byte_is s b x p) in
+      let (i, j) = byte_edges b x h l (byte_is s b x p) in
       let z : x + 1 ≡ k = (one_is s _ x p).1 in
       let y : ws_at s k ≡ n = cc in
       (i, rw (← y, ← z) (ws_edge s (x + 1) j))
 
-  close-edge : (named : Bool) (x n : ℕ) → token_at s (close_of named) x ≡ out.End n → Edge s n
-  close-edge true x n e = (token-edges 0x7D x n (omega arith) (omega arith) e).1
-  close-edge false x n e = (token-edges 0x5D x n (omega arith) (omega arith) e).1
+  close_edge : (named : Bool) (x n : ℕ) → token_at s (close_of named) x ≡ out.End n → Edge s n
+  close_edge true x n e = (token_edges 0x7D x n (omega arith) (omega arith) e).1
+  close_edge false x n e = (token_edges 0x5D x n (omega arith) (omega arith) e).1
 
-  walk-edge : {value : ℕ → Got Json} {named : Bool} {f i : ℕ} {ts : Items} {n : ℕ} → Walk value s named f i ts n → Edge s n
-  walk-edge {named = named} {n = n} (last {m = m} h w q) = comma (token_at s 0x2C m) q
+  walk_edge : {value : ℕ → Got Json} {named : Bool} {f i : ℕ} {ts : Items} {n : ℕ} → Walk value s named f i ts n → Edge s n
+  walk_edge {named = named} {n = n} (last {m = m} h w q) = comma (token_at s 0x2C m) q
     where
       close : (o : Out) → token_at s (close_of named) m ≡ o → case o Done Wrong ≡ Done n → Edge s n
-      close (out.End k) p e = let z : k ≡ n = cc in close-edge named m n (rw z at p)
+      close (out.End k) p e = let z : k ≡ n = cc in close_edge named m n (rw z at p)
       close out.Bad p e = absurd (let z : ◌≡◌ {A = ℕ} 0 1 = cc in omega arith)
 
       comma : (o : Out) → case o More (case (token_at s (close_of named) m) Done Wrong) ≡ Done n → Edge s n
       comma (out.End k) e = absurd (let z : ◌≡◌ {A = ℕ} 0 1 = cc in omega arith)
       comma out.Bad e = close (token_at s (close_of named) m) refl e
-  walk-edge (more h w q r) = walk-edge r
+  walk_edge (more h w q r) = walk_edge r
 
-  opened-edge : (named : Bool) {named' : Bool} (x n : ℕ) → opened_at s x named ≡ Empty n named' → Edge s n
-  opened-edge named {named'} x n e = on (token_at s (close_of named) x) refl e
+  opened_edge : (named : Bool) {named' : Bool} (x n : ℕ) → opened_at s x named ≡ Empty n named' → Edge s n
+  opened_edge named {named'} x n e = on (token_at s (close_of named) x) refl e
     where
       on : (o : Out) → token_at s (close_of named) x ≡ o → case o (λ k. Empty k named) (Many x named) ≡ Empty n named' → Edge s n
-      on (out.End k) p q = let z : k ≡ n = cc in close-edge named x n (rw z at p)
+      on (out.End k) p q = let z : k ≡ n = cc in close_edge named x n (rw z at p)
       on out.Bad p q = absurd (let z : ◌≡◌ {A = ℕ} 0 1 = cc in omega arith)
 
   -- brackets or braces around nothing, and around items
-  start-edges : (x : ℕ) {n : ℕ} {named : Bool} → start_at s x ≡ Empty n named → Edge s x × Edge s n
-  start-edges x {n} {named} e = square (token_at s 0x5B x) refl e
+  start_edges : (x : ℕ) {n : ℕ} {named : Bool} → start_at s x ≡ Empty n named → Edge s x × Edge s n
+  start_edges x {n} {named} e = square (token_at s 0x5B x) refl e
     where
       curly : (o : Out) → token_at s 0x7B x ≡ o → case o (λ k. opened_at s k true) Leaf ≡ Empty n named → Edge s x × Edge s n
-      curly (out.End k) p q = ((token-edges 0x7B x k (omega arith) (omega arith) p).0, opened-edge true k n q)
+      curly (out.End k) p q = ((token_edges 0x7B x k (omega arith) (omega arith) p).0, opened_edge true k n q)
       curly out.Bad p q = absurd (let z : ◌≡◌ {A = ℕ} 0 1 = cc in omega arith)
 
       square : (o : Out) → token_at s 0x5B x ≡ o → case o (λ k. opened_at s k false) (case (token_at s 0x7B x) (λ k. opened_at s k true) Leaf) ≡ Empty n named → Edge s x × Edge s n
-      square (out.End k) p q = ((token-edges 0x5B x k (omega arith) (omega arith) p).0, opened-edge false k n q)
+      square (out.End k) p q = ((token_edges 0x5B x k (omega arith) (omega arith) p).0, opened_edge false k n q)
       square out.Bad p q = curly (token_at s 0x7B x) refl q
 
-  many-edge : (x : ℕ) {i : ℕ} {named : Bool} → start_at s x ≡ Many i named → Edge s x
-  many-edge x {i} {named} e = square (token_at s 0x5B x) refl e
+  many_edge : (x : ℕ) {i : ℕ} {named : Bool} → start_at s x ≡ Many i named → Edge s x
+  many_edge x {i} {named} e = square (token_at s 0x5B x) refl e
     where
       curly : (o : Out) → token_at s 0x7B x ≡ o → case o (λ k. opened_at s k true) Leaf ≡ Many i named → Edge s x
-      curly (out.End k) p q = (token-edges 0x7B x k (omega arith) (omega arith) p).0
+      curly (out.End k) p q = (token_edges 0x7B x k (omega arith) (omega arith) p).0
       curly out.Bad p q = absurd (let z : ◌≡◌ {A = ℕ} 0 1 = cc in omega arith)
 
       square : (o : Out) → token_at s 0x5B x ≡ o → case o (λ k. opened_at s k false) (case (token_at s 0x7B x) (λ k. opened_at s k true) Leaf) ≡ Many i named → Edge s x
-      square (out.End k) p q = (token-edges 0x5B x k (omega arith) (omega arith) p).0
+      square (out.End k) p q = (token_edges 0x5B x k (omega arith) (omega arith) p).0
       square out.Bad p q = curly (token_at s 0x7B x) refl q
 
   -- ---- so parts of the text are UTF-8
   pub group_utf8 : {x n : ℕ} {named : Bool} {ts : Items} → Group s x named ts n → is_utf8 (part s x (n - x)) ≡ true
-  group_utf8 {x} {n} (hollow p) = let (i, j) = start-edges x p in between s x n i j
-  group_utf8 {x} {n} (filled p w) = between s x n (many-edge x p) (walk-edge w)
+  group_utf8 {x} {n} (hollow p) = let (i, j) = start_edges x p in between s x n i j
+  group_utf8 {x} {n} (filled p w) = between s x n (many_edge x p) (walk_edge w)
 
   pub string_utf8 : (x k : ℕ) → string_at s x ≡ out.End k → is_utf8 (part s (x + 1) (k - x - 2)) ≡ true
   string_utf8 x k e =
       let (p, l, q, h, m) = string_parts s x k e in
       let c = chars_at s (x + 1) in
       let z : c - (x + 1) ≡ k - x - 2 = omega (arith, l) in
-      let i = (byte-edges 0x22 x (omega arith) (omega arith) (byte_is s 0x22 x p)).1 in
-      let j = (byte-edges 0x22 c (omega arith) (omega arith) (byte_is s 0x22 c q)).0 in
+      let i = (byte_edges 0x22 x (omega arith) (omega arith) (byte_is s 0x22 x p)).1 in
+      let j = (byte_edges 0x22 c (omega arith) (omega arith) (byte_is s 0x22 c q)).0 in
       rw z at (between s (x + 1) c i j)

@@ -6,20 +6,18 @@ use mathlib.Core.Bool.{Bool, true, false}
 use Prim.Native.Nat.{ℕ, zero, suc, ◌≤◌}
 use native.Mathlib.Omega.{arith}
 use lib.ListN.{length}
-use Rattle.json_tree.specs.Grammar.{case, scalar_at, start_at, head_at, next_at}
-use Rattle.json_tree.specs.Tree.{Json, word, num, str, arr, obj, Items, nil, item, Got, none, got, end_of, bind, on_leaf, node}
+use Rattle.json_tree.specs.Grammar.{scalar_at, start_at}
+use Rattle.json_tree.specs.Tree.{Json, word, num, str, arr, obj, Items, nil, item, Got, got, on_leaf, node}
 use Rattle.json_tree.specs.Tree.{items_at, group_at, depth, tree_at}
-use Rattle.json_tree.specs.declared.Out.TheVariants.{End}
 use Rattle.json_tree.specs.declared.Kind.{Kind}
 use Rattle.json_tree.specs.declared.Kind.TheVariants.{Str, Num, Word, None}
 use Rattle.json_tree.specs.declared.Start.{Start}
 use Rattle.json_tree.specs.declared.Start.TheVariants.{Leaf, Empty, Many}
-use Rattle.json_tree.specs.declared.Next.TheVariants.{More, Done}
 use Rattle.json_tree.proofs.Trees.{tree_open}
 use Rattle.message.specs.declared.Element.{Element}
 use Rattle.message.specs.declared.Element.TheVariants.{At, Ended, Broken}
 use Rattle.shape.specs.Shape.{count_items, count}
-use Rattle.message.specs.Lists.{start_element, more_of, open_within, next_of, up_to, elements_from, elements, places_of}
+use Rattle.message.specs.Lists.{start_element, open_within, next_of, up_to, elements_from, elements, places_of}
 use Rattle.message.proofs.Walks.{never, bind_got, Walk, last, more, walk_of}
 
 -- brackets or braces as they stand in the text: around nothing, or around items
@@ -30,14 +28,14 @@ pub data Group (s : List ℕ) (at : ℕ) (named : Bool) : Items → ℕ → Type
 pub group_of : (s : List ℕ) (at : ℕ) (named : Bool) (ts : Items) (n : ℕ) → tree_at s depth at ≡ got (node named ts) n → Group s at named ts n
 group_of s at named ts n e = on (start_at s at) refl (sym (tree_open s open_within at (start_at s at) refl) ∙ e)
   where
-    node-is : (b c : Bool) (us vs : Items) {m k : ℕ} → got (node b us) m ≡ got (node c vs) k → (b ≡ c) × (us ≡ vs) × (m ≡ k)
-    node-is true true us vs q = (refl, cc, cc)
-    node-is true false us vs q = absurd (let z : ◌≡◌ {A = ℕ} 0 1 = cc in omega arith)
-    node-is false true us vs q = absurd (let z : ◌≡◌ {A = ℕ} 0 1 = cc in omega arith)
-    node-is false false us vs q = (refl, cc, cc)
+    node_is : (b c : Bool) (us vs : Items) {m k : ℕ} → got (node b us) m ≡ got (node c vs) k → (b ≡ c) × (us ≡ vs) × (m ≡ k)
+    node_is true true us vs q = (refl, cc, cc)
+    node_is true false us vs q = absurd (let z : ◌≡◌ {A = ℕ} 0 1 = cc in omega arith)
+    node_is false true us vs q = absurd (let z : ◌≡◌ {A = ℕ} 0 1 = cc in omega arith)
+    node_is false false us vs q = (refl, cc, cc)
 
     same : (b : Bool) (us : Items) {m : ℕ} → got (node b us) m ≡ got (node named ts) n → Group s at b us m → Group s at named ts n
-    same b us q a = let (x, y, z) = node-is b named us ts q in rw (← x, ← y, ← z) a
+    same b us q a = let (x, y, z) = node_is b named us ts q in rw (← x, ← y, ← z) a
 
     leaf : (b : Bool) (k : Kind) → on_leaf s at k ≡ got (node b ts) n → Group s at named ts n
     leaf true (Str m) q = absurd (let z : ◌≡◌ {A = ℕ} 0 1 = cc in omega arith)

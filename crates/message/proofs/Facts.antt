@@ -44,6 +44,7 @@ module _ {p v : ℕ} {t : Json} where
   refused_in_lem s b e (later {q = q} {u = u} i) = refused_in_lem s b (or_not (refused_in s u) _ (or_not (b && refuses (spelled_at s q)) _ e).1).1 i
 
   pub reads_in : {value : ℕ → Got Json} {ts : Items} → Reads value ts → In p v t ts → (n : ℕ) × (value v ≡ got t n)
+  reads_in {value = value} end x = elim x [ ]
   reads_in (one e r) here = (_, e)
   reads_in (one e r) (later i) = reads_in r i
 

@@ -29,13 +29,13 @@ use Rattle.message.proofs.Walks.{Walk, last, more, walk_of}
 
 -- ---- a fold over the members of the object at a place, where a value begins
 module _ {A : Type 0} (f : A → ℕ → ℕ → Json → A) (z : A) (s : List ℕ) where
-  abbrev pub foldStart : Start → A
-  foldStart Leaf = z
-  foldStart (Empty n named) = z
-  foldStart (Many i true) = fold_got f z z (items_at (tree_at s open_within) s true (length s) i)
-  foldStart (Many i false) = z
+  abbrev pub fold_start : Start → A
+  fold_start Leaf = z
+  fold_start (Empty n named) = z
+  fold_start (Many i true) = fold_got f z z (items_at (tree_at s open_within) s true (length s) i)
+  fold_start (Many i false) = z
 
-  pub fold_open : (at : ℕ) (r : Start) → r ≡ start_at s at → foldStart r ≡ fold_items f z (members_at s at)
+  pub fold_open : (at : ℕ) (r : Start) → r ≡ start_at s at → fold_start r ≡ fold_items f z (members_at s at)
   unfolding members_at
   fold_open at r e = rw (tree_open s open_within at r e) (on r)
     where
@@ -53,7 +53,7 @@ module _ {A : Type 0} (f : A → ℕ → ℕ → Json → A) (z : A) (s : List �
       object none = refl
       object (got ts n) = refl
 
-      on : (r : Start) → foldStart r ≡ fold_items f z (members_got (group_at (tree_at s open_within) s at r))
+      on : (r : Start) → fold_start r ≡ fold_items f z (members_got (group_at (tree_at s open_within) s at r))
       on Leaf = leaf (scalar_at s at)
       on (Empty n true) = refl
       on (Empty n false) = refl
@@ -82,19 +82,19 @@ module _ (s w : List ℕ) where
       go true = refl
       go false = refl
 
-  fold-first : (f : Members → ℕ → ℕ → Json → Members) (part : Members → Listed)
+  fold_first : (f : Members → ℕ → ℕ → Json → Members) (part : Members → Listed)
       → ((a : Members) (p v : ℕ) (t : Json) → part (f a p v t) ≡ kept_place (spelled_at s p) w (part a) v)
       → (a : Members) (ts : Items) → part (fold_items f a ts) ≡ or_else (part a) (member_of s w ts)
   unfolding member_of
-  fold-first f part step a nil = or_missing (part a)
-  fold-first f part step a (item p v t ts) =
-      fold-first f part step (f a p v t) ts ∙ ap (λ x. or_else x (member_of s w ts)) (step a p v t) ∙ or_kept (part a) p v t ts
+  fold_first f part step a nil = or_missing (part a)
+  fold_first f part step a (item p v t ts) =
+      fold_first f part step (f a p v t) ts ∙ ap (λ x. or_else x (member_of s w ts)) (step a p v t) ∙ or_kept (part a) p v t ts
 
 -- ---- what stands at a member's place
 module _ (s : List ℕ) (v : ℕ) {A : Type 0} (f : Json → A) (z : A) (onArr : (ts : Items) → z ≡ f (arr ts)) (onObj : (ts : Items) → z ≡ f (obj ts)) where
-  leaf-is : (d : ℕ) → got_or f z (on_leaf s v (leaf_at s v)) ≡ got_or f z (tree_at s (suc d) v)
+  leaf_is : (d : ℕ) → got_or f z (on_leaf s v (leaf_at s v)) ≡ got_or f z (tree_at s (suc d) v)
   unfolding leaf_at
-  leaf-is d = rw (tree_open s d v (start_at s v) refl) (on (start_at s v))
+  leaf_is d = rw (tree_open s d v (start_at s v) refl) (on (start_at s v))
     where
       group : (named : Bool) (ts : Items) → z ≡ f (node named ts)
       group true ts = onObj ts
@@ -112,11 +112,11 @@ module _ (s : List ℕ) (v : ℕ) {A : Type 0} (f : Json → A) (z : A) (onArr :
 module _ (s : List ℕ) (v : ℕ) {n : ℕ} {t : Json} (e : tree_at s open_within v ≡ got t n) where
   pub span_is : span_at s v ≡ span_of t
   unfolding span_at
-  span_is = leaf-is s v span_of nowhere (λ ts. refl) (λ ts. refl) 6 ∙ ap (got_or span_of nowhere) e
+  span_is = leaf_is s v span_of nowhere (λ ts. refl) (λ ts. refl) 6 ∙ ap (got_or span_of nowhere) e
 
   pub number_is : number_leaf s v ≡ number_spelled s t
   unfolding number_leaf
-  number_is = leaf-is s v (number_spelled s) (pos 0) (λ ts. refl) (λ ts. refl) 6 ∙ ap (got_or (number_spelled s) (pos 0)) e
+  number_is = leaf_is s v (number_spelled s) (pos 0) (λ ts. refl) (λ ts. refl) 6 ∙ ap (got_or (number_spelled s) (pos 0)) e
 
 -- ---- the members of the object at a place are read there
 pub data Reads (value : ℕ → Got Json) : Items → Type 0 where
@@ -142,17 +142,17 @@ member_seen {value} s w (one {p = p} {v = v} {t = t} {ts = ts} e r) = go (named 
     go false h = h
 
 module _ (s : List ℕ) where
-  span-in : {m : Member} → Seen (tree_at s open_within) m → span_found s (listed_in m) ≡ span_in m
-  span-in gone = refl
-  span-in (there {v = v} e) = span_is s v e
+  span_in_lem : {m : Member} → Seen (tree_at s open_within) m → span_found s (listed_in m) ≡ span_in m
+  span_in_lem gone = refl
+  span_in_lem (there {v = v} e) = span_is s v e
 
-  number-in : {m : Member} → Seen (tree_at s open_within) m → number_found s (listed_in m) ≡ number_in s m
-  number-in gone = refl
-  number-in (there {v = v} e) = number_is s v e
+  number_in_lem : {m : Member} → Seen (tree_at s open_within) m → number_found s (listed_in m) ≡ number_in s m
+  number_in_lem gone = refl
+  number_in_lem (there {v = v} e) = number_is s v e
 
-  bound-in : {m : Member} → Seen (tree_at s open_within) m → bound_found s (listed_in m) ≡ bound_in s m
-  bound-in gone = refl
-  bound-in (there {v = v} e) = rw (number_is s v e)
+  bound_in_lem : {m : Member} → Seen (tree_at s open_within) m → bound_found s (listed_in m) ≡ bound_in s m
+  bound_in_lem gone = refl
+  bound_in_lem (there {v = v} e) = rw (number_is s v e)
 
 place_in_lem : (m : Member) → place_found (listed_in m) ≡ place_in m
 place_in_lem missing = refl
@@ -188,7 +188,7 @@ module _ (s : List ℕ) (at : ℕ) (m : Members) where
   module _ (event : Bool) (e : m ≡ found_in s event (members_at s at)) where
     found : (w : List ℕ) (part : Members → Listed) → ((a : Members) (p v : ℕ) (t : Json) → part (step_of s event a p v) ≡ kept_place (spelled_at s p) w (part a) v)
         → part no_members ≡ Absent → part m ≡ listed_in (member_of s w (members_at s at))
-    found w part step z = ap part e ∙ fold-first s w (by s event) part step no_members (members_at s at) ∙ ap (λ x. or_else x (member_of s w (members_at s at))) z
+    found w part step z = ap part e ∙ fold_first s w (by s event) part step no_members (members_at s at) ∙ ap (λ x. or_else x (member_of s w (members_at s at))) z
 
   pub event_is : m ≡ found_in s true (members_at s at) → record { id = span_found s m.first; body = body_found s m; sig = span_found s m.seventh } ≡ event_at s at
   unfolding event_at event_parts_of body_of body_found step_of
@@ -201,13 +201,13 @@ module _ (s : List ℕ) (at : ℕ) (m : Members) where
         found true e tags_name (λ a. a.fifth) (λ a p v t. refl) refl,
         found true e content_name (λ a. a.sixth) (λ a p v t. refl) refl,
         found true e sig_name (λ a. a.seventh) (λ a p v t. refl) refl,
-        span-in s (seen id_name),
-        span-in s (seen pubkey_name),
-        number-in s (seen created_at_name),
-        number-in s (seen kind_name),
+        span_in_lem s (seen id_name),
+        span_in_lem s (seen pubkey_name),
+        number_in_lem s (seen created_at_name),
+        number_in_lem s (seen kind_name),
         place_in_lem (member_of s tags_name (members_at s at)),
-        span-in s (seen content_name),
-        span-in s (seen sig_name),
+        span_in_lem s (seen content_name),
+        span_in_lem s (seen sig_name),
       )
 
   pub filter_is : m ≡ found_in s false (members_at s at) → filter_found s m (At at) ≡ filter_at s at
@@ -219,4 +219,4 @@ module _ (s : List ℕ) (at : ℕ) (m : Members) where
       let since = found false e since_name (λ a. a.fourth) (λ a p v t. refl) refl in
       let until = found false e until_name (λ a. a.fifth) (λ a p v t. refl) refl in
       let limit = found false e limit_name (λ a. a.sixth) (λ a p v t. refl) refl in
-      simp (ids, authors, kinds, since, until, limit, bound-in s (seen since_name), bound-in s (seen until_name), bound-in s (seen limit_name))
+      simp (ids, authors, kinds, since, until, limit, bound_in_lem s (seen since_name), bound_in_lem s (seen until_name), bound_in_lem s (seen limit_name))

@@ -7,7 +7,7 @@ use mathlib.Core.Bool.{Bool, true, false, cond, ◌||◌, false≢true}
 use mathlib.Core.Logic.{⊎_elim}
 use Prim.Native.Nat.{ℕ, suc, ◌≤◌, ◌<◌}
 use native.Mathlib.Omega.{arith}
-use borrow.Author.Tests.{eqb-true, ltb-false, not_false}
+use borrow.Author.Tests.{eqb-true, ltb-false, not-false}
 use lib.Dec.{eqb, ltb}
 use lib.ListN.{length}
 use Rattle.utf8.specs.Utf8.{is_utf8}
@@ -63,36 +63,36 @@ module _ (s : List ℕ) (u : is_utf8 s ≡ true) (ts : Items) (reads : Reads (tr
       go (member v t) e (present i q) = field i q (reads_in reads i).1
 
   module _ (w : List ℕ) (o : once s w ts ≡ true) where
-    string-field : ((p : ℕ) (t : Json) → name_at s p ≡ w → event_member s p t ≡ true → is_string t ≡ true) → StringClean s (span_in (member_of s w ts))
-    string-field k = go (field_of w o)
+    string_field : ((p : ℕ) (t : Json) → name_at s p ≡ w → event_member s p t ≡ true → is_string t ≡ true) → StringClean s (span_in (member_of s w ts))
+    string_field k = go (field_of w o)
       where
         go : {m : Member} → Field w m → StringClean s (span_in m)
         go (field {p = p} {v = v} {t = t} i q e) = string_clean s u v t _ e (k p t q (all_in (event_member s) all i)) (refused_in_lem s true a4 i)
 
-    hex-field : (n : ℕ) → ((p : ℕ) (t : Json) → name_at s p ≡ w → event_member s p t ≡ true → is_string t ≡ true)
+    hex_field : (n : ℕ) → ((p : ℕ) (t : Json) → name_at s p ≡ w → event_member s p t ≡ true → is_string t ≡ true)
         → ((p : ℕ) (t : Json) → name_at s p ≡ w → event_hex s p t ≡ false → wrong_hex n s t ≡ false) → string7 n s (span_in (member_of s w ts)) ≡ false
-    hex-field n k j = go (field_of w o)
+    hex_field n k j = go (field_of w o)
       where
         go : {m : Member} → Field w m → string7 n s (span_in m) ≡ false
         go (field {p = p} {t = t} i q e) = hex_clean n s t (k p t q (all_in (event_member s) all i)) (j p t q (any_in (event_hex s) a7 i))
 
-    time-field : ((p : ℕ) (t : Json) → name_at s p ≡ w → event_member s p t ≡ true → is_number t ≡ true)
+    time_field : ((p : ℕ) (t : Json) → name_at s p ≡ w → event_member s p t ≡ true → is_number t ≡ true)
         → ((p : ℕ) (t : Json) → name_at s p ≡ w → event_number s p t ≡ false → wrong_time s t ≡ false) → time6 (number_in s (member_of s w ts)) ≡ false
-    time-field k j = go (field_of w o)
+    time_field k j = go (field_of w o)
       where
         go : {m : Member} → Field w m → time6 (number_in s m) ≡ false
         go (field {p = p} {t = t} i q e) = time_clean s t (k p t q (all_in (event_member s) all i)) (j p t q (any_in (event_number s) a6 i))
 
-    small-field : ((p : ℕ) (t : Json) → name_at s p ≡ w → event_member s p t ≡ true → is_number t ≡ true)
+    small_field : ((p : ℕ) (t : Json) → name_at s p ≡ w → event_member s p t ≡ true → is_number t ≡ true)
         → ((p : ℕ) (t : Json) → name_at s p ≡ w → event_number s p t ≡ false → wrong_small s t ≡ false) → small6 (number_in s (member_of s w ts)) ≡ false
-    small-field k j = go (field_of w o)
+    small_field k j = go (field_of w o)
       where
         go : {m : Member} → Field w m → small6 (number_in s m) ≡ false
         go (field {p = p} {t = t} i q e) = small_clean s t (k p t q (all_in (event_member s) all i)) (j p t q (any_in (event_number s) a6 i))
 
-  tags-field : once s tags_name ts ≡ true → ValueClean is_tags_shape s (place_in (member_of s tags_name ts)) × (on_value wrong_tags (value_at s (place_in (member_of s tags_name ts))) ≡ false)
+  tags_field : once s tags_name ts ≡ true → ValueClean is_tags_shape s (place_in (member_of s tags_name ts)) × (on_value wrong_tags (value_at s (place_in (member_of s tags_name ts))) ≡ false)
   unfolding event_member event_count same_bytes
-  tags-field o = go (field_of tags_name o)
+  tags_field o = go (field_of tags_name o)
     where
       go : {m : Member} → Field tags_name m → ValueClean is_tags_shape s (place_in m) × (on_value wrong_tags (value_at s (place_in m)) ≡ false)
       go (field {p = p} {v = v} {t = t} i q e) =
@@ -101,15 +101,15 @@ module _ (s : List ℕ) (u : is_utf8 s ≡ true) (ts : Items) (reads : Reads (tr
           (value_clean is_tags_shape s u v e (array_grouped (is_array_of is_string) t h) h (refused_in_lem s true a4 i), value_false s v wrong_tags e c)
 
   -- id, pubkey, created_at, kind, tags, content, sig
-  event-clean : once s id_name ts ≡ true → once s pubkey_name ts ≡ true → once s created_at_name ts ≡ true → once s kind_name ts ≡ true → once s tags_name ts ≡ true
+  event_clean : once s id_name ts ≡ true → once s pubkey_name ts ≡ true → once s created_at_name ts ≡ true → once s kind_name ts ≡ true → once s tags_name ts ≡ true
       → once s content_name ts ≡ true → once s sig_name ts ≡ true → event_row s (event_parts_of s ts) ≡ 0
   unfolding event_member event_number event_hex same_bytes event_row event2 event4 event5 event7 body2 body4 body5 body6 body7 body8 event_parts_of body_of
-  event-clean o₁ o₂ o₃ o₄ o₅ o₆ o₇ =
-      let i = string-field id_name o₁ (λ p t q e. rw q at e) in
-      let k = string-field pubkey_name o₂ (λ p t q e. rw q at e) in
-      let c = string-field content_name o₆ (λ p t q e. rw q at e) in
-      let g = string-field sig_name o₇ (λ p t q e. rw q at e) in
-      let (t, n) = tags-field o₅ in
+  event_clean o₁ o₂ o₃ o₄ o₅ o₆ o₇ =
+      let i = string_field id_name o₁ (λ p t q e. rw q at e) in
+      let k = string_field pubkey_name o₂ (λ p t q e. rw q at e) in
+      let c = string_field content_name o₆ (λ p t q e. rw q at e) in
+      let g = string_field sig_name o₇ (λ p t q e. rw q at e) in
+      let (t, n) = tags_field o₅ in
       simp (
         i.c2,
         i.c4,
@@ -127,11 +127,11 @@ module _ (s : List ℕ) (u : is_utf8 s ≡ true) (ts : Items) (reads : Reads (tr
         t.v4,
         t.v5,
         n,
-        hex-field id_name o₁ 64 (λ p t q e. rw q at e) (λ p t q e. rw q at e),
-        hex-field pubkey_name o₂ 64 (λ p t q e. rw q at e) (λ p t q e. rw q at e),
-        hex-field sig_name o₇ 128 (λ p t q e. rw q at e) (λ p t q e. rw q at e),
-        time-field created_at_name o₃ (λ p t q e. rw q at e) (λ p t q e. rw q at e),
-        small-field kind_name o₄ (λ p t q e. rw q at e) (λ p t q e. rw q at e),
+        hex_field id_name o₁ 64 (λ p t q e. rw q at e) (λ p t q e. rw q at e),
+        hex_field pubkey_name o₂ 64 (λ p t q e. rw q at e) (λ p t q e. rw q at e),
+        hex_field sig_name o₇ 128 (λ p t q e. rw q at e) (λ p t q e. rw q at e),
+        time_field created_at_name o₃ (λ p t q e. rw q at e) (λ p t q e. rw q at e),
+        small_field kind_name o₄ (λ p t q e. rw q at e) (λ p t q e. rw q at e),
       )
 
 -- ---- a filter's members, of which its object stands at x
@@ -146,11 +146,11 @@ module _ (s : List ℕ) (u : is_utf8 s ≡ true) (ts : Items) (reads : Reads (tr
     l7 : in_list (λ v. on_value g₇ (value_at s v)) (listed_in (member_of s w ts)) ≡ false
     l8 : in_list (λ v. on_value g₈ (value_at s v)) (listed_in (member_of s w ts)) ≡ false
 
-  list-field : (f g₆ g₇ g₈ : Json → Bool) (w : List ℕ)
+  list_field : (f g₆ g₇ g₈ : Json → Bool) (w : List ℕ)
       → ((p : ℕ) (t : Json) → name_at s p ≡ w → filter_member s p t ≡ true → is_array_of f t ≡ true) → ((p : ℕ) (t : Json) → name_at s p ≡ w → filter_number s p t ≡ false → g₆ t ≡ false)
       → ((p : ℕ) (t : Json) → name_at s p ≡ w → filter_hex s p t ≡ false → g₇ t ≡ false) → ((p : ℕ) (t : Json) → name_at s p ≡ w → wrong_filter s p t ≡ false → g₈ t ≡ false)
       → ListClean (is_array_of f) g₆ g₇ g₈ w
-  list-field f g₆ g₇ g₈ w k₅ k₆ k₇ k₈ = record {
+  list_field f g₆ g₇ g₈ w k₅ k₆ k₇ k₈ = record {
     l2 = go₂ (member_holds s w ts);
     l4 = go₄ (member_holds s w ts);
     l5 = go₅ (member_holds s w ts);
@@ -180,35 +180,35 @@ module _ (s : List ℕ) (u : is_utf8 s ≡ true) (ts : Items) (reads : Reads (tr
       some g k absent = refl
       some g k (present {p = p} {v = v} {t = t} i q) = value_false s v g (reads_in reads i).1 (k p t v i q)
 
-  time-bound : (w : List ℕ) → ((p : ℕ) (t : Json) → name_at s p ≡ w → filter_member s p t ≡ true → is_number t ≡ true)
+  time_bound : (w : List ℕ) → ((p : ℕ) (t : Json) → name_at s p ≡ w → filter_member s p t ≡ true → is_number t ≡ true)
       → ((p : ℕ) (t : Json) → name_at s p ≡ w → filter_number s p t ≡ false → wrong_time s t ≡ false) → in_bound time6 (bound_in s (member_of s w ts)) ≡ false
-  time-bound w k j = go (member_holds s w ts)
+  time_bound w k j = go (member_holds s w ts)
     where
       go : {m : Member} → Holds s w ts m → in_bound time6 (bound_in s m) ≡ false
       go absent = refl
       go (present {p = p} {t = t} i q) = time_clean s t (k p t q (all_in (filter_member s) all i)) (j p t q (any_in (filter_number s) a6 i))
 
-  limit-bound : in_bound small6 (bound_in s (member_of s limit_name ts)) ≡ false
+  limit_bound : in_bound small6 (bound_in s (member_of s limit_name ts)) ≡ false
   unfolding filter_member filter_number same_bytes
-  limit-bound = go (member_holds s limit_name ts)
+  limit_bound = go (member_holds s limit_name ts)
     where
       go : {m : Member} → Holds s limit_name ts m → in_bound small6 (bound_in s m) ≡ false
       go absent = refl
       go (present {p = p} {t = t} i q) = small_clean s t (rw q at (all_in (filter_member s) all i)) (rw q at (any_in (filter_number s) a6 i))
 
-  filter-clean : (x n : ℕ) → tree_at s open_within x ≡ got (obj ts) n → is_filter s (obj ts) ≡ true → filter_counts s ts ≡ false → filter_row s (filter_parts_of s x ts) ≡ 0
+  filter_clean : (x n : ℕ) → tree_at s open_within x ≡ got (obj ts) n → is_filter s (obj ts) ≡ true → filter_counts s ts ≡ false → filter_row s (filter_parts_of s x ts) ≡ 0
   unfolding filter_member filter_number filter_hex wrong_filter same_bytes filter_row filter2 filter4 filter5 filter6 filter7 filter8 filter_parts_of refused_in
-  filter-clean x n e h c =
-      let i = list-field is_string (λ t. false) (wrong_hexes s) wrong_list ids_name (λ p t q e. rw q at e) (λ p t q e. refl) (λ p t q e. rw q at e) (λ p t q e. rw q at e) in
-      let a = list-field is_string (λ t. false) (wrong_hexes s) wrong_list authors_name (λ p t q e. rw q at e) (λ p t q e. refl) (λ p t q e. rw q at e) (λ p t q e. rw q at e) in
-      let k = list-field is_number (wrong_smalls s) (λ t. false) wrong_list kinds_name (λ p t q e. rw q at e) (λ p t q e. rw q at e) (λ p t q e. refl) (λ p t q e. rw q at e) in
+  filter_clean x n e h c =
+      let i = list_field is_string (λ t. false) (wrong_hexes s) wrong_list ids_name (λ p t q e. rw q at e) (λ p t q e. refl) (λ p t q e. rw q at e) (λ p t q e. rw q at e) in
+      let a = list_field is_string (λ t. false) (wrong_hexes s) wrong_list authors_name (λ p t q e. rw q at e) (λ p t q e. refl) (λ p t q e. rw q at e) (λ p t q e. rw q at e) in
+      let k = list_field is_number (wrong_smalls s) (λ t. false) wrong_list kinds_name (λ p t q e. rw q at e) (λ p t q e. rw q at e) (λ p t q e. refl) (λ p t q e. rw q at e) in
       let o = value_clean (is_filter s) s u x e object h a4 in
       let b₆ = value_false s x (on_object (any_item (filter_number s))) e a6 in
       let b₇ = value_false s x (on_object (any_item (filter_hex s))) e a7 in
       let b₈ = value_false s x (on_object (filter_counts s)) e c in
-      let since = time-bound since_name (λ p t q e. rw q at e) (λ p t q e. rw q at e) in
-      let until = time-bound until_name (λ p t q e. rw q at e) (λ p t q e. rw q at e) in
-      simp (i.l2, i.l4, i.l5, i.l7, i.l8, a.l2, a.l4, a.l5, a.l7, a.l8, k.l2, k.l4, k.l5, k.l6, k.l8, o.v2, o.v4, o.v5, since, until, limit-bound, b₆, b₇, b₈)
+      let since = time_bound since_name (λ p t q e. rw q at e) (λ p t q e. rw q at e) in
+      let until = time_bound until_name (λ p t q e. rw q at e) (λ p t q e. rw q at e) in
+      simp (i.l2, i.l4, i.l5, i.l7, i.l8, a.l2, a.l4, a.l5, a.l7, a.l8, k.l2, k.l4, k.l5, k.l6, k.l8, o.v2, o.v4, o.v5, since, until, limit_bound, b₆, b₇, b₈)
 
 -- ---- a message that no row refuses
 zero : (b : Bool) (k x : ℕ) → 0 < k → cond b k x ≡ 0 → (b ≡ false) × (x ≡ 0)
@@ -230,7 +230,7 @@ accepted_of s e =
     let (z₁, e₁) = zero (row1 s) 1 _ (omega arith) e in
     let (z₂, e₂) = zero (row2 s) 2 _ (omega arith) e₁ in
     let (z₃, e₃) = zero (row3 s) 3 _ (omega arith) e₂ in
-    on (root s) refl (not_false _ z₂) e₃
+    on (root s) refl (not-false _ z₂) e₃
   where
     on : (g : Got Json) → root s ≡ g → is_utf8 s ≡ true → root_row s g ≡ 0 → (t : Json) × (n : ℕ) × Accepted s t n
     on none r u q = absurd (omega arith)
@@ -240,13 +240,13 @@ accepted_of s e =
         let (z₆, q₆) = zero (row6 s t) 6 _ (omega arith) q₅ in
         let (z₇, q₇) = zero (row7 s t) 7 _ (omega arith) q₆ in
         let (z₈, q₈) = zero (row8 s t) 8 _ (omega arith) q₇ in
-        (t, n, record { tree = r; bytes = u; a4 = z₄; a5 = not_false _ z₅; a6 = z₆; a7 = z₇; a8 = z₈ })
+        (t, n, record { tree = r; bytes = u; a4 = z₄; a5 = not-false _ z₅; a6 = z₆; a7 = z₇; a8 = z₈ })
 
 -- what is read of it
 module _ (s : List ℕ) {m : Message} (read : (x : Refusal) → message.Refused x ≡ m → ⊥) where
-  read-accepted : read_of s ≡ m → (message_row s ≡ 0) × (in_root s (root s) ≡ m)
+  read_accepted : read_of s ≡ m → (message_row s ≡ 0) × (in_root s (root s) ≡ m)
   unfolding read_of
-  read-accepted e = go (eqb (message_row s) 0) refl e
+  read_accepted e = go (eqb (message_row s) 0) refl e
     where
       go : (b : Bool) → eqb (message_row s) 0 ≡ b → cond b (in_root s (root s)) (message.Refused (refusal_of s)) ≡ m → (message_row s ≡ 0) × (in_root s (root s) ≡ m)
       go true q e = (eqb-true (message_row s) 0 q, e)
@@ -270,14 +270,14 @@ members_reads s w n ts e = rw (members_of_lem s w n ts e) at (members_read s w)
 
 -- ---- EVENT
 module _ (s : List ℕ) (u : is_utf8 s ≡ true) (p : EventParts) where
-  event-tree : (w n : ℕ) (t : Json) → tree_at s open_within w ≡ got t n → is_event s t ≡ true → refused_in s t ≡ false → on_object (any_item (event_number s)) t ≡ false
+  event_tree : (w n : ℕ) (t : Json) → tree_at s open_within w ≡ got t n → is_event s t ≡ true → refused_in s t ≡ false → on_object (any_item (event_number s)) t ≡ false
       → on_object (any_item (event_hex s)) t ≡ false → on_object (any_item (event_count s)) t ≡ false → event_parts_of s (members_of t) ≡ p → event_row s p ≡ 0
   unfolding is_event refused_in
-  event-tree w n (word a m) e h a4 a6 a7 a8 q = absurd (false≢true h)
-  event-tree w n (num a m) e h a4 a6 a7 a8 q = absurd (false≢true h)
-  event-tree w n (str a m) e h a4 a6 a7 a8 q = absurd (false≢true h)
-  event-tree w n (arr ts) e h a4 a6 a7 a8 q = absurd (false≢true h)
-  event-tree w n (obj ts) e h a4 a6 a7 a8 q =
+  event_tree w n (word a m) e h a4 a6 a7 a8 q = absurd (false≢true h)
+  event_tree w n (num a m) e h a4 a6 a7 a8 q = absurd (false≢true h)
+  event_tree w n (str a m) e h a4 a6 a7 a8 q = absurd (false≢true h)
+  event_tree w n (arr ts) e h a4 a6 a7 a8 q = absurd (false≢true h)
+  event_tree w n (obj ts) e h a4 a6 a7 a8 q =
       let (all, h₁) = and_true (all_items (event_member s) ts) _ h in
       let (o₁, h₂) = and_true (once s id_name ts) _ h₁ in
       let (o₂, h₃) = and_true (once s pubkey_name ts) _ h₂ in
@@ -285,27 +285,27 @@ module _ (s : List ℕ) (u : is_utf8 s ≡ true) (p : EventParts) where
       let (o₄, h₅) = and_true (once s kind_name ts) _ h₄ in
       let (o₅, h₆) = and_true (once s tags_name ts) _ h₅ in
       let (o₆, o₇) = and_true (once s content_name ts) _ h₆ in
-      rw q at (event-clean s u ts (members_reads s w n ts e) a4 all a6 a7 a8 o₁ o₂ o₃ o₄ o₅ o₆ o₇)
+      rw q at (event_clean s u ts (members_reads s w n ts e) a4 all a6 a7 a8 o₁ o₂ o₃ o₄ o₅ o₆ o₇)
 
-  event-word : (x : Word) (rest : Items) → Reads (tree_at s open_within) rest → refused_items s false rest ≡ false → message_parts s x rest ≡ message.Event p → has_shape s x rest ≡ true
+  event_word_lem : (x : Word) (rest : Items) → Reads (tree_at s open_within) rest → refused_items s false rest ≡ false → message_parts s x rest ≡ message.Event p → has_shape s x rest ≡ true
       → in_message (on_object (any_item (event_number s))) (on_object (any_item (filter_number s))) x rest ≡ false
       → in_message (on_object (any_item (event_hex s))) (on_object (any_item (filter_hex s))) x rest ≡ false
       → in_message (on_object (any_item (event_count s))) (on_object (filter_counts s)) x rest ≡ false → event_row s p ≡ 0
-  event-word event nil r a4 q h a6 a7 a8 = absurd (false≢true h)
-  event-word event (item i w t nil) r a4 q h a6 a7 a8 =
+  event_word_lem event nil r a4 q h a6 a7 a8 = absurd (false≢true h)
+  event_word_lem event (item i w t nil) r a4 q h a6 a7 a8 =
       let (n, e) = reads_in r here in
       let z : event_parts_of s (members_of t) ≡ p = cc in
-      event-tree w n t e h (refused_in_lem s false a4 here) (any_in (λ j v. on_object (any_item (event_number s)) v) a6 here) (any_in (λ j v. on_object (any_item (event_hex s)) v) a7 here)
+      event_tree w n t e h (refused_in_lem s false a4 here) (any_in (λ j v. on_object (any_item (event_number s)) v) a6 here) (any_in (λ j v. on_object (any_item (event_hex s)) v) a7 here)
       (any_in (λ j v. on_object (any_item (event_count s)) v) a8 here) z
-  event-word event (item i w t (item j v y ys)) r a4 q h a6 a7 a8 = absurd (false≢true h)
-  event-word req rest r a4 q h a6 a7 a8 = absurd (let z : ◌≡◌ {A = ℕ} 0 1 = cc in omega arith)
-  event-word close rest r a4 q h a6 a7 a8 = absurd (let z : ◌≡◌ {A = ℕ} 0 1 = cc in omega arith)
-  event-word other rest r a4 q h a6 a7 a8 = absurd (false≢true h)
+  event_word_lem event (item i w t (item j v y ys)) r a4 q h a6 a7 a8 = absurd (false≢true h)
+  event_word_lem req rest r a4 q h a6 a7 a8 = absurd (let z : ◌≡◌ {A = ℕ} 0 1 = cc in omega arith)
+  event_word_lem close rest r a4 q h a6 a7 a8 = absurd (let z : ◌≡◌ {A = ℕ} 0 1 = cc in omega arith)
+  event_word_lem other rest r a4 q h a6 a7 a8 = absurd (false≢true h)
 
 pub event_passes : EventPasses
 unfolding row6 row7 row8 refused_in
 event_passes s p e =
-    let (z, r) = read-accepted s (λ k q. (let y : ◌≡◌ {A = ℕ} 0 1 = cc in omega arith)) e in
+    let (z, r) = read_accepted s (λ k q. (let y : ◌≡◌ {A = ℕ} 0 1 = cc in omega arith)) e in
     let (t, n, a) = accepted_of s z in
     on a (begun_of s t a.a5) (rw a.tree at r)
   where
@@ -314,7 +314,7 @@ event_passes s p e =
         let rest = item j w t us in
         let x = word_of (decode (part s b k)) in
         let (f, o, l, y) = tail_walk (group_of s (ws_at s 0) false (item i v (str b k) rest) n a.tree) in
-        event-word s a.bytes p x rest (walk_reads y) (or_not (refuses (part s b k)) (refused_items s false rest) a.a4).1 q a.a5 a.a6 a.a7
+        event_word_lem s a.bytes p x rest (walk_reads y) (or_not (refuses (part s b k)) (refused_items s false rest) a.a4).1 q a.a5 a.a6 a.a7
         (or_not (wrong_request s x rest) _ a.a8).1
 
 -- ---- REQ
@@ -327,7 +327,7 @@ filter_tree s u w n (str a m) e h a4 a6 a7 a8 = absurd (false≢true h)
 filter_tree s u w n (arr ts) e h a4 a6 a7 a8 = absurd (false≢true h)
 filter_tree s u w n (obj ts) e h a4 a6 a7 a8 =
     rw (members_of_lem s w n ts e)
-    (filter-clean s u ts (members_reads s w n ts e) a4 (and_true (all_items (filter_member s) ts) _ h).0 a6 a7 (or_not (any_item (wrong_filter s) ts) _ a8).0 w n e h a8)
+    (filter_clean s u ts (members_reads s w n ts e) a4 (and_true (all_items (filter_member s) ts) _ h).0 a6 a7 (or_not (any_item (wrong_filter s) ts) _ a8).0 w n e h a8)
 
 place_in_lem : {v : ℕ} (ts : Items) → Memᴰ v (places_of ts) → (p : ℕ) × (t : Json) × In p v t ts
 place_in_lem nil m = absurd (Memᴰ.not-nil m)
@@ -345,28 +345,28 @@ pub data Request (s : List ℕ) (r : ReqParts) : Type 0 where
       → any_item (λ q t. on_object (filter_counts s) t) us ≡ false → outside 1 4 (count us) ≡ false → Request s r
 
 module _ (s : List ℕ) (u : is_utf8 s ≡ true) (r : ReqParts) where
-  request-word : (x : Word) (rest : Items) {f i n : ℕ} → f ≤ length s → Walk (tree_at s open_within) s false f i rest n → refused_items s false rest ≡ false → message_parts s x rest ≡ message.Req r
+  request_word : (x : Word) (rest : Items) {f i n : ℕ} → f ≤ length s → Walk (tree_at s open_within) s false f i rest n → refused_items s false rest ≡ false → message_parts s x rest ≡ message.Req r
       → has_shape s x rest ≡ true → in_message (on_object (any_item (event_number s))) (on_object (any_item (filter_number s))) x rest ≡ false
       → in_message (on_object (any_item (event_hex s))) (on_object (any_item (filter_hex s))) x rest ≡ false
       → (wrong_request s x rest || in_message (on_object (any_item (event_count s))) (on_object (filter_counts s)) x rest) ≡ false → Request s r
   unfolding elements_from count_items refused_in
-  request-word req (item j w t nil) l y a4 q h a6 a7 a8 = absurd (false≢true (sym (or_not (wrong_subscription s t) true (or_not (wrong_subscription s t || true) _ a8).0).1))
-  request-word req (item j w t (item k v t' us)) l y a4 q h a6 a7 a8 =
+  request_word req (item j w t nil) l y a4 q h a6 a7 a8 = absurd (false≢true (sym (or_not (wrong_subscription s t) true (or_not (wrong_subscription s t || true) _ a8).0).1))
+  request_word req (item j w t (item k v t' us)) l y a4 q h a6 a7 a8 =
       let (g, o, m, y') = rest_walk y in
       let (b, c) = or_not _ _ a8 in
       let z : r.filters ≡ v = cc in
       let x = walk_places (length s) (omega arith) y' in
       let d = walk_first y' in
       request (item k v t' us) (rw z (rw d at x)) u (walk_reads y') (or_not (refused_in s t) _ a4).1 (and_true (is_string t) _ h).1 a6 a7 c (or_not (wrong_subscription s t) _ b).1
-  request-word req nil l y a4 q h a6 a7 a8 = absurd (false≢true h)
-  request-word event rest l y a4 q h a6 a7 a8 = absurd (let z : ◌≡◌ {A = ℕ} 0 1 = cc in omega arith)
-  request-word close rest l y a4 q h a6 a7 a8 = absurd (let z : ◌≡◌ {A = ℕ} 0 1 = cc in omega arith)
-  request-word other rest l y a4 q h a6 a7 a8 = absurd (false≢true h)
+  request_word req nil l y a4 q h a6 a7 a8 = absurd (false≢true h)
+  request_word event rest l y a4 q h a6 a7 a8 = absurd (let z : ◌≡◌ {A = ℕ} 0 1 = cc in omega arith)
+  request_word close rest l y a4 q h a6 a7 a8 = absurd (let z : ◌≡◌ {A = ℕ} 0 1 = cc in omega arith)
+  request_word other rest l y a4 q h a6 a7 a8 = absurd (false≢true h)
 
 request_of : (s : List ℕ) (r : ReqParts) → read_of s ≡ message.Req r → Request s r
 unfolding row6 row7 row8 refused_in
 request_of s r e =
-    let (z, q) = read-accepted s (λ k q. (let y : ◌≡◌ {A = ℕ} 0 1 = cc in omega arith)) e in
+    let (z, q) = read_accepted s (λ k q. (let y : ◌≡◌ {A = ℕ} 0 1 = cc in omega arith)) e in
     let (t, n, a) = accepted_of s z in
     on a (begun_of s t a.a5) (rw a.tree at q)
   where
@@ -374,7 +374,7 @@ request_of s r e =
     on {n = n} a (begun {p = i} {v = v} {a = b} {n = k} {q = j} {w = w} {u = t} {us = us}) q =
         let rest = item j w t us in
         let (f, o, l, y) = tail_walk (group_of s (ws_at s 0) false (item i v (str b k) rest) n a.tree) in
-        request-word s a.bytes r (word_of (decode (part s b k))) rest l y (or_not (refuses (part s b k)) (refused_items s false rest) a.a4).1 q a.a5 a.a6 a.a7 a.a8
+        request_word s a.bytes r (word_of (decode (part s b k))) rest l y (or_not (refuses (part s b k)) (refused_items s false rest) a.a4).1 q a.a5 a.a6 a.a7 a.a8
 
 pub filters_pass : FiltersPass
 filters_pass s r e v m = go (request_of s r e)

@@ -2,7 +2,7 @@
 -- rows of one part, by its tests in the order of the code.
 use mathlib.Core.Path.{◌≡◌, refl, sym, ap, ◌∙◌}
 use mathlib.Core.List.{List}
-use mathlib.Core.Bool.{Bool, true, false, cond, not, ◌||◌, or_false}
+use mathlib.Core.Bool.{Bool, true, false, cond, not, ◌||◌, or-false}
 use Prim.Native.Nat.{ℕ, ◌+◌, ◌-◌, ◌<◌, ◌≤◌, min}
 use native.Mathlib.Decide.{dec_le}
 use native.Mathlib.Omega.{arith}
@@ -272,13 +272,13 @@ pub body_lowest : (b : List ℕ) (p : Body) {x₁ x₂ x₃ x₄ t k h v c : ℕ
     → HexRank b p.pubkey 64 h → ValueRank b p.tags Tags v → StringRank b p.content c → BodyRank b p x₁
 unfolding body2 body4 body5 body6 body7 body8
 body_lowest b p e₁ e₂ e₃ e₄ t k h v c =
-    said refl refl refl (rw (none_value (value_at b p.tags), or_false)) (rw (none_value (value_at b p.tags), or_false)) (rw or_false)
+    said refl refl refl (rw (none_value (value_at b p.tags), or-false)) (rw (none_value (value_at b p.tags), or-false)) (rw or-false)
     (both e₁ t (both e₂ k (both e₃ h (both e₄ v c))))
 
 pub event_lowest : (b : List ℕ) (p : EventParts) {x₁ x₂ h d g : ℕ} → x₁ ≡ min h x₂ → x₂ ≡ min d g
     → HexRank b p.id 64 h → BodyRank b p.body d → HexRank b p.sig 128 g → row_told x₁ ≡ event_row b p
 unfolding event_row event2 event4 event5 event7
-event_lowest b p e₁ e₂ h d g = told_is (said refl refl refl (or_false (body6 p.body)) refl (or_false (body8 b p.body)) (both e₁ h (both e₂ d g)))
+event_lowest b p e₁ e₂ h d g = told_is (said refl refl refl (or-false (body6 p.body)) refl (or-false (body8 b p.body)) (both e₁ h (both e₂ d g)))
 
 pub filter_lowest : (b : List ℕ) (p : FilterParts) {x₁ x₂ x₃ x₄ x₅ x₆ i a k s u l c : ℕ}
     → x₁ ≡ min i x₂ → x₂ ≡ min a x₃ → x₃ ≡ min k x₄ → x₄ ≡ min s x₅ → x₅ ≡ min u x₆ → x₆ ≡ min l c

@@ -17,13 +17,12 @@ use Rattle.json_tree.specs.declared.Kind.TheVariants as kind
 use Rattle.json_tree.specs.declared.Start.{Start}
 use Rattle.json_tree.specs.declared.Start.TheVariants.{Leaf, Empty, Many}
 use Rattle.json_tree.proofs.Trees.{tree_open}
-use Rattle.spell.specs.Spell.{decode, character_count}
+use Rattle.spell.specs.Spell.{decode}
 use Rattle.rows.specs.Strings.{part, spelled_at}
 use Rattle.rows.specs.Rows.{row1, row2, row3}
-use Rattle.shape.specs.Shape.{Word, event, req, close, other, word_of, name_at, Opened, opened, has_shape, is_one, is_then}
-use Rattle.shape.specs.Shape.{is_string, is_event, is_filter, id_name}
-use Rattle.wire.specs.Limits.{most_characters}
-use Rattle.shape.specs.Rows.{row4, row5, row6, row7, row8, tree_row, root_row, message_row, outside, wrong_subscription}
+use Rattle.shape.specs.Shape.{Word, event, req, close, other, word_of, name_at, opened, has_shape, is_then}
+use Rattle.shape.specs.Shape.{is_string, is_filter}
+use Rattle.shape.specs.Rows.{row4, row5, row6, row7, row8, tree_row, root_row, message_row, wrong_subscription}
 use Rattle.shape.specs.Offsets.{refusal_of}
 use Rattle.shape.specs.declared.Refusal.{Refusal}
 use Rattle.message.specs.declared.Element.TheVariants.{At}
@@ -33,14 +32,14 @@ use Rattle.message.specs.declared.Named.{Named}
 use Rattle.message.specs.declared.Naming.{Naming}
 use Rattle.message.specs.declared.Named.TheVariants as names
 use Rattle.message.specs.Lists.{start_element, open_within, next_of}
-use Rattle.message.specs.Parts.{member_of, span_of, span_in, members_of, members_got, members_at, event_parts_of, event_at}
-use Rattle.message.specs.Read.{first_item as firstElement, second_place, message_parts, in_root, read_of, read_number}
+use Rattle.message.specs.Parts.{span_of, members_of, members_got, members_at, event_parts_of, event_at}
+use Rattle.message.specs.Read.{second_place, message_parts, in_root, read_of, read_number}
 use Rattle.message.specs.Read.{RowRead, id_named, subscription_named, named_in, named_root, is_early, named_of, naming_of}
 use Rattle.message.specs.Inner.{span_at, word_opening, opening_at, element_place, word_place, string_after, parts_at}
 use Rattle.message.specs.Inner.{label_named, named_at}
 use Rattle.message.proofs.Walks.{never, bind_got, deeper}
 use Rattle.message.proofs.Scalars.{scalar_string}
-use Rattle.message.proofs.Elements.{group_of, first_place, Listing, end, one, array_listing}
+use Rattle.message.proofs.Elements.{group_of, first_place, Listing, one, array_listing}
 use Rattle.message.proofs.Found.{span_is}
 
 -- ---- where rows 1 to 5 do not hold there is a tree, and it has its shape
@@ -139,9 +138,9 @@ module _ (s : List ℕ) (p v a n q w : ℕ) (u : Json) (us : Items) (m : ℕ) (r
       go : Listing s (item p v (str a n) (item q w u us)) → (spelled_at s v ≡ part s a n) × (next_of s v ≡ At w) × ((k : ℕ) × (tree_at s open_within w ≡ got u k)) × (next_of s w ≡ first_place us)
       go (one e f (one g h l)) = (string_at_lem s v a n _ e, f, (_, g), h)
 
-  word-is : word_place s ≡ v
+  word_is : word_place s ≡ v
   unfolding word_place
-  word-is = ap element_place listing.0
+  word_is = ap element_place listing.0
 
   opening_is : opening_at s v ≡ word_opening (word_of (decode (part s a n)))
   unfolding opening_at name_at
@@ -151,21 +150,21 @@ module _ (s : List ℕ) (p v a n q w : ℕ) (u : Json) (us : Items) (m : ℕ) (r
   unfolding string_after
   second_is = ap element_place laid.1
 
-  third-is : string_after s w ≡ second_place (item q w u us)
+  third_is : string_after s w ≡ second_place (item q w u us)
   unfolding string_after
-  third-is = ap element_place laid.3 ∙ third_place q w u us
+  third_is = ap element_place laid.3 ∙ third_place q w u us
 
   span_second : span_at s w ≡ span_of u
   span_second = span_is s w laid.2.1
 
-  event-second : event_at s w ≡ event_parts_of s (members_of u)
+  event_second : event_at s w ≡ event_parts_of s (members_of u)
   unfolding event_at members_at
-  event-second = ap (λ g. event_parts_of s (members_got g)) (deeper s open_within w u laid.2.0 laid.2.1)
+  event_second = ap (λ g. event_parts_of s (members_got g)) (deeper s open_within w u laid.2.0 laid.2.1)
 
   parts_are : (x : Word) → parts_at s (word_opening x) w ≡ message_parts s x (item q w u us)
   unfolding parts_at
-  parts_are event = ap message.Event event-second
-  parts_are req = rw (span_second, third-is)
+  parts_are event = ap message.Event event_second
+  parts_are req = rw (span_second, third_is)
   parts_are close = ap message.Close span_second
   parts_are other = refl
 
@@ -177,12 +176,12 @@ module _ (s : List ℕ) (p v a n q w : ℕ) (u : Json) (us : Items) (m : ℕ) (r
   label_is (arr ts) e h = absurd (false≢true h)
   label_is (obj ts) e h = absurd (false≢true h)
 
-  names-are : (x : Word) → has_shape s x (item q w u us) ≡ true → named_at s (word_opening x) w ≡ named_in s x (item q w u us)
+  names_are : (x : Word) → has_shape s x (item q w u us) ≡ true → named_at s (word_opening x) w ≡ named_in s x (item q w u us)
   unfolding named_at event_parts_of
-  names-are event h = ap (λ e. id_named s e.id) event-second
-  names-are req h = label_is u span_second h
-  names-are close h = refl
-  names-are other h = refl
+  names_are event h = ap (λ e. id_named s e.id) event_second
+  names_are req h = label_is u span_second h
+  names_are close h = refl
+  names_are other h = refl
 
 pub read_is : (s : List ℕ) → message_row s ≡ 0 → parts_at s (opening_at s (word_place s)) (string_after s (word_place s)) ≡ read_of s
 unfolding read_of
@@ -190,7 +189,7 @@ read_is s z = rw z (go (late_shaped s (ap is_early z)))
   where
     on : {t : Json} {m : ℕ} → root s ≡ got t m → Begun t → parts_at s (opening_at s (word_place s)) (string_after s (word_place s)) ≡ in_root s (root s)
     on {m = m} r (begun {p = p} {v = v} {a = a} {n = n} {q = q} {w = w} {u = u} {us = us}) =
-        rw (word-is s p v a n q w u us m r, opening_is s p v a n q w u us m r, second_is s p v a n q w u us m r, r)
+        rw (word_is s p v a n q w u us m r, opening_is s p v a n q w u us m r, second_is s p v a n q w u us m r, r)
         (parts_are s p v a n q w u us m r (word_of (decode (part s a n))))
 
     go : Shaped s → parts_at s (opening_at s (word_place s)) (string_after s (word_place s)) ≡ in_root s (root s)
@@ -203,8 +202,8 @@ named_is s z = rw z (go (late_shaped s z))
     on : {t : Json} {m : ℕ} → root s ≡ got t m → has_shape s (opened s t).first (opened s t).rest ≡ true → Begun t
         → named_at s (opening_at s (word_place s)) (string_after s (word_place s)) ≡ named_root s (root s)
     on {m = m} r h (begun {p = p} {v = v} {a = a} {n = n} {q = q} {w = w} {u = u} {us = us}) =
-        rw (word-is s p v a n q w u us m r, opening_is s p v a n q w u us m r, second_is s p v a n q w u us m r, r)
-        (names-are s p v a n q w u us m r (word_of (decode (part s a n))) h)
+        rw (word_is s p v a n q w u us m r, opening_is s p v a n q w u us m r, second_is s p v a n q w u us m r, r)
+        (names_are s p v a n q w u us m r (word_of (decode (part s a n))) h)
 
     go : Shaped s → named_at s (opening_at s (word_place s)) (string_after s (word_place s)) ≡ named_root s (root s)
     go (shaped {t = t} r h) = on r h (begun_of s t h)

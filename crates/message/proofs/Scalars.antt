@@ -6,7 +6,6 @@ use native.Mathlib.Omega.{arith}
 use Rattle.json_tree.specs.Grammar.{case, string_at, number_at, literal_at, scalar_at, start_at}
 use Rattle.json_tree.specs.declared.Out.{Out}
 use Rattle.json_tree.specs.declared.Out.TheVariants.{End, Bad}
-use Rattle.json_tree.specs.declared.Kind.{Kind}
 use Rattle.json_tree.specs.declared.Kind.TheVariants.{Str, Num, Word, None}
 use Rattle.json_tree.specs.declared.Start.{Start}
 use Rattle.json_tree.specs.declared.Start.TheVariants.{Leaf, Empty, Many}

@@ -10,7 +10,6 @@ use lib.Dec.{ltb}
 use lib.ListN.{length, get_or, take, length-map}
 use Rattle.message.specs.declared.FilterParts.{FilterParts}
 use Rattle.message.specs.declared.Filters.{Filters}
-use Rattle.message.specs.declared.ReqParts.{ReqParts}
 use Rattle.message.specs.declared.Element.{Element}
 use Rattle.message.specs.declared.Element.TheVariants.{At, Ended, Broken}
 use Rattle.message.specs.Lists.{next_of, up_to, elements_from}
@@ -56,14 +55,14 @@ module _ (s : List ℕ) where
   after zero x = x
   after (suc k) x = after k (following_of s x)
 
-  none-there : (k : ℕ) (x : Element) → cond (ltb k 0) (filter_after s x) no_filter ≡ no_filter
-  none-there k x = rw (le-ltb k 0 (omega arith))
+  none_there : (k : ℕ) (x : Element) → cond (ltb k 0) (filter_after s x) no_filter ≡ no_filter
+  none_there k x = rw (le-ltb k 0 (omega arith))
 
   nth : (f k : ℕ) (x : Element) → cond (ltb k (length (up_to f s x))) (filter_after s (after k x)) no_filter ≡ get_or (map (filter_at s) (up_to f s x)) k no_filter
   unfolding up_to
-  nth zero k x = none-there k (after k x)
-  nth (suc f) k Ended = none-there k (after k Ended)
-  nth (suc f) k Broken = none-there k (after k Broken)
+  nth zero k x = none_there k (after k x)
+  nth (suc f) k Ended = none_there k (after k Ended)
+  nth (suc f) k Broken = none_there k (after k Broken)
   nth (suc f) k (At v) = go k (nth f)
     where
       go : (k : ℕ) → ((k : ℕ) (x : Element) → cond (ltb k (length (up_to f s x))) (filter_after s (after k x)) no_filter ≡ get_or (map (filter_at s) (up_to f s x)) k no_filter)

@@ -1,6 +1,6 @@
 -- The items that a text was read into, one after the other; what is read with so many brackets open at once is read
 -- with one more.
-use mathlib.Core.Path.{◌≡◌, refl, sym, ap, ◌∙◌}
+use mathlib.Core.Path.{◌≡◌, refl}
 use mathlib.Core.List.{List}
 use mathlib.Core.Bool.{Bool, true, false}
 use Prim.Native.Nat.{ℕ, zero, suc}
@@ -8,11 +8,10 @@ use native.Mathlib.Omega.{arith}
 use lib.ListN.{length}
 use Rattle.json_tree.specs.Grammar.{case, in_class, one_at, token_at, word_at, literal_at, digits_at, int_at, number_at, string_at}
 use Rattle.json_tree.specs.Grammar.{scalar_at, opened_at, start_at, head_at, next_at}
-use Rattle.json_tree.specs.Tree.{Json, Items, nil, item, Got, none, got, bind, follow, on_leaf, node, items_at, group_at}
+use Rattle.json_tree.specs.Tree.{Json, Items, nil, item, Got, none, got, bind, follow, on_leaf, items_at, group_at}
 use Rattle.json_tree.specs.Tree.{tree_at}
 use Rattle.json_tree.specs.declared.Out.{Out}
 use Rattle.json_tree.specs.declared.Out.TheVariants.{End, Bad}
-use Rattle.json_tree.specs.declared.Kind.{Kind}
 use Rattle.json_tree.specs.declared.Kind.TheVariants.{None}
 use Rattle.json_tree.specs.declared.Start.{Start}
 use Rattle.json_tree.specs.declared.Start.TheVariants.{Leaf, Empty, Many}

@@ -16,7 +16,7 @@ use Rattle.message.specs.declared.Element.TheVariants.{At}
 use Rattle.message.specs.Lists.{start_element, open_within}
 use Rattle.message.specs.Parts.{span_of}
 use Rattle.message.specs.Read.{is_event_word, is_event}
-use Rattle.message.specs.Inner.{span_at, is_event_at}
+use Rattle.message.specs.Inner.{is_event_at}
 use Rattle.message.proofs.Elements.{group_of, Listing, one, array_listing, first_in, first_in_lem}
 use Rattle.message.proofs.Found.{span_is}
 
@@ -32,9 +32,9 @@ is_event_word_lem w = go (same_bytes w event_word) (same_bytes w req_word) (same
 
 module _ (s : List ℕ) where
   -- an element that is read at its place
-  event-element : (v : ℕ) (u : Json) (n : ℕ) → tree_at s open_within v ≡ got u n → (p : ℕ) (ts : Items) → is_event_at s (At v) ≡ is_event_word (opened s (arr (item p v u ts))).first
+  event_element : (v : ℕ) (u : Json) (n : ℕ) → tree_at s open_within v ≡ got u n → (p : ℕ) (ts : Items) → is_event_at s (At v) ≡ is_event_word (opened s (arr (item p v u ts))).first
   unfolding is_event_at decode chars_from chars_bytes same_bytes
-  event-element v u n e p ts = rw (span_is s v e) (go u)
+  event_element v u n e p ts = rw (span_is s v e) (go u)
     where
       go : (u : Json) → same_bytes (decode (part s (span_of u).start (span_of u).len)) event_word ≡ is_event_word (opened s (arr (item p v u ts))).first
       go (word a k) = refl
@@ -43,17 +43,17 @@ module _ (s : List ℕ) where
       go (arr us) = refl
       go (obj us) = refl
 
-  event-tree : (t : Json) (n : ℕ) → root s ≡ got t n → is_event_at s (first_in t) ≡ is_event_word (opened s t).first
+  event_tree : (t : Json) (n : ℕ) → root s ≡ got t n → is_event_at s (first_in t) ≡ is_event_word (opened s t).first
   unfolding is_event_at
-  event-tree (word a k) n r = refl
-  event-tree (num a k) n r = refl
-  event-tree (str a k) n r = refl
-  event-tree (obj ts) n r = refl
-  event-tree (arr nil) n r = refl
-  event-tree (arr (item p v u ts)) n r = go (array_listing (group_of s (ws_at s 0) false (item p v u ts) n r)).1
+  event_tree (word a k) n r = refl
+  event_tree (num a k) n r = refl
+  event_tree (str a k) n r = refl
+  event_tree (obj ts) n r = refl
+  event_tree (arr nil) n r = refl
+  event_tree (arr (item p v u ts)) n r = go (array_listing (group_of s (ws_at s 0) false (item p v u ts) n r)).1
     where
       go : Listing s (item p v u ts) → is_event_at s (At v) ≡ is_event_word (opened s (arr (item p v u ts))).first
-      go (one e f l) = event-element v u _ e p ts
+      go (one e f l) = event_element v u _ e p ts
 
   pub event_first : (n : ℕ) → end_of (root s) ≡ End n → is_event_at s (start_element (start_at s (ws_at s 0))) ≡ is_event s
   unfolding is_event
@@ -61,7 +61,7 @@ module _ (s : List ℕ) where
     where
       go : (g : Got Json) → root s ≡ g → end_of g ≡ End n → is_event_at s (start_element (start_at s (ws_at s 0))) ≡ on_root (λ t. is_event_word (opened s t).first) g
       go none r q = absurd (let z : ◌≡◌ {A = ℕ} 0 1 = cc in omega arith)
-      go (got t k) r q = ap (is_event_at s) (first_in_lem s open_within (ws_at s 0) t k r) ∙ event-tree t k r
+      go (got t k) r q = ap (is_event_at s) (first_in_lem s open_within (ws_at s 0) t k r) ∙ event_tree t k r
 
   pub event_none : end_of (root s) ≡ Bad → false ≡ is_event s
   unfolding is_event

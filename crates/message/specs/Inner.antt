@@ -1,6 +1,6 @@
 -- What the private functions promise each other: the first member of each name as places, found in one walk, and what
 -- stands at a place.
-use Rattle.std.specs.Prelude.{ℕ, ◌≡◌, List, Bool, true, false, cond, eqb, ℤ, pos}
+use Rattle.std.specs.Prelude.{ℕ, ◌≡◌, Bool, false, cond, eqb, ℤ, pos}
 use Rattle.json_tree.specs.Grammar.{ws_at, scalar_at, start_at}
 use Rattle.json_tree.specs.Tree.{Json, Items, Got, none, got, fold_items, on_leaf}
 use Rattle.json_tree.specs.declared.Kind.{Kind}

@@ -1,7 +1,7 @@
 -- Parts lent by anybody, over the buffer b in which they lie. 01: "Parts of an event, filter or reply are tested by
 -- rows 2 and 4 to 8 (5 also if a part lies outside its buffer or is no RFC 8259 spelling)". Each row by itself, and
 -- then the lowest that holds, or 0.
-use Rattle.std.specs.Prelude.{ℕ, ◌+◌, min, List, Bool, true, false, cond, not, ◌&&◌, ◌||◌, eqb, leb, ℤ, pos, neg_ℤ, length}
+use Rattle.std.specs.Prelude.{ℕ, ◌+◌, Bool, false, cond, not, ◌&&◌, ◌||◌, leb, ℤ, pos, neg_ℤ, length}
 use Rattle.utf8.specs.Utf8.{is_utf8}
 use Rattle.json_tree.specs.Grammar.{is_spelling}
 use Rattle.json_tree.specs.Tree.{Json, Got, none, got, depth, tree_at, on_object}

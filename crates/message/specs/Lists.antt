@@ -1,6 +1,6 @@
 -- 01, "The right form for each place": "lists kept beside it". A list is the place of its array; its meaning is the
 -- list of the places of its elements, which are the items of the tree there (proofs/Elements.antt).
-use Rattle.std.specs.Prelude.{ℕ, zero, suc, List, [], ◌∷◌, length, Bool, true, false}
+use Rattle.std.specs.Prelude.{ℕ, zero, suc, List, [], ◌∷◌, length, true, false}
 use Rattle.json_tree.specs.Grammar.{case, start_at, next_at}
 use Rattle.json_tree.specs.Tree.{Items, nil, item, end_of, tree_at}
 use Rattle.json_tree.specs.declared.Start.{Start}

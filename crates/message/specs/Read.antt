@@ -1,14 +1,13 @@
 -- A message read: rows 1 to 8 and then its parts; and what a refusal's reply names.
 use Rattle.std.specs.Prelude.{ℕ, ◌≡◌, List, Bool, true, false, cond, ◌&&◌, eqb, leb}
 use Rattle.wire.specs.Limits.{hex_length}
-use Rattle.json_tree.specs.Tree.{Json, word, num, str, arr, obj, Items, nil, item, Got, none, got, root}
+use Rattle.json_tree.specs.Tree.{Json, word, Items, nil, item, Got, none, got, root}
 use Rattle.rows.specs.Strings.{part}
 use Rattle.rows.specs.Rows.{on_root}
 use Rattle.spell.specs.Spell.{is_hex_of}
-use Rattle.shape.specs.Shape.{Word, event, req, close, other, Opened, opened, id_name}
+use Rattle.shape.specs.Shape.{Word, event, req, close, other, opened, id_name}
 use Rattle.shape.specs.Rows.{message_row, wrong_subscription}
 use Rattle.shape.specs.Offsets.{plain_refusal, refusal_of}
-use Rattle.shape.specs.declared.Refusal.{Refusal}
 use Rattle.message.specs.Parts.{span_of, event_parts_of, members_of, member_of, span_in}
 use Rattle.message.specs.declared.Span.{Span}
 use Rattle.message.specs.declared.Message.{Message}

@@ -1,5 +1,7 @@
 // A client message read: its parts as places in the text, or the number of the row that refuses it. Parts of an event
 // and of a filter as values that other calls take, whoever made them.
+#![tactic(auto)]
+
 ghost use Rattle.std.specs.Prelude.{◌≡◌};
 ghost use Rattle.json_tree.specs.Grammar.{start_at};
 ghost use Rattle.shape.specs.Rows.{message_row};
@@ -21,7 +23,7 @@ use shape::{Refusal, Sort};
 const WITHIN: usize = json_tree::DEPTH - 1;
 
 // A part of a buffer: a string as spelled between its quotes.
-#[derive(Drop)]
+#[derive(Clone, Copy)]
 pub struct Span {
     pub start: usize,
     pub len: usize,
@@ -29,7 +31,7 @@ pub struct Span {
 
 // The fields of an event that its text has. `tags` is the place of the array in the buffer: the list stands beside the
 // struct, in the text.
-#[derive(Drop)]
+#[derive(Clone, Copy)]
 pub struct Body {
     pub pubkey: Span,
     pub created_at: i64,
@@ -38,7 +40,7 @@ pub struct Body {
     pub content: Span,
 }
 
-#[derive(Drop)]
+#[derive(Clone, Copy)]
 pub struct EventParts {
     pub id: Span,
     pub body: Body,
@@ -46,21 +48,21 @@ pub struct EventParts {
 }
 
 // 01: "since, until and limit are each absent or a number".
-#[derive(Drop)]
+#[derive(Clone, Copy)]
 pub enum Bound {
     Absent,
     Number(i64),
 }
 
 // A list that may be absent: the place of its array.
-#[derive(Drop)]
+#[derive(Clone, Copy)]
 pub enum Listed {
     Absent,
     At(usize),
 }
 
 // A step of a walk over an array: the place of an element, the array's end, or no array that goes on so.
-#[derive(Drop)]
+#[derive(Clone, Copy)]
 pub enum Element {
     At(usize),
     Ended,
@@ -68,7 +70,7 @@ pub enum Element {
 }
 
 // `conditions` is the place of the object whose # members are the conditions.
-#[derive(Drop)]
+#[derive(Clone, Copy)]
 pub struct FilterParts {
     pub ids: Listed,
     pub authors: Listed,
@@ -80,20 +82,20 @@ pub struct FilterParts {
 }
 
 // The filters of a REQ: how many there are, and the first four; behind them stand filters that have nothing.
-#[derive(Drop)]
+#[derive(Clone, Copy)]
 pub struct Filters {
     pub parts: [FilterParts; 4],
     pub n: usize,
 }
 
 // `filters` is the place of the first filter; the others follow it in the text.
-#[derive(Drop)]
+#[derive(Clone, Copy)]
 pub struct ReqParts {
     pub subscription: Span,
     pub filters: usize,
 }
 
-#[derive(Drop)]
+#[derive(Clone, Copy)]
 pub enum Message {
     Event(EventParts),
     Req(ReqParts),
@@ -102,7 +104,7 @@ pub enum Message {
 }
 
 // What the reply to a refused message names.
-#[derive(Drop)]
+#[derive(Clone, Copy)]
 pub enum Named {
     Id(Span),
     Subscription(Span),
@@ -110,7 +112,7 @@ pub enum Named {
 }
 
 // What refuses a message, row 0 where none does, and what the reply to it names.
-#[derive(Drop)]
+#[derive(Clone, Copy)]
 pub struct Naming {
     pub refusal: Refusal,
     pub named: Named,
@@ -118,7 +120,7 @@ pub struct Naming {
 
 // The places of an object's members, the first of each name, in the order in which 01 lists them under Shape: id,
 // pubkey, created_at, kind, tags, content, sig of an event; ids, authors, kinds, since, until, limit of a filter.
-#[derive(Drop)]
+#[derive(Clone, Copy)]
 struct Members {
     first: Listed,
     second: Listed,
@@ -130,7 +132,7 @@ struct Members {
 }
 
 // The first word of a message.
-#[derive(Drop)]
+#[derive(Clone, Copy)]
 enum Opening {
     Event,
     Req,

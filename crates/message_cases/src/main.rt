@@ -1,8 +1,13 @@
 // Client messages on standard input, one a line: the number of the row that refuses each, with `@` and the offset of
 // rows 6 and 7, or 0 and the message spelled anew from its parts: no white space, strings with the seven escapes, filter
 // fields in the order of 01 and # conditions by their letter's byte.
+#![tactic(auto)]
+
 use json_tree::{Next, Out, Start};
+use lines::Output;
 use message::{Body, Bound, Element, EventParts, FilterParts, Listed, Message, ReqParts, Span};
+use std::io;
+use std::io::Write;
 
 // The part of a text, between quotes, spelled anew.
 fn put_string(out: &mut [u8], at: usize, s: &[u8], start: usize, len: usize) -> usize {
@@ -23,7 +28,7 @@ fn put_span(out: &mut [u8], at: usize, s: &[u8], p: Span) -> usize {
 }
 
 // Where writing and reading go on.
-#[derive(Drop)]
+#[derive(Clone, Copy)]
 struct Piece {
     out: usize,
     next: usize,
@@ -333,19 +338,22 @@ fn put_answer(out: &mut [u8], line: &[u8]) -> usize {
     }
 }
 
-fn respond(line: &[u8]) {
-    let mut buffer = io::large_buffer();
+fn respond<W: Write>(output: &mut Output<W>, line: &[u8]) -> io::Result<()> {
+    let mut buffer = [0u8; 65536];
     let out: &mut [u8] = &mut buffer;
     let n = put_answer(out, line);
-    lines::write_line(out, n);
+    lines::write_line(output, out, n)
 }
 
-fn main() {
-    let mut line = io::large_buffer();
-    let mut chunk = io::large_buffer();
-    let mut l = lines::next(&mut line, &mut chunk, lines::none());
+fn main(rt: HostRuntime) -> io::Result<()> {
+    let mut input = lines::from_reader(rt.stdin());
+    let mut output = lines::to_writer(rt.stdout());
+    let mut line = [0u8; 65536];
+    let mut chunk = [0u8; 65536];
+    let mut l = lines::next(&mut input, &mut line, &mut chunk, lines::none())?;
     while 0 < l.left {
-        respond(wire::piece(&line, 0, l.n));
-        l = lines::next(&mut line, &mut chunk, l);
+        respond(&mut output, wire::piece(&line, 0, l.n))?;
+        l = lines::next(&mut input, &mut line, &mut chunk, l)?;
     }
+    Ok(())
 }

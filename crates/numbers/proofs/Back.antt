@@ -1,14 +1,13 @@
 -- A number that was read fits 64 bits, and no list of a message stands at 0: so both are read back from the row as they
 -- are.
-use mathlib.Core.Path.{◌≡◌, refl, sym, ap, ◌∙◌}
-use mathlib.Core.List.{List, [], ◌∷◌, ◌++◌, map}
-use mathlib.Core.Bool.{Bool, true, false, cond, not}
-use Prim.Native.Nat.{ℕ, zero, suc, ◌+◌, ◌^◌, ◌≤◌, ◌<◌}
+use mathlib.Core.Path.{◌≡◌, refl, ap}
+use mathlib.Core.List.{List}
+use mathlib.Core.Bool.{true, not}
+use Prim.Native.Nat.{ℕ, ◌^◌, ◌<◌}
 use native.Mathlib.Omega.{arith}
 use borrow.Author.Tests.{ne_eqb, ltb-false, not-true}
 use lib.Dec.{ltb}
 use lib.IntN.{ℤ, pos, negsuc}
-use lib.ListN.{length, take, get_or}
 use lib.Signed.{mag}
 use Rattle.wire.specs.Field.{signed, unsigned}
 use Rattle.wire.specs.Limits.{widest}
@@ -17,26 +16,22 @@ use Rattle.numeral.specs.Whole.{Spelled, whole_of, is_within, whole_answer}
 use Rattle.numeral.specs.declared.Whole.{Whole}
 use Rattle.numeral.specs.declared.Whole.TheVariants.{Value, Large, Malformed}
 use Rattle.numeral.proofs.Wholes.{in_range, answer_value}
-use Rattle.json_tree.specs.Grammar.{ws_at, past, one_at, token_at, string_at, head_at, next_at, start_at}
-use Rattle.json_tree.specs.Tree.{Json, word, num, str, arr, obj, Items, nil, item, Got, none, got, depth, tree_at}
-use Rattle.json_tree.specs.declared.Out.{Out}
-use Rattle.json_tree.specs.declared.Out.TheVariants.{End, Bad}
-use Rattle.json_tree.specs.declared.Next.TheVariants.{More, Done, Wrong}
+use Rattle.json_tree.specs.Grammar.{ws_at, past, one_at, token_at, string_at, head_at}
+use Rattle.json_tree.specs.Tree.{Json, word, num, str, arr, obj, Items, nil, Got, none, got, depth, tree_at}
+use Rattle.json_tree.specs.declared.Out.TheVariants.{End}
 use Rattle.json_tree.proofs.Ends.{then_end, one_is}
 use Rattle.rows.specs.Strings.{part}
 use Rattle.shape.specs.Shape.{since_name, until_name, limit_name}
-use Rattle.message.specs.declared.Bound.{Bound}
 use Rattle.message.specs.declared.Bound.TheVariants as bound
-use Rattle.message.specs.declared.Listed.{Listed}
 use Rattle.message.specs.declared.Listed.TheVariants as listed
 use Rattle.message.specs.declared.FilterParts.{FilterParts}
 use Rattle.message.specs.Parts.{Member, missing, member, member_of, whole_value, number_spelled, number_in, bound_in}
-use Rattle.message.specs.Parts.{listed_in, members_of, members_got, members_at, filter_parts_of, filter_at, no_filter}
+use Rattle.message.specs.Parts.{listed_in, members_got, members_at, filter_parts_of, filter_at, no_filter}
 use Rattle.message.proofs.Walks.{Walk, last, more}
 use Rattle.message.proofs.Elements.{Group, hollow, filled, group_of}
 use Rattle.message.proofs.Facts.{and_true, In, here, later, Holds, absent, present, member_holds}
-use Rattle.numbers.specs.Numbers.{place_of, flag_of, bits_of, filter_numbers, parts_numbers}
-use Rattle.numbers.specs.Parts.{listed_from, bound_from, filter_from, filters_from}
+use Rattle.numbers.specs.Numbers.{place_of, flag_of, bits_of}
+use Rattle.numbers.specs.Parts.{listed_from, bound_from}
 
 -- ---- numbers
 range_mag : (z : ℤ) → in_range z ≡ true → mag z < 2 ^ 63
@@ -82,10 +77,12 @@ head_positive s i v e = let (m, f, g) = then_end (string_at s i) _ e in token_po
 walk_positive : {value : ℕ → Got Json} {s : List ℕ} {f i n p v : ℕ} {t : Json} {ts : Items} → Walk value s true f i ts n → In p v t ts → 0 < v
 walk_positive {s = s} (last {i = i} {v = v} h w d) here = head_positive s i v h
 walk_positive {s = s} (more {i = i} {v = v} h w d r) here = head_positive s i v h
+walk_positive (last h w d) (later k) = elim k [ ]
 walk_positive (more h w d r) (later k) = walk_positive r k
 
 group_positive : {s : List ℕ} {at n p v : ℕ} {t : Json} {ts : Items} → Group s at true ts n → In p v t ts → 0 < v
 group_positive (filled e w) i = walk_positive w i
+group_positive (hollow e) i = elim i [ ]
 
 no_item : {A : Type 0} {p v : ℕ} {t : Json} → In p v t nil → A
 no_item i = elim i [ ]

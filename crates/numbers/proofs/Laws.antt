@@ -28,19 +28,19 @@ length_parts [] = refl
 length_parts (p ∷ ps) = let h = length_parts ps in simp length-append (omega arith)
 
 module _ (fs : List FilterParts) (n i : ℕ) where
-  abbrev pub leftParts : List ℕ
-  leftParts = parts_numbers (take (n - i) (drop i fs))
+  abbrev pub left_parts : List ℕ
+  left_parts = parts_numbers (take (n - i) (drop i fs))
 
-  pub filters_turn : (z : FilterParts) → i < n → i < length fs → leftParts ≡ filter_numbers (get_or fs i z) ++ parts_numbers (take (n - (i + 1)) (drop (i + 1) fs))
+  pub filters_turn : (z : FilterParts) → i < n → i < length fs → left_parts ≡ filter_numbers (get_or fs i z) ++ parts_numbers (take (n - (i + 1)) (drop (i + 1) fs))
   filters_turn z h k =
       let m : n - i ≡ suc (n - (i + 1)) = omega arith in
       let e : suc i ≡ i + 1 = omega arith in
       rw (m, drop-cons fs i z k, e) refl
 
-  pub filters_spent : length fs ≤ i → leftParts ≡ []
+  pub filters_spent : length fs ≤ i → left_parts ≡ []
   filters_spent h = rw (drop_of_length-le fs {i = i} h, take-nil {A = FilterParts} (n - i)) refl
 
-  pub filters_end : n ≤ i → leftParts ≡ []
+  pub filters_end : n ≤ i → left_parts ≡ []
   filters_end h = let m : n - i ≡ 0 = omega arith in rw m refl
 
 -- ---- the numbers from k on

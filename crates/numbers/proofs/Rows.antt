@@ -3,13 +3,13 @@ use mathlib.Core.Path.{◌≡◌, refl, sym, ap, ap₂, ◌∙◌}
 use mathlib.Core.List.{List, [], ◌∷◌, ◌++◌, map, Memᴰ}
 use mathlib.Core.Bool.{Bool, true, false, cond, false≢true}
 use lib.Dec.{eqb}
-use Prim.Native.Nat.{ℕ, zero, suc, ◌+◌, ◌≤◌, ◌<◌}
+use Prim.Native.Nat.{ℕ, zero, suc, ◌≤◌, ◌<◌}
 use native.Mathlib.Decide.{dec_lt}
 use native.Mathlib.Omega.{arith}
-use borrow.Author.Tests.{not_false}
+use borrow.Author.Tests.{not-false}
 use lib.ListN.{length, take, get_or}
 use Rattle.json_tree.specs.Grammar.{case, in_class, close_of, ws_at, one_at, token_at, next_at, start_at, opened_at}
-use Rattle.json_tree.specs.Tree.{Json, word, num, str, arr, obj, Items, nil, item, Got, none, got, end_of, depth, tree_at}
+use Rattle.json_tree.specs.Tree.{Json, word, num, str, arr, obj, Items, Got, none, got, end_of, depth, tree_at}
 use Rattle.json_tree.specs.Tree.{root}
 use Rattle.json_tree.specs.declared.Class.TheVariants.{Space, Byte}
 use Rattle.json_tree.specs.declared.Out.{Out}
@@ -27,19 +27,18 @@ use Rattle.message.specs.declared.Element.TheVariants.{At, Ended, Broken}
 use Rattle.message.specs.declared.EventParts.{EventParts}
 use Rattle.message.specs.declared.FilterParts.{FilterParts}
 use Rattle.message.specs.declared.Listed.TheVariants as listed
-use Rattle.message.specs.declared.Filters.{Filters}
 use Rattle.message.specs.declared.ReqParts.{ReqParts}
 use Rattle.message.specs.declared.Message.TheVariants.{Event, Req, Refused}
 use Rattle.message.specs.Lists.{more_of, open_within, next_of, up_to, elements_from}
 use Rattle.message.specs.Parts.{member_of, members_of, body_of, event_parts_of, filter_at, no_filter, filters_at, filter_parts_of}
-use Rattle.message.specs.Lent.{on_value, value_at, value5, filter_row}
+use Rattle.message.specs.Lent.{on_value, value_at, value5}
 use Rattle.message.specs.Claims.{request_filters}
 use Rattle.message.specs.Read.{first_item, message_parts, in_root, read_of, read_number, is_early}
 use Rattle.message.proofs.Elements.{Group, hollow, filled, group_of}
 use Rattle.message.proofs.Reading.{Shaped, shaped, late_shaped, Begun, begun, begun_of, row_read}
 use Rattle.message.proofs.Passes.{filters_pass, filters_counted}
 use Rattle.message.proofs.Checked.{conditions_are}
-use Rattle.numbers.specs.Numbers.{place_of, flag_of, bits_of, event_numbers, parts_numbers, request_numbers}
+use Rattle.numbers.specs.Numbers.{place_of, flag_of, bits_of, event_numbers, parts_numbers}
 use Rattle.numbers.specs.Parts.{listed_from, bound_from, event_from, filter_from, filters_from}
 use Rattle.numbers.specs.Claims.{EventBack, FiltersBack}
 use Rattle.numbers.proofs.Back.{Kept, token_positive, number_back, filter_kept, none_kept}
@@ -103,7 +102,7 @@ group_braced (filled e w) = ap braced e
 -- the object at 0, where a lent filter stands there
 object_at : (s : List ℕ) (v : ℕ) → value5 (is_filter s) s v ≡ false → (ts : Items) × (n : ℕ) × (tree_at s depth v ≡ got (obj ts) n)
 unfolding value5 is_filter
-object_at s v e = go (tree_at s depth v) refl (not_false (on_value (is_filter s) (value_at s v)) e)
+object_at s v e = go (tree_at s depth v) refl (not-false (on_value (is_filter s) (value_at s v)) e)
   where
     go : (g : Got Json) → tree_at s depth v ≡ g → on_value (is_filter s) g ≡ true → (ts : Items) × (n : ℕ) × (tree_at s depth v ≡ got (obj ts) n)
     go none q h = absurd (false≢true h)
@@ -116,11 +115,11 @@ object_at s v e = go (tree_at s depth v) refl (not_false (on_value (is_filter s)
 no_message : (s : List ℕ) (ts : Items) (n : ℕ) → tree_at s depth 0 ≡ got (obj ts) n → message_row s ≡ 0 → ⊥
 no_message s ts n e z = go (late_shaped s (ap is_early z))
   where
-    at-root : root s ≡ got (obj ts) n
-    at-root = ap (tree_at s depth) (brace_start s 0 (group_braced (group_of s 0 true ts n e))) ∙ e
+    at_root : root s ≡ got (obj ts) n
+    at_root = ap (tree_at s depth) (brace_start s 0 (group_braced (group_of s 0 true ts n e))) ∙ e
 
     on : {t : Json} {m : ℕ} → root s ≡ got t m → Begun t → ⊥
-    on r begun = let q = sym at-root ∙ r in absurd (let y : ◌≡◌ {A = ℕ} 0 1 = cc in omega arith)
+    on r begun = let q = sym at_root ∙ r in absurd (let y : ◌≡◌ {A = ℕ} 0 1 = cc in omega arith)
 
     go : Shaped s → ⊥
     go (shaped {t = t} r h) = on r (begun_of s t h)
@@ -194,12 +193,12 @@ read_event s p e = accepted (eqb (message_row s) 0) e
     by_word close ts q = absurd (let z : ◌≡◌ {A = ℕ} 0 1 = cc in omega arith)
     by_word other ts q = absurd (let z : ◌≡◌ {A = ℕ} 0 1 = cc in omega arith)
 
-    in-root : (g : Got Json) → in_root s g ≡ Event p → Members s p
-    in-root none q = absurd (let z : ◌≡◌ {A = ℕ} 0 1 = cc in omega arith)
-    in-root (got t n) q = by_word (opened s t).first (opened s t).rest q
+    in_root_lem : (g : Got Json) → in_root s g ≡ Event p → Members s p
+    in_root_lem none q = absurd (let z : ◌≡◌ {A = ℕ} 0 1 = cc in omega arith)
+    in_root_lem (got t n) q = by_word (opened s t).first (opened s t).rest q
 
     accepted : (b : Bool) → cond b (in_root s (root s)) (Refused (refusal_of s)) ≡ Event p → Members s p
-    accepted true q = in-root (root s) q
+    accepted true q = in_root_lem (root s) q
     accepted false q = absurd (let z : ◌≡◌ {A = ℕ} 0 1 = cc in omega arith)
 
 members_back : (s : List ℕ) (ts : Items) (x : List ℕ) → event_from (event_numbers (event_parts_of s ts) ++ x) ≡ event_parts_of s ts

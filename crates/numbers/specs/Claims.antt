@@ -3,7 +3,6 @@
 use Rattle.std.specs.Prelude.{◌≡◌, List, ◌++◌, ℕ, take}
 use Rattle.message.specs.declared.EventParts.{EventParts}
 use Rattle.message.specs.declared.ReqParts.{ReqParts}
-use Rattle.message.specs.declared.Filters.{Filters}
 use Rattle.message.specs.declared.Message.TheVariants.{Event, Req}
 use Rattle.message.specs.Parts.{filters_at}
 use Rattle.message.specs.Read.{read_of}

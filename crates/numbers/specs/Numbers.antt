@@ -5,7 +5,6 @@ use Rattle.wire.specs.Field.{unsigned}
 use Rattle.message.specs.Parts.{filters_at}
 use Rattle.message.specs.declared.EventParts.{EventParts}
 use Rattle.message.specs.declared.FilterParts.{FilterParts}
-use Rattle.message.specs.declared.Filters.{Filters}
 use Rattle.message.specs.declared.ReqParts.{ReqParts}
 use Rattle.message.specs.declared.Bound.{Bound}
 use Rattle.message.specs.declared.Bound.TheVariants as bound

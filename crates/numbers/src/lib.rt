@@ -1,5 +1,7 @@
 // Parts of messages and texts as rows of 64-bit numbers, and back, for callers that can lend nothing else. A number
 // past the end of a row is 0.
+#![tactic(auto)]
+
 ghost use Rattle.std.specs.Prelude.{◌≡◌, ◌≤◌, take};
 ghost use Rattle.wire.specs.Put.{Puts};
 ghost use Rattle.numbers.specs.Numbers.{place_of, flag_of, bits_of, event_numbers, filter_numbers, parts_numbers};

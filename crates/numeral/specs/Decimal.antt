@@ -1,5 +1,5 @@
 -- 01, "The text that is hashed": numbers are shortest decimal.
-use Rattle.std.specs.Prelude.{true, false, List, [], ◌∷◌, ◌++◌, ℕ, zero, suc, ◌+◌, ◌/◌, ◌%◌, ltb, ℤ, pos, negsuc}
+use Rattle.std.specs.Prelude.{true, false, [], ◌∷◌, ◌++◌, ℕ, zero, suc, ◌+◌, ◌/◌, ◌%◌, ltb, ℤ, pos, negsuc}
 use Rattle.wire.specs.Bytes.{Bytes}
 
 -- the digits of n, where n is below f: those of n / 10, then the last

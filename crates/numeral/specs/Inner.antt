@@ -1,5 +1,5 @@
 -- What the functions that read digits hand on: the number, cut off above the widest.
-use Rattle.std.specs.Prelude.{cond, List, ℕ, suc, min, eqb, ltb, pos, neg_ℤ}
+use Rattle.std.specs.Prelude.{cond, ℕ, suc, min, eqb, ltb, pos, neg_ℤ}
 use Rattle.wire.specs.Limits.{widest}
 use Rattle.numeral.specs.Whole.{all_digits, value_from, value_of, is_natural}
 use Rattle.numeral.specs.declared.Whole.{Whole}

@@ -1,5 +1,5 @@
 -- 01, "Numbers": an optional minus and digits, no needless leading zero, no fraction or exponent, not -0.
-use Rattle.std.specs.Prelude.{Bool, true, false, cond, not, ◌&&◌, List, [], ◌∷◌, ℕ, ◌+◌, ◌-◌, ◌*◌, leb, eqb, ℤ, pos, neg_ℤ}
+use Rattle.std.specs.Prelude.{Bool, true, false, cond, not, ◌&&◌, [], ◌∷◌, ℕ, ◌+◌, ◌-◌, ◌*◌, leb, eqb, ℤ, pos, neg_ℤ}
 use Rattle.std.specs.Int.Signed.{lt_z}
 use Rattle.wire.specs.Limits.{widest}
 use Rattle.numeral.specs.declared.Whole.{Whole}

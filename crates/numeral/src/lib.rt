@@ -1,4 +1,6 @@
 // Whole numbers: read as a message spells them, and written in shortest decimal.
+#![tactic(auto)]
+
 ghost use Rattle.std.specs.Prelude.{◌≡◌, ◌+◌, ◌-◌, ◌*◌, ◌≤◌, min, nat_abs, length, drop};
 ghost use Rattle.wire.specs.Put.{Puts};
 ghost use Rattle.numeral.specs.Decimal.{digits, decimal};
@@ -6,7 +8,7 @@ ghost use Rattle.numeral.specs.Whole.{whole_of, whole_answer, is_within};
 ghost use Rattle.numeral.specs.Inner.{above_widest, digits_sum, natural_sum, above_of, below_of};
 
 // What a spelling says: a number of 01's widest range, one beyond it on either side, or none.
-#[derive(Drop)]
+#[derive(Clone, Copy)]
 pub enum Whole {
     Value(i64),
     Large,
@@ -14,7 +16,7 @@ pub enum Whole {
 }
 
 // What a run of digits says: its number, cut off at OVER, or that it is no number.
-#[derive(Drop)]
+#[derive(Clone, Copy)]
 enum Natural {
     Sum(u64),
     NotOne,

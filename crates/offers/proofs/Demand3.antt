@@ -1,19 +1,16 @@
 -- Demand 3 of calls: a session of calls is a run of the table's relay, so table/proofs/Demand3 speaks of it.
 use mathlib.Core.Path.{◌≡◌, refl, sym, ap, ap₂, ◌∙◌}
 use mathlib.Core.Bool.{Bool, true, false, not, cond, ◌||◌, false≢true}
-use mathlib.Core.Logic.{◌↔◌, ◌≢◌}
-use mathlib.Core.List.{List, [], ◌∷◌, ◌++◌, map, map-append, nil≢cons, head-eq_of_cons-eq, tail-eq_of_cons-eq}
-use mathlib.Core.Option.{some}
-use Prim.Native.Nat.{ℕ, ◌≤◌, ◌<◌}
+use mathlib.Core.Logic.{◌≢◌}
+use mathlib.Core.List.{List, [], ◌∷◌, ◌++◌, map-append, nil≢cons, head-eq_of_cons-eq, tail-eq_of_cons-eq}
+use Prim.Native.Nat.{ℕ}
 use native.Mathlib.Omega.{arith}
 use lib.Dec.{T, eqb}
-use lib.ListN.{length}
-use Rattle.law.specs.Lists.{◌∈◌, any}
-use Rattle.law.specs.Table.{IdPremise, is_no_room, noRoom, refused, is_stored as isStoredVerdict}
-use Rattle.law.specs.Demand3.{RelayOn, StoredBy, runOn, answersOn, lacksOn, NoneLacksOn}
+use Rattle.law.specs.Table.{is_no_room, no_room, refused, is_stored as isStoredVerdict}
+use Rattle.law.specs.Demand3.{run_on, answers_on, lacks_on}
 use Rattle.table.specs.Layout.{capacity_of, count_of}
-use Rattle.table.specs.Events.{Signature, SignedEvent, table_events, view}
-use Rattle.table.specs.Offer.{Offering, judge, answer, offer_number, is_stored, next}
+use Rattle.table.specs.Events.{Signature, table_events, view}
+use Rattle.table.specs.Offer.{Offering, judge, answer, offer_number, is_stored}
 use Rattle.table.specs.Demand3.{relay, verdict_of}
 use Rattle.table.specs.declared.Offered.{Offered}
 use Rattle.table.specs.declared.Offered.TheVariants.{Ephemeral, Duplicate, Older, Stored, Refused}
@@ -22,16 +19,16 @@ use Rattle.table.proofs.Formatted.{formatted_capacity}
 use Rattle.table.proofs.Stored.{length_view}
 use Rattle.table.proofs.Valid.{valid_hashed}
 use Rattle.table.proofs.WrongRelays.{stores_something, takes_something, stores_later, counts, answers_differ, two_ids}
-use Rattle.offers.specs.Demand3.{Call, InTurn, left, Session, at_end, offers_of, valid_of, lacks_room, held_in}
+use Rattle.offers.specs.Demand3.{Call, InTurn, left, Session, at_end, offers_of, lacks_room}
 use Rattle.offers.specs.Demand3.{is_fresh, relay_of, HeldAtEnd, HeldAfterEach, AnyOrder, RoomRunsOut}
-use Rattle.offers.specs.Demand3.{RelaysEndAlike, Brought, SignatureBrought, SignatureStays, Demand3OfCalls, Keeps}
+use Rattle.offers.specs.Demand3.{RelaysEndAlike, SignatureBrought, SignatureStays, Demand3OfCalls, Keeps}
 use Rattle.offers.specs.Demand3.{NoneOfThese}
 
 -- ---- calls in turn are a run
-run : (b : List ℕ) (cs : List Call) → InTurn b cs → left b cs ≡ runOn table_events Signature relay b (offers_of cs)
-unfolding runOn
+run : (b : List ℕ) (cs : List Call) → InTurn b cs → left b cs ≡ run_on table_events Signature relay b (offers_of cs)
+unfolding run_on
 run b [] t = refl
-run b (c ∷ cs) t = run c.exit cs t.1 ∙ ap (λ x. runOn table_events Signature relay x (offers_of cs)) t.0.leaves
+run b (c ∷ cs) t = run c.exit cs t.1 ∙ ap (λ x. run_on table_events Signature relay x (offers_of cs)) t.0.leaves
 
 -- row 12 is the verdict that lacks room
 twelve : (a : Offered) → eqb (offer_number a) 12 ≡ is_no_room (verdict_of a)
@@ -41,16 +38,16 @@ twelve Older = refl
 twelve Stored = refl
 twelve (Refused r) = go (eqb r.row 12)
   where
-    go : (t : Bool) → t ≡ is_no_room (cond t noRoom refused)
+    go : (t : Bool) → t ≡ is_no_room (cond t no_room refused)
     go true = refl
     go false = refl
 
-lacks : (b : List ℕ) (cs : List Call) → InTurn b cs → lacks_room cs ≡ lacksOn table_events Signature relay b (offers_of cs)
-unfolding answersOn
+lacks : (b : List ℕ) (cs : List Call) → InTurn b cs → lacks_room cs ≡ lacks_on table_events Signature relay b (offers_of cs)
+unfolding answers_on
 lacks b [] t = refl
 lacks b (c ∷ cs) t =
     ap₂ ◌||◌ (twelve c.answer ∙ ap (λ a. is_no_room (verdict_of a)) t.0.answers)
-    (lacks c.exit cs t.1 ∙ ap (λ x. lacksOn table_events Signature relay x (offers_of cs)) t.0.leaves)
+    (lacks c.exit cs t.1 ∙ ap (λ x. lacks_on table_events Signature relay x (offers_of cs)) t.0.leaves)
 
 -- ---- tests
 holds : (x : Bool) → x ≡ true → T x
@@ -70,10 +67,10 @@ no_more false t = refl
 
 -- ---- a session
 module _ {cs : List Call} (s : Session cs) where
-  ends : at_end s ≡ runOn table_events Signature relay s.table (offers_of cs)
+  ends : at_end s ≡ run_on table_events Signature relay s.table (offers_of cs)
   ends = run s.table cs s.calls
 
-  room : lacks_room cs ≡ lacksOn table_events Signature relay s.table (offers_of cs)
+  room : lacks_room cs ≡ lacks_on table_events Signature relay s.table (offers_of cs)
   room = lacks s.table cs s.calls
 
   size : capacity_of s.table ≡ s.capacity
@@ -94,15 +91,15 @@ after_each : HeldAfterEach
 after_each cs ds s ids fits =
     let q = split cs ds in
     rw (run s.table cs (beginning s.table cs ds s.calls))
-    (demand_3.beginnings s.table (offers_of cs) (offers_of ds) (is_fresh s) (rw q at ids) (none (room s ∙ ap (lacksOn table_events Signature relay s.table) q) fits))
+    (demand_3.beginnings s.table (offers_of cs) (offers_of ds) (is_fresh s) (rw q at ids) (none (room s ∙ ap (lacks_on table_events Signature relay s.table) q) fits))
 
 any_order : AnyOrder
 any_order cs ds s t ids fits same le =
     let (n, h, l) = demand_3.order_free s.table t.table (offers_of cs) (offers_of ds) (is_fresh s) (is_fresh t) ids (none (room s) fits) same (omega (arith, size s, size t)) in (
       room t ∙ no_more _ n,
       rw (ends s, ends t) h,
-      ap count_of (ends t) ∙ sym (length_view (runOn table_events Signature relay t.table (offers_of ds))) ∙ l
-          ∙ length_view (runOn table_events Signature relay s.table (offers_of cs)) ∙ sym (ap count_of (ends s)),
+      ap count_of (ends t) ∙ sym (length_view (run_on table_events Signature relay t.table (offers_of ds))) ∙ l
+          ∙ length_view (run_on table_events Signature relay s.table (offers_of cs)) ∙ sym (ap count_of (ends s)),
     )
 
 runs_out : RoomRunsOut
@@ -118,11 +115,11 @@ end_alike : RelaysEndAlike
 end_alike hs es ls ks fs ms s t x ids r u =
     let p = thrice hs es ls in
     let q = thrice ks fs ms in
-    let e = ends s ∙ ap (runOn table_events Signature relay s.table) p in
-    let f = ends t ∙ ap (runOn table_events Signature relay t.table) q in
+    let e = ends s ∙ ap (run_on table_events Signature relay s.table) p in
+    let f = ends t ∙ ap (run_on table_events Signature relay t.table) q in
     rw (e, f)
-    (demand_3.relays_agree (relay_of hs es ls s) (relay_of ks fs ms t) x ids (none (room s ∙ ap (lacksOn table_events Signature relay s.table) p) r)
-    (none (room t ∙ ap (lacksOn table_events Signature relay t.table) q) u))
+    (demand_3.relays_agree (relay_of hs es ls s) (relay_of ks fs ms t) x ids (none (room s ∙ ap (lacks_on table_events Signature relay s.table) p) r)
+    (none (room t ∙ ap (lacks_on table_events Signature relay t.table) q) u))
 
 -- ---- signatures
 -- a part of the offers is a part of the calls
@@ -161,7 +158,7 @@ was_stored Older e = absurd (false≢true e)
 was_stored Stored e = refl
 was_stored (Refused r) e = absurd (go (eqb r.row 12) e)
   where
-    go : (t : Bool) → isStoredVerdict (cond t noRoom refused) ≡ true → ⊥
+    go : (t : Bool) → isStoredVerdict (cond t no_room refused) ≡ true → ⊥
     go true q = false≢true q
     go false q = false≢true q
 
@@ -170,10 +167,10 @@ brought cs s x h =
     let w = demand_3.signature_stored s.table (offers_of cs) x (is_fresh s) (rw (ends s) at h) in
     let r = parted cs w.before w.offer w.later w.splits in
     let t = rw r.splits at s.calls in
-    let l : left s.table r.before ≡ runOn table_events Signature relay s.table w.before =
+    let l : left s.table r.before ≡ run_on table_events Signature relay s.table w.before =
     run s.table r.before (beginning s.table r.before (r.call ∷ r.later) t)
-    ∙ ap (runOn table_events Signature relay s.table) r.offers in
-    let a : r.call.answer ≡ answer (runOn table_events Signature relay s.table w.before) w.offer =
+    ∙ ap (run_on table_events Signature relay s.table) r.offers in
+    let a : r.call.answer ≡ answer (run_on table_events Signature relay s.table w.before) w.offer =
     behind s.table r.before r.call r.later t ∙ ap₂ answer l r.offer in
     record {
       before = r.before;
@@ -188,7 +185,7 @@ stays : SignatureStays
 stays cs ds s e first last h k =
     demand_3.signature_stays s.table (offers_of cs) (offers_of ds) e first last (is_fresh s)
     (rw (run s.table cs (beginning s.table cs ds s.calls)) at h)
-    (rw (ends s ∙ ap (runOn table_events Signature relay s.table) (split cs ds)) at k)
+    (rw (ends s ∙ ap (run_on table_events Signature relay s.table) (split cs ds)) at k)
 
 pub demand_3_of_calls : Demand3OfCalls
 demand_3_of_calls = record {

@@ -34,7 +34,7 @@ use Rattle.event.specs.declared.Written.TheVariants as written
 use Rattle.event.proofs.Answers.{AsOffered, row-alone-most}
 use Rattle.event.proofs.Sent.{some_row, sent_wrote, sent_refused}
 use Rattle.table.specs.Layout.{slot_size, text_place, slot_bytes}
-use Rattle.table.specs.Offer.{asMessage, message_offer_row, parts_in, parts_of, held_of}
+use Rattle.table.specs.Offer.{as_message, message_offer_row, parts_in, parts_of, held_of}
 use Rattle.table.proofs.Faithful.{valid_plain}
 use Rattle.table.proofs.Rows.{message_rows, event_rows}
 use Rattle.offers.specs.Inner.{SpellsHex, head_of}
@@ -42,13 +42,13 @@ use Rattle.offers.specs.Taken.{Made, Makes}
 use Rattle.offers.proofs.Makes.{lent_part, given, lent_most, ready, made}
 
 module _ (m : List ℕ) where
-  read-row : {x : Message} → read_of m ≡ x → message_row m ≡ reader.read_number x
-  read-row e = sym (row_read m) ∙ ap reader.read_number e
+  read_row_lem : {x : Message} → read_of m ≡ x → message_row m ≡ reader.read_number x
+  read_row_lem e = sym (row_read m) ∙ ap reader.read_number e
 
   -- a message that was read and is no EVENT
-  not-event : (x : Message) → ((p : EventParts) → x ≡ message.Event p → ⊥) → read_of m ≡ x → message_row m ≡ 0 → is_event m ≡ false
+  not_event : (x : Message) → ((p : EventParts) → x ≡ message.Event p → ⊥) → read_of m ≡ x → message_row m ≡ 0 → is_event m ≡ false
   unfolding read_of is_event
-  not-event x n e z = go (root m) (sym (ap (λ t. cond t (in_root m (root m)) (message.Refused (refusal_of m))) (eq-eqb (message_row m) 0 z)) ∙ e)
+  not_event x n e z = go (root m) (sym (ap (λ t. cond t (in_root m (root m)) (message.Refused (refusal_of m))) (eq-eqb (message_row m) 0 z)) ∙ e)
     where
       go : (g : Got Json) → in_root m g ≡ x → on_root (λ t. is_event_word (opened m t).first) g ≡ false
       go none f = refl
@@ -76,7 +76,7 @@ module _ (m : List ℕ) where
       go false false false false = omega arith
 
   unread : {x : Refusal} → read_of m ≡ message.Refused x → (unread_refusal m x).row ≡ message_offer_row m
-  unread {x} e = go (read-row e) (some_row m e) (eqb (text_row m) 0) refl (is_event m) refl
+  unread {x} e = go (read_row_lem e) (some_row m e) (eqb (text_row m) 0) refl (is_event m) refl
     where
       late : message_row m ≡ x.row → (x.row ≡ 0 → ⊥) → Late (message_row m) → 4 < x.row
       late w o (inl z) = absurd (o (sym w ∙ z))
@@ -95,21 +95,21 @@ module _ (m : List ℕ) where
           ap₂ (λ t v. (cond (t || v) x (plain_refusal 5)).row) (lt-leb x.row 4 (late w o (rows_late m k))) u ∙ sym ((message_rows m).no_event k u)
 
   -- ---- an output that has room for every text does not change the row
-  sent-row : (out : List ℕ) → most_text ≤ length out → sent_row m out ≡ message_offer_row m
+  sent_row_lem : (out : List ℕ) → most_text ≤ length out → sent_row m out ≡ message_offer_row m
   unfolding sent_row
-  sent-row out h = go (read_of m) refl
+  sent_row_lem out h = go (read_of m) refl
     where
       go : (x : Message) → read_of m ≡ x → sent_row_of m out x ≡ message_offer_row m
-      go (message.Event p) e = row-alone-most m p out h ∙ sym (event_rows m p e).as_parts
-      go (message.Req r) e = five (not-event (message.Req r) (λ p q. let y : ◌≡◌ {A = ℕ} 0 1 = cc in omega arith) e (read-row e)) (read-row e)
-      go (message.Close s) e = five (not-event (message.Close s) (λ p q. let y : ◌≡◌ {A = ℕ} 0 1 = cc in omega arith) e (read-row e)) (read-row e)
+      go (message.Event p) e = row-alone-most m p out h ∙ sym (event_rows m p e).as_parts_lem
+      go (message.Req r) e = five (not_event (message.Req r) (λ p q. let y : ◌≡◌ {A = ℕ} 0 1 = cc in omega arith) e (read_row_lem e)) (read_row_lem e)
+      go (message.Close s) e = five (not_event (message.Close s) (λ p q. let y : ◌≡◌ {A = ℕ} 0 1 = cc in omega arith) e (read_row_lem e)) (read_row_lem e)
       go (message.Refused r) e = unread e
 
   -- ---- the slot made from a message, o at exit; d is what was lent, zeros
   module _ (d : List ℕ) (zs : d ≡ replicate slot_size 0) {s : SentText} (a : s ≡ sent_text m (lent_part d)) where
     pub from_refused : {r : Refusal} {o : List ℕ} → sent_text_number s ≡ sent_row m (lent_part d) → s ≡ sent.Refused r → Makes m (sent.Refused r) o
     from_refused {r} q e =
-        let z : r.row ≡ message_offer_row m = sym (ap sent_text_number e) ∙ q ∙ sent-row (lent_part d) (lent_most zs) in
+        let z : r.row ≡ message_offer_row m = sym (ap sent_text_number e) ∙ q ∙ sent_row_lem (lent_part d) (lent_most zs) in
         let (f, n) = sent_refused m (lent_part d) (sym a ∙ e) in
         record { is = (f ∙ ap (refusal_for m) z, λ w. n (z ∙ w)) }
 
@@ -128,7 +128,7 @@ module _ (m : List ℕ) where
       from_event o g =
           let (f, (w, (q, y))) = told in
           let (k, l) = made m p d zs w q refl (o ∙ y) g in
-          record { is = (f, (k ∙ sym (event_rows m p f).as_parts, l refl ∙ ap (λ x. slot_bytes (held_of m (parts_in x))) (sym f))) }
+          record { is = (f, (k ∙ sym (event_rows m p f).as_parts_lem, l refl ∙ ap (λ x. slot_bytes (held_of m (parts_in x))) (sym f))) }
 
 -- ---- what was made: what refuses it alone
 module _ (m : List ℕ) {s : SentText} {o : List ℕ} (k : Makes m s o) where
@@ -144,7 +144,7 @@ module _ (m : List ℕ) {s : SentText} {o : List ℕ} (k : Makes m s o) where
   From x = (x ≡ refusal_for m (message_offer_row m)) × (x.row ≡ 0 → o ≡ slot_bytes (held_of m (parts_of m)))
 
   pub row_none : {p : EventParts} {n : ℕ} → s ≡ sent.Wrote p n → {x : Refusal} → x ≡ plain_refusal 0 → From x
-  row_none e g = let (f, (z, q)) = made_wrote e in (g ∙ sym (valid_plain (asMessage m) (sym z)), λ w. q)
+  row_none e g = let (f, (z, q)) = made_wrote e in (g ∙ sym (valid_plain (as_message m) (sym z)), λ w. q)
 
   pub row_some : {r : Refusal} → s ≡ sent.Refused r → From r
   row_some e = let (f, n) = made_refused e in (f, λ z. absurd (n (sym (ap (λ x. x.row) f) ∙ z)))

@@ -14,7 +14,7 @@ use Rattle.text.specs.Event.{all}
 use Rattle.text.specs.Kinds.{class_of}
 use Rattle.text.proofs.Pieces.{both, and_true}
 use Rattle.law.specs.Lists.{any, find}
-use Rattle.law.specs.Table.{has_id, has_key, hasKeyNewer}
+use Rattle.law.specs.Table.{has_id, has_key, has_key_newer}
 use Rattle.table.proofs.Cells.{length_cells}
 use Rattle.event.specs.Order.{is_newer, newer_is}
 use Rattle.table.specs.Layout.{header_size, slot_size, count_of, kind_in, id_in, length_in, d_in, text_in, held_slots}
@@ -59,13 +59,13 @@ other_end s t n = go (same_key_in s t) refl
 
 -- how the code finds the last byte: n, at and len are the slot's numbers, t its text, d the bytes of d
 module _ (s : List ℕ) {n at len : ℕ} {t d : List ℕ} (x : n ≡ field_at s 106 2) (y : at ≡ field_at s 108 2) (z : len ≡ field_at s 110 2) (p : t ≡ part s 112 n) (q : d ≡ part t at len) where
-  d-bytes : d ≡ d_bytes_in s
+  d_bytes : d ≡ d_bytes_in s
   unfolding d_bytes_in d_in text_in length_in
-  d-bytes = q ∙ ap (λ r. part r at len) (p ∙ ap (part s 112) x) ∙ ap₂ (part (part s 112 (field_at s 106 2))) y z
+  d_bytes = q ∙ ap (λ r. part r at len) (p ∙ ap (part s 112) x) ∙ ap₂ (part (part s 112 (field_at s 106 2))) y z
 
   pub last_is : get_or d (length d - 1) 0 ≡ d_last s
   unfolding d_last
-  last_is = ap (λ r. get_or r (length r - 1) 0) d-bytes
+  last_is = ap (λ r. get_or r (length r - 1) 0) d_bytes
 
   pub no_last : length d ≡ 0 → 0 ≡ d_last s
   no_last e = sym (get_or-eq_default d 0 (omega arith)) ∙ last_is
@@ -78,9 +78,9 @@ newer_same t s p q =
 
 -- ---- a sound table b, and the slot s that an offer would fill
 module _ (b s : List ℕ) (g : sound b ≡ true) where
-  slots-ok : all slot_sound (held_slots b) ≡ true
+  slots_ok : all slot_sound (held_slots b) ≡ true
   unfolding slots_sound
-  slots-ok = (clauses b g).slots
+  slots_ok = (clauses b g).slots
 
   pub ids : any (has_id signed_events (in_slot s)) (view b) ≡ any (same_id_in s) (slots_from b 0 (count_of b))
   unfolding view slots_from same_id_in
@@ -91,24 +91,24 @@ module _ (b s : List ℕ) (g : sound b ≡ true) where
     unfolding slot_of view slots_from
     slot_is =
         find_map in_slot (has_key signed_events (in_slot s)) (held_slots b)
-        ∙ find_as slot_sound (λ t. has_key signed_events (in_slot s) (in_slot t)) (same_key_in s) (λ t q. key_same s t ok q) (held_slots b) slots-ok
+        ∙ find_as slot_sound (λ t. has_key signed_events (in_slot s) (in_slot t)) (same_key_in s) (λ t q. key_same s t ok q) (held_slots b) slots_ok
 
     pub keys : any (has_key signed_events (in_slot s)) (view b) ≡ ltb (slot_of b s) (count_of b)
     unfolding slot_of
     keys = find_any (has_key signed_events (in_slot s)) (view b) ∙ ap (ltb (find (has_key signed_events (in_slot s)) (view b))) (length_view b)
 
-    no-key-twice : none_twice same_key_in (held_slots b) ≡ true
+    no_key_twice_lem : none_twice same_key_in (held_slots b) ≡ true
     unfolding no_key_twice view
-    no-key-twice =
-        sym (none_as slot_sound (λ x y. has_key signed_events (in_slot x) (in_slot y)) same_key_in key_same (held_slots b) slots-ok)
+    no_key_twice_lem =
+        sym (none_as slot_sound (λ x y. has_key signed_events (in_slot x) (in_slot y)) same_key_in key_same (held_slots b) slots_ok)
         ∙ sym (none_map in_slot (has_key signed_events) (held_slots b))
         ∙ (clauses b g).keys
 
-    pub newers : any (hasKeyNewer signed_events (in_slot s)) (view b) ≡ (ltb (slot_of b s) (count_of b) && newer_in (get_or (held_slots b) (slot_of b s) []) s)
+    pub newers : any (has_key_newer signed_events (in_slot s)) (view b) ≡ (ltb (slot_of b s) (count_of b) && newer_in (get_or (held_slots b) (slot_of b s) []) s)
     unfolding view slots_from
     newers =
-        any_map in_slot (hasKeyNewer signed_events (in_slot s)) (held_slots b)
-        ∙ any_as slot_sound (λ t. hasKeyNewer signed_events (in_slot s) (in_slot t)) (λ t. same_key_in s t && newer_in t s)
-        (λ t q. ap₂ ◌&&◌ (key_same s t ok q) (newer_same t s q ok)) (held_slots b) slots-ok
-        ∙ first_decides (same_key_in s) (λ t. newer_in t s) same_key_in [] (tied s) (held_slots b) no-key-twice
+        any_map in_slot (has_key_newer signed_events (in_slot s)) (held_slots b)
+        ∙ any_as slot_sound (λ t. has_key_newer signed_events (in_slot s) (in_slot t)) (λ t. same_key_in s t && newer_in t s)
+        (λ t q. ap₂ ◌&&◌ (key_same s t ok q) (newer_same t s q ok)) (held_slots b) slots_ok
+        ∙ first_decides (same_key_in s) (λ t. newer_in t s) same_key_in [] (tied s) (held_slots b) no_key_twice_lem
         ∙ ap₂ (λ k n. ltb k n && newer_in (get_or (held_slots b) k []) s) (sym slot_is) (length_cells slot_size (count_of b) (drop header_size b))

@@ -1,23 +1,21 @@
 -- The slot that an event given as parts would fill: its text, then what stands before it.
 use mathlib.Core.Path.{◌≡◌, refl, sym, ap, ap₂, ◌∙◌}
-use mathlib.Core.Bool.{Bool, true, false, cond}
+use mathlib.Core.Bool.{false}
 use mathlib.Core.List.{List, [], ◌++◌, append_assoc, append-nil}
-use Prim.Native.Nat.{ℕ, ◌+◌, ◌-◌, ◌≤◌, ◌<◌}
+use Prim.Native.Nat.{ℕ, ◌+◌, ◌-◌, ◌≤◌}
 use native.Mathlib.Omega.{arith}
-use lib.Dec.{eqb}
 use lib.ListN.{length, take, drop, replicate, length-append, length-replicate, replicate-append-replicate}
 use lib.ListN.{drop_of_length-le}
 use lib.Seq.{take_all, take-append_seam, drop-append_seam}
-use borrow.Author.Tests.{eqb-true, eq-eqb, not_false}
+use borrow.Author.Tests.{eq-eqb, not-false}
 use borrow.Rule.Slice.PartMut.{put_mid}
 use Rattle.wire.specs.Limits.{most_text, hex_length, sig_length}
 use Rattle.wire.specs.Bytes.{part}
-use Rattle.wire.specs.Put.{put, Puts}
+use Rattle.wire.specs.Put.{Puts}
 use Rattle.wire.specs.Field.{le_bytes, unsigned}
 use Rattle.wire.proofs.Laws.{length_put, puts_whole}
 use Rattle.wire.proofs.Fields.{length_le_bytes}
-use Rattle.spell.specs.Spell.{unhex}
-use Rattle.text.specs.Event.{Event, serialise}
+use Rattle.text.specs.Event.{Event}
 use Rattle.text.specs.Read.{read, read_text}
 use Rattle.text.specs.Kinds.{class_of}
 use Rattle.text.specs.Answer.{text_parts, text_answer_of}
@@ -38,8 +36,8 @@ use Rattle.event.specs.declared.Written.TheVariants as written
 use Rattle.event.proofs.Decoded.{or_neither}
 use Rattle.event.proofs.Fit.{and_fails}
 use Rattle.event.proofs.Answers.{offered-small, row-alone-most}
-use Rattle.table.specs.Layout.{Held, Fits, slot_size, text_place, d_if_addressable, d_place, text_bytes, slot_bytes}
-use Rattle.table.specs.Offer.{asParts, held_of, is_valid}
+use Rattle.table.specs.Layout.{Fits, slot_size, text_place, d_if_addressable, d_place, text_bytes, slot_bytes}
+use Rattle.table.specs.Offer.{as_parts, held_of}
 use Rattle.table.proofs.Valid.{clean, valid_fits}
 use Rattle.offers.specs.Inner.{SpellsHex, if_addressable, slot_numbers, head_of}
 
@@ -89,16 +87,16 @@ module _ (a k n : ℕ) (s : n ≡ a + k) {d : List ℕ} (e : d ≡ replicate n 0
   is : d ≡ replicate (a + k) 0
   is = e ∙ ap (λ m. replicate m 0) s
 
-  rest-zeros : drop a d ≡ replicate k 0
-  rest-zeros = ap (drop a) is ∙ zeros_drop a k
+  rest_zeros : drop a d ≡ replicate k 0
+  rest_zeros = ap (drop a) is ∙ zeros_drop a k
 
-  part-zeros : part d a k ≡ replicate k 0
-  part-zeros = ap (take k) rest-zeros ∙ take_all k (replicate {A = ℕ} k 0) (omega (arith, length-replicate {A = ℕ} k 0))
+  part_zeros : part d a k ≡ replicate k 0
+  part_zeros = ap (take k) rest_zeros ∙ take_all k (replicate {A = ℕ} k 0) (omega (arith, length-replicate {A = ℕ} k 0))
 
-  lent-zeros : (y : List ℕ) → take a d ++ (y ++ drop k (drop a d)) ≡ replicate a 0 ++ y
-  lent-zeros y =
+  lent_zeros : (y : List ℕ) → take a d ++ (y ++ drop k (drop a d)) ≡ replicate a 0 ++ y
+  lent_zeros y =
       let t : take a d ≡ replicate a 0 = ap (take a) is ∙ zeros_take a k in
-      let u : drop k (drop a d) ≡ [] = ap (drop k) rest-zeros ∙ drop_of_length-le (replicate {A = ℕ} k 0) {i = k} (omega (arith, length-replicate {A = ℕ} k 0)) in
+      let u : drop k (drop a d) ≡ [] = ap (drop k) rest_zeros ∙ drop_of_length-le (replicate {A = ℕ} k 0) {i = k} (omega (arith, length-replicate {A = ℕ} k 0)) in
       ap₂ (λ x z. x ++ (y ++ z)) t u ∙ ap (λ z. replicate a 0 ++ z) (append-nil y)
 
 -- what of a slot is lent for the text, and the slot when it came back as y
@@ -109,7 +107,7 @@ pub slot_long : {d : List ℕ} → d ≡ replicate slot_size 0 → length d ≡ 
 slot_long zs = ap length zs ∙ length-replicate {A = ℕ} slot_size 0
 
 blank : {d : List ℕ} → d ≡ replicate slot_size 0 → lent_part d ≡ replicate most_text 0
-blank zs = part-zeros text_place most_text slot_size (omega arith) zs
+blank zs = part_zeros text_place most_text slot_size (omega arith) zs
 
 pub lent_most : {d : List ℕ} → d ≡ replicate slot_size 0 → most_text ≤ length (lent_part d)
 lent_most zs = omega (arith, ap length (blank zs), length-replicate {A = ℕ} most_text 0)
@@ -126,14 +124,14 @@ d_if Addressable v = (refl, refl)
 -- a part that rows 5 and 7 let pass
 hex_spelled : (k : ℕ) (b : List ℕ) (q : Span) → string5 b q ≡ false → string7 k b q ≡ false → SpellsHex b q k
 unfolding string5 string7
-hex_spelled k b q e f = not_false _ (and_fails (is_spelled b q) _ (not_false (is_spelled b q) e) f)
+hex_spelled k b q e f = not-false _ (and_fails (is_spelled b q) _ (not-false (is_spelled b q) e) f)
 
 -- ---- parts p over the buffer b
 module _ (b : List ℕ) (p : EventParts) where
   -- an offer that no row refuses
   module _ (e : offered_row b p ≡ 0) where
     fits : Fits (held_of b p)
-    fits = valid_fits (asParts b p) (eq-eqb (offered_row b p) 0 e)
+    fits = valid_fits (as_parts b p) (eq-eqb (offered_row b p) 0 e)
 
     id_hex : SpellsHex b p.id hex_length
     unfolding event5 event7
@@ -159,84 +157,84 @@ module _ (b : List ℕ) (p : EventParts) where
           ap (drop text_place) q ∙ ap (λ k. drop k (replicate {A = ℕ} text_place 0 ++ text_bytes (lent.text_of b p.body))) (sym (length-replicate {A = ℕ} text_place 0))
           ∙ drop-append_seam (replicate {A = ℕ} text_place 0) (text_bytes (lent.text_of b p.body))
 
-      text-reads : read_text (part d text_place n) ≡ read (event_of b p.body)
+      text_reads_lem : read_text (part d text_place n) ≡ read (event_of b p.body)
       unfolding text_bytes
-      text-reads =
+      text_reads_lem =
           let t = lent.text_of b p.body in
           ap read_text (ap₂ take l rest ∙ take-append_seam t (replicate (most_text - length t) 0)) ∙ reads
 
-      head-length : length (head_of b p n (text_parts (event_of b p.body))) ≡ text_place
+      head_length : length (head_of b p n (text_parts (event_of b p.body))) ≡ text_place
       unfolding head_of slot_numbers held_of
-      head-length = simp (length-append, length_le_bytes) (omega (arith, fits.id, fits.sig))
+      head_length = simp (length-append, length_le_bytes) (omega (arith, fits.id, fits.sig))
 
-      head-text : head_of b p n (text_parts (event_of b p.body)) ++ text_bytes (lent.text_of b p.body) ≡ slot_bytes (held_of b p)
+      head_text : head_of b p n (text_parts (event_of b p.body)) ++ text_bytes (lent.text_of b p.body) ≡ slot_bytes (held_of b p)
       unfolding head_of slot_numbers held_of slot_bytes d_place lent.text_of
-      head-text =
+      head_text =
           let v = event_of b p.body in
           let k = d_if (class_of v.kind) v in
           rw (l, k.0, k.1) (simp append_assoc)
 
-      slot-made : {o : List ℕ} {r : ℕ} → Puts d 0 (head_of b p n (text_parts (event_of b p.body))) r o → o ≡ slot_bytes (held_of b p)
-      slot-made u =
+      slot_made : {o : List ℕ} {r : ℕ} → Puts d 0 (head_of b p n (text_parts (event_of b p.body))) r o → o ≡ slot_bytes (held_of b p)
+      slot_made u =
           let s = head_of b p n (text_parts (event_of b p.body)) in
           let x : text_place ≤ length d
           =
           omega
           (arith, ap length q, length-append (replicate {A = ℕ} text_place 0) (text_bytes (lent.text_of b p.body)), length-replicate {A = ℕ} text_place 0)
           in
-          (puts_whole (omega (arith, head-length)) u).1 ∙ ap (λ j. s ++ drop j d) head-length ∙ ap (s ++◌) rest ∙ head-text
+          (puts_whole (omega (arith, head_length)) u).1 ∙ ap (λ j. s ++ drop j d) head_length ∙ ap (s ++◌) rest ∙ head_text
 
   -- what a slot d of zeros came back as, its place for the text having been lent
   module _ (d : List ℕ) (zs : d ≡ replicate slot_size 0) {w : Written} (a : w ≡ offered b p (lent_part d)) (q : written_number w ≡ offered_text_row b p (lent_part d)) where
     row_is : written_number w ≡ offered_row b p
     row_is = q ∙ row-alone-most b p (lent_part d) (lent_most zs)
 
-    not-wrote : (x r n : ℕ) → x ≡ 0 → answered x n ≡ written.Refused r → ⊥
-    not-wrote x r n h f = let g = sym (ap (λ t. answered t n) h) ∙ f in let y : ◌≡◌ {A = ℕ} 0 1 = cc in omega arith
+    not_wrote : (x r n : ℕ) → x ≡ 0 → answered x n ≡ written.Refused r → ⊥
+    not_wrote x r n h f = let g = sym (ap (λ t. answered t n) h) ∙ f in let y : ◌≡◌ {A = ℕ} 0 1 = cc in omega arith
 
     pub made_none : {r : ℕ} {o : List ℕ} → w ≡ written.Refused r → (r ≡ offered_row b p) × (r ≡ 0 → o ≡ slot_bytes (held_of b p))
     unfolding offered
     made_none {r} e = (
       sym (ap written_number e) ∙ row_is,
-      λ n. absurd (not-wrote (offered_text_row b p (lent_part d)) r (length (lent.text_of b p.body)) (sym q ∙ ap written_number e ∙ n) (sym a ∙ e)),
+      λ n. absurd (not_wrote (offered_text_row b p (lent_part d)) r (length (lent.text_of b p.body)) (sym q ∙ ap written_number e ∙ n) (sym a ∙ e)),
     )
 
     module _ {n : ℕ} (e : w ≡ written.Wrote n) where
       pub row_none : offered_row b p ≡ 0
       row_none = sym row_is ∙ ap written_number e
 
-      text-row : offered_text_row b p (lent_part d) ≡ 0
-      text-row = sym q ∙ ap written_number e
+      text_row_lem : offered_text_row b p (lent_part d) ≡ 0
+      text_row_lem = sym q ∙ ap written_number e
 
-      length-is : n ≡ length (lent.text_of b p.body)
+      length_is : n ≡ length (lent.text_of b p.body)
       unfolding offered
-      length-is =
+      length_is =
           let g : written.Wrote n ≡ written.Wrote (length (lent.text_of b p.body))
-          = sym e ∙ a ∙ ap (λ t. answered t (length (lent.text_of b p.body))) text-row in
+          = sym e ∙ a ∙ ap (λ t. answered t (length (lent.text_of b p.body))) text_row_lem in
           cc
 
       module _ {y : List ℕ} (o : y ≡ offered_out b p (lent_part d)) where
-        text-is : y ≡ text_bytes (lent.text_of b p.body)
+        text_is : y ≡ text_bytes (lent.text_of b p.body)
         unfolding offered_out text_bytes
-        text-is =
+        text_is =
             let t = lent.text_of b p.body in
             let m = offered-small b p row_none in
             let s : most_text ≡ length t + (most_text - length t) = omega arith in
-            o ∙ ap (λ x. output_after x t (lent_part d)) text-row ∙ ap (t ++◌) (rest-zeros (length t) (most_text - length t) most_text s (blank zs))
+            o ∙ ap (λ x. output_after x t (lent_part d)) text_row_lem ∙ ap (t ++◌) (rest_zeros (length t) (most_text - length t) most_text s (blank zs))
 
-        came-back : given d y ≡ replicate text_place 0 ++ text_bytes (lent.text_of b p.body)
-        came-back = lent-zeros text_place most_text slot_size (omega arith) zs y ∙ ap (λ z. replicate text_place 0 ++ z) text-is
+        came_back : given d y ≡ replicate text_place 0 ++ text_bytes (lent.text_of b p.body)
+        came_back = lent_zeros text_place most_text slot_size (omega arith) zs y ∙ ap (λ z. replicate text_place 0 ++ z) text_is
 
         pub ready : (SpellsHex b p.id hex_length × SpellsHex b p.sig sig_length) × (slot_size ≤ length (given d y))
         unfolding text_bytes
         ready =
             let t = lent.text_of b p.body in
             let m = offered-small b p row_none in
-            let l : length (given d y) ≡ text_place + (length t + (most_text - length t)) = ap length came-back ∙ simp (length-append, length-replicate) (omega arith) in
+            let l : length (given d y) ≡ text_place + (length t + (most_text - length t)) = ap length came_back ∙ simp (length-append, length-replicate) (omega arith) in
             ((id_hex row_none, sig_hex row_none), omega arith)
 
         pub made : {r : ℕ} {u : List ℕ}
             → ((v : Event) → read_text (part (given d y) text_place n) ≡ read v → Puts (given d y) 0 (head_of b p n (text_parts v)) r u)
             → (0 ≡ offered_row b p) × (◌≡◌ {A = ℕ} 0 0 → u ≡ slot_bytes (held_of b p))
         made f =
-            (sym row_none, λ z. slot-made row_none (given d y) came-back n length-is (f (event_of b p.body) (text-reads row_none (given d y) came-back n length-is)))
+            (sym row_none, λ z. slot_made row_none (given d y) came_back n length_is (f (event_of b p.body) (text_reads_lem row_none (given d y) came_back n length_is)))

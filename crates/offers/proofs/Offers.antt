@@ -9,11 +9,10 @@ use borrow.Author.Tests.{eqb-true, eq-eqb, ne_eqb}
 use Rattle.wire.specs.Put.{put}
 use Rattle.wire.specs.Field.{le_bytes}
 use Rattle.text.specs.Kinds.{is_ephemeral, key_of}
-use Rattle.shape.specs.Shape.{event}
 use Rattle.shape.specs.Offsets.{plain_refusal}
 use Rattle.shape.specs.declared.Refusal.{Refusal}
 use Rattle.law.specs.Lists.{any, find}
-use Rattle.law.specs.Table.{has_id, has_key, hasKeyNewer, lacksSlot, first_verdict, verdict}
+use Rattle.law.specs.Table.{has_id, has_key, has_key_newer, lacks_slot, first_verdict, verdict}
 use Rattle.law.specs.Table as law
 use Rattle.table.specs.Layout.{Held, Fits, slot_place, count_place, capacity_of, count_of, slot_bytes}
 use Rattle.table.specs.Events.{signed_events, class_in, class_of_event, class_of_text, in_slot, of_held, view}
@@ -41,9 +40,9 @@ new_slot h f = record {
 
 -- ---- 01's number
 module _ {A : Type 0} (p q : A → Bool) where
-  any-both : (l : List A) → any p l ≡ false → any (λ x. p x && q x) l ≡ false
-  any-both [] e = refl
-  any-both (x ∷ l) e = go (p x) e (any-both l)
+  any_both : (l : List A) → any p l ≡ false → any (λ x. p x && q x) l ≡ false
+  any_both [] e = refl
+  any_both (x ∷ l) e = go (p x) e (any_both l)
     where
       go : (t : Bool) → (t || any p l) ≡ false → (any p l ≡ false → any (λ y. p y && q y) l ≡ false) → ((t && q x) || any (λ y. p y && q y) l) ≡ false
       go true f h = absurd (false≢true (sym f))
@@ -61,22 +60,22 @@ verdict_number false false false false true h = refl
 verdict_number false false false false false h = refl
 
 module _ (b : List ℕ) (o : Offering) where
-  class-is : is_valid o ≡ true → law.is_ephemeral (class_of_text (of_held (offered_of o)).0.text) ≡ is_ephemeral (offered_of o).event.kind
+  class_is : is_valid o ≡ true → law.is_ephemeral (class_of_text (of_held (offered_of o)).0.text) ≡ is_ephemeral (offered_of o).event.kind
   unfolding class_of_text class_of_event
-  class-is v = ap (λ r. law.is_ephemeral (class_in r)) (valid_read o v) ∙ class_lasts (offered_of o).event.kind (key_of (offered_of o).event)
+  class_is v = ap (λ r. law.is_ephemeral (class_in r)) (valid_read o v) ∙ class_lasts (offered_of o).event.kind (key_of (offered_of o).event)
 
-  valid-number : is_valid o ≡ true → sound b ≡ true → offer_number (answer b o) ≡ cond (needs_slot b (offered_of o) && all_in_use b) 12 0
+  valid_number : is_valid o ≡ true → sound b ≡ true → offer_number (answer b o) ≡ cond (needs_slot b (offered_of o) && all_in_use b) 12 0
   unfolding verdict needs_slot all_in_use
-  valid-number v g =
+  valid_number v g =
       let h = of_held (offered_of o) in
       let k = any (has_key signed_events h) (view b) in
       let i = any (has_id signed_events h) (view b) in
-      let n = any (hasKeyNewer signed_events h) (view b) in
+      let n = any (has_key_newer signed_events h) (view b) in
       ap offer_number (answer_valid b o v g)
-      ∙ ap₂ (λ r e. offer_number (offered_by r (first_verdict e i n (lacksSlot signed_events (capacity_of b) (view b) h)))) (valid_plain o (eqb-true (offering_row o) 0 v)) (class-is v)
+      ∙ ap₂ (λ r e. offer_number (offered_by r (first_verdict e i n (lacks_slot signed_events (capacity_of b) (view b) h)))) (valid_plain o (eqb-true (offering_row o) 0 v)) (class_is v)
       ∙ ap (λ m. offer_number (offered_by (plain_refusal 0) (first_verdict (is_ephemeral (offered_of o).event.kind) i n (not k && leb (capacity_of b) m)))) (length_view b)
       ∙ verdict_number (is_ephemeral (offered_of o).event.kind) i n k (leb (capacity_of b) (count_of b))
-      (any-both (has_key signed_events h) (λ x. signed_events.newer x h) (view b))
+      (any_both (has_key signed_events h) (λ x. signed_events.newer x h) (view b))
 
   pub number_is : offer_number (answer b o) ≡ offer_row b o
   unfolding offer_row
@@ -84,7 +83,7 @@ module _ (b : List ℕ) (o : Offering) where
     where
       go : (v : Bool) → eqb (offering_row o) 0 ≡ v → (g : Bool) → sound b ≡ g
           → offer_number (answer b o) ≡ cond v (cond g (cond (needs_slot b (offered_of o) && all_in_use b) 12 0) 11) (offering_row o)
-      go true v true g = valid-number v g
+      go true v true g = valid_number v g
       go true v false g = ap offer_number (answer_unsound b o v g)
       go false v g h = ap offer_number (answer_invalid b o v) ∙ refusal_row o
 
@@ -101,15 +100,15 @@ module _ (b : List ℕ) (o : Offering) where
   answers e = (e, ap offer_number e ∙ number_is b o)
 
   module _ {r : ℕ} (f : r ≡ offering_row o) where
-    refused-is : (r ≡ 0 → ⊥) → answer b o ≡ Refused (offering_refusal o)
-    refused-is n = answer_invalid b o (ne_eqb (offering_row o) 0 (λ q. n (f ∙ q)))
+    refused_is : (r ≡ 0 → ⊥) → answer b o ≡ Refused (offering_refusal o)
+    refused_is n = answer_invalid b o (ne_eqb (offering_row o) 0 (λ q. n (f ∙ q)))
 
     pub refused : (r ≡ 0 → ⊥) → {x : Refusal} → x ≡ offering_refusal o → Answers (Refused x)
-    refused n e = answers (ap Refused e ∙ sym (refused-is n))
+    refused n e = answers (ap Refused e ∙ sym (refused_is n))
 
     pub refused_stays : (r ≡ 0 → ⊥) → {x : Refusal} → x ≡ offering_refusal o → Leaves (Refused x) b
     unfolding next
-    refused_stays n e = let a = refused n e in (a.0, (a.1, sym (ap (λ x. cond (is_stored x) (stored_in b (offered_of o)) b) (refused-is n))))
+    refused_stays n e = let a = refused n e in (a.0, (a.1, sym (ap (λ x. cond (is_stored x) (stored_in b (offered_of o)) b) (refused_is n))))
 
     module _ (z : r ≡ 0) {s : List ℕ} (w : r ≡ 0 → s ≡ slot_bytes (offered_of o)) where
       q : s ≡ slot_bytes (offered_of o)

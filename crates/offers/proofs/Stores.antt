@@ -3,7 +3,7 @@
 use mathlib.Core.Path.{◌≡◌, refl, sym, ap, ap₂, ◌∙◌}
 use mathlib.Core.Bool.{Bool, true, false, cond, not, ◌&&◌, false≢true}
 use mathlib.Core.List.{List, ◌++◌, append-nil, append_assoc}
-use Prim.Native.Nat.{ℕ, ◌+◌, ◌-◌, ◌*◌, ◌≤◌, ◌<◌}
+use Prim.Native.Nat.{ℕ, ◌+◌, ◌-◌, ◌≤◌, ◌<◌}
 use native.Mathlib.Omega.{arith}
 use lib.Dec.{leb, ltb}
 use lib.ListN.{length, take, drop, drop_of_length-le}
@@ -17,7 +17,7 @@ use Rattle.wire.proofs.Laws.{puts_whole}
 use Rattle.shape.specs.Offsets.{plain_refusal}
 use Rattle.shape.specs.declared.Refusal.{Refusal}
 use Rattle.text.specs.Kinds.{is_ephemeral}
-use Rattle.law.specs.Lists.{any, find}
+use Rattle.law.specs.Lists.{any}
 use Rattle.law.specs.Table.{has_id, has_key, first_verdict}
 use Rattle.table.specs.Layout.{slot_size, slot_place, count_place, capacity_of, count_of, kind_in}
 use Rattle.table.specs.Events.{signed_events, in_slot, view}

@@ -1,5 +1,5 @@
 -- A message taken, by what was read and what its offer was answered.
-use mathlib.Core.Path.{◌≡◌, refl, sym, ap, ap₂, ◌∙◌}
+use mathlib.Core.Path.{◌≡◌, refl, sym, ap, ◌∙◌}
 use mathlib.Core.List.{List}
 use Prim.Native.Nat.{ℕ}
 use native.Mathlib.Omega.{arith}
@@ -12,7 +12,7 @@ use Rattle.message.specs.declared.Message.{Message}
 use Rattle.message.specs.declared.Message.TheVariants as message
 use Rattle.event.specs.declared.SentText.{SentText}
 use Rattle.event.specs.declared.SentText.TheVariants as sent
-use Rattle.table.specs.Offer.{asMessage, answer, offer_number, next}
+use Rattle.table.specs.Offer.{as_message, answer, offer_number, next}
 use Rattle.table.specs.declared.Offered.{Offered}
 use Rattle.table.specs.declared.Offered.TheVariants as offered
 use Rattle.offers.specs.Inner.{New, offered_to, offered_next}
@@ -39,7 +39,7 @@ table_as_lem b (message.Close s) = refl
 table_as_lem b (message.Refused r) = refl
 
 -- an offer answered a leaves the table t
-takes_as : (b m : List ℕ) {a : Offered} {t : List ℕ} → offers.Leaves b (asMessage m) a t → {r : Taken} {u : List ℕ}
+takes_as : (b m : List ℕ) {a : Offered} {t : List ℕ} → offers.Leaves b (as_message m) a t → {r : Taken} {u : List ℕ}
     → r ≡ taken_as a (read_of m) → u ≡ table_as b t (read_of m) → Takes b m r u
 unfolding taken taken_row taken_table
 takes_as b m {a} (e, (n, l)) {r} f g = (
@@ -59,30 +59,30 @@ module _ (b m : List ℕ) {s : SentText} {o : List ℕ} (k : Makes m s o) where
   pub refused_taken : {x : Refusal} {r : Taken} → s ≡ sent.Refused x → r ≡ taken_as (offered.Refused x) (read_of m) → Takes b m r b
   refused_taken e f =
       let (g, n) = made_refused m k e in
-      takes_as b m (offers.refused_stays b (asMessage m) refl n g) f (sym (table_as_lem b (read_of m)))
+      takes_as b m (offers.refused_stays b (as_message m) refl n g) f (sym (table_as_lem b (read_of m)))
 
   module _ {p : EventParts} {n : ℕ} (e : s ≡ sent.Wrote p n) where
     pub new_event : New o
-    new_event = let (f, (z, q)) = made_wrote m k e in offers.is_new b (asMessage m) z refl (λ w. q)
+    new_event = let (f, (z, q)) = made_wrote m k e in offers.is_new b (as_message m) z refl (λ w. q)
 
     pub event_taken : {a : Offered} {t : List ℕ} → (a ≡ offered_to b o) × (t ≡ offered_next b o) → Takes b m (takes.Event p.id a) t
     event_taken {a} {t} g =
         let (f, (z, q)) = made_wrote m k e in
-        takes_as b m (offers.taken b (asMessage m) z refl (λ w. q) g) (ap (taken_as a) (sym f)) (ap (table_as b t) (sym f))
+        takes_as b m (offers.taken b (as_message m) z refl (λ w. q) g) (ap (taken_as a) (sym f)) (ap (table_as b t) (sym f))
 
 -- ---- what an answer says of the message
 pub record Took (b m : List ℕ) (i : Span) (v : Offered) : Type 0 where
   pub parts : EventParts
   pub is : read_of m ≡ message.Event parts
   pub id : i ≡ parts.id
-  pub says : v ≡ answer b (asMessage m)
+  pub says : v ≡ answer b (as_message m)
 
 module _ (b m : List ℕ) {r : Taken} (a : r ≡ taken b m) where
   pub took_event : {i : Span} {v : Offered} → r ≡ takes.Event i v → Took b m i v
   unfolding taken
   took_event {i} {v} e = go (read_of m) refl (sym a ∙ e)
     where
-      go : (x : Message) → read_of m ≡ x → taken_as (answer b (asMessage m)) x ≡ takes.Event i v → Took b m i v
+      go : (x : Message) → read_of m ≡ x → taken_as (answer b (as_message m)) x ≡ takes.Event i v → Took b m i v
       go (message.Event p) f g = record { parts = p; is = f; id = cc; says = cc }
       go (message.Req q) f g = absurd (let y : ◌≡◌ {A = ℕ} 0 1 = cc in omega arith)
       go (message.Close s) f g = absurd (let y : ◌≡◌ {A = ℕ} 0 1 = cc in omega arith)
@@ -92,7 +92,7 @@ module _ (b m : List ℕ) {r : Taken} (a : r ≡ taken b m) where
   unfolding taken
   took_req {q} e = go (read_of m) (sym a ∙ e)
     where
-      go : (x : Message) → taken_as (answer b (asMessage m)) x ≡ takes.Req q → x ≡ message.Req q
+      go : (x : Message) → taken_as (answer b (as_message m)) x ≡ takes.Req q → x ≡ message.Req q
       go (message.Event p) g = absurd (let y : ◌≡◌ {A = ℕ} 0 1 = cc in omega arith)
       go (message.Req p) g = let y : p ≡ q = cc in ap message.Req y
       go (message.Close s) g = absurd (let y : ◌≡◌ {A = ℕ} 0 1 = cc in omega arith)
@@ -102,7 +102,7 @@ module _ (b m : List ℕ) {r : Taken} (a : r ≡ taken b m) where
   unfolding taken
   took_close {q} e = go (read_of m) (sym a ∙ e)
     where
-      go : (x : Message) → taken_as (answer b (asMessage m)) x ≡ takes.Close q → x ≡ message.Close q
+      go : (x : Message) → taken_as (answer b (as_message m)) x ≡ takes.Close q → x ≡ message.Close q
       go (message.Event p) g = absurd (let y : ◌≡◌ {A = ℕ} 0 1 = cc in omega arith)
       go (message.Req p) g = absurd (let y : ◌≡◌ {A = ℕ} 0 1 = cc in omega arith)
       go (message.Close s) g = let y : s ≡ q = cc in ap message.Close y
@@ -112,7 +112,7 @@ module _ (b m : List ℕ) {r : Taken} (a : r ≡ taken b m) where
   unfolding taken
   took_refused {k} e = go (read_of m) (sym a ∙ e)
     where
-      go : (x : Message) → taken_as (answer b (asMessage m)) x ≡ takes.Refused k → x ≡ message.Refused k
+      go : (x : Message) → taken_as (answer b (as_message m)) x ≡ takes.Refused k → x ≡ message.Refused k
       go (message.Event p) g = absurd (let y : ◌≡◌ {A = ℕ} 0 1 = cc in omega arith)
       go (message.Req p) g = absurd (let y : ◌≡◌ {A = ℕ} 0 1 = cc in omega arith)
       go (message.Close s) g = absurd (let y : ◌≡◌ {A = ℕ} 0 1 = cc in omega arith)
@@ -120,18 +120,18 @@ module _ (b m : List ℕ) {r : Taken} (a : r ≡ taken b m) where
 
 -- the table afterwards
 module _ (b m : List ℕ) where
-  pub table_event : {p : EventParts} → read_of m ≡ message.Event p → taken_table b m ≡ next b (asMessage m)
+  pub table_event : {p : EventParts} → read_of m ≡ message.Event p → taken_table b m ≡ next b (as_message m)
   unfolding taken_table
-  table_event e = ap (table_as b (next b (asMessage m))) e
+  table_event e = ap (table_as b (next b (as_message m))) e
 
   pub table_req : {q : ReqParts} → read_of m ≡ message.Req q → taken_table b m ≡ b
   unfolding taken_table
-  table_req e = ap (table_as b (next b (asMessage m))) e
+  table_req e = ap (table_as b (next b (as_message m))) e
 
   pub table_close : {s : Span} → read_of m ≡ message.Close s → taken_table b m ≡ b
   unfolding taken_table
-  table_close e = ap (table_as b (next b (asMessage m))) e
+  table_close e = ap (table_as b (next b (as_message m))) e
 
   pub table_refused : {k : Refusal} → read_of m ≡ message.Refused k → taken_table b m ≡ b
   unfolding taken_table
-  table_refused e = ap (table_as b (next b (asMessage m))) e
+  table_refused e = ap (table_as b (next b (as_message m))) e

@@ -17,7 +17,7 @@ use Rattle.shape.specs.Offsets.{plain_refusal}
 use Rattle.shape.specs.declared.Refusal.{Refusal}
 use Rattle.event.specs.Order.{is_newer}
 use Rattle.law.specs.Lists.{any, find}
-use Rattle.law.specs.Table.{has_id, hasKeyNewer, lacksSlot, first_verdict, verdict}
+use Rattle.law.specs.Table.{has_id, has_key_newer, lacks_slot, first_verdict, verdict}
 use Rattle.table.specs.Layout.{capacity_of, count_of, kind_in, id_in, held_slots, slot_at}
 use Rattle.table.specs.Events.{signed_events, in_slot, view}
 use Rattle.table.specs.Sound.{sound, slot_sound}
@@ -33,10 +33,10 @@ use Rattle.offers.proofs.Held.{ids, slot_is, keys, newers}
 
 -- the questions of the verdict on slot s: a newer event with its key is held; no slot is left for it
 abbrev pub newer_held : List ℕ → List ℕ → Bool
-newer_held b s = any (hasKeyNewer signed_events (in_slot s)) (view b)
+newer_held b s = any (has_key_newer signed_events (in_slot s)) (view b)
 
 abbrev pub lacks : List ℕ → List ℕ → Bool
-lacks b s = lacksSlot signed_events (capacity_of b) (view b) (in_slot s)
+lacks b s = lacks_slot signed_events (capacity_of b) (view b) (in_slot s)
 
 module _ (b s : List ℕ) (g : sound b ≡ true) (n : New s) where
   abbrev Says : Decided → Type 0
@@ -47,32 +47,32 @@ module _ (b s : List ℕ) (g : sound b ≡ true) (n : New s) where
   by_class = ap (λ x. offered_by (plain_refusal 0) (first_verdict x (any (has_id signed_events (in_slot s)) (view b)) (newer_held b s) (lacks b s))) n.class
 
   module _ {k : ℕ} {x : Bool} (p : k ≡ field_at s 104 2) (q : x ≡ is_ephemeral k) where
-    class-is : is_ephemeral (kind_in s) ≡ x
+    class_is : is_ephemeral (kind_in s) ≡ x
     unfolding kind_in
-    class-is = sym (q ∙ ap is_ephemeral p)
+    class_is = sym (q ∙ ap is_ephemeral p)
 
-    pub was_ephemeral : x ≡ true → Says (Answered Ephemeral)
-    was_ephemeral e = record {
+    pub was_ephemeral_lem : x ≡ true → Says (Answered Ephemeral)
+    was_ephemeral_lem e = record {
       is =
-          (sym (by_class ∙ ap (λ t. offered_by (plain_refusal 0) (first_verdict t (any (has_id signed_events (in_slot s)) (view b)) (newer_held b s) (lacks b s))) (class-is ∙ e)), refl);
+          (sym (by_class ∙ ap (λ t. offered_by (plain_refusal 0) (first_verdict t (any (has_id signed_events (in_slot s)) (view b)) (newer_held b s) (lacks b s))) (class_is ∙ e)), refl);
     }
 
     module _ (e : x ≡ false) {c : ℕ} (l : c ≡ field_at b 4 4) {y : Bool} (f : y ≡ any (same_id_in s) (slots_from b 0 c)) where
       pub lasts : slot_sound s ≡ true
-      lasts = n.ok (class-is ∙ e)
+      lasts = n.ok (class_is ∙ e)
 
       count_is : c ≡ count_of b
       unfolding count_of
       count_is = l
 
-      by-id : answer_for b s ≡ offered_by (plain_refusal 0) (first_verdict false y (newer_held b s) (lacks b s))
-      by-id =
+      by_id : answer_for b s ≡ offered_by (plain_refusal 0) (first_verdict false y (newer_held b s) (lacks b s))
+      by_id =
           by_class
-          ∙ ap₂ (λ t u. offered_by (plain_refusal 0) (first_verdict t u (newer_held b s) (lacks b s))) (class-is ∙ e)
+          ∙ ap₂ (λ t u. offered_by (plain_refusal 0) (first_verdict t u (newer_held b s) (lacks b s))) (class_is ∙ e)
           (ids b s g ∙ sym (f ∙ ap (λ m. any (same_id_in s) (slots_from b 0 m)) count_is))
 
       pub was_duplicate : y ≡ true → Says (Answered Duplicate)
-      was_duplicate h = record { is = (sym (by-id ∙ ap (λ u. offered_by (plain_refusal 0) (first_verdict false u (newer_held b s) (lacks b s))) h), refl) }
+      was_duplicate h = record { is = (sym (by_id ∙ ap (λ u. offered_by (plain_refusal 0) (first_verdict false u (newer_held b s) (lacks b s))) h), refl) }
 
       module _ (h : y ≡ false) {j : ℕ} (o : j ≡ find (same_key_in s) (slots_from b 0 c)) where
         place_is : j ≡ slot_of b s
@@ -80,34 +80,34 @@ module _ (b s : List ℕ) (g : sound b ≡ true) (n : New s) where
 
         by_key : answer_for b s ≡ offered_by (plain_refusal 0) (first_verdict false false (ltb j c && newer_in (get_or (held_slots b) j []) s) (not (ltb j c) && leb (capacity_of b) c))
         by_key =
-            by-id
+            by_id
             ∙ ap₂ (λ u v. offered_by (plain_refusal 0) (first_verdict false u v (lacks b s))) h
             (newers b s g lasts ∙ ap₂ (λ a m. ltb a m && newer_in (get_or (held_slots b) a []) s) (sym place_is) (sym count_is))
             ∙ ap₂ (λ t m. offered_by (plain_refusal 0) (first_verdict false false (ltb j c && newer_in (get_or (held_slots b) j []) s) (not t && leb (capacity_of b) m)))
             (keys b s g lasts ∙ ap₂ ltb (sym place_is) (sym count_is)) (length_view b ∙ sym count_is)
 
         module _ (i : j < c) {w : Bool} {d : List ℕ} (a : d ≡ slot_at b j) (v : w ≡ newer_in d s) where
-          by-time : answer_for b s ≡ offered_by (plain_refusal 0) (first_verdict false false w false)
-          by-time =
+          by_time : answer_for b s ≡ offered_by (plain_refusal 0) (first_verdict false false w false)
+          by_time =
               by_key
               ∙ ap (λ t. offered_by (plain_refusal 0) (first_verdict false false (t && newer_in (get_or (held_slots b) j []) s) (not t && leb (capacity_of b) c))) (lt-ltb j c i)
               ∙ ap (λ t. offered_by (plain_refusal 0) (first_verdict false false t false)) (ap (λ r. newer_in r s) (slot_entry b j (rw count_is at i) ∙ sym a) ∙ sym v)
 
           pub was_older : w ≡ true → Says (Answered Older)
-          was_older z = record { is = (sym (by-time ∙ ap (λ t. offered_by (plain_refusal 0) (first_verdict false false t false)) z), refl) }
+          was_older z = record { is = (sym (by_time ∙ ap (λ t. offered_by (plain_refusal 0) (first_verdict false false t false)) z), refl) }
 
           pub was_newer : w ≡ false → Says (Fills j)
-          was_newer z = record { is = (sym (by-time ∙ ap (λ t. offered_by (plain_refusal 0) (first_verdict false false t false)) z), place_is) }
+          was_newer z = record { is = (sym (by_time ∙ ap (λ t. offered_by (plain_refusal 0) (first_verdict false false t false)) z), place_is) }
 
         module _ (i : c ≤ j) {u : Bool} (r : u ≡ leb (capacity_of b) c) where
-          by-room : answer_for b s ≡ offered_by (plain_refusal 0) (first_verdict false false false u)
-          by-room = by_key ∙ ap₂ (λ t a. offered_by (plain_refusal 0) (first_verdict false false (t && newer_in (get_or (held_slots b) j []) s) (not t && a))) (le-ltb j c i) (sym r)
+          by_room : answer_for b s ≡ offered_by (plain_refusal 0) (first_verdict false false false u)
+          by_room = by_key ∙ ap₂ (λ t a. offered_by (plain_refusal 0) (first_verdict false false (t && newer_in (get_or (held_slots b) j []) s) (not t && a))) (le-ltb j c i) (sym r)
 
-          pub no_room : u ≡ true → {x : Refusal} → x ≡ plain_refusal 12 → Says (Answered (Refused x))
-          no_room z {x} f = record { is = (ap Refused f ∙ sym (by-room ∙ ap (λ t. offered_by (plain_refusal 0) (first_verdict false false false t)) z), refl) }
+          pub no_room_lem : u ≡ true → {x : Refusal} → x ≡ plain_refusal 12 → Says (Answered (Refused x))
+          no_room_lem z {x} f = record { is = (ap Refused f ∙ sym (by_room ∙ ap (λ t. offered_by (plain_refusal 0) (first_verdict false false false t)) z), refl) }
 
           pub was_stored : u ≡ false → Says (Fills j)
-          was_stored z = record { is = (sym (by-room ∙ ap (λ t. offered_by (plain_refusal 0) (first_verdict false false false t)) z), place_is) }
+          was_stored z = record { is = (sym (by_room ∙ ap (λ t. offered_by (plain_refusal 0) (first_verdict false false false t)) z), place_is) }
 
 -- ---- what a comparison of two slots answers
 pub newer_by : (s t : List ℕ) (a b : ℤ) {r : Bool} {x y : ℕ} {i j : List ℕ} → SFits w64 a → SFits w64 b

@@ -6,7 +6,7 @@ use Rattle.std.proofs.Math.Option.{some}
 use Rattle.digest.specs.Digest.{digest}
 use Rattle.text.specs.Event.{Event, serialise}
 use Rattle.law.specs.Lists.{◌∈◌, any}
-use Rattle.law.specs.Table.{Offer, Table, IdPremise, SameValid, SameHeld, Settled, slotsNeeded}
+use Rattle.law.specs.Table.{Offer, Table, IdPremise, SameValid, SameHeld, Settled, slots_needed}
 use Rattle.law.specs.Demand3.{RelayOn, ExchangeOn, judged}
 use Rattle.law.specs.Demand3 as law
 use Rattle.table.specs.Layout.{count_of}
@@ -98,7 +98,7 @@ AnyOrder =
 -- "Given the id premise alone, some offer of a list lacks room exactly when .. together outnumber the slots."
 abbrev pub RoomRunsOut : Type 0
 RoomRunsOut = (cs : List Call) (s : Session cs) → IdPremise table_events (valid_of cs) →
-    (lacks_room cs ≡ true) ↔ (s.capacity < slotsNeeded table_events (valid_of cs))
+    (lacks_room cs ≡ true) ↔ (s.capacity < slots_needed table_events (valid_of cs))
 
 -- ---- signatures
 -- the call that brought what is held, event and signature

@@ -1,6 +1,6 @@
 -- 01's number of what an offer o to the table b is answered: "offering one tests 1 to 12", "Where several hold, the
 -- lowest number is given".
-use Rattle.std.specs.Prelude.{Bool, cond, not, ◌&&◌, List, ℕ, leb}
+use Rattle.std.specs.Prelude.{Bool, cond, not, ◌&&◌, leb}
 use Rattle.text.specs.Kinds.{is_ephemeral}
 use Rattle.event.specs.Answer.{or_else}
 use Rattle.law.specs.Lists.{any}

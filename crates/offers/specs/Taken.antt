@@ -7,7 +7,7 @@ use Rattle.message.specs.declared.Message.TheVariants as message
 use Rattle.event.specs.declared.SentText.{SentText}
 use Rattle.event.specs.declared.SentText.TheVariants as sent
 use Rattle.table.specs.Layout.{slot_bytes}
-use Rattle.table.specs.Offer.{asMessage, message_offer_row, parts_of, held_of, answer, offer_number, next}
+use Rattle.table.specs.Offer.{as_message, message_offer_row, parts_of, held_of, answer, offer_number, next}
 use Rattle.table.specs.declared.Offered.{Offered}
 use Rattle.offers.specs.Row.{offer_row}
 use Rattle.offers.specs.declared.Taken.{Taken}
@@ -22,7 +22,7 @@ taken_as a (message.Close s) = Close s
 taken_as a (message.Refused r) = Refused r
 
 unfoldable pub taken : Bytes → Bytes → Taken
-taken b m = taken_as (answer b (asMessage m)) (read_of m)
+taken b m = taken_as (answer b (as_message m)) (read_of m)
 
 -- the number of 01: "Reading a message tests rows 1 to 8; offering one tests 1 to 12"
 abbrev pub taken_number : Taken → ℕ
@@ -38,7 +38,7 @@ taken_row_as k (message.Close s) = 0
 taken_row_as k (message.Refused r) = r.row
 
 unfoldable pub taken_row : Bytes → Bytes → Row
-taken_row b m = taken_row_as (offer_row b (asMessage m)) (read_of m)
+taken_row b m = taken_row_as (offer_row b (as_message m)) (read_of m)
 
 -- the table afterwards, t where an EVENT was offered
 abbrev pub table_as : (b t : Bytes) (x : Message) → Bytes
@@ -48,7 +48,7 @@ table_as b t (message.Close s) = b
 table_as b t (message.Refused r) = b
 
 unfoldable pub taken_table : Bytes → Bytes → Bytes
-taken_table b m = table_as b (next b (asMessage m)) (read_of m)
+taken_table b m = table_as b (next b (as_message m)) (read_of m)
 
 -- ---- what private functions hand on: the parts of the event of m, and o the bytes of its slot; or the row that
 -- refuses its offer

@@ -1,5 +1,7 @@
 // Offers to a table (01, "The table"), as a message and as parts: the rows and the verdict, and the one slot and the
 // count that a store writes. The definitions are table/specs/Offer; what the code goes by on the way stands in specs/.
+#![tactic(auto)]
+
 ghost use Rattle.std.specs.Prelude.{◌≡◌, true, ◌≤◌, leb, length};
 ghost use Rattle.wire.specs.Limits.{most_slots};
 ghost use Rattle.text.specs.Kinds.{is_ephemeral};
@@ -8,7 +10,7 @@ ghost use Rattle.table.specs.declared.Offered.TheVariants as offered;
 ghost use Rattle.law.specs.Lists.{any, find};
 ghost use Rattle.table.specs.Layout.{slot_size, capacity_of};
 ghost use Rattle.table.specs.Sound.{sound};
-ghost use Rattle.table.specs.Offer.{asMessage, asParts, answer, offer_number, next};
+ghost use Rattle.table.specs.Offer.{as_message, as_parts, answer, offer_number, next};
 ghost use Rattle.slots.specs.Slots.{same_id_in, same_key_in, slots_from};
 ghost use Rattle.offers.specs.Row.{offer_row};
 ghost use Rattle.offers.specs.Taken.{taken_as, taken, taken_number, taken_row, taken_table};
@@ -18,7 +20,7 @@ ghost use Rattle.offers.specs.Inner.{stored_for, offered_next, count_from};
 mod made;
 
 // What taking a message gives: the place of an EVENT's id in it, and what its offer is answered; or what else was read.
-#[derive(Drop)]
+#[derive(Clone, Copy)]
 pub enum Taken {
     Event(message::Span, table::Offered),
     Req(message::ReqParts),
@@ -27,7 +29,7 @@ pub enum Taken {
 }
 
 // What is decided of an offer: the slot that it fills, or what it is answered where nothing is stored.
-#[derive(Drop)]
+#[derive(Clone, Copy)]
 enum Decided {
     Fills(usize),
     Answered(table::Offered),
@@ -86,7 +88,7 @@ fn has_key(s: &[u8], last: u8, t: &[u8]) -> bool
     if d_last(t) != last {
         return false;
     }
-    slots::same_key_lem(s, t)
+    slots::same_key(s, t)
 }
 
 // The first of slots 0 to c-1 that has the key of the slot `new`, or c.
@@ -212,9 +214,9 @@ fn offer_slot(table: &mut [u8], new: &[u8]) -> table::Offered
 // ---- the calls
 // An event offered as parts: rows 2 and 4 to 10, then 11, then the verdict.
 pub fn offer_parts(table: &mut [u8], b: &[u8], p: message::EventParts) -> table::Offered
-    ensures value { result ≡ answer table.old (asParts b.now p) }
-    ensures result_value { offer_number result ≡ offer_row table.old (asParts b.now p) }
-    ensures table_after { table.new ≡ next table.old (asParts b.now p) }
+    ensures value { result ≡ answer table.old (as_parts b.now p) }
+    ensures result_value { offer_number result ≡ offer_row table.old (as_parts b.now p) }
+    ensures table_after { table.new ≡ next table.old (as_parts b.now p) }
 {
     let mut new = [0u8; slots::SLOT_SIZE];
     let row = made::make_slot(&mut new, b, p);
@@ -226,9 +228,9 @@ pub fn offer_parts(table: &mut [u8], b: &[u8], p: message::EventParts) -> table:
 
 // A message offered: rows 1 to 10, then 11, then the verdict.
 pub fn offer_message(table: &mut [u8], m: &[u8]) -> table::Offered
-    ensures value { result ≡ answer table.old (asMessage m.now) }
-    ensures result_value { offer_number result ≡ offer_row table.old (asMessage m.now) }
-    ensures table_after { table.new ≡ next table.old (asMessage m.now) }
+    ensures value { result ≡ answer table.old (as_message m.now) }
+    ensures result_value { offer_number result ≡ offer_row table.old (as_message m.now) }
+    ensures table_after { table.new ≡ next table.old (as_message m.now) }
 {
     let mut new = [0u8; slots::SLOT_SIZE];
     let refusal = made::make_from(&mut new, m);
@@ -240,8 +242,8 @@ pub fn offer_message(table: &mut [u8], m: &[u8]) -> table::Offered
 
 // What the same offer would be answered; the table is only read.
 pub fn judge_message(table: &[u8], m: &[u8]) -> table::Offered
-    ensures value { result ≡ answer table.now (asMessage m.now) }
-    ensures result_value { offer_number result ≡ offer_row table.now (asMessage m.now) }
+    ensures value { result ≡ answer table.now (as_message m.now) }
+    ensures result_value { offer_number result ≡ offer_row table.now (as_message m.now) }
 {
     let mut new = [0u8; slots::SLOT_SIZE];
     let refusal = made::make_from(&mut new, m);

@@ -12,11 +12,16 @@
 //   T BUF                                                                    a text read back: its parts, and d's bytes
 //   L BUF at width number the number into the buffer, and out of it again
 //   D BUF times the digest of the bytes, so many times over
+#![tactic(auto)]
+
 use digest::Sha256;
 use event::Written;
+use lines::Output;
 use message::{
     Body, Bound, EventParts, FilterParts, Listed, Message, Named, Naming, ReqParts, Span,
 };
+use std::io;
+use std::io::Write;
 use text::{Class, Text, TextAnswer};
 
 // ---- What is written.
@@ -315,21 +320,38 @@ fn put_answer(out: &mut [u8], line: &[u8], b: &mut [u8]) -> usize {
     }
 }
 
-fn respond(line: &[u8]) {
-    let mut out = io::large_buffer();
-    let mut space = io::large_buffer();
+fn respond<W: Write>(output: &mut Output<W>, line: &[u8]) -> io::Result<()> {
+    let mut out = [0u8; 65536];
+    let mut space = [0u8; 65536];
     let n = spell::put_unhex(&mut space, 0, fields::field(line, 1));
     let k = put_answer(&mut out, line, &mut space[..n]);
-    lines::write_line(&mut out, k);
+    lines::write_line(output, &mut out, k)
 }
 
 // Of a line of 65,536 bytes or more it is only said that it is too long.
-fn main() {
-    let mut line = io::large_buffer();
-    let mut chunk = io::large_buffer();
-    let mut l = lines::next_within(&mut line, &mut chunk, lines::none(), b"too long\n");
+fn main(rt: HostRuntime) -> io::Result<()> {
+    let mut input = lines::from_reader(rt.stdin());
+    let mut output = lines::to_writer(rt.stdout());
+    let mut line = [0u8; 65536];
+    let mut chunk = [0u8; 65536];
+    let mut l = lines::next_within(
+        &mut input,
+        &mut output,
+        &mut line,
+        &mut chunk,
+        lines::none(),
+        b"too long\n",
+    )?;
     while 0 < l.left {
-        respond(wire::piece(&line, 0, l.n));
-        l = lines::next_within(&mut line, &mut chunk, l, b"too long\n");
+        respond(&mut output, wire::piece(&line, 0, l.n))?;
+        l = lines::next_within(
+            &mut input,
+            &mut output,
+            &mut line,
+            &mut chunk,
+            l,
+            b"too long\n",
+        )?;
     }
+    Ok(())
 }

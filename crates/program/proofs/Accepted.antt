@@ -42,7 +42,7 @@ use Rattle.text.specs.Read.{kind_at, body_from}
 use Rattle.text.specs.Kinds as kinds
 use Rattle.law.specs.Table.{regular, stored, verdict, after}
 use Rattle.table.specs.Events.{SignedEvent, signed_events, in_slot, of_held, class_of_event, class_of_text, view}
-use Rattle.table.specs.Offer.{asMessage, unhex, held_of, parts_of, offered_of, judge, message_offer_row, answer, next}
+use Rattle.table.specs.Offer.{as_message, unhex, held_of, parts_of, offered_of, judge, message_offer_row, answer, next}
 use Rattle.table.specs.Offer as offer
 use Rattle.table.specs.Layout.{table_size, capacity_of, count_of, slot_at, id_in, sig_in, text_in}
 use Rattle.table.specs.Sound.{sound}
@@ -119,7 +119,7 @@ held_is : of_held (held_of sent parts) ≡ note
 unfolding held_of unhex hex_val in_class run past one_at token_at word_at literal_at digits_at int_at frac_at exp_at number_at hex_at escaped_at char_at chars_up_to chars_at string_at scalar_at items_at tree_at char_of chars_from char_bytes chars_bytes decode tags_of lent_tags_at lent.event_of letter_of esc_one escape digits_in digits decimal quoted members_text tag_text tags_text serialise
 held_is = refl
 
-judged : judge (asMessage sent) ≡ some note
+judged : judge (as_message sent) ≡ some note
 unfolding judge parts_of
 judged = rw (valid, reads) (ap some held_is)
 
@@ -149,27 +149,27 @@ capacity : capacity_of fresh_table ≡ 8
 capacity = formatted_capacity program_slots (replicate (table_size program_slots) 0) row_0
 
 abbrev table : List ℕ
-table = next fresh_table (asMessage sent)
+table = next fresh_table (as_message sent)
 
 table_view : view table ≡ note ∷ []
 table_view =
-    faithful.does fresh_table (asMessage sent) (fresh_good fresh_table fresh)
-    ∙ ap (λ (t : List SignedEvent). after signed_events (capacity_of fresh_table) t (judge (asMessage sent))) (fresh_view fresh_table fresh)
+    faithful.does fresh_table (as_message sent) (fresh_good fresh_table fresh)
+    ∙ ap (λ (t : List SignedEvent). after signed_events (capacity_of fresh_table) t (judge (as_message sent))) (fresh_view fresh_table fresh)
     ∙ ap₂ (λ N j. after signed_events N [] j) capacity judged
     ∙ first_view
 
 table_sound : sound table ≡ true
-table_sound = (faithful.good fresh_table (asMessage sent) (fresh_good fresh_table fresh)).is_sound
+table_sound = (faithful.good fresh_table (as_message sent) (fresh_good fresh_table fresh)).is_sound
 
 table_count : count_of table ≡ 1
 table_count = sym (length_view table) ∙ ap length table_view
 
-says_stored : answer fresh_table (asMessage sent) ≡ Stored
+says_stored : answer fresh_table (as_message sent) ≡ Stored
 unfolding parts_of
 says_stored =
-    (rows_in_order.0 fresh_table (asMessage sent)).judged (rw valid) (fresh_good fresh_table fresh).is_sound
-    ∙ ap (λ (t : List SignedEvent). offer.offered_by (plain_refusal 0) (verdict signed_events (capacity_of fresh_table) t (some (of_held (offered_of (asMessage sent)))))) (fresh_view fresh_table fresh)
-    ∙ ap (λ N. offer.offered_by (plain_refusal 0) (verdict signed_events N [] (some (of_held (offered_of (asMessage sent)))))) capacity
+    (rows_in_order.0 fresh_table (as_message sent)).judged (rw valid) (fresh_good fresh_table fresh).is_sound
+    ∙ ap (λ (t : List SignedEvent). offer.offered_by (plain_refusal 0) (verdict signed_events (capacity_of fresh_table) t (some (of_held (offered_of (as_message sent)))))) (fresh_view fresh_table fresh)
+    ∙ ap (λ N. offer.offered_by (plain_refusal 0) (verdict signed_events N [] (some (of_held (offered_of (as_message sent)))))) capacity
     ∙ ap (λ x. offer.offered_by (plain_refusal 0) (verdict signed_events 8 [] (some x))) (rw reads held_is)
     ∙ ap (offer.offered_by (plain_refusal 0)) first_verdict_lem
 

@@ -38,7 +38,7 @@ use Rattle.event.proofs.Fit.{inner}
 use Rattle.law.specs.Lists.{◌∈◌}
 use Rattle.table.specs.Layout.{capacity_of, count_of}
 use Rattle.table.specs.Sound.{sound}
-use Rattle.table.specs.Offer.{asMessage, answer}
+use Rattle.table.specs.Offer.{as_message, answer}
 use Rattle.table.specs.declared.Offered.{Offered}
 use Rattle.table.specs.declared.Offered.TheVariants as offered
 use Rattle.table.proofs.Bytes.{clauses}
@@ -212,16 +212,16 @@ one_written r = ap length (append-nil (reply_line r))
 
 module _ (b m : List ℕ) where
   -- one short reply is enough for any table
-  one-short : (r : Reply) → replies_to b m ≡ r ∷ [] → length (reply_line r) ≤ 428 → length (response b m) ≤ enough_for (capacity_of b)
+  one_short : (r : Reply) → replies_to b m ≡ r ∷ [] → length (reply_line r) ≤ 428 → length (response b m) ≤ enough_for (capacity_of b)
   unfolding response
-  one-short r e h = omega (arith, ap (λ l. length (written l)) e, one_written r)
+  one_short r e h = omega (arith, ap (λ l. length (written l)) e, one_written r)
 
-  request-short : (r : ReqParts) → read_of m ≡ message.Req r → length (response b m) ≤ enough_for (capacity_of b)
+  request_short : (r : ReqParts) → read_of m ≡ message.Req r → length (response b m) ≤ enough_for (capacity_of b)
   unfolding replies_to request_replies
-  request-short r e = go (sound b) refl
+  request_short r e = go (sound b) refl
     where
-      sub-short : length (string_json (said m r.subscription)) ≤ 386
-      sub-short = rw (names_subscription m r e) at (named_short m)
+      sub_short : length (string_json (said m r.subscription)) ≤ 386
+      sub_short = rw (names_subscription m r e) at (named_short m)
 
       go : (x : Bool) → sound b ≡ x → length (response b m) ≤ enough_for (capacity_of b)
       go true s =
@@ -232,30 +232,30 @@ module _ (b m : List ℕ) where
             arith,
             ap length (one_by_one b m r e s),
             length-append (joined (slot_lines b sub ks)) (reply_line (eose sub)),
-            slots_short b sub s sub-short ks (answers_held b fs),
+            slots_short b sub s sub_short ks (answers_held b fs),
             eose_line_lem sub,
-            sub-short,
+            sub_short,
             (answer_means b fs).short,
             (clauses b s).count,
           )
-      go false s = one-short (refusal m 11) (rw (e, s)) (refusal_short m 11)
+      go false s = one_short (refusal m 11) (rw (e, s)) (refusal_short m 11)
 
-  close-short : (p : Span) → read_of m ≡ message.Close p → length (response b m) ≤ enough_for (capacity_of b)
+  close_short : (p : Span) → read_of m ≡ message.Close p → length (response b m) ≤ enough_for (capacity_of b)
   unfolding response replies_to written
-  close-short p e = rw e (omega arith)
+  close_short p e = rw e (omega arith)
 
-  response-short : length (response b m) ≤ enough_for (capacity_of b)
+  response_short : length (response b m) ≤ enough_for (capacity_of b)
   unfolding replies_to
-  response-short = go (read_of m) refl
+  response_short = go (read_of m) refl
     where
       go : (x : Message) → read_of m ≡ x → length (response b m) ≤ enough_for (capacity_of b)
       go (message.Event p) e =
-          let a = answer b (asMessage m) in
-          one-short (offer_reply m (said m p.id) a) (rw e) (offer_short m (said m p.id) a (rw (names_id m p e) at (named_short m)))
-      go (message.Req r) e = request-short r e
-      go (message.Close p) e = close-short p e
-      go (message.Refused r) e = one-short (refusal m r.row) (rw e) (refusal_short m r.row)
+          let a = answer b (as_message m) in
+          one_short (offer_reply m (said m p.id) a) (rw e) (offer_short m (said m p.id) a (rw (names_id m p e) at (named_short m)))
+      go (message.Req r) e = request_short r e
+      go (message.Close p) e = close_short p e
+      go (message.Refused r) e = one_short (refusal m r.row) (rw e) (refusal_short m r.row)
 
 pub enough : Enough
 unfolding respond_row
-enough b m out l = rw (le-ltb (length out) (length (response b m)) (omega (arith, response-short b m)))
+enough b m out l = rw (le-ltb (length out) (length (response b m)) (omega (arith, response_short b m)))

@@ -19,14 +19,13 @@ use Rattle.shape.specs.Shape.{any_item, all_items, count_items, name_at, no_name
 use Rattle.shape.specs.Rows.{row6, row7, row8, filter_counts, wrong_subscription, tree_row, message_row}
 use Rattle.message.specs.Read.{read_of}
 use Rattle.message.specs.declared.Message.TheVariants as message
-use Rattle.event.specs.Lent.{said}
 use Rattle.text.specs.Event.{quoted}
 use lib.ListN.{replicate, length, length-map, length-replicate}
 use Rattle.table.proofs.Cells.{length_cells}
-use Rattle.table.specs.Layout.{header_size, slot_size, table_size, count_of, held_slots}
+use Rattle.table.specs.Layout.{slot_size, table_size, count_of, held_slots}
 use Rattle.table.specs.Events.{in_slot, view}
 use Rattle.table.specs.Sound.{sound}
-use Rattle.table.specs.Format.{format_row, formatted}
+use Rattle.table.specs.Format.{format_row}
 use Rattle.table.proofs.Formatted.{formatted_view, formatted_sound}
 use Rattle.query.specs.Answer.{keep, numbers_from, newest_first, union, answer_list, filters_meant}
 use Rattle.wire.specs.Ascii.{ascii}

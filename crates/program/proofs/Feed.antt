@@ -241,15 +241,15 @@ module _ (line : List ℕ) (n : ℕ) (p : List ℕ) (wide : most_line ≤ length
       let z : most_line ≡ length (take many line) + (most_line - many) = omega (arith, length_so_far) in
       ap (λ l. kept (l ++ p)) (so_far n line) ∙ ap (λ k. take k (take many line ++ p)) z ∙ take-append-add (take many line) p (most_line - many)
 
-  put-line : put line many more ≡ (take many line ++ more) ++ drop (many + length more) line
+  put_line_lem : put line many more ≡ (take many line ++ more) ++ drop (many + length more) line
   unfolding put
-  put-line = sets-eq more line many (omega (arith, length-take (most_line - many) p))
+  put_line_lem = sets-eq more line many (omega (arith, length-take (most_line - many) p))
 
   line_kept : take (length (kept (take n (kept line) ++ p))) (kept (put line many more)) ≡ kept (take n (kept line) ++ p)
   line_kept =
       let l = kept (take n (kept line) ++ p) in
       take-take (length l) most_line (put line many more) (omega (arith, length-take most_line (take n (kept line) ++ p)))
-      ∙ ap (take (length l)) put-line
+      ∙ ap (take (length l)) put_line_lem
       ∙ take_at (take many line ++ more) _ (length l) (ap length (sym kept_line))
       ∙ sym kept_line
 
@@ -257,28 +257,28 @@ module _ (b line : List ℕ) (n : ℕ) (piece out : List ℕ) where
   abbrev row : ℕ
   row = turn_row b line n piece out
 
-  is-fed : row ≡ 0 → turned b line n piece out ≡ turning.Fed (used_of piece) (length (turn_state b line n piece).line) (length (turn_text b line n piece))
+  is_fed : row ≡ 0 → turned b line n piece out ≡ turning.Fed (used_of piece) (length (turn_state b line n piece).line) (length (turn_text b line n piece))
   unfolding turned
-  is-fed e = rw (eq-eqb row 0 e)
+  is_fed e = rw (eq-eqb row 0 e)
 
-  is-refused : row ≢ 0 → turned b line n piece out ≡ turning.Refused row
+  is_refused_lem : row ≢ 0 → turned b line n piece out ≡ turning.Refused row
   unfolding turned
-  is-refused ne = rw (ne_eqb row 0 ne)
+  is_refused_lem ne = rw (ne_eqb row 0 ne)
 
-  abbrev lineAfter : List ℕ
-  lineAfter = put line (min n most_line) (take (most_line - min n most_line) (before piece))
+  abbrev line_after : List ℕ
+  line_after = put line (min n most_line) (take (most_line - min n most_line) (before piece))
 
   -- the state is in the buffers, whether or not the piece ends the line
-  in-buffers : most_line ≤ length line → (e : Bool) → let l = kept (take n (kept line) ++ before piece) in
-      feed_state (left b l e).table lineAfter (length (left b l e).line) ≡ left b l e
-  in-buffers w true = refl
-  in-buffers w false = ap (at b) (line_kept line n (before piece) w)
+  in_buffers : most_line ≤ length line → (e : Bool) → let l = kept (take n (kept line) ++ before piece) in
+      feed_state (left b l e).table line_after (length (left b l e).line) ≡ left b l e
+  in_buffers w true = refl
+  in_buffers w false = ap (at b) (line_kept line n (before piece) w)
 
   is_state : row ≡ 0 → feed_state (turn_table b line n piece out) (turn_line b line n piece out) (turned_line (turned b line n piece out)) ≡ turn_state b line n piece
   unfolding turn_table turn_line turn_state
   is_state e =
       let a = turn_after b (take n (kept line)) piece (take_all most_line (take n (kept line)) (omega (arith, length-take n (kept line), length-take most_line line))) in
-      rw (is-fed e, eq-eqb row 0 e) (rw a (in-buffers ((turn_row_is b line n piece out).0 e).0 (any is_end piece)))
+      rw (is_fed e, eq-eqb row 0 e) (rw a (in_buffers ((turn_row_is b line n piece out).0 e).0 (any is_end piece)))
 
 pub turned_means : TurnedMeans
 unfolding turn_out turn_table turn_line
@@ -286,9 +286,9 @@ turned_means b line n piece out =
     let r = turn_row b line n piece out in
     let w = writes_or r (turn_text b line n piece) out (λ e. ((turn_row_is b line n piece out).0 e).1) in
     record {
-      number = ⊎_elim (λ e. ap turned_number (is-fed b line n piece out e) ∙ sym e) (λ ne. ap turned_number (is-refused b line n piece out ne)) (zero_or r);
-      used = λ e. ap turned_used (is-fed b line n piece out e);
-      bytes = λ e. ap turned_bytes (is-fed b line n piece out e);
+      number = ⊎_elim (λ e. ap turned_number (is_fed b line n piece out e) ∙ sym e) (λ ne. ap turned_number (is_refused_lem b line n piece out ne)) (zero_or r);
+      used = λ e. ap turned_used (is_fed b line n piece out e);
+      bytes = λ e. ap turned_bytes (is_fed b line n piece out e);
       is_state = is_state b line n piece out;
       begins = w.begins;
       rest = w.rest;

@@ -6,7 +6,7 @@ use Rattle.law.proofs.Machine.{good_run}
 use Rattle.table.specs.Layout.{table_size}
 use Rattle.table.specs.Events.{Signature, table_events}
 use Rattle.table.specs.Sound.{sound}
-use Rattle.table.specs.Offer.{asMessage}
+use Rattle.table.specs.Offer.{as_message}
 use Rattle.table.specs.Demand3.{Fresh, relay}
 use Rattle.table.proofs.Formatted.{just_formatted}
 use Rattle.table.proofs.Good.{Good}
@@ -23,8 +23,8 @@ fresh = just_formatted program_slots (replicate (table_size program_slots) 0) ro
 pub stays_sound : StaysSound
 stays_sound ms =
     ap sound (all_offered fresh_table ms)
-    ∙ (good_run table_events Signature relay Good faithful fresh_table (map asMessage ms) fresh).is_sound
+    ∙ (good_run table_events Signature relay Good faithful fresh_table (map as_message ms) fresh).is_sound
 
 pub program_settles : ProgramSettles
 program_settles ms ids fit =
-    rw (all_offered fresh_table ms) (demand_3.held_set fresh_table (map asMessage ms) fresh ids fit)
+    rw (all_offered fresh_table ms) (demand_3.held_set fresh_table (map as_message ms) fresh ids fit)

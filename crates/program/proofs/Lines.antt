@@ -51,6 +51,7 @@ data Some : List (List ℕ) → Type 0 where
 
 push_append : (x : ℕ) (ls ms : List (List ℕ)) → Some ls → push_byte x (ls ++ ms) ≡ push_byte x ls ++ ms
 push_append x (l ∷ ls) ms some = refl
+push_append x [] ms none = elim none [ ]
 
 some_line : (s : List ℕ) → Some (lines (s ++ (0x0a ∷ [])))
 unfolding lines

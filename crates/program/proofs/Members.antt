@@ -65,10 +65,10 @@ natural_bounds x l e = go (eqb x 48) refl e
 
 -- ---- a number, and a comma after it
 module _ (s : List ℕ) where
-  natural-here : (l : List ℕ) (at n : ℕ) → is_natural l ≡ true → Spelt s at l n → get_or s n 0 ≡ 44 → int_at s at ≡ End n
+  natural_here : (l : List ℕ) (at n : ℕ) → is_natural l ≡ true → Spelt s at l n → get_or s n 0 ≡ 44 → int_at s at ≡ End n
   unfolding int_at one_at in_class digits_at is_natural all_digits is_digit past
-  natural-here [] at n e a c = absurd (let z : ◌≡◌ {A = ℕ} 0 1 = cc in omega arith)
-  natural-here (x ∷ l) at n e a c = go (eqb x 48) refl e
+  natural_here [] at n e a c = absurd (let z : ◌≡◌ {A = ℕ} 0 1 = cc in omega arith)
+  natural_here (x ∷ l) at n e a c = go (eqb x 48) refl e
     where
       alone : (l : List ℕ) → is_empty l ≡ true → Spelt s at (x ∷ l) n → at + 1 ≡ n
       alone [] f b = omega (arith, b.end)
@@ -84,48 +84,48 @@ module _ (s : List ℕ) where
           rw (byte_is a, q, p, b.is, k) (ap End z)
 
   -- what stands at n ends a number
-  number-ends : (n : ℕ) → get_or s n 0 ≡ 44 → (frac_at s n ≡ End n) × (exp_at s n ≡ End n)
+  number_ends : (n : ℕ) → get_or s n 0 ≡ 44 → (frac_at s n ≡ End n) × (exp_at s n ≡ End n)
   unfolding frac_at exp_at one_at in_class
-  number-ends n c = (rw c, rw c)
+  number_ends n c = (rw c, rw c)
 
-  number-here : (z : ℤ) (at n : ℕ) → Spelt s at (decimal z) n → get_or s n 0 ≡ 44 → number_at s at ≡ End n
+  number_here : (z : ℤ) (at n : ℕ) → Spelt s at (decimal z) n → get_or s n 0 ≡ 44 → number_at s at ≡ End n
   unfolding decimal number_at in_class is_natural
-  number-here (pos k) at n a c = go (digits k) (natural_digits k) a
+  number_here (pos k) at n a c = go (digits k) (natural_digits k) a
     where
       go : (l : List ℕ) → is_natural l ≡ true → Spelt s at l n → number_at s at ≡ End n
       go [] e a = absurd (let z : ◌≡◌ {A = ℕ} 0 1 = cc in omega arith)
       go (x ∷ l) e a =
           let (p, q) = natural_bounds x l e in
-          let (f, g) = number-ends n c in
-          rw (one_not s (Byte 0x2D) at (rw (byte_is a, ne_eqb x 45 (λ z. omega arith))), natural-here (x ∷ l) at n e a c, f, g)
-  number-here (negsuc k) at n a c =
-      let (f, g) = number-ends n c in
-      rw (one_of s (Byte 0x2D) at (rw (byte_is a)), natural-here (digits (suc k)) (at + 1) n (natural_digits (suc k)) (tail a) c, f, g)
+          let (f, g) = number_ends n c in
+          rw (one_not s (Byte 0x2D) at (rw (byte_is a, ne_eqb x 45 (λ z. omega arith))), natural_here (x ∷ l) at n e a c, f, g)
+  number_here (negsuc k) at n a c =
+      let (f, g) = number_ends n c in
+      rw (one_of s (Byte 0x2D) at (rw (byte_is a)), natural_here (digits (suc k)) (at + 1) n (natural_digits (suc k)) (tail a) c, f, g)
 
   -- it begins with a minus or a digit
-  number-first : (z : ℤ) (at n : ℕ) → Spelt s at (decimal z) n → (45 ≤ get_or s at 0) × (get_or s at 0 ≤ 57)
+  number_first : (z : ℤ) (at n : ℕ) → Spelt s at (decimal z) n → (45 ≤ get_or s at 0) × (get_or s at 0 ≤ 57)
   unfolding decimal is_natural
-  number-first (pos k) at n a = go (digits k) (natural_digits k) a
+  number_first (pos k) at n a = go (digits k) (natural_digits k) a
     where
       go : (l : List ℕ) → is_natural l ≡ true → Spelt s at l n → (45 ≤ get_or s at 0) × (get_or s at 0 ≤ 57)
       go [] e a = absurd (let z : ◌≡◌ {A = ℕ} 0 1 = cc in omega arith)
       go (x ∷ l) e a = let (p, q) = natural_bounds x l e in let z = byte_is a in (omega arith, omega arith)
-  number-first (negsuc k) at n a = let z = byte_is a in (omega arith, omega arith)
+  number_first (negsuc k) at n a = let z = byte_is a in (omega arith, omega arith)
 
   pub number_tight : (z : ℤ) (at n : ℕ) → Spelt s at (decimal z) n → Tight s at
   unfolding in_class
   number_tight z at n a =
-      let (p, q) = number-first z at n a in
+      let (p, q) = number_first z at n a in
       let b = get_or s at 0 in
       rw (ne_eqb b 0x20 (λ z. omega arith), ne_eqb b 0x09 (λ z. omega arith), ne_eqb b 0x0A (λ z. omega arith), ne_eqb b 0x0D (λ z. omega arith))
 
   pub number_read : (d : ℕ) (z : ℤ) (at n : ℕ) → Spelt s at (decimal z) n → get_or s n 0 ≡ 44 → tree_at s (suc d) at ≡ got (num at (n - at)) n
   unfolding scalar_at string_at one_at in_class
   number_read d z at n a c =
-      let (p, q) = number-first z at n a in
+      let (p, q) = number_first z at n a in
       let b = get_or s at 0 in
       let o : start_at s at ≡ Leaf = rw (token_not s 0x5B at (ne_eqb b 0x5B (λ z. omega arith)), token_not s 0x7B at (ne_eqb b 0x7B (λ z. omega arith))) in
-      tree_open s d at Leaf (sym o) ∙ rw (ne_eqb b 0x22 (λ z. omega arith), number-here z at n a c) (ap (got (num at (n - at))) (ws_none s n (rw c)))
+      tree_open s d at Leaf (sym o) ∙ rw (ne_eqb b 0x22 (λ z. omega arith), number_here z at n a c) (ap (got (num at (n - at))) (ws_none s n (rw c)))
 
   -- ---- a member: its name w, its value's text x, and the byte c after it
   pub record Member (w x r : List ℕ) (c at v n e : ℕ) : Type 0 where

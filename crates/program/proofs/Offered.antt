@@ -16,7 +16,7 @@ use Rattle.table.specs.Events.{of_held, view}
 use Rattle.table.specs.Sound.{sound}
 use Rattle.law.specs.Table.{verdict}
 use Rattle.table.specs.Offer as offers
-use Rattle.table.specs.Offer.{Offering, asMessage, asParts, is_valid, judge, offered_by, verdict_on, answer}
+use Rattle.table.specs.Offer.{Offering, as_message, as_parts, is_valid, judge, offered_by, verdict_on, answer}
 use Rattle.table.specs.declared.Offered.{Offered}
 use Rattle.table.specs.declared.Offered.TheVariants as offered
 use Rattle.program.specs.Claims.Program.{offset_at, OfferedNumber}
@@ -30,12 +30,12 @@ told_is : (o : Offering) {x r : Refusal} → offered.Refused x ≡ offered.Refus
 told_is o {x} {r} e h = let z : x ≡ r = cc in subst (Told o) z h
 
 no_offset : (o : Offering) (row : ℕ) → (row ≡ 6 → ⊥) → (row ≡ 7 → ⊥) → Absent ≡ offset_at o row
-no_offset (asMessage m) row a b = sym (offset_plain m row a b)
-no_offset (asParts c p) row a b = refl
+no_offset (as_message m) row a b = sym (offset_plain m row a b)
+no_offset (as_parts c p) row a b = refl
 
 offering_told : (o : Offering) → (offers.offering_row o ≡ 0 → ⊥) → Told o (offers.offering_refusal o)
-offering_told (asMessage m) n = (omega (arith, n), refl)
-offering_told (asParts c p) n = (omega (arith, n), refl)
+offering_told (as_message m) n = (omega (arith, n), refl)
+offering_told (as_parts c p) n = (omega (arith, n), refl)
 
 refused_told : (b : List ℕ) (o : Offering) (r : Refusal) → answer b o ≡ offered.Refused r → Told o r
 unfolding answer verdict_on judge verdict

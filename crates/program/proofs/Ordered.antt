@@ -123,36 +123,36 @@ module _ (s : List ℕ) (i k t n g c z : Entry) (array : Json) (time : ℤ) (kin
   unfolding word_of same_bytes
   first = rw (f.word, verbatim_names.7.decoded)
 
-  word-clean : refuses (part s 2 5) ≡ false
-  word-clean = rw f.word verbatim_names.7.fine
+  word_clean : refuses (part s 2 5) ≡ false
+  word_clean = rw f.word verbatim_names.7.fine
 
-  id-says : name_at s i.at ≡ id_name
-  id-says = says s i.at verbatim_names.0 f.id_name_lem
+  id_says : name_at s i.at ≡ id_name
+  id_says = says s i.at verbatim_names.0 f.id_name_lem
 
-  pubkey-says : name_at s k.at ≡ pubkey_name
-  pubkey-says = says s k.at verbatim_names.1 f.pubkey_name_lem
+  pubkey_says : name_at s k.at ≡ pubkey_name
+  pubkey_says = says s k.at verbatim_names.1 f.pubkey_name_lem
 
-  time-says : name_at s t.at ≡ created_at_name
-  time-says = says s t.at verbatim_names.2 f.time_name
+  time_says : name_at s t.at ≡ created_at_name
+  time_says = says s t.at verbatim_names.2 f.time_name
 
-  kind-says : name_at s n.at ≡ kind_name
-  kind-says = says s n.at verbatim_names.3 f.kind_name_lem
+  kind_says : name_at s n.at ≡ kind_name
+  kind_says = says s n.at verbatim_names.3 f.kind_name_lem
 
-  tags-say : name_at s g.at ≡ tags_name
-  tags-say = says s g.at verbatim_names.4 f.tags_name_lem
+  tags_say : name_at s g.at ≡ tags_name
+  tags_say = says s g.at verbatim_names.4 f.tags_name_lem
 
-  content-says : name_at s c.at ≡ content_name
-  content-says = says s c.at verbatim_names.5 f.content_name_lem
+  content_says : name_at s c.at ≡ content_name
+  content_says = says s c.at verbatim_names.5 f.content_name_lem
 
-  sig-says : name_at s z.at ≡ sig_name
-  sig-says = says s z.at verbatim_names.6 f.sig_name_lem
+  sig_says : name_at s z.at ≡ sig_name
+  sig_says = says s z.at verbatim_names.6 f.sig_name_lem
 
-  no-4 : refused_in s whole ≡ false
+  no_4 : refused_in s whole ≡ false
   unfolding refused_in
-  no-4 =
+  no_4 =
       let (a, b, d, e, h, l, m, o) = verbatim_names in
       rw (
-        word-clean,
+        word_clean,
         clean s i.at a f.id_name_lem,
         clean s k.at b f.pubkey_name_lem,
         clean s t.at d f.time_name,
@@ -167,26 +167,26 @@ module _ (s : List ℕ) (i k t n g c z : Entry) (array : Json) (time : ℤ) (kin
         f.sig_clean,
       )
 
-  no-5 : row5 s whole ≡ false
+  no_5 : row5 s whole ≡ false
   unfolding is_event event_member once all_items count_items same_bytes
-  no-5 = rw (first, id-says, pubkey-says, time-says, kind-says, tags-say, content-says, sig-says, f.tags_array)
+  no_5 = rw (first, id_says, pubkey_says, time_says, kind_says, tags_say, content_says, sig_says, f.tags_array)
 
-  no-6 : row6 s whole ≡ false
+  no_6 : row6 s whole ≡ false
   unfolding row6 event_number any_item same_bytes wrong_time wrong_small
-  no-6 = rw (first, id-says, pubkey-says, time-says, kind-says, tags-say, content-says, sig-says, f.time_is, f.kind_is, f.time_within, f.kind_within)
+  no_6 = rw (first, id_says, pubkey_says, time_says, kind_says, tags_say, content_says, sig_says, f.time_is, f.kind_is, f.time_within, f.kind_within)
 
-  no-7 : row7 s whole ≡ false
+  no_7 : row7 s whole ≡ false
   unfolding row7 event_hex any_item same_bytes wrong_hex
-  no-7 = rw (first, id-says, pubkey-says, time-says, kind-says, tags-say, content-says, sig-says, f.id_hex, f.pubkey_hex, f.sig_hex)
+  no_7 = rw (first, id_says, pubkey_says, time_says, kind_says, tags_say, content_says, sig_says, f.id_hex, f.pubkey_hex, f.sig_hex)
 
-  no-8 : row8 s whole ≡ false
+  no_8 : row8 s whole ≡ false
   unfolding row8 event_count any_item same_bytes
-  no-8 = rw (first, id-says, pubkey-says, time-says, kind-says, tags-say, content-says, sig-says, f.tags_few)
+  no_8 = rw (first, id_says, pubkey_says, time_says, kind_says, tags_say, content_says, sig_says, f.tags_few)
 
   pub rows_none : tree_row s whole ≡ 0
   unfolding tree_row
-  rows_none = rw (no-4, no-5, no-6, no-7, no-8)
+  rows_none = rw (no_4, no_5, no_6, no_7, no_8)
 
   pub parts_are : message_parts s (opened s whole).first (opened s whole).rest ≡ message.Event (parts_at i k g c z time kind)
   unfolding event_parts_of body_of member_of same_bytes
-  parts_are = rw (first, id-says, pubkey-says, time-says, kind-says, tags-say, content-says, sig-says, f.time_is, f.kind_is)
+  parts_are = rw (first, id_says, pubkey_says, time_says, kind_says, tags_say, content_says, sig_says, f.time_is, f.kind_is)

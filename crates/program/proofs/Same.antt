@@ -1,6 +1,5 @@
 -- Messages of at most 8,192 bytes and tables of at most 64 slots: where the numbers stand both tests say the same.
 use mathlib.Core.Path.{◌≡◌, sym, ap, ◌∙◌}
-use mathlib.Core.Bool.{Bool}
 use mathlib.Core.List.{List}
 use Prim.Native.Nat.{ℕ, ◌≤◌}
 use native.Mathlib.Omega.{arith}
@@ -10,7 +9,6 @@ use lib.ListN.{length}
 use Rattle.wire.specs.Limits.{most_message}
 use Rattle.rows.specs.Rows.{row1, text_row_if, text_row}
 use Rattle.shape.specs.Rows.{message_row_if, message_row}
-use Rattle.table.specs.Layout.{capacity_of}
 use Rattle.table.proofs.StillSound.{same_sound}
 use Rattle.program.specs.Program.{request_replies_if, request_replies}
 use Rattle.program.specs.Respond.{events_row_if, events_row}

@@ -1,7 +1,7 @@
 -- How long replies are: an EVENT of a held slot, what a refusal names.
 use mathlib.Core.Path.{◌≡◌, refl, ap, ◌∙◌}
 use mathlib.Core.Bool.{Bool, true, false, cond, ◌&&◌}
-use mathlib.Core.List.{List, [], ◌∷◌, ◌++◌}
+use mathlib.Core.List.{List, [], ◌∷◌}
 use Prim.Native.Nat.{ℕ, suc, ◌+◌, ◌*◌, ◌/◌, ◌%◌, ◌≤◌, ◌<◌}
 use native.Mathlib.Omega.{arith}
 use borrow.Author.Tests.{eqb-true, leb-true, le-leb, lt-leb}
@@ -17,14 +17,14 @@ use Rattle.wire.proofs.Json.{count_esc_one, own_escape}
 use Rattle.numeral.specs.Decimal.{decimal}
 use Rattle.numeral.proofs.Digits.{some_digit}
 use Rattle.utf8.specs.Utf8.{is_utf8}
-use Rattle.utf8.specs.Abnf.{Octets, none, utf8_1, utf8_2, utf8-3-e0, utf8-3-e1, utf8-3-ed, utf8-3-ee, utf8-4-f0}
-use Rattle.utf8.specs.Abnf.{utf8-4-f1, utf8-4-f4}
+use Rattle.utf8.specs.Abnf.{Octets, none, utf8_1, utf8_2, utf8_3_e0, utf8_3_e1, utf8_3_ed, utf8_3_ee, utf8_4_f0}
+use Rattle.utf8.specs.Abnf.{utf8_4_f1, utf8_4_f4}
 use Rattle.utf8.proofs.Abnf.{as_in_abnf}
 use Rattle.json_tree.specs.Grammar.{is_spelling}
 use Rattle.spell.specs.Spell.{decode, refuses, points, character_count, is_hex_of}
 use Rattle.spell.specs.Spell as spell
 use Rattle.spell.proofs.Laws.{hex_escape}
-use Rattle.text.specs.Event.{Tag, Event, quoted, members_text, tag_text, tags_text, serialise, is_pubkey, is_string_bytes, is_fit}
+use Rattle.text.specs.Event.{Tag, Event, members_text, tag_text, tags_text, serialise, is_pubkey, is_string_bytes, is_fit}
 use Rattle.text.proofs.Pieces.{both}
 use Rattle.text.proofs.Limits.{limits_of}
 use Rattle.text.proofs.Places.{escape_none}
@@ -170,9 +170,9 @@ module _ (b : List ℕ) (k : ℕ) (s : sound b ≡ true) (h : k < count_of b) wh
 
 -- ---- a string of at most 64 characters has at most 384 bytes in a reply
 module _ (x : ℕ) (t : List ℕ) where
-  byte-json : length (json_of (escape (x ∷ t))) ≡ length (esc_one x) + 5 * control_count (x ∷ []) + length (json_of (escape t))
+  byte_json : length (json_of (escape (x ∷ t))) ≡ length (esc_one x) + 5 * control_count (x ∷ []) + length (json_of (escape t))
   unfolding escape
-  byte-json =
+  byte_json =
       omega (
         arith,
         ap length (json_append (esc_one x) (escape t)),
@@ -182,33 +182,33 @@ module _ (x : ℕ) (t : List ℕ) where
       )
 
   high_byte : 0x80 ≤ x → length (json_of (escape (x ∷ t))) ≡ suc (length (json_of (escape t)))
-  high_byte h = omega (arith, byte-json, ap length (escape_none x (omega arith) (λ e. omega arith)), count_none (x ∷ []) (rw (control_high x (omega arith))))
+  high_byte h = omega (arith, byte_json, ap length (escape_none x (omega arith) (λ e. omega arith)), count_none (x ∷ []) (rw (control_high x (omega arith))))
 
   low_byte : length (json_of (escape (x ∷ t))) ≤ 6 + length (json_of (escape t))
   low_byte = go (is_control x) refl
     where
       go : (c : Bool) → is_control x ≡ c → length (json_of (escape (x ∷ t))) ≤ 6 + length (json_of (escape t))
-      go true e = omega (arith, byte-json, ap length (own_escape x e), count_one x)
-      go false e = omega (arith, byte-json, esc_two x, count_none (x ∷ []) (rw e))
+      go true e = omega (arith, byte_json, ap length (own_escape x e), count_one x)
+      go false e = omega (arith, byte_json, esc_two x, count_none (x ∷ []) (rw e))
 
-  low-point : x ≤ 0x7f → points (x ∷ t) ≡ suc (points t)
+  low_point : x ≤ 0x7f → points (x ∷ t) ≡ suc (points t)
   unfolding points
-  low-point h = rw (lt-leb 0x80 x (omega arith))
+  low_point h = rw (lt-leb 0x80 x (omega arith))
 
-  lead-point : 0xc0 ≤ x → points (x ∷ t) ≡ suc (points t)
+  lead_point : 0xc0 ≤ x → points (x ∷ t) ≡ suc (points t)
   unfolding points
-  lead-point h = rw (le-leb 0x80 x (omega arith), lt-leb x 0xbf (omega arith))
+  lead_point h = rw (le-leb 0x80 x (omega arith), lt-leb x 0xbf (omega arith))
 
-  tail-point : 0x80 ≤ x → x ≤ 0xbf → points (x ∷ t) ≡ points t
+  tail_point : 0x80 ≤ x → x ≤ 0xbf → points (x ∷ t) ≡ points t
   unfolding points
-  tail-point h k = rw (le-leb 0x80 x h, le-leb x 0xbf k)
+  tail_point h k = rw (le-leb 0x80 x h, le-leb x 0xbf k)
 
 -- a lead, and what is added by the tails behind it
 abbrev Short : List ℕ → Type 0
 Short s = length (json_of (escape s)) ≤ 6 * points s
 
 two : (a b : ℕ) (s : List ℕ) → 0xc0 ≤ a → 0x80 ≤ b → b ≤ 0xbf → Short s → Short (a ∷ b ∷ s)
-two a b s h l m i = omega (arith, high_byte a (b ∷ s) (omega arith), high_byte b s l, lead-point a (b ∷ s) h, tail-point b s l m)
+two a b s h l m i = omega (arith, high_byte a (b ∷ s) (omega arith), high_byte b s l, lead_point a (b ∷ s) h, tail_point b s l m)
 
 three : (a b c : ℕ) (s : List ℕ) → 0xc0 ≤ a → 0x80 ≤ b → b ≤ 0xbf → 0x80 ≤ c → c ≤ 0xbf → Short s → Short (a ∷ b ∷ c ∷ s)
 three a b c s h l m n o i =
@@ -217,9 +217,9 @@ three a b c s h l m n o i =
       high_byte a (b ∷ c ∷ s) (omega arith),
       high_byte b (c ∷ s) l,
       high_byte c s n,
-      lead-point a (b ∷ c ∷ s) h,
-      tail-point b (c ∷ s) l m,
-      tail-point c s n o,
+      lead_point a (b ∷ c ∷ s) h,
+      tail_point b (c ∷ s) l m,
+      tail_point c s n o,
     )
 
 four : (a b c d : ℕ) (s : List ℕ) → 0xc0 ≤ a → 0x80 ≤ b → b ≤ 0xbf → 0x80 ≤ c → c ≤ 0xbf → 0x80 ≤ d → d ≤ 0xbf → Short s → Short (a ∷ b ∷ c ∷ d ∷ s)
@@ -230,36 +230,36 @@ four a b c d s h l m n o p q i =
       high_byte b (c ∷ d ∷ s) l,
       high_byte c (d ∷ s) n,
       high_byte d s p,
-      lead-point a (b ∷ c ∷ d ∷ s) h,
-      tail-point b (c ∷ d ∷ s) l m,
-      tail-point c (d ∷ s) n o,
-      tail-point d s p q,
+      lead_point a (b ∷ c ∷ d ∷ s) h,
+      tail_point b (c ∷ d ∷ s) l m,
+      tail_point c (d ∷ s) n o,
+      tail_point d s p q,
     )
 
 octets_short : {s : List ℕ} → Octets s → Short s
 unfolding escape json_of points
 octets_short none = omega arith
-octets_short (utf8_1 {a = a} {s = s} r o) = omega (arith, low_byte a s, low-point a s r.high, octets_short o)
+octets_short (utf8_1 {a = a} {s = s} r o) = omega (arith, low_byte a s, low_point a s r.high, octets_short o)
 octets_short (utf8_2 {a = a} {b = b} {s = s} r p o) = let h = r.low in two a b s (omega arith) p.low p.high (octets_short o)
-octets_short (utf8-3-e0 {b = b} {c = c} {s = s} r p o) =
+octets_short (utf8_3_e0 {b = b} {c = c} {s = s} r p o) =
     let h = r.low in
     three 0xe0 b c s (omega arith) (omega arith) r.high p.low p.high (octets_short o)
-octets_short (utf8-3-e1 {a = a} {b = b} {c = c} {s = s} r p q o) =
+octets_short (utf8_3_e1 {a = a} {b = b} {c = c} {s = s} r p q o) =
     let h = r.low in
     three a b c s (omega arith) p.low p.high q.low q.high (octets_short o)
-octets_short (utf8-3-ed {b = b} {c = c} {s = s} r p o) =
+octets_short (utf8_3_ed {b = b} {c = c} {s = s} r p o) =
     let h = r.high in
     three 0xed b c s (omega arith) r.low (omega arith) p.low p.high (octets_short o)
-octets_short (utf8-3-ee {a = a} {b = b} {c = c} {s = s} r p q o) =
+octets_short (utf8_3_ee {a = a} {b = b} {c = c} {s = s} r p q o) =
     let h = r.low in
     three a b c s (omega arith) p.low p.high q.low q.high (octets_short o)
-octets_short (utf8-4-f0 {b = b} {c = c} {d = d} {s = s} r p q o) =
+octets_short (utf8_4_f0 {b = b} {c = c} {d = d} {s = s} r p q o) =
     let h = r.low in
     four 0xf0 b c d s (omega arith) (omega arith) r.high p.low p.high q.low q.high (octets_short o)
-octets_short (utf8-4-f1 {a = a} {b = b} {c = c} {d = d} {s = s} r p q t o) =
+octets_short (utf8_4_f1 {a = a} {b = b} {c = c} {d = d} {s = s} r p q t o) =
     let h = r.low in
     four a b c d s (omega arith) p.low p.high q.low q.high t.low t.high (octets_short o)
-octets_short (utf8-4-f4 {b = b} {c = c} {d = d} {s = s} r p q o) =
+octets_short (utf8_4_f4 {b = b} {c = c} {d = d} {s = s} r p q o) =
     let h = r.high in
     four 0xf4 b c d s (omega arith) r.low (omega arith) p.low p.high q.low q.high (octets_short o)
 

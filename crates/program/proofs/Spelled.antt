@@ -16,7 +16,7 @@ use Rattle.wire.proofs.Json.{json_append, json_one_lem, json_kept, json_spelled,
 use Rattle.utf8.specs.Utf8.{utf8_from, is_utf8, next_want}
 use Rattle.utf8.specs.declared.Want.{Want}
 use Rattle.utf8.specs.declared.Want.TheVariants.{Lead}
-use Rattle.utf8.proofs.States.{Reached, lead-reached, next_reached, low_lead, lead_low}
+use Rattle.utf8.proofs.States.{Reached, lead_reached, next_reached, low_lead, lead_low}
 use Rattle.json_tree.specs.Grammar.{in_class, is_spelling, string_at}
 use Rattle.json_tree.specs.Tree.{str, got, tree_at}
 use Rattle.json_tree.specs.declared.Class.TheVariants.{Hex, Byte}
@@ -85,25 +85,25 @@ hex_val_lem d h = go (ltb d 10) refl
 
 -- ---- what is spelled decodes to what was said
 module _ (l : List ℕ) where
-  decode-letter : (b k : ℕ) → Seven b k → decode (cond (eqb k 0) (b ∷ []) (92 ∷ k ∷ []) ++ l) ≡ b ∷ decode l
+  decode_letter : (b k : ℕ) → Seven b k → decode (cond (eqb k 0) (b ∷ []) (92 ∷ k ∷ []) ++ l) ≡ b ∷ decode l
   unfolding short_of
-  decode-letter b k bs = decode_short 98 l (λ q. omega arith)
-  decode-letter b k tab = decode_short 116 l (λ q. omega arith)
-  decode-letter b k lf = decode_short 110 l (λ q. omega arith)
-  decode-letter b k ff = decode_short 102 l (λ q. omega arith)
-  decode-letter b k cr = decode_short 114 l (λ q. omega arith)
-  decode-letter b k quote = decode_short 34 l (λ q. omega arith)
-  decode-letter b k slash = decode_short 92 l (λ q. omega arith)
-  decode-letter b k (other p q) = decode_raw b l q
+  decode_letter b k bs = decode_short 98 l (λ q. omega arith)
+  decode_letter b k tab = decode_short 116 l (λ q. omega arith)
+  decode_letter b k lf = decode_short 110 l (λ q. omega arith)
+  decode_letter b k ff = decode_short 102 l (λ q. omega arith)
+  decode_letter b k cr = decode_short 114 l (λ q. omega arith)
+  decode_letter b k quote = decode_short 34 l (λ q. omega arith)
+  decode_letter b k slash = decode_short 92 l (λ q. omega arith)
+  decode_letter b k (other p q) = decode_raw b l q
 
-  decode-escaped : (b : ℕ) → decode (esc_one b ++ l) ≡ b ∷ decode l
+  decode_escaped : (b : ℕ) → decode (esc_one b ++ l) ≡ b ∷ decode l
   unfolding esc_one
-  decode-escaped b = decode-letter b (letter_of b) (seven b)
+  decode_escaped b = decode_letter b (letter_of b) (seven b)
 
   -- a number below 20 is no surrogate
-  decode-spelled : (b : ℕ) → b < 0x20 → decode (ascii "\\u00" ++ (hex_digit (b / 16) ∷ hex_digit (b % 16) ∷ l)) ≡ b ∷ decode l
+  decode_spelled : (b : ℕ) → b < 0x20 → decode (ascii "\\u00" ++ (hex_digit (b / 16) ∷ hex_digit (b % 16) ∷ l)) ≡ b ∷ decode l
   unfolding four is_pair char_bytes utf8_of
-  decode-spelled b h =
+  decode_spelled b h =
       let x = hex_digit (b / 16) in
       let y = hex_digit (b % 16) in
       let z : hex_val 0x30 ≡ 0 = hex_val_lem 0 (omega arith) in
@@ -115,8 +115,8 @@ module _ (l : List ℕ) where
   decode_one b = go (is_control b) refl
     where
       go : (t : Bool) → is_control b ≡ t → decode (json_of (esc_one b) ++ l) ≡ b ∷ decode l
-      go true e = rw (own_escape b e, json_one_lem b, json_spelled b e) (decode-spelled b (control_low b e))
-      go false e = rw (json_escaped b e) (decode-escaped b)
+      go true e = rw (own_escape b e, json_one_lem b, json_spelled b e) (decode_spelled b (control_low b e))
+      go false e = rw (json_escaped b e) (decode_escaped b)
 
 pub decode_json : (v : List ℕ) → decode (json_of (escape v)) ≡ v
 unfolding escape json_of decode chars_bytes chars_from
@@ -131,7 +131,7 @@ six_utf8 a b l p q e =
 json_utf8 : (l : List ℕ) (w : Want) → Reached w → utf8_from w l ≡ true → utf8_from w (json_of l) ≡ true
 unfolding json_of utf8_from
 json_utf8 [] w r e = e
-json_utf8 (x ∷ l) w r e = go (is_control x) refl (json_utf8 l Lead lead-reached) (λ f. json_utf8 l (next_want w x) (next_reached w x r) f)
+json_utf8 (x ∷ l) w r e = go (is_control x) refl (json_utf8 l Lead lead_reached) (λ f. json_utf8 l (next_want w x) (next_reached w x r) f)
   where
     go : (t : Bool) → is_control x ≡ t → (utf8_from Lead l ≡ true → utf8_from Lead (json_of l) ≡ true)
         → (utf8_from (next_want w x) l ≡ true → utf8_from (next_want w x) (json_of l) ≡ true) → utf8_from w (json_one x ++ json_of l) ≡ true
@@ -144,11 +144,11 @@ json_utf8 (x ∷ l) w r e = go (is_control x) refl (json_utf8 l Lead lead-reache
 
 pub utf8_string : (v : List ℕ) → is_string_bytes v ≡ true → utf8_from Lead (string_json v) ≡ true
 unfolding string_json
-utf8_string v h = json_utf8 (quoted v) Lead lead-reached (quoted_utf8 v h)
+utf8_string v h = json_utf8 (quoted v) Lead lead_reached (quoted_utf8 v h)
 
 pub utf8_tags : (ts : List Tag) → is_tags ts ≡ true → is_utf8 (tags_json ts) ≡ true
 unfolding tags_json is_utf8
-utf8_tags ts h = json_utf8 (tags_text ts) Lead lead-reached (tags_utf8 ts h)
+utf8_tags ts h = json_utf8 (tags_text ts) Lead lead_reached (tags_utf8 ts h)
 
 -- ---- a string between its quotes
 string_is : (v : List ℕ) → string_json v ≡ 34 ∷ (json_of (escape v) ++ (34 ∷ []))
@@ -161,9 +161,9 @@ string_begins v = record { first = 34; rest = json_of (escape v) ++ (34 ∷ []);
 
 module _ (s : List ℕ) where
   -- its characters
-  spelled-char : (b i n : ℕ) → b < 0x20 → Spelt s i (ascii "\\u00" ++ (hex_digit (b / 16) ∷ hex_digit (b % 16) ∷ [])) n → Char s i n
+  spelled_char : (b i n : ℕ) → b < 0x20 → Spelt s i (ascii "\\u00" ++ (hex_digit (b / 16) ∷ hex_digit (b % 16) ∷ [])) n → Char s i n
   unfolding in_class
-  spelled-char b i n h a =
+  spelled_char b i n h a =
       let u = tail a in
       let p = tail u in
       let q = tail p in
@@ -175,11 +175,11 @@ module _ (s : List ℕ) where
       (one_of s Hex (i + 1 + 1 + 1 + 1) (rw (byte_is x) (hex_class (b / 16) (omega arith))))
       (one_of s Hex (i + 1 + 1 + 1 + 1 + 1) (rw (byte_is y) (hex_class (b % 16) (omega arith))) ∙ ap End z)
 
-  json-char : (b i n : ℕ) → Spelt s i (json_of (esc_one b)) n → Char s i n
-  json-char b i n a = go (is_control b) refl
+  json_char : (b i n : ℕ) → Spelt s i (json_of (esc_one b)) n → Char s i n
+  json_char b i n a = go (is_control b) refl
     where
       go : (t : Bool) → is_control b ≡ t → Char s i n
-      go true e = spelled-char b i n (control_low b e) (rw (own_escape b e, json_one_lem b, json_spelled b e) at a)
+      go true e = spelled_char b i n (control_low b e) (rw (own_escape b e, json_one_lem b, json_spelled b e) at a)
       go false e = escaped_char s b i n (rw (json_escaped b e) at a)
 
   pub json_chars : (v : List ℕ) (i n : ℕ) → Spelt s i (json_of (escape v)) n → Chars s i n
@@ -188,7 +188,7 @@ module _ (s : List ℕ) where
   json_chars (b ∷ v) i n a =
       let p = json_of (esc_one b) in
       let c : Spelt s i (p ++ json_of (escape v)) n = rw (json_append (esc_one b) (escape v)) at a in
-      more (json-char b i (i + length p) (left p (json_of (escape v)) c)) (json_chars v (i + length p) n (right p (json_of (escape v)) c))
+      more (json_char b i (i + length p) (left p (json_of (escape v)) c)) (json_chars v (i + length p) n (right p (json_of (escape v)) c))
 
   between : (v : List ℕ) (at n : ℕ) → Spelt s at (string_json v) n → Spelt s at (34 ∷ (json_of (escape v) ++ (34 ∷ []))) n
   between v at n a = rw (string_is v) at a
@@ -230,28 +230,28 @@ string_told s v at n h a =
     let l = spelt_inside s at _ n b (omega arith) in
     record {
       inside = le-leb (at + 1 + (n - at - 2)) (length s) (omega (arith, b.end, length-append (json_of (escape v)) (34 ∷ [])));
-      utf8 = rw y (json_utf8 (escape v) Lead lead-reached (utf8_escape v ∙ h));
+      utf8 = rw y (json_utf8 (escape v) Lead lead_reached (utf8_escape v ∙ h));
       spelling = rw y (json_spelling v);
       says = string_says s v at n a;
     }
 
 -- ---- the tags
 module _ (s : List ℕ) where
-  tags-are : (ts : List Tag) (at n : ℕ) → Spelt s at (tags_json ts) n → Spelt s at (91 ∷ members_text (λ t. 91 ∷ members_text string_json t) ts) n
+  tags_are : (ts : List Tag) (at n : ℕ) → Spelt s at (tags_json ts) n → Spelt s at (91 ∷ members_text (λ t. 91 ∷ members_text string_json t) ts) n
   unfolding tags_json string_json
-  tags-are ts at n a = rw (tags_json_lem ts) at a
+  tags_are ts at n a = rw (tags_json_lem ts) at a
 
   pub tags_tight : (ts : List Tag) (at n : ℕ) → Spelt s at (tags_json ts) n → Tight s at
   unfolding in_class
-  tags_tight ts at n a = rw (byte_is (tags-are ts at n a))
+  tags_tight ts at n a = rw (byte_is (tags_are ts at n a))
 
-  string-stands : (d : ℕ) (v : List ℕ) (at n : ℕ) → is_string_bytes v ≡ true → Spelt s at (string_json v) n → Tight s n
+  string_stands : (d : ℕ) (v : List ℕ) (at n : ℕ) → is_string_bytes v ≡ true → Spelt s at (string_json v) n → Tight s n
       → Stands (tree_at s (suc d)) (string_of s) shape.is_string at v n
-  string-stands d v at n h a w = record { tree = _; there = string_read s d v at n a w; means = string_says s v at n a; fine = refl }
+  string_stands d v at n h a w = record { tree = _; there = string_read s d v at n a w; means = string_says s v at n a; fine = refl }
 
   pub tags_read : (d : ℕ) (ts : List Tag) (at n : ℕ) → is_tags ts ≡ true → Spelt s at (tags_json ts) n → Tight s n
       → Stands (tree_at s (suc (suc (suc d)))) (λ t. tags_in s (got t n)) lent.is_tags_shape at ts n
-  tags_read d ts at n h a w = tags_by string_json string_begins s d (string-stands d) ts at n h (tags-are ts at n a) w
+  tags_read d ts at n h a w = tags_by string_json string_begins s d (string_stands d) ts at n h (tags_are ts at n a) w
 
   -- and a comma after them
   pub tags_spelled : (ts : List Tag) (at n : ℕ) → is_tags ts ≡ true → Spelt s at (tags_json ts) n → get_or s n 0 ≡ 44 → SpellsTags s at ts

@@ -5,7 +5,7 @@ use mathlib.Core.Option.{none}
 use mathlib.Core.List.{List, [], ◌∷◌, ◌++◌}
 use Prim.Native.Nat.{ℕ, zero, suc, ◌+◌}
 use native.Mathlib.Omega.{arith}
-use borrow.Author.Tests.{le-leb, not_false}
+use borrow.Author.Tests.{le-leb, not-false}
 use lib.Dec.{ltb}
 use lib.IntN.{pos, negsuc}
 use lib.ListN.{length, replicate, length-append, length-replicate}
@@ -28,7 +28,6 @@ use Rattle.shape.specs.Shape.{any_item, all_items, count_items, name_at, is_cond
 use Rattle.text.specs.Event.{quoted, members_text, tag_text, tags_text, serialise, all, is_string_bytes}
 use Rattle.text.specs.Kinds.{class_of, d_of, key_of}
 use Rattle.text.proofs.Cases.{xs_length, xs_cases}
-use Rattle.text.proofs.Pieces.{both}
 use Rattle.text.proofs.Strings.{utf8_escape}
 use Rattle.message.specs.declared.Span.{Span}
 use Rattle.message.specs.declared.Body.{Body}
@@ -114,21 +113,21 @@ module _ (n : ℕ) where
       clean b p.content (replicate n 120) (take_all n (replicate n 120) (omega (arith, length-replicate {A = ℕ} n 120)) ∙ sym (escape_xs n))
       (le-leb (67 + n) (length b) (omega (arith, size))) (string_xs n)
 
-  tags-tree : tree_at b 8 64 ≡ got (arr nil) 66
+  tags_tree : tree_at b 8 64 ≡ got (arr nil) 66
   unfolding json.in_class run past one_at token_at tree_at
-  tags-tree = refl
+  tags_tree = refl
 
   event_is : event_of b p ≡ dated (pos 0) 0 [] (replicate n 120)
   unfolding event_of lent_tags_at tags_of
-  event_is = rw (pubkey_clean.3, content_clean.3, tags-tree)
+  event_is = rw (pubkey_clean.3, content_clean.3, tags_tree)
 
   hex : body7 b p ≡ false
   unfolding body7 string7 string5 is_hex_of is_hex spell.all
-  hex = rw (not_false (is_spelled b p.pubkey) pubkey_clean.2, pubkey_clean.3)
+  hex = rw (not-false (is_spelled b p.pubkey) pubkey_clean.2, pubkey_clean.3)
 
   rows : body_row b p ≡ 0
   unfolding body_row body2 body4 body5 body6 body8 value2 value4 value5 is_utf8 utf8_from lead_of refused_in all_items count_items any_item wrong_number is_within
-  rows = rw (pubkey_clean.0, pubkey_clean.1, pubkey_clean.2, content_clean.0, content_clean.1, content_clean.2, hex, tags-tree) refl
+  rows = rw (pubkey_clean.0, pubkey_clean.1, pubkey_clean.2, content_clean.0, content_clean.1, content_clean.2, hex, tags_tree) refl
 
   lent_row_lem : body_text_row b p ≡ cond (ltb 4096 (80 + n)) 9 0
   unfolding body_text_row is_large text_of

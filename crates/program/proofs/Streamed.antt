@@ -4,7 +4,7 @@ use mathlib.Core.Bool.{Bool, true, false, cond, ◌&&◌}
 use mathlib.Core.Logic.{◌⊎◌, inl, inr, ⊎_elim, ◌≢◌}
 use mathlib.Core.List.Memᴰ
 use mathlib.Core.List.{List, [], ◌∷◌, ◌++◌, map, append_assoc, append-nil}
-use Prim.Native.Nat.{ℕ, zero, suc, ◌+◌, ◌-◌, ◌≤◌, ◌<◌}
+use Prim.Native.Nat.{ℕ, zero, suc, ◌-◌, ◌≤◌, ◌<◌}
 use native.Mathlib.Omega.{arith}
 use borrow.Author.Tests.{eq-eqb, ne_eqb, ltb-true, ltb-false, lt-ltb, le-ltb}
 use lib.Dec.{ltb}
@@ -34,9 +34,9 @@ use Rattle.program.specs.Respond.{response, slot_text, slot_line, slot_event_row
 use Rattle.program.specs.Respond.{fitting, slot_lines, fitting_text, none_fits, all_held, events_row, sent_events}
 use Rattle.program.specs.Respond.{sent_events_out, sent_number, sent_bytes, sent_slots}
 use Rattle.program.specs.declared.Sent.TheVariants as sending
-use Rattle.program.specs.Claims.Respond.{OneByOne, SlotTextIs, SlotEventHolds, of-subscription, not_sound}
+use Rattle.program.specs.Claims.Respond.{OneByOne, SlotTextIs, SlotEventHolds, of_subscription, not_sound}
 use Rattle.program.specs.Claims.Respond.{too_short, not_held, SlotEventRowIs, SlotEventMeans, Batches, EventsHold}
-use Rattle.program.specs.Claims.Respond.{of-label, bad_table, none-fits, some-not-held, EventsRowIs, SentIs}
+use Rattle.program.specs.Claims.Respond.{of_label, bad_table, none_fits_lem, some_not_held, EventsRowIs, SentIs}
 use Rattle.program.specs.Claims.Respond.{SentMeans}
 use Rattle.reply.proofs.Lent.{parts_row_is, parts_hold, zero_or, writes_or}
 use Rattle.program.proofs.Lines.{written_append}
@@ -89,63 +89,63 @@ module _ (b : List ℕ) (k : ℕ) (m : List ℕ) (s : Span) (out : List ℕ) whe
     thirteen : k < count_of b → length out < length text → Later 13
     fourteen : count_of b ≤ k → Later 14
 
-  later-high : (r : ℕ) → Later r → 9 < r
-  later-high _ (eleven h) = omega arith
-  later-high _ (thirteen h l) = omega arith
-  later-high _ (fourteen h) = omega arith
+  later_high : (r : ℕ) → Later r → 9 < r
+  later_high _ (eleven h) = omega arith
+  later_high _ (thirteen h l) = omega arith
+  later_high _ (fourteen h) = omega arith
 
-  later-row : (x y z : Bool) → sound b ≡ x → ltb k (count_of b) ≡ y → ltb (length out) (length text) ≡ z
+  later_row : (x y z : Bool) → sound b ≡ x → ltb k (count_of b) ≡ y → ltb (length out) (length text) ≡ z
       → Lowest Later (or_else (cond x (cond y 0 14) 11) (cond z 13 0))
-  later-row false y z e f g = lowest_one 11 (omega arith) (eleven e) least
+  later_row false y z e f g = lowest_one 11 (omega arith) (eleven e) least
     where
       least : (r : ℕ) → Later r → 11 ≤ r
       least _ (eleven h) = omega arith
       least _ (thirteen h l) = omega arith
       least _ (fourteen h) = omega arith
-  later-row true false z e f g = let n = ltb-false k (count_of b) f in lowest_one 14 (omega arith) (fourteen n) (least n)
+  later_row true false z e f g = let n = ltb-false k (count_of b) f in lowest_one 14 (omega arith) (fourteen n) (least n)
     where
       least : count_of b ≤ k → (r : ℕ) → Later r → 14 ≤ r
       least n _ (eleven h) = absurd (clash e h)
       least n _ (thirteen h l) = absurd (omega arith)
       least n _ (fourteen h) = omega arith
-  later-row true true true e f g = lowest_one 13 (omega arith) (thirteen (ltb-true k (count_of b) f) (ltb-true (length out) (length text) g)) least
+  later_row true true true e f g = lowest_one 13 (omega arith) (thirteen (ltb-true k (count_of b) f) (ltb-true (length out) (length text) g)) least
     where
       least : (r : ℕ) → Later r → 13 ≤ r
       least _ (eleven h) = absurd (clash e h)
       least _ (thirteen h l) = omega arith
       least _ (fourteen h) = omega arith
-  later-row true true false e f g = lowest_none none
+  later_row true true false e f g = lowest_none none
     where
       none : (r : ℕ) → Later r → ⊥
       none _ (eleven h) = clash e h
       none _ (thirteen h l) = clash (lt-ltb (length out) (length text) l) g
       none _ (fourteen h) = let z = ltb-true k (count_of b) f in omega arith
 
-  to-holds : (r : ℕ) → PartsHold m (parts.Eose s) r ⊎ Later r → SlotEventHolds b k m s out r
-  to-holds r (inl h) = of-subscription h
-  to-holds _ (inr (eleven h)) = not_sound h
-  to-holds _ (inr (thirteen h l)) = too_short h l
-  to-holds _ (inr (fourteen h)) = not_held h
+  to_holds : (r : ℕ) → PartsHold m (parts.Eose s) r ⊎ Later r → SlotEventHolds b k m s out r
+  to_holds r (inl h) = of_subscription h
+  to_holds _ (inr (eleven h)) = not_sound h
+  to_holds _ (inr (thirteen h l)) = too_short h l
+  to_holds _ (inr (fourteen h)) = not_held h
 
-  of-holds : (r : ℕ) → SlotEventHolds b k m s out r → PartsHold m (parts.Eose s) r ⊎ Later r
-  of-holds r (of-subscription h) = inl h
-  of-holds _ (not_sound h) = inr (eleven h)
-  of-holds _ (too_short h l) = inr (thirteen h l)
-  of-holds _ (not_held h) = inr (fourteen h)
+  of_holds : (r : ℕ) → SlotEventHolds b k m s out r → PartsHold m (parts.Eose s) r ⊎ Later r
+  of_holds r (of_subscription h) = inl h
+  of_holds _ (not_sound h) = inr (eleven h)
+  of_holds _ (too_short h l) = inr (thirteen h l)
+  of_holds _ (not_held h) = inr (fourteen h)
 
 pub slot_event_row_is : SlotEventRowIs
 unfolding slot_event_row shown_row
 slot_event_row_is b k m s out =
-    alike (to-holds b k m s out) (of-holds b k m s out)
-    (or_else_lem 9 (eose_row m s) _ (λ r h. (parts_hold m (parts.Eose s) r h).1) (later-high b k m s out) (parts_row_is m (parts.Eose s))
-    (later-row b k m s out (sound b) (ltb k (count_of b)) (ltb (length out) (length (slot_text b (said m s) k))) refl refl refl))
+    alike (to_holds b k m s out) (of_holds b k m s out)
+    (or_else_lem 9 (eose_row m s) _ (λ r h. (parts_hold m (parts.Eose s) r h).1) (later_high b k m s out) (parts_row_is m (parts.Eose s))
+    (later_row b k m s out (sound b) (ltb k (count_of b)) (ltb (length out) (length (slot_text b (said m s) k))) refl refl refl))
 
 -- a row, or else another, is none where neither is
 pub slot_event_means : SlotEventMeans
 unfolding slot_event slot_event_out slot_event_row
 slot_event_means b k m s out =
     writes_or (slot_event_row b k m s out) (slot_text b (said m s) k) out
-    (λ e. fits_if (slot_text b (said m s) k) out (valid.or_else (shown_row b k) _ (valid.or_else (eose_row m s) _ e).1).1)
+    (λ e. fits_if (slot_text b (said m s) k) out (valid.or_else_lem (shown_row b k) _ (valid.or_else_lem (eose_row m s) _ e).1).1)
 
 -- ---- as many as fit
 joined_parts : (n : ℕ) (ls : List (List ℕ)) → joined (take n ls) ++ joined (drop n ls) ≡ joined ls
@@ -222,65 +222,65 @@ module _ (b ks m : List ℕ) (s : Span) (out : List ℕ) where
     thirteen' : none_fits (length out) ls ≡ true → After 13
     fourteen' : all_held b ks ≡ false → After 14
 
-  after-high : (r : ℕ) → After r → 9 < r
-  after-high _ (eleven' h) = omega arith
-  after-high _ (thirteen' h) = omega arith
-  after-high _ (fourteen' h) = omega arith
+  after_high : (r : ℕ) → After r → 9 < r
+  after_high _ (eleven' h) = omega arith
+  after_high _ (thirteen' h) = omega arith
+  after_high _ (fourteen' h) = omega arith
 
-  after-row : (x y z : Bool) → sound b ≡ x → none_fits (length out) ls ≡ y → all_held b ks ≡ z → Lowest After (cond x (cond y 13 (cond z 0 14)) 11)
-  after-row false y z e f g = lowest_one 11 (omega arith) (eleven' e) least
+  after_row : (x y z : Bool) → sound b ≡ x → none_fits (length out) ls ≡ y → all_held b ks ≡ z → Lowest After (cond x (cond y 13 (cond z 0 14)) 11)
+  after_row false y z e f g = lowest_one 11 (omega arith) (eleven' e) least
     where
       least : (r : ℕ) → After r → 11 ≤ r
       least _ (eleven' h) = omega arith
       least _ (thirteen' h) = omega arith
       least _ (fourteen' h) = omega arith
-  after-row true true z e f g = lowest_one 13 (omega arith) (thirteen' f) least
+  after_row true true z e f g = lowest_one 13 (omega arith) (thirteen' f) least
     where
       least : (r : ℕ) → After r → 13 ≤ r
       least _ (eleven' h) = absurd (clash e h)
       least _ (thirteen' h) = omega arith
       least _ (fourteen' h) = omega arith
-  after-row true false false e f g = lowest_one 14 (omega arith) (fourteen' g) least
+  after_row true false false e f g = lowest_one 14 (omega arith) (fourteen' g) least
     where
       least : (r : ℕ) → After r → 14 ≤ r
       least _ (eleven' h) = absurd (clash e h)
       least _ (thirteen' h) = absurd (clash h f)
       least _ (fourteen' h) = omega arith
-  after-row true false true e f g = lowest_none none
+  after_row true false true e f g = lowest_none none
     where
       none : (r : ℕ) → After r → ⊥
       none _ (eleven' h) = clash e h
       none _ (thirteen' h) = clash h f
       none _ (fourteen' h) = clash g h
 
-  to-events : (r : ℕ) → PartsHold m (parts.Eose s) r ⊎ After r → EventsHold b ks m s out r
-  to-events r (inl h) = of-label h
-  to-events _ (inr (eleven' h)) = bad_table h
-  to-events _ (inr (thirteen' h)) = first ks refl h
+  to_events : (r : ℕ) → PartsHold m (parts.Eose s) r ⊎ After r → EventsHold b ks m s out r
+  to_events r (inl h) = of_label h
+  to_events _ (inr (eleven' h)) = bad_table h
+  to_events _ (inr (thirteen' h)) = first ks refl h
     where
       first : (js : List ℕ) → ks ≡ js → none_fits (length out) (slot_lines b (said m s) js) ≡ true → EventsHold b ks m s out 13
       first [] e q = absurd (clash q refl)
       first (k ∷ js) e q =
           let l = ltb-true (length out) (length (slot_line b (said m s) k)) q in
-          none-fits e (has_line b (said m s) k (omega arith)) l
-  to-events _ (inr (fourteen' h)) = let (k, i, e) = all_or (λ k. ltb k (count_of b)) ks h in some-not-held i (ltb-false k (count_of b) e)
+          none_fits_lem e (has_line b (said m s) k (omega arith)) l
+  to_events _ (inr (fourteen' h)) = let (k, i, e) = all_or (λ k. ltb k (count_of b)) ks h in some_not_held i (ltb-false k (count_of b) e)
 
-  of-events : (r : ℕ) → EventsHold b ks m s out r → PartsHold m (parts.Eose s) r ⊎ After r
-  of-events r (of-label h) = inl h
-  of-events _ (bad_table h) = inr (eleven' h)
-  of-events _ (none-fits {k = k} e h l) = inr (thirteen' (rw e (lt-ltb (length out) (length (slot_line b (said m s) k)) l)))
-  of-events _ (some-not-held {k = k} i l) = inr (fourteen' (not-all (all_held b ks) refl))
+  of_events : (r : ℕ) → EventsHold b ks m s out r → PartsHold m (parts.Eose s) r ⊎ After r
+  of_events r (of_label h) = inl h
+  of_events _ (bad_table h) = inr (eleven' h)
+  of_events _ (none_fits_lem {k = k} e h l) = inr (thirteen' (rw e (lt-ltb (length out) (length (slot_line b (said m s) k)) l)))
+  of_events _ (some_not_held {k = k} i l) = inr (fourteen' (not_all (all_held b ks) refl))
     where
-      not-all : (x : Bool) → all_held b ks ≡ x → x ≡ false
-      not-all true e = absurd (clash (all_each (λ j. ltb j (count_of b)) ks e k i) (le-ltb k (count_of b) l))
-      not-all false e = refl
+      not_all : (x : Bool) → all_held b ks ≡ x → x ≡ false
+      not_all true e = absurd (clash (all_each (λ j. ltb j (count_of b)) ks e k i) (le-ltb k (count_of b) l))
+      not_all false e = refl
 
 pub events_row_is : EventsRowIs
 unfolding events_row
 events_row_is b ks m s out =
-    alike (to-events b ks m s out) (of-events b ks m s out)
-    (or_else_lem 9 (eose_row m s) _ (λ r h. (parts_hold m (parts.Eose s) r h).1) (after-high b ks m s out) (parts_row_is m (parts.Eose s))
-    (after-row b ks m s out (sound b) (none_fits (length out) (slot_lines b (said m s) ks)) (all_held b ks) refl refl refl))
+    alike (to_events b ks m s out) (of_events b ks m s out)
+    (or_else_lem 9 (eose_row m s) _ (λ r h. (parts_hold m (parts.Eose s) r h).1) (after_high b ks m s out) (parts_row_is m (parts.Eose s))
+    (after_row b ks m s out (sound b) (none_fits (length out) (slot_lines b (said m s) ks)) (all_held b ks) refl refl refl))
 
 take_map : (f : ℕ → List ℕ) (n : ℕ) (l : List ℕ) → take n (map f l) ≡ map f (take n l)
 take_map f zero l = refl
@@ -291,7 +291,7 @@ take_map f (suc n) (x ∷ l) = ap (f x ∷◌) (take_map f n l)
 row_fits : (b ks m : List ℕ) (s : Span) (out : List ℕ) → events_row b ks m s out ≡ 0 → ks ≢ [] → 1 ≤ fitting (length out) (slot_lines b (said m s) ks)
 unfolding events_row
 row_fits b [] m s out e ne = absurd (ne refl)
-row_fits b (k ∷ ks) m s out e ne = some_fits (length out) (slot_line b (said m s) k) _ (fits (sound b) _ refl (valid.or_else (eose_row m s) _ e).1)
+row_fits b (k ∷ ks) m s out e ne = some_fits (length out) (slot_line b (said m s) k) _ (fits (sound b) _ refl (valid.or_else_lem (eose_row m s) _ e).1)
   where
     fits : (x y : Bool) → none_fits (length out) (slot_lines b (said m s) (k ∷ ks)) ≡ y → ◌≡◌ {A = ℕ} (cond x (cond y 13 (cond (all_held b (k ∷ ks)) 0 14)) 11) 0
         → none_fits (length out) (slot_lines b (said m s) (k ∷ ks)) ≡ false
@@ -309,13 +309,13 @@ module _ (b ks m : List ℕ) (s : Span) (out : List ℕ) where
   abbrev bytes : List ℕ
   bytes = joined (take served (slot_lines b (said m s) ks))
 
-  is-sent : row ≡ 0 → sent_events b ks m s out ≡ sending.Wrote (length bytes) served
+  is_sent : row ≡ 0 → sent_events b ks m s out ≡ sending.Wrote (length bytes) served
   unfolding sent_events fitting_text
-  is-sent e = rw (eq-eqb row 0 e)
+  is_sent e = rw (eq-eqb row 0 e)
 
-  is-refused : row ≢ 0 → sent_events b ks m s out ≡ sending.Refused row
+  is_refused_lem : row ≢ 0 → sent_events b ks m s out ≡ sending.Refused row
   unfolding sent_events
-  is-refused ne = rw (ne_eqb row 0 ne)
+  is_refused_lem ne = rw (ne_eqb row 0 ne)
 
   writes : WritesOr row bytes out (answered row (length bytes)) (output_after row bytes out)
   writes = writes_or row bytes out (λ e. joined_fits (length out) (slot_lines b (said m s) ks))
@@ -323,15 +323,15 @@ module _ (b ks m : List ℕ) (s : Span) (out : List ℕ) where
   sent_is : SentIs b ks m s out
   unfolding sent_events_out fitting_text
   sent_is = record {
-    number = ⊎_elim (λ e. ap sent_number (is-sent e) ∙ sym e) (λ ne. ap sent_number (is-refused ne)) (zero_or row);
-    bytes = λ e. ap sent_bytes (is-sent e);
+    number = ⊎_elim (λ e. ap sent_number (is_sent e) ∙ sym e) (λ ne. ap sent_number (is_refused_lem ne)) (zero_or row);
+    bytes = λ e. ap sent_bytes (is_sent e);
     begins = λ e.
-        ap (λ x. take (sent_bytes x) (output_after row bytes out)) (is-sent e) ∙ writes.begins e ∙ ap joined (take_map (slot_line b (said m s)) served ks)
-        ∙ sym (ap (λ x. joined (slot_lines b (said m s) (take (sent_slots x) ks))) (is-sent e));
-    rest = λ e. ap (λ x. drop (sent_bytes x) (output_after row bytes out)) (is-sent e) ∙ writes.rest e ∙ sym (ap (λ x. drop (sent_bytes x) out) (is-sent e));
-    progress = λ e ne. let z = ap sent_slots (is-sent e) in let l = row_fits b ks m s out e ne in omega arith;
+        ap (λ x. take (sent_bytes x) (output_after row bytes out)) (is_sent e) ∙ writes.begins e ∙ ap joined (take_map (slot_line b (said m s)) served ks)
+        ∙ sym (ap (λ x. joined (slot_lines b (said m s) (take (sent_slots x) ks))) (is_sent e));
+    rest = λ e. ap (λ x. drop (sent_bytes x) (output_after row bytes out)) (is_sent e) ∙ writes.rest e ∙ sym (ap (λ x. drop (sent_bytes x) out) (is_sent e));
+    progress = λ e ne. let z = ap sent_slots (is_sent e) in let l = row_fits b ks m s out e ne in omega arith;
     as_long = writes.as_long;
-    refused = λ ne. (ap sent_bytes (is-refused ne), ap sent_slots (is-refused ne), (writes.refused ne).2);
+    refused = λ ne. (ap sent_bytes (is_refused_lem ne), ap sent_slots (is_refused_lem ne), (writes.refused ne).2);
   }
 
 pub sent_means : SentMeans

@@ -6,7 +6,7 @@ use mathlib.Core.Option.{some}
 use mathlib.Core.List.{List, [], ◌∷◌, ◌++◌, map, append-nil}
 use Prim.Native.Nat.{ℕ, zero, suc, ◌≤◌, ◌<◌}
 use native.Mathlib.Omega.{arith}
-use borrow.Author.Tests.{eqb-false, ne_eqb, le-leb, lt-leb, lt-ltb, not_false}
+use borrow.Author.Tests.{eqb-false, ne_eqb, le-leb, lt-leb, lt-ltb, not-false}
 use lib.ListN.{length}
 use Rattle.wire.specs.Limits.{most_message}
 use Rattle.json_tree.specs.Tree.{Json, Items, nil, item, Got, none, got, root}
@@ -36,14 +36,14 @@ use Rattle.event.specs.Lent.{said}
 use Rattle.event.specs.Answer.{is_large, has_id, offered_row}
 use Rattle.law.specs.Lists.{any}
 use Rattle.law.specs.Table as law
-use Rattle.law.specs.Table.{verdict, first_verdict, is_ephemeral, hasKeyNewer, lacksSlot}
+use Rattle.law.specs.Table.{verdict, first_verdict, is_ephemeral, has_key_newer, lacks_slot}
 use Rattle.table.specs.Layout.{capacity_of}
-use Rattle.law.specs.Demand3.{runOn}
+use Rattle.law.specs.Demand3.{run_on}
 use Rattle.table.specs.Events.{Signature, SignedEvent, table_events, signed_events, of_held, view}
 use Rattle.table.specs.Demand3.{relay}
 use Rattle.table.specs.Sound.{sound}
 use Rattle.table.specs.Offer as offers
-use Rattle.table.specs.Offer.{asMessage, is_event, is_event_word, message_offer_row, is_valid, judge, offered_by, verdict_on}
+use Rattle.table.specs.Offer.{as_message, is_event, is_event_word, message_offer_row, is_valid, judge, offered_by, verdict_on}
 use Rattle.table.specs.Offer.{answer, is_stored, next}
 use Rattle.table.specs.declared.Offered.{Offered}
 use Rattle.table.specs.declared.Offered.TheVariants as offered
@@ -166,7 +166,7 @@ clean_of m e =
         let (z₆, q₆) = off (row6 m t) 6 _ (omega arith) q₅ in
         let (z₇, q₇) = off (row7 m t) 7 _ (omega arith) q₆ in
         let (z₈, q₈) = off (row8 m t) 8 _ (omega arith) q₇ in
-        (t, n, record { tree = r; text = rw (z₁, z₂, z₃, r, z₄); shape = not_false _ z₅; a8 = z₈ })
+        (t, n, record { tree = r; text = rw (z₁, z₂, z₃, r, z₄); shape = not-false _ z₅; a8 = z₈ })
 
 -- what is read of it, over its tree
 read_tree : (m : List ℕ) (t : Json) (n : ℕ) → message_row m ≡ 0 → root m ≡ got t n → read_of m ≡ message_parts m (opened m t).first (opened m t).rest
@@ -205,7 +205,7 @@ covered m = go (message_row m) refl (below m)
 -- ---- EVENT
 -- an id that the rows let pass is 64 lower-case hex
 spelled_hex : (a h : Bool) → not a ≡ false → (a && not h) ≡ false → h ≡ true
-spelled_hex true h p q = not_false h q
+spelled_hex true h p q = not-false h q
 spelled_hex false h p q = absurd (false≢true (sym p))
 
 or_left : (a b : Bool) → (a || b) ≡ false → a ≡ false
@@ -236,31 +236,31 @@ module _ (m : List ℕ) (p : EventParts) (e : read_of m ≡ message.Event p) whe
   row_0 : message_row m ≡ 0
   row_0 = row_of m (message.Event p) e
 
-  event-tree : (t : Json) × (n : ℕ) × Clean m t n × Opens m p (opened m t).first (opened m t).rest
-  event-tree =
+  event_tree : (t : Json) × (n : ℕ) × Clean m t n × Opens m p (opened m t).first (opened m t).rest
+  event_tree =
       let (t, n, c) = clean_of m row_0 in
       (t, n, c, opens_of m p (opened m t).first (opened m t).rest (sym (read_tree m t n row_0 c.tree) ∙ e))
 
-  word-named : (w : Word) (ts : Items) → Opens m p w ts → named_in m w ts ≡ names.Id p.id
+  word_named : (w : Word) (ts : Items) → Opens m p w ts → named_in m w ts ≡ names.Id p.id
   unfolding event_parts_of
-  word-named w ts (opens q) =
+  word_named w ts (opens q) =
       let i = ap (λ x. x.id) q in
       ap (id_named m) i ∙ rw (id_hex m p (event_passes m p e))
 
-  event-word : (w : Word) (ts : Items) → Opens m p w ts → is_event_word w ≡ true
-  event-word w ts (opens q) = refl
+  event_word_lem : (w : Word) (ts : Items) → Opens m p w ts → is_event_word w ≡ true
+  event_word_lem w ts (opens q) = refl
 
   -- rows 9 and 10
-  offer-row : offers.offering_row (asMessage m) ≡ cond (is_large m p.body) 9 (cond (has_id m p) 0 10)
+  offer_row_lem : offers.offering_row (as_message m) ≡ cond (is_large m p.body) 9 (cond (has_id m p) 0 10)
   unfolding message_offer_row is_event offers.parts_of offered_row
-  offer-row =
-      let (t, n, c, o) = event-tree in
-      rw (c.text, c.tree, event-word (opened m t).first (opened m t).rest o, row_0, e, event_passes m p e)
+  offer_row_lem =
+      let (t, n, c, o) = event_tree in
+      rw (c.text, c.tree, event_word_lem (opened m t).first (opened m t).rest o, row_0, e, event_passes m p e)
 
 pub names_id : NamesId
 names_id m p e =
-    let (t, n, c, o) = event-tree m p e in
-    named_tree m t n (row_0 m p e) c.tree ∙ word-named m p e (opened m t).first (opened m t).rest o
+    let (t, n, c, o) = event_tree m p e in
+    named_tree m t n (row_0 m p e) c.tree ∙ word_named m p e (opened m t).first (opened m t).rest o
 
 -- ---- what an offer of it is answered
 large_rows : (a h : Bool) (r : ℕ) → r ≡ cond a 9 (cond h 0 10) → (r ≡ 0 → ⊥) → (9 ≤ r) × (r ≤ 12)
@@ -285,31 +285,31 @@ first_rows r x false false false false e = absurd (false≢true (sym (ap is_acce
 pub verdict_rows : (r x : Refusal) (N : ℕ) (t : List SignedEvent) (e : SignedEvent) → offered_by x (verdict signed_events N t (some e)) ≡ offered.Refused r → Last r
 unfolding verdict
 verdict_rows r x N t e q =
-    first_rows r x (is_ephemeral (signed_events.class_of e)) (any (law.has_id signed_events e) t) (any (hasKeyNewer signed_events e) t) (lacksSlot signed_events N t e) q
+    first_rows r x (is_ephemeral (signed_events.class_of e)) (any (law.has_id signed_events e) t) (any (has_key_newer signed_events e) t) (lacks_slot signed_events N t e) q
 
 pub last_rows : LastRows
 unfolding answer verdict_on judge verdict
-last_rows b m p r e a = go (is_valid (asMessage m)) refl (sound b) a
+last_rows b m p r e a = go (is_valid (as_message m)) refl (sound b) a
   where
-    go : (v : Bool) → is_valid (asMessage m) ≡ v → (s : Bool) → cond (v && not s) (offered.Refused (plain_refusal 11)) (offered_by (offers.offering_refusal (asMessage m)) (verdict_on b (asMessage m))) ≡ offered.Refused r → Last r
+    go : (v : Bool) → is_valid (as_message m) ≡ v → (s : Bool) → cond (v && not s) (offered.Refused (plain_refusal 11)) (offered_by (offers.offering_refusal (as_message m)) (verdict_on b (as_message m))) ≡ offered.Refused r → Last r
     go true v false q = last_is q (omega arith, omega arith, refl)
-    go true v true q = verdict_rows r (offers.offering_refusal (asMessage m)) (capacity_of b) (view b) (of_held (offers.offered_of (asMessage m))) (rw v at q)
+    go true v true q = verdict_rows r (offers.offering_refusal (as_message m)) (capacity_of b) (view b) (of_held (offers.offered_of (as_message m))) (rw v at q)
     go false v s q =
-        let k = offers.offering_row (asMessage m) in
-        let (l, h) = large_rows (is_large m p.body) (has_id m p) k (offer-row m p e) (eqb-false k 0 v) in
+        let k = offers.offering_row (as_message m) in
+        let (l, h) = large_rows (is_large m p.body) (has_id m p) k (offer_row_lem m p e) (eqb-false k 0 v) in
         last_is (rw v at q) (l, h, offset_plain m k (λ z. omega arith) (λ z. omega arith))
 
 pub read_event : ReadEvent
 unfolding replies_to table_after refusal
-read_event b m p e = (rw e (ap (◌∷ []) (go (answer b (asMessage m)) refl)), rw e)
+read_event b m p e = (rw e (ap (◌∷ []) (go (answer b (as_message m)) refl)), rw e)
   where
-    late : (r : Refusal) → answer b (asMessage m) ≡ offered.Refused r → refusal m r.row ≡ ok (said m p.id) false (refusal_reason r)
+    late : (r : Refusal) → answer b (as_message m) ≡ offered.Refused r → refusal m r.row ≡ ok (said m p.id) false (refusal_reason r)
     late r a =
         let (l, h, n) = last_rows b m p r e a in
         let z = offset_plain m r.row (λ q. omega arith) (λ q. omega arith) ∙ sym n in
         rw (lt-leb r.row 5 (omega arith), names_id m p e) (ap (λ x. ok (said m p.id) false (reason_of r.row ++ offset_text x)) z)
 
-    go : (a : Offered) → answer b (asMessage m) ≡ a → offer_reply m (said m p.id) a ≡ ok (said m p.id) (is_accepted a) (verdict_reason a)
+    go : (a : Offered) → answer b (as_message m) ≡ a → offer_reply m (said m p.id) a ≡ ok (said m p.id) (is_accepted a) (verdict_reason a)
     go offered.Ephemeral a = refl
     go offered.Duplicate a = refl
     go offered.Older a = refl
@@ -349,22 +349,22 @@ pub only_stored : OnlyStored
 unfolding table_after next
 only_stored b m = go (read_of m) refl
   where
-    stored : (p : EventParts) → read_of m ≡ message.Event p → (a : Offered) → answer b (asMessage m) ≡ a
-        → (cond (is_stored a) (offers.stored_in b (offers.offered_of (asMessage m))) b ≡ b) ⊎ ((p : EventParts) × (read_of m ≡ message.Event p) × (answer b (asMessage m) ≡ offered.Stored))
+    stored : (p : EventParts) → read_of m ≡ message.Event p → (a : Offered) → answer b (as_message m) ≡ a
+        → (cond (is_stored a) (offers.stored_in b (offers.offered_of (as_message m))) b ≡ b) ⊎ ((p : EventParts) × (read_of m ≡ message.Event p) × (answer b (as_message m) ≡ offered.Stored))
     stored p e offered.Ephemeral a = inl refl
     stored p e offered.Duplicate a = inl refl
     stored p e offered.Older a = inl refl
     stored p e offered.Stored a = inr (p, e, a)
     stored p e (offered.Refused r) a = inl refl
 
-    go : (x : Message) → read_of m ≡ x → (table_in b m x ≡ b) ⊎ ((p : EventParts) × (read_of m ≡ message.Event p) × (answer b (asMessage m) ≡ offered.Stored))
-    go (message.Event p) e = stored p e (answer b (asMessage m)) refl
+    go : (x : Message) → read_of m ≡ x → (table_in b m x ≡ b) ⊎ ((p : EventParts) × (read_of m ≡ message.Event p) × (answer b (as_message m) ≡ offered.Stored))
+    go (message.Event p) e = stored p e (answer b (as_message m)) refl
     go (message.Req r) e = inl refl
     go (message.Close p) e = inl refl
     go (message.Refused r) e = inl refl
 
 -- ---- every line is offered: an offer of what is no EVENT that was read is refused, and changes nothing
-valid_read : (m : List ℕ) → offers.offering_row (asMessage m) ≡ 0 → (p : EventParts) × (read_of m ≡ message.Event p)
+valid_read : (m : List ℕ) → offers.offering_row (as_message m) ≡ 0 → (p : EventParts) × (read_of m ≡ message.Event p)
 unfolding message_offer_row is_event
 valid_read m e =
     let (x, e₁) = or_else_lem (text_row m) _ e in
@@ -384,23 +384,23 @@ valid_read m e =
     word close ts h = absurd (false≢true h)
     word other ts h = absurd (false≢true h)
 
-no_offer : (b m : List ℕ) → ((p : EventParts) → read_of m ≢ message.Event p) → b ≡ next b (asMessage m)
+no_offer : (b m : List ℕ) → ((p : EventParts) → read_of m ≢ message.Event p) → b ≡ next b (as_message m)
 unfolding next answer verdict_on judge verdict
 no_offer b m n =
-    let v : is_valid (asMessage m) ≡ false = ne_eqb (offers.offering_row (asMessage m)) 0 (λ e. let (p, q) = valid_read m e in n p q) in
+    let v : is_valid (as_message m) ≡ false = ne_eqb (offers.offering_row (as_message m)) 0 (λ e. let (p, q) = valid_read m e in n p q) in
     rw v
 
-one_offered : (b m : List ℕ) → table_after b m ≡ next b (asMessage m)
+one_offered : (b m : List ℕ) → table_after b m ≡ next b (as_message m)
 unfolding table_after
 one_offered b m = go (read_of m) refl
   where
-    go : (x : Message) → read_of m ≡ x → table_in b m x ≡ next b (asMessage m)
+    go : (x : Message) → read_of m ≡ x → table_in b m x ≡ next b (as_message m)
     go (message.Event p) e = refl
     go (message.Req r) e = no_offer b m (λ p q. let z : ◌≡◌ {A = ℕ} 0 1 = cc in omega arith)
     go (message.Close r) e = no_offer b m (λ p q. let z : ◌≡◌ {A = ℕ} 0 1 = cc in omega arith)
     go (message.Refused r) e = no_offer b m (λ p q. let z : ◌≡◌ {A = ℕ} 0 1 = cc in omega arith)
 
 pub all_offered : AllOffered
-unfolding runOn
+unfolding run_on
 all_offered b [] = refl
-all_offered b (m ∷ ms) = all_offered (table_after b m) ms ∙ ap (λ c. runOn table_events Signature relay c (map asMessage ms)) (one_offered b m)
+all_offered b (m ∷ ms) = all_offered (table_after b m) ms ∙ ap (λ c. run_on table_events Signature relay c (map as_message ms)) (one_offered b m)

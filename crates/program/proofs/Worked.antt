@@ -4,13 +4,10 @@ use mathlib.Core.Bool.{true, false, not, ◌||◌}
 use mathlib.Core.List.{List, [], ◌∷◌, ◌++◌}
 use Prim.Native.Nat.{ℕ, ◌/◌, ◌%◌, ◌≤◌}
 use native.Mathlib.Omega.{arith}
-use lib.IntN.{negsuc}
 use lib.Dec.{eqb}
 use lib.ListN.{replicate}
 use Rattle.wire.specs.Bytes.{same_bytes, is_hex, hex_digit, those}
-use Rattle.wire.specs.Escape.{letter_of, esc_one, escape, json_one, json_of}
-use Rattle.numeral.specs.Decimal.{digits_in, digits, decimal}
-use Rattle.text.specs.Event.{Event, quoted, members_text, tag_text, tags_text}
+use Rattle.numeral.specs.Decimal.{digits_in, digits}
 use Rattle.numeral.specs.Whole.{whole_of, whole_answer, is_within, is_natural, all_digits, is_digit, value_from, natural_of}
 use Rattle.numeral.specs.Whole.{negative_of}
 use Rattle.utf8.specs.Utf8.{is_utf8, utf8_from, lead_of}
@@ -35,7 +32,7 @@ use Rattle.message.specs.Lent.{span_bytes as bytes}
 use Rattle.message.specs.Read.{read_of, named_of}
 use Rattle.event.specs.Lent.{said}
 use Rattle.wire.specs.Ascii.{ascii}
-use Rattle.reply.specs.Replies.{ok, event, eose, closed, notice, string_json, tags_json, object_text, reply_text}
+use Rattle.reply.specs.Replies.{ok, closed, notice}
 use Rattle.reply.specs.Replies.{reason_of, refusal_reason}
 use Rattle.query.specs.Answer.{keep}
 use Rattle.program.specs.Program.{refusal, replies_to, lines}

@@ -1,6 +1,6 @@
 -- What a message is replied to, and the program: 01, "Filters and replies" and "What the floor relay does".
 use Rattle.std.specs.Prelude.{Bool, true, false, cond, List, [], ◌∷◌, ◌++◌, ℕ, eqb, leb, replicate}
-use Rattle.text.specs.Read.{Read, tooLarge, wrongShape, read, read_text}
+use Rattle.text.specs.Read.{Read, too_large, wrong_shape, read, read_text}
 use Rattle.message.specs.Read.{read_of, named_of}
 use Rattle.message.specs.declared.Message.{Message}
 use Rattle.message.specs.declared.Message.TheVariants as message
@@ -10,7 +10,7 @@ use Rattle.event.specs.Lent.{said}
 use Rattle.event.specs.Answer.{hex_of}
 use Rattle.table.specs.Layout.{table_size, slot_at, id_in, sig_in, text_in}
 use Rattle.table.specs.Sound.{sound}
-use Rattle.table.specs.Offer.{asMessage, answer, next}
+use Rattle.table.specs.Offer.{as_message, answer, next}
 use Rattle.table.specs.Format.{formatted}
 use Rattle.table.specs.declared.Offered.{Offered}
 use Rattle.table.specs.declared.Offered.TheVariants as offered
@@ -60,8 +60,8 @@ offer_reply m i (offered.Refused r) = refusal m r.row
 -- ---- "An accepted REQ gives its EVENTs, then EOSE."
 -- every held text of a sound table reads, so no slot is left out: specs/Claims/Replies, `ReadRequest`
 abbrev pub event_replies : (sub s : Bytes) (r : Read) → List Reply
-event_replies sub s tooLarge = []
-event_replies sub s wrongShape = []
+event_replies sub s too_large = []
+event_replies sub s wrong_shape = []
 event_replies sub s (read e) = event sub (hex_of (id_in s)) e (hex_of (sig_in s)) ∷ []
 
 unfoldable pub events_of : (b sub : Bytes) (ks : List ℕ) → List Reply
@@ -77,7 +77,7 @@ request_replies b m sub v = request_replies_if (sound b) b m sub v
 
 -- ---- one message m to the table b: the replies, and the table afterwards
 abbrev pub replies_in : (b m : Bytes) (x : Message) → List Reply
-replies_in b m (message.Event p) = offer_reply m (said m p.id) (answer b (asMessage m)) ∷ []
+replies_in b m (message.Event p) = offer_reply m (said m p.id) (answer b (as_message m)) ∷ []
 replies_in b m (message.Req r) = request_replies b m (said m r.subscription) r.filters
 -- "CLOSE gives nothing."
 replies_in b m (message.Close p) = []
@@ -87,7 +87,7 @@ unfoldable pub replies_to : Bytes → Bytes → List Reply
 replies_to b m = replies_in b m (read_of m)
 
 abbrev pub table_in : (b m : Bytes) (x : Message) → Bytes
-table_in b m (message.Event p) = next b (asMessage m)
+table_in b m (message.Event p) = next b (as_message m)
 table_in b m (message.Req r) = b
 table_in b m (message.Close p) = b
 table_in b m (message.Refused r) = b

@@ -2,7 +2,7 @@
 -- statement over the definitions". The statement is `AllCases starred`; proofs/Starred has it.
 use Rattle.std.specs.Prelude.{◌≡◌, true, false, List, [], ◌∷◌, ◌++◌, ℕ, ℤ, pos, negsuc, length, replicate}
 use Rattle.text.specs.Event.{Tag, Event, serialise}
-use Rattle.text.specs.Read.{tooLarge, read, read_text}
+use Rattle.text.specs.Read.{too_large, read, read_text}
 use Rattle.text.specs.Kinds.{Key, addressable, class_of, key_of}
 use Rattle.text.specs.declared.Class.{Class}
 use Rattle.text.specs.declared.Class.TheVariants.{Regular, Replaceable, Ephemeral, Addressable}
@@ -24,7 +24,7 @@ pub data Case : Type 0 where
   bytes : Event → ℕ → Case
   -- the text is read back as the event; row 9 refuses it
   taken : Event → Case
-  refusedBy9 : Event → Case
+  refused_by9 : Event → Case
   -- the first of two events, by time and id, is newer, and the second is not
   newer : (time : ℤ) (id : List ℕ) (time' : ℤ) (id' : List ℕ) → Case
   class : ℕ → Class → Case
@@ -32,8 +32,8 @@ pub data Case : Type 0 where
   -- the lent parts spell the event, and its text is given this number
   lent : List ℕ → Body → Event → ℕ → Case
   -- the text of a filter: alone it is answered with no slot, whatever the table; it does not match the event
-  answersNothing : List ℕ → Case
-  shutsOut : List ℕ → Event → Case
+  answers_nothing : List ℕ → Case
+  shuts_out : List ℕ → Event → Case
 
 -- the filter whose text begins the buffer
 abbrev pub filter_of_text : Bytes → Filter
@@ -43,13 +43,13 @@ abbrev pub CaseHolds : Case → Type 0
 CaseHolds (serialises e t n) = (serialise e ≡ t) × (length (serialise e) ≡ n)
 CaseHolds (bytes e n) = length (serialise e) ≡ n
 CaseHolds (taken e) = read_text (serialise e) ≡ read e
-CaseHolds (refusedBy9 e) = read_text (serialise e) ≡ tooLarge
+CaseHolds (refused_by9 e) = read_text (serialise e) ≡ too_large
 CaseHolds (newer s i t j) = (is_newer s i t j ≡ true) × (is_newer t j s i ≡ false)
 CaseHolds (class k c) = class_of k ≡ c
 CaseHolds (key e k) = key_of e ≡ k
 CaseHolds (lent b p e r) = (event_of b p ≡ e) × (body_text_row b p ≡ r)
-CaseHolds (answersNothing t) = (b : List ℕ) → answer_list b (filter_of_text t ∷ []) ≡ []
-CaseHolds (shutsOut t e) = (id : List ℕ) → matches (filter_of_text t) id e ≡ false
+CaseHolds (answers_nothing t) = (b : List ℕ) → answer_list b (filter_of_text t ∷ []) ≡ []
+CaseHolds (shuts_out t e) = (id : List ℕ) → matches (filter_of_text t) id e ≡ false
 
 abbrev pub AllCases : List Case → Type 0
 AllCases [] = Unit {0}
@@ -87,7 +87,7 @@ starred =
     100
     ∷ bytes (dated (pos 0) 0 [] []) 80
     ∷ taken (dated (pos 0) 0 [] (replicate 4016 120))
-    ∷ refusedBy9 (dated (pos 0) 0 [] (replicate 4017 120))
+    ∷ refused_by9 (dated (pos 0) 0 [] (replicate 4017 120))
     ∷ lent (lent_in 4016) (lent_parts 4016) (dated (pos 0) 0 [] (replicate 4016 120)) 0
     ∷ lent (lent_in 4017) (lent_parts 4017) (dated (pos 0) 0 [] (replicate 4017 120)) 9
     ∷ newer (pos 0) (last_byte 2) (negsuc 0) (last_byte 1)
@@ -103,6 +103,6 @@ starred =
     ∷ key (dated (pos 0) 30000 ((ascii "d" ∷ []) ∷ []) []) (addressable 30000 A [])
     ∷ key (dated (pos 0) 30000 ((ascii "d" ∷ [] ∷ []) ∷ []) []) (addressable 30000 A [])
     ∷ key (dated (pos 0) 30000 [] []) (addressable 30000 A [])
-    ∷ answersNothing (ascii "{\"limit\":0}")
-    ∷ shutsOut (ascii "{\"since\":0}") (dated (negsuc 0) 1 [] [])
+    ∷ answers_nothing (ascii "{\"limit\":0}")
+    ∷ shuts_out (ascii "{\"since\":0}") (dated (negsuc 0) 1 [] [])
     ∷ []

@@ -16,9 +16,9 @@ use Rattle.law.specs.Lists.{◌∈◌, Pairwise}
 use Rattle.law.proofs.Lists.{any_yes, any_has, count_law}
 use Rattle.table.proofs.Lists.{is_true}
 use Rattle.query.specs.Filter.{Filter}
-use Rattle.query.specs.Answer.{keep, among, numbers_from, newest_first, cut, picked, pickedBySome, union}
+use Rattle.query.specs.Answer.{keep, among, numbers_from, newest_first, cut, picked, picked_by_some, union}
 use Rattle.query.specs.Claims.{Orders, Distinct, NoneNewer, Descending, Match, Picked, PickedMeans, UnionMeans}
-use Rattle.query.specs.Claims.{UnionOnce, UnionNewest, UnionDescends, allPicked, UnionSize, UnionShort}
+use Rattle.query.specs.Claims.{UnionOnce, UnionNewest, UnionDescends, all_picked, UnionSize, UnionShort}
 use Rattle.query.specs.Claims.{MoreFilters, FilterOrder, KeepMeans, FromMeans}
 use Rattle.query.proofs.Sorting.{among_here, among_later, among_cases, keep_among, keep_same, keep_length}
 use Rattle.query.proofs.Sorting.{from_among, Once, Sorted, sort_among, sort_sorted, sort_length, once_sort}
@@ -40,7 +40,7 @@ unfolding among
 among_in [] s e = absurd (clash e refl)
 among_in (x ∷ l) s e = ⊎_elim Memᴰ.head (λ q. Memᴰ.tail (among_in l s q)) (among_cases x l s e)
 
-pub in-among : {l : List ℕ} {s : ℕ} → s ∈ l → among l s ≡ true
+pub in-among : {s : ℕ} {l : List ℕ} → s ∈ l → among l s ≡ true
 in-among (Memᴰ.head {x = x} {xs = l} e) = rw e (among_here x l)
 in-among {s = s} (Memᴰ.tail {x = x} {xs = l} m) = among_later x l s (in-among m)
 
@@ -204,7 +204,7 @@ module _ (newer : ℕ → ℕ → Bool) where
     }
 
     -- ---- the union
-    some-picks : (fs : List Filter) (s : ℕ) → T (pickedBySome newer fits held fs s) ↔ Picked newer fits held fs s
+    some-picks : (fs : List Filter) (s : ℕ) → T (picked_by_some newer fits held fs s) ↔ Picked newer fits held fs s
     some-picks fs s = (
       λ t. let (f, m, q) = any_yes (λ f. among (picked newer fits held f) s) fs t in (f, m, among_in (picked newer fits held f) s (is_true _ q)),
       λ (f, m, k). any_has (λ f. among (picked newer fits held f) s) m (true-T (in-among k)),
@@ -213,21 +213,21 @@ module _ (newer : ℕ → ℕ → Bool) where
     pub union-means : UnionMeans newer fits held
     unfolding union
     union-means fs s = (
-      λ m. let (h, t) = (keep-means (pickedBySome newer fits held fs) held s).0 ((sort-in _ s).0 m) in (h, (some-picks fs s).0 t),
-      λ h. (sort-in _ s).1 ((keep-means (pickedBySome newer fits held fs) held s).1 (h.0, (some-picks fs s).1 h.1)),
+      λ m. let (h, t) = (keep-means (picked_by_some newer fits held fs) held s).0 ((sort-in _ s).0 m) in (h, (some-picks fs s).0 t),
+      λ h. (sort-in _ s).1 ((keep-means (picked_by_some newer fits held fs) held s).1 (h.0, (some-picks fs s).1 h.1)),
     )
 
     pub union-once : UnionOnce newer fits held
     unfolding union
-    union-once fs o = sort-once (keep (pickedBySome newer fits held fs) held) (once-keep (pickedBySome newer fits held fs) held o)
+    union-once fs o = sort-once (keep (picked_by_some newer fits held fs) held) (once-keep (picked_by_some newer fits held fs) held o)
 
     pub union-newest : UnionNewest newer fits held
     unfolding union
-    union-newest fs w = sort-newest w (keep (pickedBySome newer fits held fs) held)
+    union-newest fs w = sort-newest w (keep (picked_by_some newer fits held fs) held)
 
     pub union-short : UnionShort newer fits held
     unfolding union
-    union-short fs = omega (arith, sort_length newer (keep (pickedBySome newer fits held fs) held), keep_length (pickedBySome newer fits held fs) held)
+    union-short fs = omega (arith, sort_length newer (keep (picked_by_some newer fits held fs) held), keep_length (picked_by_some newer fits held fs) held)
 
     -- two entries that stand in this order: the later is not newer, so the first is
     descending : ((s t : ℕ) → s ∈ held → t ∈ held → s ≢ t → T (newer s t) ⊎ T (newer t s)) → (l : List ℕ) → ((s : ℕ) → s ∈ l → s ∈ held)
@@ -243,23 +243,23 @@ module _ (newer : ℕ → ℕ → Bool) where
         descending total (union newer fits held fs) (λ s m. ((union-means fs s).0 m).0) (union-once fs o) (union-newest fs w)
 
     -- the union's entries are those of all picked lists
-    all_in : (fs : List Filter) (s : ℕ) → (s ∈ allPicked newer fits held fs) ↔ Picked newer fits held fs s
-    unfolding allPicked
+    all_in : (fs : List Filter) (s : ℕ) → (s ∈ all_picked newer fits held fs) ↔ Picked newer fits held fs s
+    unfolding all_picked
     all_in fs s = (to fs, λ (f, m, k). numbers_from m k)
       where
-        to : (fs : List Filter) → s ∈ allPicked newer fits held fs → Picked newer fits held fs s
+        to : (fs : List Filter) → s ∈ all_picked newer fits held fs → Picked newer fits held fs s
         to [] m = absurd (Memᴰ.not-nil m)
         to (f ∷ fs) m =
             ⊎_elim (λ k. (f, Memᴰ.head refl, k)) (λ k. let (g, i, j) = to fs k in (g, Memᴰ.tail i, j))
             (Memᴰ.append_cases (picked newer fits held f) m)
 
-        numbers_from : {f : Filter} {fs : List Filter} → f ∈ fs → s ∈ picked newer fits held f → s ∈ allPicked newer fits held fs
-        numbers_from (Memᴰ.head {x = g} {xs = gs} e) k = Memᴰ.append_left (allPicked newer fits held gs) (rw e at k)
+        numbers_from : {f : Filter} {fs : List Filter} → f ∈ fs → s ∈ picked newer fits held f → s ∈ all_picked newer fits held fs
+        numbers_from (Memᴰ.head {x = g} {xs = gs} e) k = Memᴰ.append_left (all_picked newer fits held gs) (rw e at k)
         numbers_from (Memᴰ.tail {x = g} {xs = gs} m) k = Memᴰ.append_right (picked newer fits held g) (numbers_from m k)
 
     pub union-size : UnionSize newer fits held
     union-size fs o =
-        count_law (λ (s : ℕ). s) eqb (λ a b. (eqb→eq a b, λ e. rw e (eqb_refl b))) (allPicked newer fits held fs) (union newer fits held fs) (union-once fs o)
+        count_law (λ (s : ℕ). s) eqb (λ a b. (eqb→eq a b, λ e. rw e (eqb_refl b))) (all_picked newer fits held fs) (union newer fits held fs) (union-once fs o)
         (λ s m. (all_in fs s).1 ((union-means fs s).0 m).1)
         (λ s m. let (f, i, k) = (all_in fs s).0 m in (s, (union-means fs s).1 (((picked-means f).matching s k).0, (f, i, k)), refl))
 
@@ -272,10 +272,10 @@ module _ (newer : ℕ → ℕ → Bool) where
     pub filter-order : FilterOrder newer fits held
     unfolding union
     filter-order fs gs same =
-        ap (newest_first newer) (keep_same (pickedBySome newer fits held fs) (pickedBySome newer fits held gs) held
+        ap (newest_first newer) (keep_same (picked_by_some newer fits held fs) (picked_by_some newer fits held gs) held
         (λ s m. same_test _ _ (moved (λ f. (same f).0) s) (moved (λ f. (same f).1) s)))
       where
-        moved : {fs gs : List Filter} → ((f : Filter) → f ∈ fs → f ∈ gs) → (s : ℕ) → T (pickedBySome newer fits held fs s) → T (pickedBySome newer fits held gs s)
+        moved : {fs gs : List Filter} → ((f : Filter) → f ∈ fs → f ∈ gs) → (s : ℕ) → T (picked_by_some newer fits held fs s) → T (picked_by_some newer fits held gs s)
         moved {fs} {gs} sub s t = let (f, i, k) = (some-picks fs s).0 t in (some-picks gs s).1 (f, sub f i, k)
 
 -- ---- two orders and two tests that agree on some slots give the same answer over them
@@ -291,10 +291,10 @@ module _ (n n' : ℕ → ℕ → Bool) (f f' : Filter → ℕ → Bool) (held : 
   unfolding picked
   picked_same g = ap (cut g.limit) (kept_same (f g) (f' g) (test g))
 
-  some_same : (s : ℕ) (fs : List Filter) → pickedBySome n f held fs s ≡ pickedBySome n' f' held fs s
+  some_same : (s : ℕ) (fs : List Filter) → picked_by_some n f held fs s ≡ picked_by_some n' f' held fs s
   some_same s [] = refl
   some_same s (g ∷ fs) = ap₂ (λ l r. among l s || r) (picked_same g) (some_same s fs)
 
   pub union-same : (fs : List Filter) → union n f held fs ≡ union n' f' held fs
   unfolding union
-  union-same fs = kept_same (pickedBySome n f held fs) (pickedBySome n' f' held fs) (λ s m. some_same s fs)
+  union-same fs = kept_same (picked_by_some n f held fs) (picked_by_some n' f' held fs) (λ s m. some_same s fs)

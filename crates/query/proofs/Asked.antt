@@ -6,7 +6,7 @@ use mathlib.Core.Logic.{◌⊎◌, inl, inr, ⊎_elim}
 use mathlib.Core.List.Memᴰ
 use mathlib.Core.List.{List, [], ◌∷◌}
 use Prim.Native.Nat.{ℕ}
-use borrow.Author.Tests.{eqb-true, not_false}
+use borrow.Author.Tests.{eqb-true, not-false}
 use lib.Dec.{eqb}
 use lib.ListN.{length, get_or}
 use Rattle.wire.specs.Bytes.{same_bytes}
@@ -19,9 +19,8 @@ use Rattle.shape.specs.Rows.{wrong_hex, wrong_hexes, filter_hex, filter_counts}
 use Rattle.shape.proofs.Names as names
 use Rattle.message.specs.declared.Listed.{Listed}
 use Rattle.message.specs.declared.Listed.TheVariants.{Absent, At}
-use Rattle.message.specs.declared.FilterParts.{FilterParts}
 use Rattle.message.specs.Parts.{members_got, members_at}
-use Rattle.message.specs.Lent.{on_value, value5, filter_row}
+use Rattle.message.specs.Lent.{on_value, value5}
 use Rattle.message.proofs.Facts.{and_true, or_not, In, here, later, any_in}
 use Rattle.message.proofs.Checked.{ListOf, FilterIs, conditions_are, condition_is}
 use Rattle.event.specs.Lent.{string_of, strings_of, tag_of}
@@ -41,26 +40,26 @@ record Found (b : List ℕ) (ts : Items) (c : Condition) : Type 0 where
 
 module _ (b : List ℕ) where
   -- ---- a list of strings of which row 7 refuses none
-  string-hex : (t : Json) → is_string t ≡ true → wrong_hex hex_length b t ≡ false → IsHex64 (string_of b t)
+  string_hex : (t : Json) → is_string t ≡ true → wrong_hex hex_length b t ≡ false → IsHex64 (string_of b t)
   unfolding wrong_hex is_hex_of
-  string-hex (word a n) s h = absurd (false≢true s)
-  string-hex (num a n) s h = absurd (false≢true s)
-  string-hex (str a n) s h =
-      let (l, c) = and_true (eqb (length (decode (part b a n))) hex_length) _ (not_false _ h) in
+  string_hex (word a n) s h = absurd (false≢true s)
+  string_hex (num a n) s h = absurd (false≢true s)
+  string_hex (str a n) s h =
+      let (l, c) = and_true (eqb (length (decode (part b a n))) hex_length) _ (not-false _ h) in
       (eqb-true (length (decode (part b a n))) hex_length l, c)
-  string-hex (arr ts) s h = absurd (false≢true s)
-  string-hex (obj ts) s h = absurd (false≢true s)
+  string_hex (arr ts) s h = absurd (false≢true s)
+  string_hex (obj ts) s h = absurd (false≢true s)
 
-  strings-hex : (ts : Items) → all_items (λ q u. is_string u) ts ≡ true → any_item (λ q u. wrong_hex hex_length b u) ts ≡ false → (v : List ℕ) → v ∈ strings_of b ts → IsHex64 v
+  strings_hex : (ts : Items) → all_items (λ q u. is_string u) ts ≡ true → any_item (λ q u. wrong_hex hex_length b u) ts ≡ false → (v : List ℕ) → v ∈ strings_of b ts → IsHex64 v
   unfolding strings_of all_items any_item
-  strings-hex nil a h v m = absurd (Memᴰ.not-nil m)
-  strings-hex (item p w t ts) a h v m =
+  strings_hex nil a h v m = absurd (Memᴰ.not-nil m)
+  strings_hex (item p w t ts) a h v m =
       let (s, a) = and_true (is_string t) _ a in
       let (x, h) = or_not (wrong_hex hex_length b t) _ h in
-      ⊎_elim (λ e. rw e (string-hex t s x)) (strings-hex ts a h v) (Memᴰ.cases_cons m)
+      ⊎_elim (λ e. rw e (string_hex t s x)) (strings_hex ts a h v) (Memᴰ.cases_cons m)
 
-  list-hex : (t : Json) → ListOf is_string (λ u. false) t → wrong_hexes b t ≡ false → (v : List ℕ) → v ∈ tag_of b t → IsHex64 v
-  list-hex t l h v m = strings-hex l.items l.each (rw l.is at h) v (rw l.is at m)
+  list_hex : (t : Json) → ListOf is_string (λ u. false) t → wrong_hexes b t ≡ false → (v : List ℕ) → v ∈ tag_of b t → IsHex64 v
+  list_hex t l h v m = strings_hex l.items l.each (rw l.is at h) v (rw l.is at m)
 
   -- ---- a condition's member, and its name
   found : (ts : Items) (c : Condition) → c ∈ conditions_of b ts → Found b ts c
@@ -83,16 +82,16 @@ module _ (b : List ℕ) where
   named_hex q x t i (inr e) h = rw (i, e) at h
 
   -- ---- the object at a place
-  object-hex : (ts : Items) → all_items (filter_member b) ts ≡ true → any_item (filter_hex b) ts ≡ false → filter_counts b ts ≡ false → (c : Condition) → c ∈ conditions_of b ts
+  object_hex : (ts : Items) → all_items (filter_member b) ts ≡ true → any_item (filter_hex b) ts ≡ false → filter_counts b ts ≡ false → (c : Condition) → c ∈ conditions_of b ts
       → (c.letter ≡ 101) ⊎ (c.letter ≡ 112) → (v : List ℕ) → v ∈ c.members → IsHex64 v
-  object-hex ts a h k c m l v n =
+  object_hex ts a h k c m l v n =
       let f = found ts c m in
       let i = (names.condition_is (name_at b f.name) f.named).0 ∙ ap (λ (x : ℕ). 35 ∷ x ∷ []) (sym f.letter) in
-      list-hex f.value (condition_is b a k f.inside f.named) (named_hex f.name c.letter f.value i l (any_in (filter_hex b) h f.inside)) v (rw f.members at n)
+      list_hex f.value (condition_is b a k f.inside f.named) (named_hex f.name c.letter f.value i l (any_in (filter_hex b) h f.inside)) v (rw f.members at n)
 
-  place-hex : (v : ℕ) → FilterIs b v → (c : Condition) → c ∈ conditions_of b (members_at b v) → (c.letter ≡ 101) ⊎ (c.letter ≡ 112) → (w : List ℕ) → w ∈ c.members → IsHex64 w
+  place_hex : (v : ℕ) → FilterIs b v → (c : Condition) → c ∈ conditions_of b (members_at b v) → (c.letter ≡ 101) ⊎ (c.letter ≡ 112) → (w : List ℕ) → w ∈ c.members → IsHex64 w
   unfolding members_at value5 is_filter
-  place-hex v f = go (tree_at b depth v) f.o5 f.o7 f.o8
+  place_hex v f = go (tree_at b depth v) f.o5 f.o7 f.o8
     where
       go : (r : Got Json) → not (on_value (is_filter b) r) ≡ false → on_value (on_object (any_item (filter_hex b))) r ≡ false → on_value (on_object (filter_counts b)) r ≡ false
           → (c : Condition) → c ∈ conditions_of b (members_got r) → (c.letter ≡ 101) ⊎ (c.letter ≡ 112) → (w : List ℕ) → w ∈ c.members → IsHex64 w
@@ -101,7 +100,7 @@ module _ (b : List ℕ) where
       go (got (num x n) e) a h k = absurd (false≢true (sym a))
       go (got (str x n) e) a h k = absurd (false≢true (sym a))
       go (got (arr ts) e) a h k = absurd (false≢true (sym a))
-      go (got (obj ts) e) a h k = object-hex ts (and_true (all_items (filter_member b) ts) _ (not_false _ a)).0 h k
+      go (got (obj ts) e) a h k = object_hex ts (and_true (all_items (filter_member b) ts) _ (not-false _ a)).0 h k
 
 pub hex_asked : HexAsked
 unfolding filter_of
@@ -109,4 +108,4 @@ hex_asked b p e = go p.conditions refl
   where
     go : (x : Listed) → p.conditions ≡ x → (c : Condition) → c ∈ conditions_in b x → (c.letter ≡ 101) ⊎ (c.letter ≡ 112) → (v : List ℕ) → v ∈ c.members → IsHex64 v
     go Absent q = λ c m. absurd (Memᴰ.not-nil m)
-    go (At v) q = place-hex b v (conditions_are b p e q)
+    go (At v) q = place_hex b v (conditions_are b p e q)

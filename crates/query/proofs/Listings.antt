@@ -25,8 +25,8 @@ use Rattle.query.specs.declared.Matched.TheVariants as matching
 use Rattle.query.specs.Answer.{meant, filters_row, answer_to, matched_row, matched, match_number, match_value}
 use Rattle.query.specs.Answer.{listing_row_if, listing_row, listed, listed_row, listing_number, listed_count}
 use Rattle.query.specs.declared.Listing.TheVariants.{Count, Refused}
-use Rattle.query.specs.Claims.{RowHolds, of-filter, miscounted, MatchedHolds, of-event, of-filters, too_large}
-use Rattle.query.specs.Claims.{MatchedRowIs, MatchedMeans, ListingHolds, of-lent, not_sound, too_short}
+use Rattle.query.specs.Claims.{RowHolds, of_filter, miscounted, MatchedHolds, of_event, of_filters, too_large_lem}
+use Rattle.query.specs.Claims.{MatchedRowIs, MatchedMeans, ListingHolds, of_lent, not_sound, too_short}
 use Rattle.query.specs.Claims.{ListingRowIs, ListingIs, ListingMeans, SameListing}
 use Rattle.wire.specs.Lowest.{Lowest}
 use Rattle.wire.proofs.Cases.{bool, clash}
@@ -48,7 +48,7 @@ unfolding filter_row
 filter_small b p = lowest_small (filter2 b p) (filter4 b p) (filter5 b p) (filter6 b p) (filter7 b p) (filter8 b p)
 
 row_small : (m : List ℕ) (fs : List FilterParts) (n r : ℕ) → RowHolds m fs n r → r ≤ 8
-row_small m fs n _ (of-filter {p = p} i) = filter_small m p
+row_small m fs n _ (of_filter {p = p} i) = filter_small m p
 row_small m fs n _ (miscounted h) = omega arith
 
 event_small : (b : List ℕ) (p : EventParts) → event_row b p ≤ 8
@@ -87,14 +87,14 @@ matched_row_is b p m fs n =
     large false e = record { holds = λ ne. absurd (ne refl); least = λ k h ne. absurd (clash h.1 e) }
 
     to : (k : ℕ) → ((k ≡ event_row b p) ⊎ RowHolds m fs n k) ⊎ ((k ≡ 9) × (is_large b p.body ≡ true)) → MatchedHolds b p m fs n k
-    to k (inl (inl e)) = rw e of-event
-    to k (inl (inr h)) = of-filters h
-    to k (inr (e, h)) = rw e (too_large h)
+    to k (inl (inl e)) = rw e of_event
+    to k (inl (inr h)) = of_filters h
+    to k (inr (e, h)) = rw e (too_large_lem h)
 
     from : (k : ℕ) → MatchedHolds b p m fs n k → ((k ≡ event_row b p) ⊎ RowHolds m fs n k) ⊎ ((k ≡ 9) × (is_large b p.body ≡ true))
-    from _ of-event = inl (inl refl)
-    from k (of-filters h) = inl (inr h)
-    from _ (too_large h) = inr (refl, h)
+    from _ of_event = inl (inl refl)
+    from k (of_filters h) = inl (inr h)
+    from _ (too_large_lem h) = inr (refl, h)
 
 pub matched_means : MatchedMeans
 unfolding matched
@@ -131,28 +131,28 @@ module _ (b m : List ℕ) (fs : List FilterParts) (n : ℕ) (row : List ℕ) whe
     least = λ k h ne. ⊎_elim (λ q. absurd (clash e q.1)) (λ q. absurd (clash (lt-ltb (length row) (length slots) q.1) f)) h;
   }
 
-  to-listing : (k : ℕ) → RowHolds m fs n k ⊎ Later k → ListingHolds b m fs n row k
-  to-listing k (inl h) = of-lent h
-  to-listing k (inr (inl (e, h))) = rw e (not_sound h)
-  to-listing k (inr (inr (e, h))) = rw e (too_short h)
+  to_listing : (k : ℕ) → RowHolds m fs n k ⊎ Later k → ListingHolds b m fs n row k
+  to_listing k (inl h) = of_lent h
+  to_listing k (inr (inl (e, h))) = rw e (not_sound h)
+  to_listing k (inr (inr (e, h))) = rw e (too_short h)
 
-  of-listing : (k : ℕ) → ListingHolds b m fs n row k → RowHolds m fs n k ⊎ Later k
-  of-listing k (of-lent h) = inl h
-  of-listing _ (not_sound h) = inr (inl (refl, h))
-  of-listing _ (too_short h) = inr (inr (refl, h))
+  of_listing : (k : ℕ) → ListingHolds b m fs n row k → RowHolds m fs n k ⊎ Later k
+  of_listing k (of_lent h) = inl h
+  of_listing _ (not_sound h) = inr (inl (refl, h))
+  of_listing _ (too_short h) = inr (inr (refl, h))
 
-  listing-row : Lowest (ListingHolds b m fs n row) (listing_row b m fs n row)
+  listing_row_lem : Lowest (ListingHolds b m fs n row) (listing_row b m fs n row)
   unfolding listing_row
-  listing-row =
-      alike to-listing of-listing
+  listing_row_lem =
+      alike to_listing of_listing
       (or_else_lem 8 (filters_row m fs n) _ (row_small m fs n) (λ k. ⊎_elim (λ q. let z = q.0 in omega (arith, z)) (λ q. let z = q.0 in omega (arith, z)))
       (filters_row_is m fs n) (later (sound b) (ltb (length row) (length slots)) refl refl))
 
-  long-enough : listing_row b m fs n row ≡ 0 → length slots ≤ length row
-  long-enough e = on (dec_lt (length row) (length slots))
+  long_enough : listing_row b m fs n row ≡ 0 → length slots ≤ length row
+  long_enough e = on (dec_lt (length row) (length slots))
     where
       on : Dec (length row < length slots) → length slots ≤ length row
-      on (yes h) = absurd ((listing-row.least 13 (too_short h) (λ z. absurd (omega arith))).0 e)
+      on (yes h) = absurd ((listing_row_lem.least 13 (too_short h) (λ z. absurd (omega arith))).0 e)
       on (no l) = omega arith
 
   taken : listing_row b m fs n row ≡ 0 → listed_row b m fs n row ≡ slots ++ drop (length slots) row
@@ -163,25 +163,25 @@ module _ (b m : List ℕ) (fs : List FilterParts) (n : ℕ) (row : List ℕ) whe
   unfolding listed_row
   left ne = rw (ne_eqb (listing_row b m fs n row) 0 ne)
 
-  is-count : listing_row b m fs n row ≡ 0 → listed b m fs n row ≡ Count (length slots)
+  is_count : listing_row b m fs n row ≡ 0 → listed b m fs n row ≡ Count (length slots)
   unfolding listed
-  is-count e = rw (eq-eqb (listing_row b m fs n row) 0 e)
+  is_count e = rw (eq-eqb (listing_row b m fs n row) 0 e)
 
-  is-refused : listing_row b m fs n row ≢ 0 → listed b m fs n row ≡ Refused (listing_row b m fs n row)
+  is_refused_lem : listing_row b m fs n row ≢ 0 → listed b m fs n row ≡ Refused (listing_row b m fs n row)
   unfolding listed
-  is-refused ne = rw (ne_eqb (listing_row b m fs n row) 0 ne)
+  is_refused_lem ne = rw (ne_eqb (listing_row b m fs n row) 0 ne)
 
   zero_or : (listing_row b m fs n row ≡ 0) ⊎ (listing_row b m fs n row ≢ 0)
   zero_or = ⊎_elim (λ e. inl (eqb-true (listing_row b m fs n row) 0 e)) (λ e. inr (eqb-false (listing_row b m fs n row) 0 e)) (bool (eqb (listing_row b m fs n row) 0))
 
-  listing-is : ListingIs b m fs n row
-  listing-is = record {
-    number = ⊎_elim (λ e. ap listing_number (is-count e) ∙ sym e) (λ ne. ap listing_number (is-refused ne)) zero_or;
-    count = λ e. ap listed_count (is-count e);
+  listing_is : ListingIs b m fs n row
+  listing_is = record {
+    number = ⊎_elim (λ e. ap listing_number (is_count e) ∙ sym e) (λ ne. ap listing_number (is_refused_lem ne)) zero_or;
+    count = λ e. ap listed_count (is_count e);
     written = λ e. ap (take (length slots)) (taken e) ∙ take_at slots (drop (length slots) row) (length slots) refl;
     rest = λ e. ap (drop (length slots)) (taken e) ∙ drop_at slots (drop (length slots) row) (length slots) refl;
-    as_long = ⊎_elim (λ e. ap length (taken e) ∙ (let h = long-enough e in simp (length-append, length-drop) (omega arith))) (λ ne. ap length (left ne)) zero_or;
-    refused = λ ne. (left ne, ap listed_count (is-refused ne));
+    as_long = ⊎_elim (λ e. ap length (taken e) ∙ (let h = long_enough e in simp (length-append, length-drop) (omega arith))) (λ ne. ap length (left ne)) zero_or;
+    refused = λ ne. (left ne, ap listed_count (is_refused_lem ne));
   }
 
 -- one test of soundness, which says the same of a table of at most 64 slots
@@ -190,7 +190,7 @@ unfolding listing_row
 same_listing b m fs n row h = ap (λ s. listing_row_if s b m fs n row) (same_sound b h)
 
 pub listing_row_is : ListingRowIs
-listing_row_is b m fs n row = listing-row b m fs n row
+listing_row_is b m fs n row = listing_row_lem b m fs n row
 
 pub listing_means : ListingMeans
-listing_means b m fs n row = listing-is b m fs n row
+listing_means b m fs n row = listing_is b m fs n row

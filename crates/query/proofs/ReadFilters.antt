@@ -35,25 +35,25 @@ use Rattle.query.proofs.Lent.{filters_pass}
 
 -- ---- the elements of an array from its third on are the items there
 module _ {s : List ℕ} {n : ℕ} where
-  first-places : {f i q w : ℕ} {u : Json} {us : Items} → f ≤ length s → Walk (tree_at s open_within) s false f i (item q w u us) n
+  first_places : {f i q w : ℕ} {u : Json} {us : Items} → f ≤ length s → Walk (tree_at s open_within) s false f i (item q w u us) n
       → elements_from s (At w) ≡ places_of (item q w u us)
   unfolding elements_from
-  first-places {i = i} {w = w} l r =
+  first_places {i = i} {w = w} l r =
       let z = walk_first r in
       let e : i ≡ w = cc in
       rw e at (walk_places (length s) l r)
 
-  second-places : {f i p v q w : ℕ} {t u : Json} {us : Items} → f ≤ length s → Walk (tree_at s open_within) s false f i (item p v t (item q w u us)) n
+  second_places : {f i p v q w : ℕ} {t u : Json} {us : Items} → f ≤ length s → Walk (tree_at s open_within) s false f i (item p v t (item q w u us)) n
       → elements_from s (At w) ≡ places_of (item q w u us)
-  second-places l (more h w q r) = first-places (omega arith) r
+  second_places l (more h w q r) = first_places (omega arith) r
 
-  third-walk : {f i p v q w k x : ℕ} {t u y : Json} {us : Items} → f ≤ length s → Walk (tree_at s open_within) s false f i (item p v t (item q w u (item k x y us))) n
+  third_walk : {f i p v q w k x : ℕ} {t u y : Json} {us : Items} → f ≤ length s → Walk (tree_at s open_within) s false f i (item p v t (item q w u (item k x y us))) n
       → elements_from s (At x) ≡ places_of (item k x y us)
-  third-walk l (more h w q r) = second-places (omega arith) r
+  third_walk l (more h w q r) = second_places (omega arith) r
 
-  third-places : {at p v q w k x : ℕ} {t u y : Json} {us : Items} → Group s at false (item p v t (item q w u (item k x y us))) n
+  third_places : {at p v q w k x : ℕ} {t u y : Json} {us : Items} → Group s at false (item p v t (item q w u (item k x y us))) n
       → elements_from s (At x) ≡ places_of (item k x y us)
-  third-places (filled h w) = third-walk (omega arith) w
+  third_places (filled h w) = third_walk (omega arith) w
 
 -- an element's parts, found at its place, are those of its object in the tree
 listing_filters : (s : List ℕ) {ts : Items} → Listing s ts → map (filter_of s) (map (filter_at s) (places_of ts)) ≡ filters_of_items s ts
@@ -102,7 +102,7 @@ module _ (s : List ℕ) (r : ReqParts) where
       → wrong_request s x (item q w u us) ≡ false → filter_places s r.filters ≡ places_of us
   unfolding count_items
   on_word req {u = u} nil g e c = absurd (false≢true (sym (no_right (wrong_subscription s u) true c)))
-  on_word req (item k x y us) g e c = let z : r.filters ≡ x = cc in rw z (third-places g)
+  on_word req (item k x y us) g e c = let z : r.filters ≡ x = cc in rw z (third_places g)
   on_word event us g e c = absurd (let z : ◌≡◌ {A = ℕ} 0 1 = cc in omega arith)
   on_word close us g e c = absurd (let z : ◌≡◌ {A = ℕ} 0 1 = cc in omega arith)
   on_word other us g e c = absurd (let z : ◌≡◌ {A = ℕ} 0 1 = cc in omega arith)
@@ -114,9 +114,9 @@ module _ (s : List ℕ) (r : ReqParts) where
     group : Group s (ws_at s 0) false (item p v t (item q w u ts)) n
     group = group_of s (ws_at s 0) false (item p v t (item q w u ts)) n tree
 
-    all-places : filter_places s r.filters ≡ places_of ts
+    all_places : filter_places s r.filters ≡ places_of ts
     unfolding read_of row8
-    all-places =
+    all_places =
         let rest = opened_rest s p v t (item q w u ts) in
         let is : in_root s (root s) ≡ message.Req r = rw row_0 at e in
         let x = (opened s (arr (item p v t (item q w u ts)))).first in
@@ -124,12 +124,12 @@ module _ (s : List ℕ) (r : ReqParts) where
         let c : wrong_request s x y ≡ false = no_left (wrong_request s x y) _ (counts_pass s (arr (item p v t (item q w u ts))) n tree row_0) in
         on_word x ts group (rw (tree, rest) at is) (rw rest at c)
 
-    all-meant : filters_meant s r.filters ≡ filters_of_items s ts
+    all_meant : filters_meant s r.filters ≡ filters_of_items s ts
     unfolding filters_meant
-    all-meant = ap (λ l. map (filter_of s) (map (filter_at s) l)) all-places ∙ listing_filters s (rest_listing (array_listing group).1)
+    all_meant = ap (λ l. map (filter_of s) (map (filter_at s) l)) all_places ∙ listing_filters s (rest_listing (array_listing group).1)
 
 pub all_filters : AllFilters
-all_filters m r e p v q w n t u ts tree = let z = all-meant m r e tree in (z, ap length z ∙ filters_count m ts)
+all_filters m r e p v q w n t u ts tree = let z = all_meant m r e tree in (z, ap length z ∙ filters_count m ts)
 
 -- ---- lent as parts
 pub text_filters : TextFilters

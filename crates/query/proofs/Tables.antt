@@ -13,7 +13,7 @@ use lib.IntN.{ℤ, pos}
 use lib.ListN.{length, get_or, drop}
 use Rattle.wire.specs.Limits.{most_text, most_slots}
 use Rattle.text.specs.Event.{Event}
-use Rattle.text.specs.Read.{Read, tooLarge, wrongShape, read, read_text}
+use Rattle.text.specs.Read.{Read, too_large, wrong_shape, read, read_text}
 use Rattle.text.proofs.Pieces.{both}
 use Rattle.message.specs.declared.Bound.TheVariants.{Number}
 use Rattle.event.specs.Answer.{hex_of}
@@ -56,21 +56,21 @@ module _ (b : List ℕ) where
   abbrev id_at : ℕ → List ℕ
   id_at k = id_in (slot_at b k)
 
-  slot-transitive : (i j k : ℕ) → T (newer_slot b i j) → T (newer_slot b j k) → T (newer_slot b i k)
+  slot_transitive : (i j k : ℕ) → T (newer_slot b i j) → T (newer_slot b j k) → T (newer_slot b i k)
   unfolding newer_slot
-  slot-transitive i j k = any_key.transitive (in_slot (slot_at b i)).0 (in_slot (slot_at b j)).0 (in_slot (slot_at b k)).0
+  slot_transitive i j k = any_key.transitive (in_slot (slot_at b i)).0 (in_slot (slot_at b j)).0 (in_slot (slot_at b k)).0
 
-  slot-irreflexive : (k : ℕ) → T (newer_slot b k k) → ⊥
+  slot_irreflexive : (k : ℕ) → T (newer_slot b k k) → ⊥
   unfolding newer_slot
-  slot-irreflexive k = any_key.irreflexive (in_slot (slot_at b k)).0
+  slot_irreflexive k = any_key.irreflexive (in_slot (slot_at b k)).0
 
-  slot-total : (j k : ℕ) → id_at j ≢ id_at k → T (newer_slot b j k) ⊎ T (newer_slot b k j)
+  slot_total : (j k : ℕ) → id_at j ≢ id_at k → T (newer_slot b j k) ⊎ T (newer_slot b k j)
   unfolding newer_slot
-  slot-total j k = any_key.total (in_slot (slot_at b j)).0 (in_slot (slot_at b k)).0
+  slot_total j k = any_key.total (in_slot (slot_at b j)).0 (in_slot (slot_at b k)).0
 
   -- one of two is newer, or they are alike in time and id
-  slot-three : (j k : ℕ) → T (newer_slot b j k) ⊎ (((time j ≡ time k) × (id_at j ≡ id_at k)) ⊎ T (newer_slot b k j))
-  slot-three j k = go (strict_times.total (time k) (time j)) (strict_bytes.total (id_at j) (id_at k))
+  slot_three : (j k : ℕ) → T (newer_slot b j k) ⊎ (((time j ≡ time k) × (id_at j ≡ id_at k)) ⊎ T (newer_slot b k j))
+  slot_three j k = go (strict_times.total (time k) (time j)) (strict_bytes.total (id_at j) (id_at k))
     where
       go : T (earlier (time k) (time j)) ⊎ ((time k ≡ time j) ⊎ T (earlier (time j) (time k))) → T (lower (id_at j) (id_at k)) ⊎ ((id_at j ≡ id_at k) ⊎ T (lower (id_at k) (id_at j)))
           → T (newer_slot b j k) ⊎ (((time j ≡ time k) × (id_at j ≡ id_at k)) ⊎ T (newer_slot b k j))
@@ -80,17 +80,17 @@ module _ (b : List ℕ) where
       go (inr (inl q)) (inr (inl p)) = inr (inl (sym q, p))
       go (inr (inl q)) (inr (inr t)) = inr (inr ((newer_slot_means b k j).1 (inr (sym q, t))))
 
-  slot-alike : (i j k : ℕ) → time i ≡ time j → id_at i ≡ id_at j → newer_slot b i k ≡ newer_slot b j k
+  slot_alike : (i j k : ℕ) → time i ≡ time j → id_at i ≡ id_at j → newer_slot b i k ≡ newer_slot b j k
   unfolding newer_slot
-  slot-alike i j k p q = rw (p, q)
+  slot_alike i j k p q = rw (p, q)
 
 pub slots_ordered : SlotsOrdered
 slots_ordered b = record {
-  asym = λ j k t. ⊎_elim (λ q. absurd (slot-irreflexive b j (slot-transitive b j k j (true-T t) (true-T q)))) (λ q. q) (bool (newer_slot b k j));
+  asym = λ j k t. ⊎_elim (λ q. absurd (slot_irreflexive b j (slot_transitive b j k j (true-T t) (true-T q)))) (λ q. q) (bool (newer_slot b k j));
   past = λ i j k t f.
       ⊎_elim (is_true (newer_slot b i k))
-      (⊎_elim (λ (p, q). absurd (clash (sym (slot-alike b i k j p q) ∙ t) f)) (λ q. absurd (clash (is_true _ (slot-transitive b k i j q (true-T t))) f)))
-      (slot-three b i k);
+      (⊎_elim (λ (p, q). absurd (clash (sym (slot_alike b i k j p q) ∙ t) f)) (λ q. absurd (clash (is_true _ (slot_transitive b k i j q (true-T t))) f)))
+      (slot_three b i k);
 }
 
 -- ---- a sound table
@@ -99,27 +99,27 @@ held_length : (b : List ℕ) → length (held_slots b) ≡ count_of b
 held_length b = length_cells slot_size (count_of b) (drop header_size b)
 
 module _ {A : Type 0} where
-  getD-in : (xs : List A) (i : ℕ) (z : A) → i < length xs → get_or xs i z ∈ xs
-  getD-in [] i z h = absurd (omega arith)
-  getD-in (x ∷ xs) zero z h = Memᴰ.head refl
-  getD-in (x ∷ xs) (suc i) z h = Memᴰ.tail (getD-in xs i z (omega arith))
+  get_d_in : (xs : List A) (i : ℕ) (z : A) → i < length xs → get_or xs i z ∈ xs
+  get_d_in [] i z h = absurd (omega arith)
+  get_d_in (x ∷ xs) zero z h = Memᴰ.head refl
+  get_d_in (x ∷ xs) (suc i) z h = Memᴰ.tail (get_d_in xs i z (omega arith))
 
   -- no entry that the test joins to a later one
-  none-twice : {B : Type 0} (same : B → B → Bool) (r : A → B) (xs : List A) (z : A) → none_twice same (map r xs) ≡ true
+  none_twice_lem : {B : Type 0} (same : B → B → Bool) (r : A → B) (xs : List A) (z : A) → none_twice same (map r xs) ≡ true
       → (i j : ℕ) → i < j → j < length xs → T (same (r (get_or xs i z)) (r (get_or xs j z))) → ⊥
   unfolding none_twice
-  none-twice same r [] z n i j h k t = omega arith
-  none-twice same r (x ∷ xs) z n i zero h k t = omega arith
-  none-twice same r (x ∷ xs) z n zero (suc j) h k t =
+  none_twice_lem same r [] z n i j h k t = omega arith
+  none_twice_lem same r (x ∷ xs) z n i zero h k t = omega arith
+  none_twice_lem same r (x ∷ xs) z n zero (suc j) h k t =
       let p = any (same (r x)) (map r xs) in
-      clash (is_true p (any_has (same (r x)) (Memᴰ.map r (getD-in xs j z (omega arith))) t)) (not-true p (both (not p) _ n).0)
-  none-twice same r (x ∷ xs) z n (suc i) (suc j) h k t =
-      none-twice same r xs z (both (not (any (same (r x)) (map r xs))) _ n).1 i j (omega arith) (omega arith) t
+      clash (is_true p (any_has (same (r x)) (Memᴰ.map r (get_d_in xs j z (omega arith))) t)) (not-true p (both (not p) _ n).0)
+  none_twice_lem same r (x ∷ xs) z n (suc i) (suc j) h k t =
+      none_twice_lem same r xs z (both (not (any (same (r x)) (map r xs))) _ n).1 i j (omega arith) (omega arith) t
 
 module _ (b : List ℕ) (ok : sound b ≡ true) where
-  after-header : (slots_sound b && (no_id_twice b && (no_key_twice b && later_zero b))) ≡ true
+  after_header : (slots_sound b && (no_id_twice b && (no_key_twice b && later_zero b))) ≡ true
   unfolding sound sound_up_to
-  after-header =
+  after_header =
       (both (others_as_above b) _ (both (count_fits b) _ (both (slots_fit b) _ (both (capacity_fits most_slots b) _ (both (has_header b) _ ok).1).1).1).1).1
 
   -- "no id .. held twice"
@@ -132,12 +132,12 @@ module _ (b : List ℕ) (ok : sound b ≡ true) where
       apart (no n) = inr (omega (arith, ne))
 
       none : none_twice (has_id signed_events) (map in_slot (held_slots b)) ≡ true
-      none = (both (no_id_twice b) _ (both (slots_sound b) _ after-header).1).0
+      none = (both (no_id_twice b) _ (both (slots_sound b) _ after_header).1).0
 
       one : (i j : ℕ) → i < j → j < count_of b → id_at b j ≡ id_at b i → ⊥
       one i j l h q =
           let n = held_length b in
-          none-twice (has_id signed_events) in_slot (held_slots b) [] none i j l (omega (arith, n))
+          none_twice_lem (has_id signed_events) in_slot (held_slots b) [] none i j l (omega (arith, n))
           (rw (slot_entry b i (omega arith), slot_entry b j h) ((same_bytes_lem (id_at b j) (id_at b i)).1 q))
 
   pub slot_sound_lem : (k : ℕ) → k < count_of b → slot_sound (slot_at b k) ≡ true
@@ -154,20 +154,20 @@ slot_matches b ok k h = on (read_text (text_in (slot_at b k))) refl (slot_reads 
   where
     on : (r : Read) → read_text (text_in (slot_at b k)) ≡ r → is_read r ≡ true
         → (e : Event) × (read_text (text_in (slot_at b k)) ≡ read e) × ((f : Filter) → matches_in f (hex_of (id_in (slot_at b k))) (read_text (text_in (slot_at b k))) ≡ matches f (hex_of (id_in (slot_at b k))) e)
-    on tooLarge q t = absurd (clash t refl)
-    on wrongShape q t = absurd (clash t refl)
+    on too_large q t = absurd (clash t refl)
+    on wrong_shape q t = absurd (clash t refl)
     on (read e) q t = (e, q, λ f. rw q)
 
 -- ---- the answer
 module _ (b : List ℕ) (fs : List Filter) where
-  distinct-held : Distinct (numbers_from 0 (count_of b))
-  distinct-held = once-distinct (numbers_from 0 (count_of b)) (once_from 0 (count_of b))
+  distinct_held : Distinct (numbers_from 0 (count_of b))
+  distinct_held = once-distinct (numbers_from 0 (count_of b)) (once_from 0 (count_of b))
 
   down : sound b ≡ true → Descending (newer_slot b) (answer_list b fs)
   unfolding answer_list
   down ok =
-      union-descends (newer_slot b) (matches_slot b) (numbers_from 0 (count_of b)) fs (slots_ordered b) distinct-held
-      (λ s t h k ne. slot-total b s t (ids_differ b ok s t ((from-means (count_of b) s).0 h) ((from-means (count_of b) t).0 k) ne))
+      union-descends (newer_slot b) (matches_slot b) (numbers_from 0 (count_of b)) fs (slots_ordered b) distinct_held
+      (λ s t h k ne. slot_total b s t (ids_differ b ok s t ((from-means (count_of b) s).0 h) ((from-means (count_of b) t).0 k) ne))
 
   pub answer_is : AnswerIs b fs
   unfolding answer_list
@@ -183,11 +183,11 @@ module _ (b : List ℕ) (fs : List Filter) where
     unlimited = λ free s f h i t.
         let k = (from-means (count_of b) s).1 h in
         (union-means (newer_slot b) (matches_slot b) held fs s).1 (k, (f, i, ((picked-means (newer_slot b) (matches_slot b) held f).absent (free f i) s).1 (k, t)));
-    once = union-once (newer_slot b) (matches_slot b) held fs distinct-held;
+    once = union-once (newer_slot b) (matches_slot b) held fs distinct_held;
     newest_first_lem = union-newest (newer_slot b) (matches_slot b) held fs (slots_ordered b);
     descends = down;
     only = λ ok l h o. same-order (newer_slot b) (slots_ordered b) l _ h o (down ok);
-    size = union-size (newer_slot b) (matches_slot b) held fs distinct-held;
+    size = union-size (newer_slot b) (matches_slot b) held fs distinct_held;
     short = omega (arith, union-short (newer_slot b) (matches_slot b) held fs, from_length_lem 0 (count_of b));
   }
     where

@@ -174,12 +174,12 @@ module _ (newer : ℕ → ℕ → Bool) (fits : Filter → ℕ → Bool) (held :
       Descending newer (union newer fits held fs)
 
   -- what the filters pick, one list behind the other; the union has as many entries as are different in it
-  unfoldable pub allPicked : List Filter → List ℕ
-  allPicked [] = []
-  allPicked (f ∷ fs) = picked newer fits held f ++ allPicked fs
+  unfoldable pub all_picked : List Filter → List ℕ
+  all_picked [] = []
+  all_picked (f ∷ fs) = picked newer fits held f ++ all_picked fs
 
   abbrev pub UnionSize : Type 0
-  UnionSize = (fs : List Filter) → Distinct held → length (union newer fits held fs) ≡ different eqb (allPicked fs)
+  UnionSize = (fs : List Filter) → Distinct held → length (union newer fits held fs) ≡ different eqb (all_picked fs)
 
   abbrev pub UnionShort : Type 0
   UnionShort = (fs : List Filter) → length (union newer fits held fs) ≤ length held
@@ -236,7 +236,7 @@ pub record AnswerIs (b : List ℕ) (fs : List Filter) : Type 0 where
       l ≡ answer_list b fs
   -- "its length is the count answered": 01, "How far": "the union's size"
   pub size : length (answer_list b fs) ≡ different eqb
-      (allPicked (newer_slot b) (matches_slot b) (numbers_from 0 (count_of b)) fs)
+      (all_picked (newer_slot b) (matches_slot b) (numbers_from 0 (count_of b)) fs)
   pub short : length (answer_list b fs) ≤ count_of b
 
 abbrev pub AnswerMeans : Type 0
@@ -269,7 +269,7 @@ TextFilters =
 -- ---- lent filters
 -- the row r holds of the first n of fs
 pub data RowHolds (m : List ℕ) (fs : List FilterParts) (n : ℕ) : ℕ → Type 0 where
-  of-filter : {p : FilterParts} → p ∈ take n fs → RowHolds m fs n (filter_row m p)
+  of_filter : {p : FilterParts} → p ∈ take n fs → RowHolds m fs n (filter_row m p)
   miscounted : (n < 1) ⊎ (4 < n) → RowHolds m fs n 8
 
 abbrev pub LowestMeans : Type 0
@@ -307,9 +307,9 @@ HexAsked = (b : Bytes) (p : FilterParts) → filter_row b p ≡ 0 → (c : Condi
 -- ---- what is answered
 -- "Parts of an event, filter .. are tested by rows 2 and 4 to 8 .., an event by 9 too"
 pub data MatchedHolds (b : List ℕ) (p : EventParts) (m : List ℕ) (fs : List FilterParts) (n : ℕ) : ℕ → Type 0 where
-  of-event : MatchedHolds b p m fs n (event_row b p)
-  of-filters : {r : ℕ} → RowHolds m fs n r → MatchedHolds b p m fs n r
-  too_large : is_large b p.body ≡ true → MatchedHolds b p m fs n 9
+  of_event : MatchedHolds b p m fs n (event_row b p)
+  of_filters : {r : ℕ} → RowHolds m fs n r → MatchedHolds b p m fs n r
+  too_large_lem : is_large b p.body ≡ true → MatchedHolds b p m fs n 9
 
 abbrev pub MatchedRowIs : Type 0
 MatchedRowIs =
@@ -328,7 +328,7 @@ MatchedMeans = (b : List ℕ) (p : EventParts) (m : List ℕ) (fs : List FilterP
 
 -- row 11, "table not sound"; row 13, "lent output .. too short"
 pub data ListingHolds (b m : List ℕ) (fs : List FilterParts) (n : ℕ) (row : List ℕ) : ℕ → Type 0 where
-  of-lent : {r : ℕ} → RowHolds m fs n r → ListingHolds b m fs n row r
+  of_lent : {r : ℕ} → RowHolds m fs n r → ListingHolds b m fs n row r
   not_sound : sound b ≡ false → ListingHolds b m fs n row 11
   too_short : length row < length (answer_to b m fs n) → ListingHolds b m fs n row 13
 

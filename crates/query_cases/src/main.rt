@@ -20,10 +20,15 @@
 // A listing prints its row of 01, then the count and the row of numbers, up to the last that is not `fill`: also
 // numbers behind the lent ones would show. A message that is refused by row 6 or 7 has `@` and the offset behind the
 // row.
+#![tactic(auto)]
+
 ghost use Rattle.std.specs.Prelude.{◌≤◌, length};
 
+use lines::{Input, Output};
 use message::{EventParts, FilterParts, Message};
 use query::{Listing, Matched};
+use std::io;
+use std::io::{Read, Write};
 use table::Offered;
 
 // The numbers of the row: as many as a table has slots at most, and 16 more.
@@ -228,26 +233,50 @@ fn put_call(out: &mut [u8], line: &[u8], lent: &[u8], room: &mut [u8], n: usize)
 }
 
 // The longest answer, a list of 1,024 slots, has 4,016 bytes.
-fn step(line: &[u8], lent: &mut [u8], room: &mut [u8], n: usize) -> usize {
+fn step<W: Write>(
+    output: &mut Output<W>,
+    line: &[u8],
+    lent: &mut [u8],
+    room: &mut [u8],
+    n: usize,
+) -> io::Result<usize> {
     fields::change_lent(line, lent);
     fields::change_room(line, room);
     let len = fields::table_len(line, n);
-    let mut out = io::buffer();
+    let mut out = [0u8; 4096];
     let a = put_call(&mut out, line, lent, room, len);
-    lines::write_line(&mut out, a);
-    len
+    lines::write_line(output, &mut out, a)?;
+    Ok(len)
 }
 
 // Of a line of 65,536 bytes or more it is only said that it is too long.
-fn main() {
-    let mut line = io::large_buffer();
-    let mut chunk = io::large_buffer();
-    let mut lent = io::large_buffer();
-    let mut room = fields::empty_room();
+fn read_all<R: Read, W: Write>(
+    input: &mut Input<R>,
+    output: &mut Output<W>,
+    room: &mut [u8],
+) -> io::Result<()> {
+    let mut line = [0u8; 65536];
+    let mut chunk = [0u8; 65536];
+    let mut lent = [0u8; 65536];
     let mut n: usize = 0;
-    let mut l = lines::next_within(&mut line, &mut chunk, lines::none(), b"too long\n");
+    let mut l = lines::next_within(
+        input,
+        output,
+        &mut line,
+        &mut chunk,
+        lines::none(),
+        b"too long\n",
+    )?;
     while 0 < l.left {
-        n = step(wire::piece(&line, 0, l.n), &mut lent, &mut room, n);
-        l = lines::next_within(&mut line, &mut chunk, l, b"too long\n");
+        n = step(output, wire::piece(&line, 0, l.n), &mut lent, room, n)?;
+        l = lines::next_within(input, output, &mut line, &mut chunk, l, b"too long\n")?;
     }
+    Ok(())
+}
+
+fn main(rt: HostRuntime) -> io::Result<()> {
+    let mut input = lines::from_reader(rt.stdin());
+    let mut output = lines::to_writer(rt.stdout());
+    let mut room = fields::empty_room(rt.alloc())?;
+    read_all(&mut input, &mut output, room.as_mut_slice())
 }

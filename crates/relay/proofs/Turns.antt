@@ -6,7 +6,8 @@ use Prim.Native.Nat.{ℕ, ◌+◌, ◌-◌, ◌≤◌, ◌<◌}
 use native.Mathlib.Decide.{dec_le}
 use native.Mathlib.Omega.{arith}
 use borrow.Author.Tests.{eq-eqb}
-use lib.ListN.{length, replicate}
+use lib.ListN.{length, replicate, take, drop, length-drop}
+use lib.Seq.{length-take-le}
 use Rattle.event.specs.Answer.{written_number, written_length}
 use Rattle.event.specs.declared.Written.{Written}
 use Rattle.event.specs.declared.Written.TheVariants as sent
@@ -30,6 +31,10 @@ use Rattle.feed.proofs.Lines.{looked_few, looked_some}
 use Rattle.relay.specs.Inner.{Ready, Stands, waiting_from}
 use Rattle.relay.specs.declared.Place.{Place}
 
+-- what is left of a list from n on
+pub length_rest : (n : ℕ) (l : List ℕ) → n ≤ length l → length (take (length l - n) (drop n l)) ≡ length l - n
+length_rest n l h = length-take-le (length l - n) (drop n l) (omega (arith, length-drop n l))
+
 -- the piece is what is left of the chunk, of which the turn looks at a part, and the turn's output what is left of the
 -- output
 module _ (b line chunk out : List ℕ) (p : Place) (piece rest : List ℕ) where
@@ -45,8 +50,8 @@ module _ (b line chunk out : List ℕ) (p : Place) (piece rest : List ℕ) where
   abbrev Left : Type 0
   Left = (length piece ≡ length chunk - p.at) × (length rest ≡ length out - p.w)
 
-  stays-ready : {r : Turned} {b' line' rest' out' : List ℕ} → Ready b line out → Gives r b' line' rest' → length out' ≡ length out → Ready b' line' out'
-  stays-ready a (x, (y, (t, (l, o)))) e = record {
+  stays_ready : {r : Turned} {b' line' rest' out' : List ℕ} → Ready b line out → Gives r b' line' rest' → length out' ≡ length out → Ready b' line' out'
+  stays_ready a (x, (y, (t, (l, o)))) e = record {
     slots = ap capacity_of t ∙ slots_stay b line p.n seen rest ∙ a.slots;
     wide = omega (arith, a.wide, ap length l, (turned_means b line p.n seen rest).as_long.1);
     enough = omega (arith, a.enough);
@@ -75,31 +80,31 @@ module _ (b line chunk out : List ℕ) (p : Place) (piece rest : List ℕ) where
           Ready b' line' out' × (Stands chunk out' q × (waiting_from chunk q < waiting_from chunk p))
       step_fed e =
           let (i, j, m) = goes in
-          (stays-ready a t e, (record { used = i; waits = omega arith }, omega arith))
+          (stays_ready a t e, (record { used = i; waits = omega arith }, omega arith))
 
     -- a refusal: something waits
     module _ {k : ℕ} (f : r ≡ turning.Refused k) where
-      is-fed : turn_row b line p.n seen rest ≡ 0 → ⊥
+      is_fed : turn_row b line p.n seen rest ≡ 0 → ⊥
       unfolding turned
-      is-fed e =
+      is_fed e =
           let z : turned b line p.n seen rest ≡ turning.Fed (used_of seen) (length (turn_state b line p.n seen).line) (length (turn_text b line p.n seen)) =
           rw (eq-eqb (turn_row b line p.n seen rest) 0 e) refl in
           let x = t.0 in
           let y : ◌≡◌ {A = ℕ} 0 1 = cc in
           omega arith
 
-      some-waits : 1 ≤ p.w
-      some-waits = go (dec_le 1 p.w)
+      some_waits : 1 ≤ p.w
+      some_waits = go (dec_le 1 p.w)
         where
           go : Dec (1 ≤ p.w) → 1 ≤ p.w
           go (yes i) = i
           go (no i) =
               let room : enough_for (capacity_of b) ≤ length rest = rw a.slots (omega (arith, a.enough, l.1)) in
-              absurd (is-fed (turn_fits b line p.n seen rest a.wide room))
+              absurd (is_fed (turn_fits b line p.n seen rest a.wide room))
 
       pub step_refused : {out' : List ℕ} → length out' ≡ length out → let q : Place = record { at = p.at; n = p.n; w = 0 } in
           Ready b' line' out' × (Stands chunk out' q × (waiting_from chunk q < waiting_from chunk p))
-      step_refused e = (stays-ready a t e, (record { used = s.used; waits = omega arith }, omega (arith, some-waits)))
+      step_refused e = (stays_ready a t e, (record { used = s.used; waits = omega arith }, omega (arith, some_waits)))
 
 -- ---- the end of the input
 pub finish_room : (b line : List ℕ) (n : ℕ) (out : List ℕ) {w : ℕ} {r : Written} {b' o : List ℕ}

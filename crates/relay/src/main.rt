@@ -1,17 +1,20 @@
 // The relay: messages on standard input, one a line, over a fresh table of 8 slots; their replies on standard output,
 // each ended with 0A. What matters is proved of `feed`; here are the buffers, and the order of reading and writing.
-ghost use Rattle.std.specs.Prelude.{◌≡◌, ◌≤◌, ◌<◌, length, replicate};
+#![tactic(auto)]
+
+ghost use Rattle.std.specs.Prelude.{◌≡◌, ◌≤◌, ◌<◌, length, replicate, IfOk};
 ghost use Rattle.program.specs.Program.{program_slots, fresh_table};
 ghost use Rattle.program.specs.Feed.{most_line};
 ghost use Rattle.program.specs.Claims.Respond.{enough_for};
 ghost use Rattle.relay.specs.Inner.{Ready, Stands, waiting_from};
 
 use event::Written;
-use libc::{STDIN_FILENO, STDOUT_FILENO};
 use program::Turned;
+use std::io;
+use std::io::{Read, Write};
 
 // How many bytes of the chunk are used up, how many the line so far has, and how many of the output wait to be written.
-#[derive(Drop)]
+#[derive(Clone, Copy)]
 struct Place {
     at: usize,
     n: usize,
@@ -19,27 +22,34 @@ struct Place {
 }
 
 // Whether there was any input, and how many bytes the line so far has.
-#[derive(Drop)]
-struct Read {
+#[derive(Clone, Copy)]
+struct Got {
     more: bool,
     n: usize,
 }
 
-fn write(out: &[u8], w: usize)
+fn write<W: Write>(output: &mut W, out: &[u8], w: usize) -> io::Result<()>
     requires { w ≤ length out.now }
 {
-    io::write_all(STDOUT_FILENO, &out[..w]);
+    output.write_all(&out[..w])
 }
 
 // One turn, into the free rest of the output. Where that is too short, what waits is written, and the next turn has the
-// whole output.
-fn step(table: &mut [u8], line: &mut [u8], chunk: &[u8], out: &mut [u8], p: Place) -> Place
+// whole output. After an error too the buffers are ready.
+fn step<W: Write>(
+    output: &mut W,
+    table: &mut [u8],
+    line: &mut [u8],
+    chunk: &[u8],
+    out: &mut [u8],
+    p: Place,
+) -> io::Result<Place>
     requires ready { Ready table.old line.old out.old }
     requires stands { Stands chunk.now out.old p }
     requires at_in_bounds { p.at < length chunk.now }
     ensures ready_2 { Ready table.new line.new out.new }
-    ensures stands_2 { Stands chunk.now out.new result }
-    ensures result_bound { waiting_from chunk.now result < waiting_from chunk.now p }
+    ensures stands_2 { IfOk result (λ q. Stands chunk.now out.new q) }
+    ensures result_bound { IfOk result (λ q. waiting_from chunk.now q < waiting_from chunk.now p) }
 {
     let at = p.at;
     let w = p.w;
@@ -47,58 +57,87 @@ fn step(table: &mut [u8], line: &mut [u8], chunk: &[u8], out: &mut [u8], p: Plac
         Turned::Fed(used, n, k) => {
             let next = at + used;
             let filled = w + k;
-            Place {
+            Ok(Place {
                 at: next,
                 n,
                 w: filled,
-            }
+            })
         }
         Turned::Refused(_) => {
-            write(out, w);
-            Place { at, n: p.n, w: 0 }
+            write(output, out, w)?;
+            Ok(Place { at, n: p.n, w: 0 })
         }
     }
 }
 
 // A chunk of the input is fed, and all that it is answered written; how many bytes the line so far has then.
-fn feed_chunk(table: &mut [u8], line: &mut [u8], n: usize, chunk: &[u8], out: &mut [u8]) -> usize
+fn feed_chunk<W: Write>(
+    output: &mut W,
+    table: &mut [u8],
+    line: &mut [u8],
+    n: usize,
+    chunk: &[u8],
+    out: &mut [u8],
+) -> io::Result<usize>
     requires { Ready table.old line.old out.old }
     ensures { Ready table.new line.new out.new }
 {
     let mut p = Place { at: 0, n, w: 0 };
     while p.at < chunk.len() {
-        p = step(table, line, chunk, out, p);
+        p = step(output, table, line, chunk, out, p)?;
     }
-    write(out, p.w);
-    p.n
+    write(output, out, p.w)?;
+    output.flush()?;
+    Ok(p.n)
 }
 
-// What standard input has at the moment, as far as it fits the chunk.
-fn read_once(table: &mut [u8], line: &mut [u8], n: usize, chunk: &mut [u8], out: &mut [u8]) -> Read
+// What the input has at the moment, as far as it fits the chunk.
+fn read_once<R: Read, W: Write>(
+    input: &mut R,
+    output: &mut W,
+    table: &mut [u8],
+    line: &mut [u8],
+    n: usize,
+    chunk: &mut [u8],
+    out: &mut [u8],
+) -> io::Result<Got>
     requires { Ready table.old line.old out.old }
     ensures { Ready table.new line.new out.new }
 {
-    let got = libc::read(STDIN_FILENO, chunk);
-    let k = io::count(got, chunk);
+    let k = input.read(chunk)?;
     if k == 0 {
-        return Read { more: false, n };
+        return Ok(Got { more: false, n });
     }
-    let next = feed_chunk(table, line, n, &chunk[..k], out);
-    Read {
+    let next = feed_chunk(output, table, line, n, &chunk[..k], out)?;
+    Ok(Got {
         more: true,
         n: next,
-    }
+    })
 }
 
 // The end of the input.
-fn end(table: &mut [u8], line: &[u8], n: usize, out: &mut [u8]) {
+fn end<W: Write>(
+    output: &mut W,
+    table: &mut [u8],
+    line: &[u8],
+    n: usize,
+    out: &mut [u8],
+) -> io::Result<()> {
     match feed::finish(table, line, n, out) {
-        Written::Wrote(w) => write(out, w),
+        Written::Wrote(w) => write(output, out, w)?,
         Written::Refused(_) => {}
     }
+    output.flush()
 }
 
-fn run(table: &mut [u8], line: &mut [u8], chunk: &mut [u8], out: &mut [u8])
+fn run<R: Read, W: Write>(
+    input: &mut R,
+    output: &mut W,
+    table: &mut [u8],
+    line: &mut [u8],
+    chunk: &mut [u8],
+    out: &mut [u8],
+) -> io::Result<()>
     requires table_value { table.old ≡ fresh_table }
     requires most_line_in_bounds { most_line ≤ length line.old }
     requires program_slots_in_bounds { enough_for program_slots ≤ length out.old }
@@ -106,14 +145,14 @@ fn run(table: &mut [u8], line: &mut [u8], chunk: &mut [u8], out: &mut [u8])
     let mut n: usize = 0;
     let mut turns: u64 = 0;
     while turns < 0xffff_ffff_ffff {
-        let r = read_once(table, line, n, chunk, out);
+        let r = read_once(input, output, table, line, n, chunk, out)?;
         n = r.n;
         if !r.more {
-            end(table, line, n, out);
-            return;
+            return end(output, table, line, n, out);
         }
         turns += 1;
     }
+    Ok(())
 }
 
 // As many zeros as a table of 8 slots has bytes.
@@ -137,11 +176,20 @@ fn output_zeros() -> [u8; 199044]
     [0; 199044]
 }
 
-fn main() {
+fn main(rt: HostRuntime) -> io::Result<()> {
+    let mut input = rt.stdin();
+    let mut output = rt.stdout();
     let mut table = zeros();
     slots::format(&mut table, 8);
     let mut line = line_zeros();
-    let mut chunk = io::large_buffer();
+    let mut chunk = [0u8; 65536];
     let mut out = output_zeros();
-    run(&mut table, &mut line, &mut chunk, &mut out);
+    run(
+        &mut input,
+        &mut output,
+        &mut table,
+        &mut line,
+        &mut chunk,
+        &mut out,
+    )
 }

@@ -8,16 +8,20 @@
 //   E           the end of the run's input
 //
 // What the relay writes is printed, and after each end a line `E`. Of any other line nothing is claimed.
+#![tactic(auto)]
+
 ghost use Rattle.std.specs.Prelude.{◌≡◌, ◌≤◌, length};
 ghost use Rattle.program.specs.Feed.{most_line};
 
 use event::Written;
-use libc::STDOUT_FILENO;
+use lines::{Input, Output};
 use numeral::Whole;
 use program::Turned;
+use std::io;
+use std::io::{Read, Write};
 
 // How many bytes the relay's line has so far, and how large the pieces are.
-#[derive(Drop)]
+#[derive(Clone, Copy)]
 struct Run {
     n: usize,
     cut: usize,
@@ -46,33 +50,40 @@ fn least(a: usize, b: usize) -> usize
     b
 }
 
-fn write_out(out: &[u8], n: usize) {
-    io::write_all(STDOUT_FILENO, wire::piece(out, 0, n));
+fn write_out<W: Write>(output: &mut Output<W>, out: &[u8], n: usize) -> io::Result<()> {
+    lines::write(output, wire::piece(out, 0, n))
 }
 
 // A piece, line by line; how many bytes the line has then.
-fn feed_piece(table: &mut [u8], line: &mut [u8], n: usize, piece: &[u8], out: &mut [u8]) -> usize {
+fn feed_piece<W: Write>(
+    output: &mut Output<W>,
+    table: &mut [u8],
+    line: &mut [u8],
+    n: usize,
+    piece: &[u8],
+    out: &mut [u8],
+) -> io::Result<usize> {
     let mut k = n;
     let mut at: usize = 0;
     let mut turns: usize = 0;
     while turns < piece.len() {
         if piece.len() <= at {
-            return k;
+            return Ok(k);
         }
         let left = piece.len() - at;
         match feed::turn(table, line, k, &piece[at..], out) {
             Turned::Fed(used, m, w) => {
-                write_out(out, w);
+                write_out(output, out, w)?;
                 at = at + least(used, left);
                 k = m;
             }
             Turned::Refused(_) => {
-                return k;
+                return Ok(k);
             }
         }
         turns += 1;
     }
-    k
+    Ok(k)
 }
 
 fn size_of(cut: usize, most: usize) -> usize {
@@ -83,60 +94,82 @@ fn size_of(cut: usize, most: usize) -> usize {
 }
 
 // Bytes in pieces; how many bytes the line has then.
-fn feed_all(table: &mut [u8], line: &mut [u8], r: Run, p: &[u8], out: &mut [u8]) -> usize {
+fn feed_all<W: Write>(
+    output: &mut Output<W>,
+    table: &mut [u8],
+    line: &mut [u8],
+    r: Run,
+    p: &[u8],
+    out: &mut [u8],
+) -> io::Result<usize> {
     let size = size_of(r.cut, p.len());
     let mut k = r.n;
     let mut rest = p.len();
     let mut turns: usize = 0;
     while turns < p.len() {
         let at = p.len() - least(rest, p.len());
-        k = feed_piece(table, line, k, wire::piece(p, at, size), out);
+        k = feed_piece(output, table, line, k, wire::piece(p, at, size), out)?;
         rest = rest - least(size, rest);
         turns += 1;
     }
-    k
+    Ok(k)
 }
 
 // One byte, many times.
-fn feed_many(
+fn feed_many<W: Write>(
+    output: &mut Output<W>,
     table: &mut [u8],
     line: &mut [u8],
     r: Run,
     b: u8,
     count: usize,
     out: &mut [u8],
-) -> usize {
+) -> io::Result<usize> {
     let cut = r.cut;
-    let mut bytes = io::buffer();
+    let mut bytes = [0u8; 4096];
     fields::fill(&mut bytes, b);
     let mut k = r.n;
     let mut rest = count;
     while 0 < rest {
         let size = least(rest, bytes.len());
         if size == 0 {
-            return k;
+            return Ok(k);
         }
-        k = feed_all(table, line, Run { n: k, cut }, &bytes[..size], out);
+        k = feed_all(output, table, line, Run { n: k, cut }, &bytes[..size], out)?;
         rest = rest - size;
     }
-    k
+    Ok(k)
 }
 
-fn end_run(table: &mut [u8], line: &[u8], n: usize, out: &mut [u8]) {
+fn end_run<W: Write>(
+    output: &mut Output<W>,
+    table: &mut [u8],
+    line: &[u8],
+    n: usize,
+    out: &mut [u8],
+) -> io::Result<()> {
     match feed::finish(table, line, n, out) {
-        Written::Wrote(w) => write_out(out, w),
+        Written::Wrote(w) => write_out(output, out, w)?,
         Written::Refused(_) => {}
     }
-    io::write_all(STDOUT_FILENO, b"E\n");
+    lines::write(output, b"E\n")
 }
 
 // The letter R, a byte, and how often.
-fn feed_repeated(table: &mut [u8], line: &mut [u8], r: Run, given: &[u8], out: &mut [u8]) -> usize {
+fn feed_repeated<W: Write>(
+    output: &mut Output<W>,
+    table: &mut [u8],
+    line: &mut [u8],
+    r: Run,
+    given: &[u8],
+    out: &mut [u8],
+) -> io::Result<usize> {
     let n = given.len();
     if n < 3 {
-        return r.n;
+        return Ok(r.n);
     }
     feed_many(
+        output,
         table,
         line,
         r,
@@ -147,68 +180,92 @@ fn feed_repeated(table: &mut [u8], line: &mut [u8], r: Run, given: &[u8], out: &
 }
 
 // How many bytes the relay's line has after a line that feeds it.
-fn feed_given(table: &mut [u8], line: &mut [u8], r: Run, given: &[u8], out: &mut [u8]) -> usize {
+fn feed_given<W: Write>(
+    output: &mut Output<W>,
+    table: &mut [u8],
+    line: &mut [u8],
+    r: Run,
+    given: &[u8],
+    out: &mut [u8],
+) -> io::Result<usize> {
     let n = given.len();
     if n < 2 {
-        return r.n;
+        return Ok(r.n);
     }
     match given[0] {
-        b'L' => feed_all(table, line, r, &given[1..], out),
-        b'P' => feed_all(table, line, r, wire::piece(given, 1, n - 2), out),
-        b'R' => feed_repeated(table, line, r, given, out),
-        _ => r.n,
+        b'L' => feed_all(output, table, line, r, &given[1..], out),
+        b'P' => feed_all(output, table, line, r, wire::piece(given, 1, n - 2), out),
+        b'R' => feed_repeated(output, table, line, r, given, out),
+        _ => Ok(r.n),
     }
 }
 
 // The run after a line, which ends with 0A.
-fn step(table: &mut [u8], line: &mut [u8], r: Run, given: &[u8], out: &mut [u8]) -> Run {
+fn step<W: Write>(
+    output: &mut Output<W>,
+    table: &mut [u8],
+    line: &mut [u8],
+    r: Run,
+    given: &[u8],
+    out: &mut [u8],
+) -> io::Result<Run> {
     let n = given.len();
     if n < 2 {
-        return r;
+        return Ok(r);
     }
     let cut = r.cut;
     if given[0] == b'N' {
         slots::format(table, 8);
         let size = number(wire::piece(given, 1, n - 2));
-        return Run { n: 0, cut: size };
+        return Ok(Run { n: 0, cut: size });
     }
     if given[0] == b'E' {
-        end_run(table, line, r.n, out);
-        return Run { n: 0, cut };
+        end_run(output, table, line, r.n, out)?;
+        return Ok(Run { n: 0, cut });
     }
-    let k = feed_given(table, line, r, given, out);
-    Run { n: k, cut }
+    let k = feed_given(output, table, line, r, given, out)?;
+    Ok(Run { n: k, cut })
 }
 
 // A line of k bytes; one of 65,536 or more is left out.
-fn respond(
+fn respond<W: Write>(
+    output: &mut Output<W>,
     table: &mut [u8],
     line: &mut [u8],
     r: Run,
     given: &mut [u8],
     k: usize,
     out: &mut [u8],
-) -> Run {
+) -> io::Result<Run> {
     if k < given.len() {
         given[k] = b'\n';
         let n = k + 1;
-        return step(table, line, r, &given[..n], out);
+        return step(output, table, line, r, &given[..n], out);
     }
-    r
+    Ok(r)
 }
 
-fn read_all(table: &mut [u8], line: &mut [u8], given: &mut [u8], chunk: &mut [u8], out: &mut [u8]) {
+fn read_all<R: Read, W: Write>(
+    input: &mut Input<R>,
+    output: &mut Output<W>,
+    table: &mut [u8],
+    line: &mut [u8],
+    given: &mut [u8],
+    chunk: &mut [u8],
+    out: &mut [u8],
+) -> io::Result<()> {
     let mut now = Run { n: 0, cut: 0 };
     let mut l = lines::none();
     let mut k: u64 = 0;
     while k < 0xffff_ffff_ffff {
-        l = lines::next(given, chunk, l);
+        l = lines::next(input, given, chunk, l)?;
         if l.left == 0 {
-            return;
+            return Ok(());
         }
-        now = respond(table, line, now, given, l.n, out);
+        now = respond(output, table, line, now, given, l.n, out)?;
         k += 1;
     }
+    Ok(())
 }
 
 // 16 + 8 * 4208 bytes.
@@ -219,7 +276,7 @@ fn no_slots() -> [u8; 33680]
 }
 
 // A byte more than a message may have.
-fn no_line_lem() -> [u8; feed::MOST_LINE]
+fn no_line() -> [u8; feed::MOST_LINE]
     ensures { most_line ≡ length result }
 {
     [0; feed::MOST_LINE]
@@ -232,11 +289,21 @@ fn no_output() -> [u8; 199044]
     [0; 199044]
 }
 
-fn main() {
+fn main(rt: HostRuntime) -> io::Result<()> {
+    let mut input = lines::from_reader(rt.stdin());
+    let mut output = lines::to_writer(rt.stdout());
     let mut table = no_slots();
-    let mut line = no_line_lem();
-    let mut given = io::large_buffer();
-    let mut chunk = io::large_buffer();
+    let mut line = no_line();
+    let mut given = [0u8; 65536];
+    let mut chunk = [0u8; 65536];
     let mut out = no_output();
-    read_all(&mut table, &mut line, &mut given, &mut chunk, &mut out);
+    read_all(
+        &mut input,
+        &mut output,
+        &mut table,
+        &mut line,
+        &mut given,
+        &mut chunk,
+        &mut out,
+    )
 }

@@ -1,10 +1,10 @@
 -- The pieces of a reply in a row, how long it is, its rows, and what is answered.
 use mathlib.Core.Path.{◌≡◌, refl, sym, ap, ◌∙◌}
-use mathlib.Core.Bool.{Bool, true, false, cond, ◌||◌, or_false}
+use mathlib.Core.Bool.{Bool, true, false, ◌||◌, or-false}
 use mathlib.Core.List.{List, ◌++◌, append_assoc}
 use Prim.Native.Nat.{ℕ, ◌+◌, ◌^◌, ◌≤◌, ◌<◌, min}
 use native.Mathlib.Omega.{arith}
-use borrow.Author.Tests.{not_false, lt-ltb, le-ltb, eq-eqb, ne_eqb, eqb-true}
+use borrow.Author.Tests.{not-false, lt-ltb, le-ltb, eq-eqb, ne_eqb, eqb-true}
 use lib.Dec.{eqb}
 use lib.ListN.{length, length-append}
 use lib.Signed.{mag}
@@ -127,14 +127,14 @@ module _ (b : List ℕ) (s t : Span) {x y r : ℕ} (q : r ≡ lower_row x y) whe
   unfolding hex_row string_row
   ok_row_lem e f =
       q ∙ rw (e, f)
-      (sym (ap (λ v. lowest_by (string2 b s || string2 b t) (string4 b s || string4 b t) (string5 b s || string5 b t) false v false) (sym (or_false (string7 64 b s)))
+      (sym (ap (λ v. lowest_by (string2 b s || string2 b t) (string4 b s || string4 b t) (string5 b s || string5 b t) false v false) (sym (or-false (string7 64 b s)))
       ∙ lowest_lower (string2 b s) (string4 b s) (string5 b s) false (string7 64 b s) false (string2 b t) (string4 b t) (string5 b t) false false false))
 
   pub closed_row_lem : x ≡ subscription_row b s → y ≡ string_row b t → r ≡ closed_row b s t
   unfolding subscription_row string_row
   closed_row_lem e f =
       q ∙ rw (e, f)
-      (sym (ap (λ v. lowest_by (string2 b s || string2 b t) (string4 b s || string4 b t) (string5 b s || string5 b t) false false v) (sym (or_false (subscription8 b s)))
+      (sym (ap (λ v. lowest_by (string2 b s || string2 b t) (string4 b s || string4 b t) (string5 b s || string5 b t) false false v) (sym (or-false (subscription8 b s)))
       ∙ lowest_lower (string2 b s) (string4 b s) (string5 b s) false false (subscription8 b s) (string2 b t) (string4 b t) (string5 b t) false false false))
 
 module _ (b : List ℕ) (s : Span) {r : ℕ} where
@@ -147,23 +147,23 @@ module _ (b : List ℕ) (s : Span) {r : ℕ} where
   notice_row_lem e = e
 
 module _ (b : List ℕ) (s : Span) (p : EventParts) {x y r : ℕ} (q : r ≡ lower_row x y) (e : x ≡ subscription_row b s) (f : y ≡ event_row b p) where
-  event-lower : r ≡ event_reply_row b s p
+  event_lower : r ≡ event_reply_row b s p
   unfolding subscription_row event_row
-  event-lower =
+  event_lower =
       q ∙ rw (e, f)
       (sym (lowest_lower (string2 b s) (string4 b s) (string5 b s) false false (subscription8 b s) (event2 b p) (event4 b p) (event5 b p) (body6 p.body) (event7 b p) (body8 b p.body)))
 
   pub event_refused : (r ≡ 0 → ⊥) → r ≡ parts_row b (event_parts s p)
-  event_refused n = event-lower ∙ sym (rw (ne_eqb (event_reply_row b s p) 0 (λ z. n (event-lower ∙ z))))
+  event_refused n = event_lower ∙ sym (rw (ne_eqb (event_reply_row b s p) 0 (λ z. n (event_lower ∙ z))))
 
   module _ (z : r ≡ 0) {k : ℕ} (l : k ≡ length_of (text_of b p.body)) where
     pub event_large : 4096 < k → 9 ≡ parts_row b (event_parts s p)
     unfolding is_large
-    event_large h = sym (rw (eq-eqb (event_reply_row b s p) 0 (sym event-lower ∙ z), lt-ltb 4096 (length (text_of b p.body)) (omega arith)))
+    event_large h = sym (rw (eq-eqb (event_reply_row b s p) 0 (sym event_lower ∙ z), lt-ltb 4096 (length (text_of b p.body)) (omega arith)))
 
     pub event_passes : k ≤ 4096 → 0 ≡ parts_row b (event_parts s p)
     unfolding is_large
-    event_passes h = sym (rw (eq-eqb (event_reply_row b s p) 0 (sym event-lower ∙ z), le-ltb 4096 (length (text_of b p.body)) (omega arith)))
+    event_passes h = sym (rw (eq-eqb (event_reply_row b s p) 0 (sym event_lower ∙ z), le-ltb 4096 (length (text_of b p.body)) (omega arith)))
 
 -- ---- how long a reply is
 room_as : {x y room : ℕ} {r : Bool} → x ≡ y → Room x room r → Room y room r
@@ -223,7 +223,7 @@ none_holds false false false false false f z = (refl, refl)
 
 hex_of_lem : (k : ℕ) (b : List ℕ) (s : Span) → string5 b s ≡ false → string7 k b s ≡ false → is_hex_of k (span_bytes b s) ≡ true
 unfolding string5 string7
-hex_of_lem k b s e f = not_false (is_hex_of k (span_bytes b s)) (rw (not_false (is_spelled b s) e) at f)
+hex_of_lem k b s e f = not-false (is_hex_of k (span_bytes b s)) (rw (not-false (is_spelled b s) e) at f)
 
 hex_length_lem : (k : ℕ) (l : List ℕ) → is_hex_of k l ≡ true → (length (decode l) ≡ k) × (has_control (decode l) ≡ false) × (length (string_json (decode l)) ≡ k + 2)
 unfolding is_hex_of
@@ -234,9 +234,9 @@ hex_length_lem k l h =
     (m, c, omega (arith, plain_length (decode l) (hex_escape (decode l) a) c))
 
 module _ (b : List ℕ) (s : Span) (p : EventParts) (z : parts_row b (event_parts s p) ≡ 0) where
-  tested-length : length (reply_text (reply_of b (event_parts s p))) ≡ length (json_of (text_of b p.body)) + length (json_of (escape (said b s))) + 266
+  tested_length : length (reply_text (reply_of b (event_parts s p))) ≡ length (json_of (text_of b p.body)) + length (json_of (escape (said b s))) + 266
   unfolding event5 event7 body5 body7 text_of event_of
-  tested-length =
+  tested_length =
       let (y, l) = or_else_lem (event_reply_row b s p) _ z in
       let (f, g) = none_holds (string2 b s || event2 b p) (string4 b s || event4 b p) (string5 b s || event5 b p) (body6 p.body) (event7 b p) (subscription8 b s || body8 b p.body) y in
       let (f₁, f₂) = or_not (string5 b p.id) _ (or_not (string5 b s) _ f).1 in
@@ -251,7 +251,7 @@ module _ (b : List ℕ) (s : Span) (p : EventParts) (z : parts_row b (event_part
   pub event_room : {n m room : ℕ} {r : Bool} → room < 2 ^ 64 → n ≡ length_of (json_of (text_of b p.body)) → m ≡ length_of (json_of (escape (said b s))) → Room (266 + n + m) room r
       → Room (length (reply_text (reply_of b (event_parts s p)))) room r
   event_room {n} {m} {room} l e f x =
-      room_as (let q = tested-length in omega (arith, q))
+      room_as (let q = tested_length in omega (arith, q))
       (cut_room 266 (length (json_of (text_of b p.body))) (length (json_of (escape (said b s)))) n m room (omega arith) l e f x)
 
 -- ---- what is answered

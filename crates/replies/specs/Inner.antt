@@ -1,5 +1,5 @@
 -- What private functions hand on: the three pieces of an EVENT, and whether a text has room.
-use Rattle.std.specs.Prelude.{◌≡◌, Bool, true, false, List, ◌++◌, ℕ, ◌≤◌, ◌<◌}
+use Rattle.std.specs.Prelude.{◌≡◌, Bool, true, false, ◌++◌, ℕ, ◌≤◌, ◌<◌}
 use Rattle.numeral.specs.Decimal.{digits, decimal}
 use Rattle.text.specs.Event.{Event}
 use Rattle.reply.specs.Replies.{string_json, tags_json}

@@ -1,5 +1,7 @@
 // Replies written into lent bytes, from lent parts. 01: "Writers copy byte-string heads such as ["OK", and reason
 // texts". Every row is tested before the first byte is written.
+#![tactic(auto)]
+
 ghost use Rattle.std.specs.Prelude.{◌≡◌, ◌+◌, ◌≤◌, length};
 ghost use Rattle.wire.specs.Put.{Puts};
 ghost use Rattle.event.specs.Lent.{said, event_of};

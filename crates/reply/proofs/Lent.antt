@@ -23,11 +23,11 @@ use Rattle.wire.proofs.Lowest.{alike}
 use Rattle.reply.specs.declared.ReplyParts.{ReplyParts}
 use Rattle.reply.specs.declared.ReplyParts.TheVariants as parts
 use Rattle.reply.specs.Lent.{subscription8, parts_row, output_after, reply_row, replied, replied_out}
-use Rattle.reply.specs.Claims.{lent_text, ok-id, ok-reason, event-subscription, eose-subscription}
-use Rattle.reply.specs.Claims.{closed-subscription, closed-reason, notice-reason, of-event, of-eose, of-closed}
-use Rattle.reply.specs.Claims.{EventHolds, event-utf8, event-string, event-shape, event-number, event-hex}
-use Rattle.reply.specs.Claims.{event-count, event_large, PartsHold, not-utf8, not-allowed, not-spelled, not-hex}
-use Rattle.reply.specs.Claims.{miscounted, in-event, PartsRowIs, PartsPass, ReplyHolds, of_parts, too_short}
+use Rattle.reply.specs.Claims.{lent_text, ok_id, ok_reason, event_subscription, eose_subscription}
+use Rattle.reply.specs.Claims.{closed_subscription, closed_reason, notice_reason, of_event, of_eose, of_closed}
+use Rattle.reply.specs.Claims.{EventHolds, event_utf8, event_string, event_shape, event_number_lem, event_hex_lem}
+use Rattle.reply.specs.Claims.{event_count_lem, event_large, PartsHold, not_utf8, not_allowed, not_spelled, not_hex}
+use Rattle.reply.specs.Claims.{miscounted, in_event, PartsRowIs, PartsPass, ReplyHolds, of_parts, too_short}
 use Rattle.reply.specs.Claims.{ReplyRowIs, PartsFirst, ShortOutput, ReplyFits, WritesOr, RepliedMeans}
 use Rattle.reply.specs.Claims.{SerialisedNumber}
 
@@ -37,13 +37,13 @@ zero_or r = ⊎_elim (λ e. inl (eqb-true r 0 e)) (λ e. inr (eqb-false r 0 e)) 
 -- ---- a text is written that fits where no row refuses it
 pub writes_or : (row : ℕ) (t out : List ℕ) → (row ≡ 0 → length t ≤ length out) → WritesOr row t out (answered row (length t)) (output_after row t out)
 writes_or row t out fits = record {
-  number = ⊎_elim (λ e. ap written_number (is-wrote e) ∙ sym e) (λ ne. ap written_number (is-refused ne)) (zero_or row);
-  wrote = is-wrote;
-  value = λ e. ap written_length (is-wrote e);
+  number = ⊎_elim (λ e. ap written_number (is_wrote e) ∙ sym e) (λ ne. ap written_number (is_refused_lem ne)) (zero_or row);
+  wrote = is_wrote;
+  value = λ e. ap written_length (is_wrote e);
   begins = λ e. ap (take (length t)) (taken e) ∙ take_at t (drop (length t) out) (length t) refl;
   rest = λ e. ap (drop (length t)) (taken e) ∙ drop_at t (drop (length t) out) (length t) refl;
   as_long = ⊎_elim (λ e. ap length (taken e) ∙ (let h = fits e in simp (length-append, length-drop) (omega arith))) (λ ne. ap length (left ne)) (zero_or row);
-  refused = λ ne. (is-refused ne, ap written_length (is-refused ne), left ne);
+  refused = λ ne. (is_refused_lem ne, ap written_length (is_refused_lem ne), left ne);
 }
   where
     taken : row ≡ 0 → output_after row t out ≡ t ++ drop (length t) out
@@ -52,11 +52,11 @@ writes_or row t out fits = record {
     left : row ≢ 0 → output_after row t out ≡ out
     left ne = rw (ne_eqb row 0 ne)
 
-    is-wrote : row ≡ 0 → answered row (length t) ≡ sent.Wrote (length t)
-    is-wrote e = rw (eq-eqb row 0 e)
+    is_wrote : row ≡ 0 → answered row (length t) ≡ sent.Wrote (length t)
+    is_wrote e = rw (eq-eqb row 0 e)
 
-    is-refused : row ≢ 0 → answered row (length t) ≡ sent.Refused row
-    is-refused ne = rw (ne_eqb row 0 ne)
+    is_refused_lem : row ≢ 0 → answered row (length t) ≡ sent.Refused row
+    is_refused_lem ne = rw (ne_eqb row 0 ne)
 
 -- ---- the lowest_by of rows that are tested one after the other
 -- the lowest_by of rows that are all above m
@@ -102,33 +102,33 @@ module _ (a b c d e f g : Bool) where
   abbrev Some : ℕ → Type 0
   Some = One a 2 (One b 4 (One c 5 (One d 6 (One e 7 (One f 8 (One g 9 (λ k. ⊥)))))))
 
-  to-tested : (k : ℕ) → Some k → Tested a b c d e f g k
-  to-tested k (inl (q, h)) = rw q (row2 h)
-  to-tested k (inr (inl (q, h))) = rw q (row4 h)
-  to-tested k (inr (inr (inl (q, h)))) = rw q (row5 h)
-  to-tested k (inr (inr (inr (inl (q, h))))) = rw q (row6 h)
-  to-tested k (inr (inr (inr (inr (inl (q, h)))))) = rw q (row7 h)
-  to-tested k (inr (inr (inr (inr (inr (inl (q, h))))))) = rw q (row8 h)
-  to-tested k (inr (inr (inr (inr (inr (inr (inl (q, h)))))))) = rw q (row9 h)
-  to-tested k (inr (inr (inr (inr (inr (inr (inr h))))))) = absurd h
+  to_tested : (k : ℕ) → Some k → Tested a b c d e f g k
+  to_tested k (inl (q, h)) = rw q (row2 h)
+  to_tested k (inr (inl (q, h))) = rw q (row4 h)
+  to_tested k (inr (inr (inl (q, h)))) = rw q (row5 h)
+  to_tested k (inr (inr (inr (inl (q, h))))) = rw q (row6 h)
+  to_tested k (inr (inr (inr (inr (inl (q, h)))))) = rw q (row7 h)
+  to_tested k (inr (inr (inr (inr (inr (inl (q, h))))))) = rw q (row8 h)
+  to_tested k (inr (inr (inr (inr (inr (inr (inl (q, h)))))))) = rw q (row9 h)
+  to_tested k (inr (inr (inr (inr (inr (inr (inr h))))))) = absurd h
 
-  of-tested : (k : ℕ) → Tested a b c d e f g k → Some k
-  of-tested _ (row2 h) = inl (refl, h)
-  of-tested _ (row4 h) = inr (inl (refl, h))
-  of-tested _ (row5 h) = inr (inr (inl (refl, h)))
-  of-tested _ (row6 h) = inr (inr (inr (inl (refl, h))))
-  of-tested _ (row7 h) = inr (inr (inr (inr (inl (refl, h)))))
-  of-tested _ (row8 h) = inr (inr (inr (inr (inr (inl (refl, h))))))
-  of-tested _ (row9 h) = inr (inr (inr (inr (inr (inr (inl (refl, h)))))))
+  of_tested : (k : ℕ) → Tested a b c d e f g k → Some k
+  of_tested _ (row2 h) = inl (refl, h)
+  of_tested _ (row4 h) = inr (inl (refl, h))
+  of_tested _ (row5 h) = inr (inr (inl (refl, h)))
+  of_tested _ (row6 h) = inr (inr (inr (inl (refl, h))))
+  of_tested _ (row7 h) = inr (inr (inr (inr (inl (refl, h)))))
+  of_tested _ (row8 h) = inr (inr (inr (inr (inr (inl (refl, h))))))
+  of_tested _ (row9 h) = inr (inr (inr (inr (inr (inr (inl (refl, h)))))))
 
-  tested-lowest : Lowest (Tested a b c d e f g) (lowest_of a b c d e f g)
-  tested-lowest =
-      alike to-tested of-tested
+  tested_lowest : Lowest (Tested a b c d e f g) (lowest_of a b c d e f g)
+  tested_lowest =
+      alike to_tested of_tested
       (first a 1 2 _ (omega arith) (first b 2 4 _ (omega arith) (first c 4 5 _ (omega arith) (first d 5 6 _ (omega arith)
       (first e 6 7 _ (omega arith) (first f 7 8 _ (omega arith) (first g 8 9 _ (omega arith) no_more))))))).is
 
-  or-nine : or_else (lowest_by a b c d e f) (cond g 9 0) ≡ lowest_of a b c d e f g
-  or-nine = go a b c d e f
+  or_nine : or_else (lowest_by a b c d e f) (cond g 9 0) ≡ lowest_of a b c d e f g
+  or_nine = go a b c d e f
     where
       go : (a b c d e f : Bool) → or_else (lowest_by a b c d e f) (cond g 9 0) ≡ lowest_of a b c d e f g
       go true b c d e f = refl
@@ -149,147 +149,149 @@ no e = absurd (false≢true e)
 
 module _ (b : List ℕ) where
   ok_row_lem : (i r : Span) (a : Bool) → Lowest (PartsHold b (parts.Ok i a r)) (parts_row b (parts.Ok i a r))
-  ok_row_lem i r a = alike to from (tested-lowest (string2 b i || string2 b r) (string4 b i || string4 b r) (string5 b i || string5 b r) false (string7 hex_length b i) false false)
+  ok_row_lem i r a = alike to from (tested_lowest (string2 b i || string2 b r) (string4 b i || string4 b r) (string5 b i || string5 b r) false (string7 hex_length b i) false false)
     where
       Is : ℕ → Type 0
       Is = Tested (string2 b i || string2 b r) (string4 b i || string4 b r) (string5 b i || string5 b r) false (string7 hex_length b i) false false
 
       to : (k : ℕ) → Is k → PartsHold b (parts.Ok i a r) k
-      to _ (row2 h) = ⊎_elim (not-utf8 ok-id) (not-utf8 ok-reason) (or_cases _ _ h)
-      to _ (row4 h) = ⊎_elim (not-allowed ok-id) (not-allowed ok-reason) (or_cases _ _ h)
-      to _ (row5 h) = ⊎_elim (not-spelled ok-id) (not-spelled ok-reason) (or_cases _ _ h)
+      to _ (row2 h) = ⊎_elim (not_utf8 ok_id) (not_utf8 ok_reason) (or_cases _ _ h)
+      to _ (row4 h) = ⊎_elim (not_allowed ok_id) (not_allowed ok_reason) (or_cases _ _ h)
+      to _ (row5 h) = ⊎_elim (not_spelled ok_id) (not_spelled ok_reason) (or_cases _ _ h)
       to _ (row6 h) = no h
-      to _ (row7 h) = not-hex h
+      to _ (row7 h) = not_hex h
       to _ (row8 h) = no h
       to _ (row9 h) = no h
 
       from : (k : ℕ) → PartsHold b (parts.Ok i a r) k → Is k
-      from _ (not-utf8 ok-id h) = row2 (or_left (string2 b i) (string2 b r) h)
-      from _ (not-utf8 ok-reason h) = row2 (or_right (string2 b i) (string2 b r) h)
-      from _ (not-allowed ok-id h) = row4 (or_left (string4 b i) (string4 b r) h)
-      from _ (not-allowed ok-reason h) = row4 (or_right (string4 b i) (string4 b r) h)
-      from _ (not-spelled ok-id h) = row5 (or_left (string5 b i) (string5 b r) h)
-      from _ (not-spelled ok-reason h) = row5 (or_right (string5 b i) (string5 b r) h)
-      from _ (not-hex h) = row7 h
+      from _ (not_utf8 ok_id h) = row2 (or_left (string2 b i) (string2 b r) h)
+      from _ (not_utf8 ok_reason h) = row2 (or_right (string2 b i) (string2 b r) h)
+      from _ (not_allowed ok_id h) = row4 (or_left (string4 b i) (string4 b r) h)
+      from _ (not_allowed ok_reason h) = row4 (or_right (string4 b i) (string4 b r) h)
+      from _ (not_spelled ok_id h) = row5 (or_left (string5 b i) (string5 b r) h)
+      from _ (not_spelled ok_reason h) = row5 (or_right (string5 b i) (string5 b r) h)
+      from _ (not_hex h) = row7 h
+      from _ (miscounted {s = s} x5 _) = elim x5 [ ]
 
   closed_row_lem : (s r : Span) → Lowest (PartsHold b (parts.Closed s r)) (parts_row b (parts.Closed s r))
-  closed_row_lem s r = alike to from (tested-lowest (string2 b s || string2 b r) (string4 b s || string4 b r) (string5 b s || string5 b r) false false (subscription8 b s) false)
+  closed_row_lem s r = alike to from (tested_lowest (string2 b s || string2 b r) (string4 b s || string4 b r) (string5 b s || string5 b r) false false (subscription8 b s) false)
     where
       Is : ℕ → Type 0
       Is = Tested (string2 b s || string2 b r) (string4 b s || string4 b r) (string5 b s || string5 b r) false false (subscription8 b s) false
 
       to : (k : ℕ) → Is k → PartsHold b (parts.Closed s r) k
-      to _ (row2 h) = ⊎_elim (not-utf8 closed-subscription) (not-utf8 closed-reason) (or_cases _ _ h)
-      to _ (row4 h) = ⊎_elim (not-allowed closed-subscription) (not-allowed closed-reason) (or_cases _ _ h)
-      to _ (row5 h) = ⊎_elim (not-spelled closed-subscription) (not-spelled closed-reason) (or_cases _ _ h)
+      to _ (row2 h) = ⊎_elim (not_utf8 closed_subscription) (not_utf8 closed_reason) (or_cases _ _ h)
+      to _ (row4 h) = ⊎_elim (not_allowed closed_subscription) (not_allowed closed_reason) (or_cases _ _ h)
+      to _ (row5 h) = ⊎_elim (not_spelled closed_subscription) (not_spelled closed_reason) (or_cases _ _ h)
       to _ (row6 h) = no h
       to _ (row7 h) = no h
-      to _ (row8 h) = miscounted of-closed h
+      to _ (row8 h) = miscounted of_closed h
       to _ (row9 h) = no h
 
       from : (k : ℕ) → PartsHold b (parts.Closed s r) k → Is k
-      from _ (not-utf8 closed-subscription h) = row2 (or_left (string2 b s) (string2 b r) h)
-      from _ (not-utf8 closed-reason h) = row2 (or_right (string2 b s) (string2 b r) h)
-      from _ (not-allowed closed-subscription h) = row4 (or_left (string4 b s) (string4 b r) h)
-      from _ (not-allowed closed-reason h) = row4 (or_right (string4 b s) (string4 b r) h)
-      from _ (not-spelled closed-subscription h) = row5 (or_left (string5 b s) (string5 b r) h)
-      from _ (not-spelled closed-reason h) = row5 (or_right (string5 b s) (string5 b r) h)
-      from _ (miscounted of-closed h) = row8 h
+      from _ (not_utf8 closed_subscription h) = row2 (or_left (string2 b s) (string2 b r) h)
+      from _ (not_utf8 closed_reason h) = row2 (or_right (string2 b s) (string2 b r) h)
+      from _ (not_allowed closed_subscription h) = row4 (or_left (string4 b s) (string4 b r) h)
+      from _ (not_allowed closed_reason h) = row4 (or_right (string4 b s) (string4 b r) h)
+      from _ (not_spelled closed_subscription h) = row5 (or_left (string5 b s) (string5 b r) h)
+      from _ (not_spelled closed_reason h) = row5 (or_right (string5 b s) (string5 b r) h)
+      from _ (miscounted of_closed h) = row8 h
 
   eose_row_lem : (s : Span) → Lowest (PartsHold b (parts.Eose s)) (parts_row b (parts.Eose s))
-  eose_row_lem s = alike to from (tested-lowest (string2 b s) (string4 b s) (string5 b s) false false (subscription8 b s) false)
+  eose_row_lem s = alike to from (tested_lowest (string2 b s) (string4 b s) (string5 b s) false false (subscription8 b s) false)
     where
       Is : ℕ → Type 0
       Is = Tested (string2 b s) (string4 b s) (string5 b s) false false (subscription8 b s) false
 
       to : (k : ℕ) → Is k → PartsHold b (parts.Eose s) k
-      to _ (row2 h) = not-utf8 eose-subscription h
-      to _ (row4 h) = not-allowed eose-subscription h
-      to _ (row5 h) = not-spelled eose-subscription h
+      to _ (row2 h) = not_utf8 eose_subscription h
+      to _ (row4 h) = not_allowed eose_subscription h
+      to _ (row5 h) = not_spelled eose_subscription h
       to _ (row6 h) = no h
       to _ (row7 h) = no h
-      to _ (row8 h) = miscounted of-eose h
+      to _ (row8 h) = miscounted of_eose h
       to _ (row9 h) = no h
 
       from : (k : ℕ) → PartsHold b (parts.Eose s) k → Is k
-      from _ (not-utf8 eose-subscription h) = row2 h
-      from _ (not-allowed eose-subscription h) = row4 h
-      from _ (not-spelled eose-subscription h) = row5 h
-      from _ (miscounted of-eose h) = row8 h
+      from _ (not_utf8 eose_subscription h) = row2 h
+      from _ (not_allowed eose_subscription h) = row4 h
+      from _ (not_spelled eose_subscription h) = row5 h
+      from _ (miscounted of_eose h) = row8 h
 
   notice_row_lem : (r : Span) → Lowest (PartsHold b (parts.Notice r)) (parts_row b (parts.Notice r))
-  notice_row_lem r = alike to from (tested-lowest (string2 b r) (string4 b r) (string5 b r) false false false false)
+  notice_row_lem r = alike to from (tested_lowest (string2 b r) (string4 b r) (string5 b r) false false false false)
     where
       Is : ℕ → Type 0
       Is = Tested (string2 b r) (string4 b r) (string5 b r) false false false false
 
       to : (k : ℕ) → Is k → PartsHold b (parts.Notice r) k
-      to _ (row2 h) = not-utf8 notice-reason h
-      to _ (row4 h) = not-allowed notice-reason h
-      to _ (row5 h) = not-spelled notice-reason h
+      to _ (row2 h) = not_utf8 notice_reason h
+      to _ (row4 h) = not_allowed notice_reason h
+      to _ (row5 h) = not_spelled notice_reason h
       to _ (row6 h) = no h
       to _ (row7 h) = no h
       to _ (row8 h) = no h
       to _ (row9 h) = no h
 
       from : (k : ℕ) → PartsHold b (parts.Notice r) k → Is k
-      from _ (not-utf8 notice-reason h) = row2 h
-      from _ (not-allowed notice-reason h) = row4 h
-      from _ (not-spelled notice-reason h) = row5 h
+      from _ (not_utf8 notice_reason h) = row2 h
+      from _ (not_allowed notice_reason h) = row4 h
+      from _ (not_spelled notice_reason h) = row5 h
+      from _ (miscounted {s = s} x5 _) = elim x5 [ ]
 
-  event-row : (s : Span) (p : EventParts) → Lowest (PartsHold b (parts.Event s p)) (parts_row b (parts.Event s p))
-  event-row s p =
-      rw (or-nine (string2 b s || event2 b p) (string4 b s || event4 b p) (string5 b s || event5 b p) (body6 p.body) (event7 b p) (subscription8 b s || body8 b p.body) (is_large b p.body))
-      (alike to from (tested-lowest (string2 b s || event2 b p) (string4 b s || event4 b p) (string5 b s || event5 b p) (body6 p.body) (event7 b p) (subscription8 b s || body8 b p.body) (is_large b p.body)))
+  event_row_lem : (s : Span) (p : EventParts) → Lowest (PartsHold b (parts.Event s p)) (parts_row b (parts.Event s p))
+  event_row_lem s p =
+      rw (or_nine (string2 b s || event2 b p) (string4 b s || event4 b p) (string5 b s || event5 b p) (body6 p.body) (event7 b p) (subscription8 b s || body8 b p.body) (is_large b p.body))
+      (alike to from (tested_lowest (string2 b s || event2 b p) (string4 b s || event4 b p) (string5 b s || event5 b p) (body6 p.body) (event7 b p) (subscription8 b s || body8 b p.body) (is_large b p.body)))
     where
       Is : ℕ → Type 0
       Is = Tested (string2 b s || event2 b p) (string4 b s || event4 b p) (string5 b s || event5 b p) (body6 p.body) (event7 b p) (subscription8 b s || body8 b p.body) (is_large b p.body)
 
       to : (k : ℕ) → Is k → PartsHold b (parts.Event s p) k
-      to _ (row2 h) = ⊎_elim (not-utf8 event-subscription) (λ e. in-event (event-utf8 e)) (or_cases _ _ h)
-      to _ (row4 h) = ⊎_elim (not-allowed event-subscription) (λ e. in-event (event-string e)) (or_cases _ _ h)
-      to _ (row5 h) = ⊎_elim (not-spelled event-subscription) (λ e. in-event (event-shape e)) (or_cases _ _ h)
-      to _ (row6 h) = in-event (event-number h)
-      to _ (row7 h) = in-event (event-hex h)
-      to _ (row8 h) = ⊎_elim (miscounted of-event) (λ e. in-event (event-count e)) (or_cases _ _ h)
-      to _ (row9 h) = in-event (event_large h)
+      to _ (row2 h) = ⊎_elim (not_utf8 event_subscription) (λ e. in_event (event_utf8 e)) (or_cases _ _ h)
+      to _ (row4 h) = ⊎_elim (not_allowed event_subscription) (λ e. in_event (event_string e)) (or_cases _ _ h)
+      to _ (row5 h) = ⊎_elim (not_spelled event_subscription) (λ e. in_event (event_shape e)) (or_cases _ _ h)
+      to _ (row6 h) = in_event (event_number_lem h)
+      to _ (row7 h) = in_event (event_hex_lem h)
+      to _ (row8 h) = ⊎_elim (miscounted of_event) (λ e. in_event (event_count_lem e)) (or_cases _ _ h)
+      to _ (row9 h) = in_event (event_large h)
 
       from : (k : ℕ) → PartsHold b (parts.Event s p) k → Is k
-      from _ (not-utf8 event-subscription h) = row2 (or_left (string2 b s) (event2 b p) h)
-      from _ (not-allowed event-subscription h) = row4 (or_left (string4 b s) (event4 b p) h)
-      from _ (not-spelled event-subscription h) = row5 (or_left (string5 b s) (event5 b p) h)
-      from _ (miscounted of-event h) = row8 (or_left (subscription8 b s) (body8 b p.body) h)
-      from _ (in-event (event-utf8 h)) = row2 (or_right (string2 b s) (event2 b p) h)
-      from _ (in-event (event-string h)) = row4 (or_right (string4 b s) (event4 b p) h)
-      from _ (in-event (event-shape h)) = row5 (or_right (string5 b s) (event5 b p) h)
-      from _ (in-event (event-number h)) = row6 h
-      from _ (in-event (event-hex h)) = row7 h
-      from _ (in-event (event-count h)) = row8 (or_right (subscription8 b s) (body8 b p.body) h)
-      from _ (in-event (event_large h)) = row9 h
+      from _ (not_utf8 event_subscription h) = row2 (or_left (string2 b s) (event2 b p) h)
+      from _ (not_allowed event_subscription h) = row4 (or_left (string4 b s) (event4 b p) h)
+      from _ (not_spelled event_subscription h) = row5 (or_left (string5 b s) (event5 b p) h)
+      from _ (miscounted of_event h) = row8 (or_left (subscription8 b s) (body8 b p.body) h)
+      from _ (in_event (event_utf8 h)) = row2 (or_right (string2 b s) (event2 b p) h)
+      from _ (in_event (event_string h)) = row4 (or_right (string4 b s) (event4 b p) h)
+      from _ (in_event (event_shape h)) = row5 (or_right (string5 b s) (event5 b p) h)
+      from _ (in_event (event_number_lem h)) = row6 h
+      from _ (in_event (event_hex_lem h)) = row7 h
+      from _ (in_event (event_count_lem h)) = row8 (or_right (subscription8 b s) (body8 b p.body) h)
+      from _ (in_event (event_large h)) = row9 h
 
 pub parts_row_is : PartsRowIs
 parts_row_is b (parts.Ok i a r) = ok_row_lem b i r a
-parts_row_is b (parts.Event s p) = event-row b s p
+parts_row_is b (parts.Event s p) = event_row_lem b s p
 parts_row_is b (parts.Eose s) = eose_row_lem b s
 parts_row_is b (parts.Closed s r) = closed_row_lem b s r
 parts_row_is b (parts.Notice r) = notice_row_lem b r
 
 event_holds : (b : List ℕ) (p : EventParts) (k : ℕ) → EventHolds b p k → (2 ≤ k) × (k ≤ 9)
-event_holds b p _ (event-utf8 h) = (omega arith, omega arith)
-event_holds b p _ (event-string h) = (omega arith, omega arith)
-event_holds b p _ (event-shape h) = (omega arith, omega arith)
-event_holds b p _ (event-number h) = (omega arith, omega arith)
-event_holds b p _ (event-hex h) = (omega arith, omega arith)
-event_holds b p _ (event-count h) = (omega arith, omega arith)
+event_holds b p _ (event_utf8 h) = (omega arith, omega arith)
+event_holds b p _ (event_string h) = (omega arith, omega arith)
+event_holds b p _ (event_shape h) = (omega arith, omega arith)
+event_holds b p _ (event_number_lem h) = (omega arith, omega arith)
+event_holds b p _ (event_hex_lem h) = (omega arith, omega arith)
+event_holds b p _ (event_count_lem h) = (omega arith, omega arith)
 event_holds b p _ (event_large h) = (omega arith, omega arith)
 
 pub parts_hold : (b : List ℕ) (q : ReplyParts) (k : ℕ) → PartsHold b q k → (2 ≤ k) × (k ≤ 9)
-parts_hold b q _ (not-utf8 s h) = (omega arith, omega arith)
-parts_hold b q _ (not-allowed s h) = (omega arith, omega arith)
-parts_hold b q _ (not-spelled s h) = (omega arith, omega arith)
-parts_hold b _ _ (not-hex h) = (omega arith, omega arith)
+parts_hold b q _ (not_utf8 s h) = (omega arith, omega arith)
+parts_hold b q _ (not_allowed s h) = (omega arith, omega arith)
+parts_hold b q _ (not_spelled s h) = (omega arith, omega arith)
+parts_hold b _ _ (not_hex h) = (omega arith, omega arith)
 parts_hold b q _ (miscounted s h) = (omega arith, omega arith)
-parts_hold b _ k (in-event {p = p} h) = event_holds b p k h
+parts_hold b _ k (in_event {p = p} h) = event_holds b p k h
 
 pub parts_pass : PartsPass
 parts_pass b q = (to, from)
@@ -310,51 +312,51 @@ module _ (b : List ℕ) (q : ReplyParts) (out : List ℕ) where
   unfolding reply_row
   row_of x e = rw e
 
-  of-the-parts : parts_row b q ≢ 0 → reply_row b q out ≡ parts_row b q
+  of_the_parts : parts_row b q ≢ 0 → reply_row b q out ≡ parts_row b q
   unfolding reply_row
-  of-the-parts ne = rw (ne_eqb (parts_row b q) 0 ne)
+  of_the_parts ne = rw (ne_eqb (parts_row b q) 0 ne)
 
-  of-the-output : parts_row b q ≡ 0 → (x : Bool) → ltb (length out) (length text) ≡ x → reply_row b q out ≡ cond x 13 0
-  of-the-output e x l = row_of x l ∙ (rw e)
+  of_the_output : parts_row b q ≡ 0 → (x : Bool) → ltb (length out) (length text) ≡ x → reply_row b q out ≡ cond x 13 0
+  of_the_output e x l = row_of x l ∙ (rw e)
 
-  parts-small : parts_row b q ≤ 9
-  parts-small = ⊎_elim (λ e. omega (arith, e)) (λ ne. (parts_hold b q (parts_row b q) ((parts_row_is b q).holds ne)).1) (zero_or (parts_row b q))
+  parts_small : parts_row b q ≤ 9
+  parts_small = ⊎_elim (λ e. omega (arith, e)) (λ ne. (parts_hold b q (parts_row b q) ((parts_row_is b q).holds ne)).1) (zero_or (parts_row b q))
 
   long : ltb (length out) (length text) ≡ false → length text ≤ length out
   long e = let z = ltb-false (length out) (length text) e in omega (arith, z)
 
   short_row : parts_row b q ≡ 0 → length out < length text → reply_row b q out ≡ 13
-  short_row e l = of-the-output e true (lt-ltb (length out) (length text) l)
+  short_row e l = of_the_output e true (lt-ltb (length out) (length text) l)
 
-  is-13 : reply_row b q out ≡ 13 → (parts_row b q ≡ 0) × (length out < length text)
-  is-13 e = ⊎_elim zero (λ ne. absurd (let z = of-the-parts ne in let w = parts-small in omega arith)) (zero_or (parts_row b q))
+  is_13 : reply_row b q out ≡ 13 → (parts_row b q ≡ 0) × (length out < length text)
+  is_13 e = ⊎_elim zero (λ ne. absurd (let z = of_the_parts ne in let w = parts_small in omega arith)) (zero_or (parts_row b q))
     where
       zero : parts_row b q ≡ 0 → (parts_row b q ≡ 0) × (length out < length text)
       zero z =
-          ⊎_elim (λ t. (z, ltb-true (length out) (length text) t)) (λ f. absurd (let w = of-the-output z false f in omega arith))
+          ⊎_elim (λ t. (z, ltb-true (length out) (length text) t)) (λ f. absurd (let w = of_the_output z false f in omega arith))
           (bool (ltb (length out) (length text)))
 
-  is-0 : reply_row b q out ≡ 0 → (parts_row b q ≡ 0) × (length text ≤ length out)
-  is-0 e = ⊎_elim zero (λ ne. absurd (ne (sym (of-the-parts ne) ∙ e))) (zero_or (parts_row b q))
+  is_0 : reply_row b q out ≡ 0 → (parts_row b q ≡ 0) × (length text ≤ length out)
+  is_0 e = ⊎_elim zero (λ ne. absurd (ne (sym (of_the_parts ne) ∙ e))) (zero_or (parts_row b q))
     where
       zero : parts_row b q ≡ 0 → (parts_row b q ≡ 0) × (length text ≤ length out)
-      zero z = ⊎_elim (λ t. absurd (let w = of-the-output z true t in omega arith)) (λ f. (z, long f)) (bool (ltb (length out) (length text)))
+      zero z = ⊎_elim (λ t. absurd (let w = of_the_output z true t in omega arith)) (λ f. (z, long f)) (bool (ltb (length out) (length text)))
 
-  fits-row : parts_row b q ≡ 0 → length text ≤ length out → reply_row b q out ≡ 0
-  fits-row e l =
-      ⊎_elim (λ t. absurd (let w = ltb-true (length out) (length text) t in omega arith)) (λ f. of-the-output e false f)
+  fits_row : parts_row b q ≡ 0 → length text ≤ length out → reply_row b q out ≡ 0
+  fits_row e l =
+      ⊎_elim (λ t. absurd (let w = ltb-true (length out) (length text) t in omega arith)) (λ f. of_the_output e false f)
       (bool (ltb (length out) (length text)))
 
-  reply-row : Lowest (ReplyHolds b q out) (reply_row b q out)
-  reply-row = ⊎_elim free held (zero_or (parts_row b q))
+  reply_row_lem : Lowest (ReplyHolds b q out) (reply_row b q out)
+  reply_row_lem = ⊎_elim free held (zero_or (parts_row b q))
     where
       -- a row of the parts
       held : parts_row b q ≢ 0 → Lowest (ReplyHolds b q out) (reply_row b q out)
-      held ne = record { holds = λ z. rw (of-the-parts ne) (of_parts ((parts_row_is b q).holds ne)); least = least }
+      held ne = record { holds = λ z. rw (of_the_parts ne) (of_parts ((parts_row_is b q).holds ne)); least = least }
         where
           least : (k : ℕ) → ReplyHolds b q out k → k ≢ 0 → (reply_row b q out ≢ 0) × (reply_row b q out ≤ k)
-          least k (of_parts h) nz = rw (of-the-parts ne) ((parts_row_is b q).least k h nz)
-          least _ (too_short l) nz = rw (of-the-parts ne) (ne, let z = parts-small in omega arith)
+          least k (of_parts h) nz = rw (of_the_parts ne) ((parts_row_is b q).least k h nz)
+          least _ (too_short l) nz = rw (of_the_parts ne) (ne, let z = parts_small in omega arith)
 
       -- none of them
       free : parts_row b q ≡ 0 → Lowest (ReplyHolds b q out) (reply_row b q out)
@@ -362,7 +364,7 @@ module _ (b : List ℕ) (q : ReplyParts) (out : List ℕ) where
         where
           holds : reply_row b q out ≢ 0 → ReplyHolds b q out (reply_row b q out)
           holds ne =
-              ⊎_elim (λ t. rw (of-the-output e true t) (too_short (ltb-true (length out) (length text) t))) (λ f. absurd (ne (of-the-output e false f)))
+              ⊎_elim (λ t. rw (of_the_output e true t) (too_short (ltb-true (length out) (length text) t))) (λ f. absurd (ne (of_the_output e false f)))
               (bool (ltb (length out) (length text)))
 
           least : (k : ℕ) → ReplyHolds b q out k → k ≢ 0 → (reply_row b q out ≢ 0) × (reply_row b q out ≤ k)
@@ -370,20 +372,20 @@ module _ (b : List ℕ) (q : ReplyParts) (out : List ℕ) where
           least _ (too_short l) nz = let w = short_row e l in (λ z. absurd (omega arith), omega arith)
 
 pub reply_row_is : ReplyRowIs
-reply_row_is b q out = reply-row b q out
+reply_row_is b q out = reply_row_lem b q out
 
 pub parts_first : PartsFirst
-parts_first b q out ne = of-the-parts b q out ne
+parts_first b q out ne = of_the_parts b q out ne
 
 pub short_output : ShortOutput
-short_output b q out = (is-13 b q out, λ (e, l). short_row b q out e l)
+short_output b q out = (is_13 b q out, λ (e, l). short_row b q out e l)
 
 pub reply_fits : ReplyFits
-reply_fits b q out = (is-0 b q out, λ (e, l). fits-row b q out e l)
+reply_fits b q out = (is_0 b q out, λ (e, l). fits_row b q out e l)
 
 pub replied_means : RepliedMeans
 unfolding replied replied_out
-replied_means b q out = writes_or (reply_row b q out) (lent_text b q) out (λ e. (is-0 b q out e).1)
+replied_means b q out = writes_or (reply_row b q out) (lent_text b q) out (λ e. (is_0 b q out e).1)
 
 -- ---- other answers
 pub serialised_number : SerialisedNumber

@@ -35,11 +35,11 @@ abbrev pub Raw : List ℕ → Type 0
 Raw l = any is_low l ≡ false
 
 module _ (k l : List ℕ) where
-  raw-append : Raw k → Raw l → Raw (k ++ l)
-  raw-append p q = none_append is_low k l p q
+  raw_append : Raw k → Raw l → Raw (k ++ l)
+  raw_append p q = none_append is_low k l p q
 
-  json-raw : Raw (json_of k) → Raw (json_of l) → Raw (json_of (k ++ l))
-  json-raw p q = rw (json_append k l) (none_append is_low (json_of k) (json_of l) p q)
+  json_raw : Raw (json_of k) → Raw (json_of l) → Raw (json_of (k ++ l))
+  json_raw p q = rw (json_append k l) (none_append is_low (json_of k) (json_of l) p q)
 
 -- ---- strings
 raw_letter : (x : ℕ) → eqb (letter_of x) 0 ≡ false → is_low (letter_of x) ≡ false
@@ -79,11 +79,11 @@ raw_one x = go (is_control x) refl
 raw_escape : (s : List ℕ) → Raw (json_of (escape s))
 unfolding escape json_of
 raw_escape [] = refl
-raw_escape (x ∷ s) = json-raw (esc_one x) _ (raw_one x) (raw_escape s)
+raw_escape (x ∷ s) = json_raw (esc_one x) _ (raw_one x) (raw_escape s)
 
 raw_string : (s : List ℕ) → Raw (json_of (quoted s))
 unfolding quoted json_of json_one
-raw_string s = json-raw (escape s) _ (raw_escape s) refl
+raw_string s = json_raw (escape s) _ (raw_escape s) refl
 
 -- ---- numbers
 raw_digits : (n : ℕ) → Raw (digits n)
@@ -93,7 +93,7 @@ raw_digits = by_digits (λ n. Raw (digits n)) one more
     one n h = rw (digits_one n h, le-ltb (48 + n) 0x20 (omega arith))
 
     more : (n : ℕ) → 10 ≤ n → Raw (digits (n / 10)) → Raw (digits n)
-    more n h p = rw (digits_split n h) (raw-append (digits (n / 10)) _ p (rw (le-ltb (48 + n % 10) 0x20 (omega arith))))
+    more n h p = rw (digits_split n h) (raw_append (digits (n / 10)) _ p (rw (le-ltb (48 + n % 10) 0x20 (omega arith))))
 
 raw_decimal : (z : ℤ) → Raw (decimal z)
 unfolding decimal
@@ -104,8 +104,8 @@ raw_decimal (negsuc n) = raw_digits (suc n)
 raw_members : {A : Type 0} (p : A → List ℕ) → ((x : A) → Raw (json_of (p x))) → (l : List A) → Raw (json_of (members_text p l))
 unfolding members_text json_of json_one
 raw_members p h [] = refl
-raw_members p h (x ∷ []) = json-raw (p x) _ (h x) refl
-raw_members p h (x ∷ y ∷ l) = json-raw (p x) _ (h x) (raw_members p h (y ∷ l))
+raw_members p h (x ∷ []) = json_raw (p x) _ (h x) refl
+raw_members p h (x ∷ y ∷ l) = json_raw (p x) _ (h x) (raw_members p h (y ∷ l))
 
 raw_tags : (ts : List Tag) → Raw (json_of (tags_text ts))
 unfolding tags_text tag_text json_of json_one
@@ -118,20 +118,20 @@ raw_truth false = refl
 -- ---- replies
 string : (s l : List ℕ) → Raw l → Raw (string_json s ++ l)
 unfolding string_json
-string s l q = raw-append (json_of (quoted s)) l (raw_string s) q
+string s l q = raw_append (json_of (quoted s)) l (raw_string s) q
 
 pub raw_object : (i : List ℕ) (e : Event) (s : List ℕ) → Raw (object_text i e s)
 unfolding object_text tags_json
 raw_object i e s =
     string i _ (string e.pubkey _
-    (raw-append (decimal e.time) _ (raw_decimal e.time)
-    (raw-append (digits e.kind) _ (raw_digits e.kind)
-    (raw-append (tags_json e.tags) _ (raw_tags e.tags) (string e.content _ (string s _ refl))))))
+    (raw_append (decimal e.time) _ (raw_decimal e.time)
+    (raw_append (digits e.kind) _ (raw_digits e.kind)
+    (raw_append (tags_json e.tags) _ (raw_tags e.tags) (string e.content _ (string s _ refl))))))
 
 pub reply_raw : ReplyRaw
 unfolding reply_text
-reply_raw (ok i a r) = string i _ (raw-append (truth a) _ (raw_truth a) (string r _ refl))
-reply_raw (event s i e g) = string s _ (raw-append (object_text i e g) _ (raw_object i e g) refl)
+reply_raw (ok i a r) = string i _ (raw_append (truth a) _ (raw_truth a) (string r _ refl))
+reply_raw (event s i e g) = string s _ (raw_append (object_text i e g) _ (raw_object i e g) refl)
 reply_raw (eose s) = string s _ refl
 reply_raw (closed s r) = string s _ (string r _ refl)
 reply_raw (notice r) = string r _ refl

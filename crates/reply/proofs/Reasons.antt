@@ -2,7 +2,7 @@
 use mathlib.Core.Path.{◌≡◌, refl, ap, ◌∙◌}
 use mathlib.Core.Bool.{Bool, true, false, not, ◌&&◌}
 use mathlib.Core.List.{List, [], ◌∷◌, ◌++◌, append_assoc}
-use Prim.Native.Nat.{ℕ, zero, suc, ◌+◌, ◌/◌, ◌%◌, ◌^◌, ◌≤◌, ◌<◌}
+use Prim.Native.Nat.{ℕ, zero, suc, ◌+◌, ◌/◌, ◌%◌, ◌≤◌, ◌<◌}
 use native.Mathlib.Omega.{arith}
 use borrow.Author.Tests.{eqb-true, eqb-false, leb-true, ne_eqb, not-true}
 use lib.Dec.{eqb, leb, lit<}
@@ -19,7 +19,7 @@ use Rattle.shape.specs.declared.Offset.TheVariants.{Absent, At}
 use Rattle.shape.specs.declared.Refusal.{Refusal}
 use Rattle.shape.specs.Offsets.{offset_for, refusal_for}
 use Rattle.shape.proofs.Offsets.{offset_plain, offset_for_within}
-use Rattle.text.specs.Event.{quoted, all}
+use Rattle.text.specs.Event.{all}
 use Rattle.text.proofs.Pieces.{both}
 use Rattle.event.proofs.Forms.{form_quoted}
 use Rattle.reply.specs.Replies.{string_json, reasons, reason_of, offset_text, refusal_reason}

@@ -43,38 +43,38 @@ lent_text b q = reply_text (reply_of b q)
 
 -- the strings of a reply, its event's aside, and which of them is a subscription id
 pub data StringOf : ReplyParts → Span → Type 0 where
-  ok-id : {i r : Span} {a : Bool} → StringOf (parts.Ok i a r) i
-  ok-reason : {i r : Span} {a : Bool} → StringOf (parts.Ok i a r) r
-  event-subscription : {s : Span} {p : EventParts} → StringOf (parts.Event s p) s
-  eose-subscription : {s : Span} → StringOf (parts.Eose s) s
-  closed-subscription : {s r : Span} → StringOf (parts.Closed s r) s
-  closed-reason : {s r : Span} → StringOf (parts.Closed s r) r
-  notice-reason : {r : Span} → StringOf (parts.Notice r) r
+  ok_id : {i r : Span} {a : Bool} → StringOf (parts.Ok i a r) i
+  ok_reason : {i r : Span} {a : Bool} → StringOf (parts.Ok i a r) r
+  event_subscription : {s : Span} {p : EventParts} → StringOf (parts.Event s p) s
+  eose_subscription : {s : Span} → StringOf (parts.Eose s) s
+  closed_subscription : {s r : Span} → StringOf (parts.Closed s r) s
+  closed_reason : {s r : Span} → StringOf (parts.Closed s r) r
+  notice_reason : {r : Span} → StringOf (parts.Notice r) r
 
 pub data SubscriptionOf : ReplyParts → Span → Type 0 where
-  of-event : {s : Span} {p : EventParts} → SubscriptionOf (parts.Event s p) s
-  of-eose : {s : Span} → SubscriptionOf (parts.Eose s) s
-  of-closed : {s r : Span} → SubscriptionOf (parts.Closed s r) s
+  of_event : {s : Span} {p : EventParts} → SubscriptionOf (parts.Event s p) s
+  of_eose : {s : Span} → SubscriptionOf (parts.Eose s) s
+  of_closed : {s r : Span} → SubscriptionOf (parts.Closed s r) s
 
 -- the row k holds of the event p: "Parts of an event .. are tested by rows 2 and 4 to 8 .., an event by 9 too"
 pub data EventHolds (b : List ℕ) (p : EventParts) : ℕ → Type 0 where
-  event-utf8 : event2 b p ≡ true → EventHolds b p 2
-  event-string : event4 b p ≡ true → EventHolds b p 4
-  event-shape : event5 b p ≡ true → EventHolds b p 5
-  event-number : body6 p.body ≡ true → EventHolds b p 6
-  event-hex : event7 b p ≡ true → EventHolds b p 7
-  event-count : body8 b p.body ≡ true → EventHolds b p 8
+  event_utf8 : event2 b p ≡ true → EventHolds b p 2
+  event_string : event4 b p ≡ true → EventHolds b p 4
+  event_shape : event5 b p ≡ true → EventHolds b p 5
+  event_number_lem : body6 p.body ≡ true → EventHolds b p 6
+  event_hex_lem : event7 b p ≡ true → EventHolds b p 7
+  event_count_lem : body8 b p.body ≡ true → EventHolds b p 8
   event_large : is_large b p.body ≡ true → EventHolds b p 9
 
 -- the row k holds of the reply q: an id is 64 of lower-case hex, a subscription id has "1 to 64 characters", a reason
 -- is any string
 pub data PartsHold (b : List ℕ) : ReplyParts → ℕ → Type 0 where
-  not-utf8 : {q : ReplyParts} {s : Span} → StringOf q s → string2 b s ≡ true → PartsHold b q 2
-  not-allowed : {q : ReplyParts} {s : Span} → StringOf q s → string4 b s ≡ true → PartsHold b q 4
-  not-spelled : {q : ReplyParts} {s : Span} → StringOf q s → string5 b s ≡ true → PartsHold b q 5
-  not-hex : {i r : Span} {a : Bool} → string7 hex_length b i ≡ true → PartsHold b (parts.Ok i a r) 7
+  not_utf8 : {q : ReplyParts} {s : Span} → StringOf q s → string2 b s ≡ true → PartsHold b q 2
+  not_allowed : {q : ReplyParts} {s : Span} → StringOf q s → string4 b s ≡ true → PartsHold b q 4
+  not_spelled : {q : ReplyParts} {s : Span} → StringOf q s → string5 b s ≡ true → PartsHold b q 5
+  not_hex : {i r : Span} {a : Bool} → string7 hex_length b i ≡ true → PartsHold b (parts.Ok i a r) 7
   miscounted : {q : ReplyParts} {s : Span} → SubscriptionOf q s → subscription8 b s ≡ true → PartsHold b q 8
-  in-event : {s : Span} {p : EventParts} {k : ℕ} → EventHolds b p k → PartsHold b (parts.Event s p) k
+  in_event : {s : Span} {p : EventParts} {k : ℕ} → EventHolds b p k → PartsHold b (parts.Event s p) k
 
 -- 01, "Numbers the relay answers with": "Where several hold, the lowest number is given"
 abbrev pub PartsRowIs : Type 0

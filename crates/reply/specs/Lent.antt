@@ -1,7 +1,7 @@
 -- A reply given as lent parts over the buffer b: "Parts of an event, filter or reply are tested by rows 2 and 4 to 8
 -- .., an event by 9 too"; then 13, "lent output .. too short". The reason is any string; ids are "Hex", subscription
 -- ids are bounded by "Counts".
-use Rattle.std.specs.Prelude.{Bool, false, cond, ◌||◌, ◌&&◌, List, ℕ, length}
+use Rattle.std.specs.Prelude.{Bool, false, cond, ◌||◌, length}
 use Rattle.wire.specs.Limits.{hex_length}
 pub use Rattle.wire.specs.Put.{short_row, output_after}
 use Rattle.message.specs.declared.Span.{Span}

@@ -197,28 +197,28 @@ module _ (m : List ℕ) (x : Naming) where
     unfolding naming_text notice_text
     none_put e y = rw e y
 
-  naming-length : (n : Named) → x.named ≡ n → length (reply_text (refusal_naming m n (refusal_reason why))) ≡ length (naming_text m x)
+  naming_length : (n : Named) → x.named ≡ n → length (reply_text (refusal_naming m n (refusal_reason why))) ≡ length (naming_text m x)
   unfolding naming_text
-  naming-length n e = ap (λ y. length (reply_text (refusal_naming m y (refusal_reason why)))) (sym e)
+  naming_length n e = ap (λ y. length (reply_text (refusal_naming m y (refusal_reason why)))) (sym e)
 
   module _ {k : ℕ} (l : (k ≡ length (string_json (refusal_reason why))) × (k ≤ 53)) {room : ℕ} (few : room < 2 ^ 64) {r : Bool} where
     pub id_room : (p : Span) → x.named ≡ Id p → {h : ℕ} → h ≡ length_of (json_of (escape (said m p))) → Room (16 + k + h) room r → Room (length (naming_text m x)) room r
     unfolding ok_text
-    id_room p e {h} f w = room_as (is ∙ naming-length (Id p) e) (cut_room (16 + k) (length (json_of (escape (said m p)))) h room (omega arith) few f w)
+    id_room p e {h} f w = room_as (is ∙ naming_length (Id p) e) (cut_room (16 + k) (length (json_of (escape (said m p)))) h room (omega arith) few f w)
       where
         is : 16 + k + length (json_of (escape (said m p))) ≡ length (ok_text (said m p) (Refused why))
         is = omega (arith, l.0, ok_length (said m p) (Refused why), refused_length why, string_length (said m p))
 
     pub sub_room : (p : Span) → x.named ≡ Subscription p → {h : ℕ} → h ≡ length_of (json_of (escape (said m p))) → Room (14 + k + h) room r → Room (length (naming_text m x)) room r
     unfolding closed_text
-    sub_room p e {h} f w = room_as (is ∙ naming-length (Subscription p) e) (cut_room (14 + k) (length (json_of (escape (said m p)))) h room (omega arith) few f w)
+    sub_room p e {h} f w = room_as (is ∙ naming_length (Subscription p) e) (cut_room (14 + k) (length (json_of (escape (said m p)))) h room (omega arith) few f w)
       where
         is : 14 + k + length (json_of (escape (said m p))) ≡ length (closed_text (said m p) why)
         is = omega (arith, l.0, closed_length (said m p) why, string_length (said m p))
 
     pub none_room : x.named ≡ Nothing → Room (11 + k + 0) room r → Room (length (naming_text m x)) room r
     unfolding notice_text
-    none_room e w = room_as (is ∙ naming-length Nothing e) w
+    none_room e w = room_as (is ∙ naming_length Nothing e) w
       where
         is : 11 + k + 0 ≡ length (notice_text why)
         is = omega (arith, l.0, notice_length why)

@@ -41,7 +41,7 @@ use Rattle.event.specs.declared.Written.{Written}
 use Rattle.event.specs.declared.Written.TheVariants as sent
 use Rattle.event.proofs.Answers.{number_is}
 use Rattle.table.specs.Sound.{sound}
-use Rattle.table.specs.Offer.{asMessage, asParts, parts_of, answer, next, verdict_on}
+use Rattle.table.specs.Offer.{as_message, as_parts, parts_of, answer, next, verdict_on}
 use Rattle.table.specs.declared.Offered.{Offered}
 use Rattle.table.specs.declared.Offered.TheVariants as offered
 use Rattle.table.proofs.Bytes.{clauses}
@@ -96,18 +96,18 @@ module _ (m : List ℕ) (row : ℕ) (out : List ℕ) {x : Naming} (e : x ≡ nam
   abbrev AsRefused : Written → List ℕ → Type 0
   AsRefused r o = (r ≡ refused_reply m row out) × ((written_number r ≡ refused_row m row out) × (o ≡ refused_out m row out))
 
-  text-is : naming_text m x ≡ refused_text m row
-  text-is = ap (naming_text m) e ∙ naming_is m row
+  text_is : naming_text m x ≡ refused_text m row
+  text_is = ap (naming_text m) e ∙ naming_is m row
 
-  as-refused : {r : Written} {o : List ℕ} → Said (refused_text m row) out r o → AsRefused r o
+  as_refused : {r : Written} {o : List ℕ} → Said (refused_text m row) out r o → AsRefused r o
   unfolding refused_reply refused_row refused_out
-  as-refused s = (s.answer, (ap written_number s.answer ∙ number_is (short_row (refused_text m row) out) (length (refused_text m row)), s.bytes))
+  as_refused s = (s.answer, (ap written_number s.answer ∙ number_is (short_row (refused_text m row) out) (length (refused_text m row)), s.bytes))
 
   pub refused_short : f ≡ false → AsRefused (sent.Refused 13) out
-  refused_short q = as-refused (said_short (refused_text m row) out (omega (arith, room.no q, ap length text-is)))
+  refused_short q = as_refused (said_short (refused_text m row) out (omega (arith, room.no q, ap length text_is)))
 
   pub refused_put : f ≡ true → {r : ℕ} {o : List ℕ} → Puts out 0 (naming_text m x) r o → AsRefused (sent.Wrote r) o
-  refused_put q p = as-refused (said_put (refused_text m row) out (omega (arith, room.yes q, ap length text-is)) (rw text-is at p))
+  refused_put q p = as_refused (said_put (refused_text m row) out (omega (arith, room.yes q, ap length text_is)) (rw text_is at p))
 
 -- ---- with 0A
 pub line_none : (t out : List ℕ) → length out ≡ 0 → Said (ended t) out (sent.Refused 13) out
@@ -178,34 +178,34 @@ module _ (b m : List ℕ) (p : EventParts) (e : read_of m ≡ message.Event p) w
       go false q = offset_other m row (λ y. eqb-false row 0 q (y ∙ none))
 
   -- what was read is answered as the message is
-  parts-answer : answer b (asParts m p) ≡ answer b (asMessage m)
+  parts_answer : answer b (as_parts m p) ≡ answer b (as_message m)
   unfolding answer verdict_on
-  parts-answer = let r = event_rows m p e in rw (r.as_parts, r.same_event, no_offset (offered_row m p))
+  parts_answer = let r = event_rows m p e in rw (r.as_parts_lem, r.same_event, no_offset (offered_row m p))
 
-  parts_next : next b (asParts m p) ≡ next b (asMessage m)
+  parts_next : next b (as_parts m p) ≡ next b (as_message m)
   unfolding next parts_of
-  parts_next = rw (parts-answer, e)
+  parts_next = rw (parts_answer, e)
 
-  ok_line : response b m ≡ ended (ok_text (said m p.id) (answer b (asMessage m)))
+  ok_line : response b m ≡ ended (ok_text (said m p.id) (answer b (as_message m)))
   unfolding response ok_text
   ok_line = ap written (read_event b m p e).0 ∙ one_written _
 
-  ok-line-length : length (response b m) ≡ 75 + length (verdict_text (answer b (asMessage m)))
-  ok-line-length =
+  ok_line_length : length (response b m) ≡ 75 + length (verdict_text (answer b (as_message m)))
+  ok_line_length =
       let i = said m p.id in
-      let a = answer b (asMessage m) in
+      let a = answer b (as_message m) in
       let h = hex_short (part m p.id.start p.id.len) (named_hex m p.id (names_id m p e)) in
       ap length ok_line ∙ omega (arith, ended_length (ok_text i a), ok_length i a, h)
 
   pub longest_fits : (room : ℕ) → 116 ≤ room → Room (length (response b m)) room true
-  longest_fits room h = record { yes = λ q. omega (arith, ok-line-length, verdict_most (answer b (asMessage m)) (λ x a. (last_rows b m p x e a).2)); no = λ q. absurd (false≢true (sym q)) }
+  longest_fits room h = record { yes = λ q. omega (arith, ok_line_length, verdict_most (answer b (as_message m)) (λ x a. (last_rows b m p x e a).2)); no = λ q. absurd (false≢true (sym q)) }
 
-  pub verdict_fits : (room : ℕ) {a : Offered} {n : ℕ} → a ≡ answer b (asMessage m) → (n ≡ length (verdict_text a)) × (n ≤ 59) → Room (length (response b m)) room (leb (75 + n) room)
+  pub verdict_fits : (room : ℕ) {a : Offered} {n : ℕ} → a ≡ answer b (as_message m) → (n ≡ length (verdict_text a)) × (n ≤ 59) → Room (length (response b m)) room (leb (75 + n) room)
   verdict_fits room {a} {n} ea (f, h) =
       let g = ap (λ x. length (verdict_text x)) ea in
       record {
-        yes = λ q. let z = leb-true (75 + n) room q in omega (arith, ok-line-length, f, g);
-        no = λ q. let z = leb-false (75 + n) room q in omega (arith, ok-line-length, f, g);
+        yes = λ q. let z = leb-true (75 + n) room q in omega (arith, ok_line_length, f, g);
+        no = λ q. let z = leb-false (75 + n) room q in omega (arith, ok_line_length, f, g);
       }
 
   module _ (out : List ℕ) {f : Bool} (room : Room (length (response b m)) (length out) f) where
@@ -213,7 +213,7 @@ module _ (b m : List ℕ) (p : EventParts) (e : read_of m ≡ message.Event p) w
     unfolding responded_table respond_row
     event_short q = (said_short (response b m) out (room.no q), rw (lt-ltb (length out) (length (response b m)) (room.no q)) refl)
 
-    pub event_said : f ≡ true → {a : Offered} {t o₁ o₂ : List ℕ} {n r : ℕ} → a ≡ answer b (asMessage m) → t ≡ next b (asMessage m) → Puts out 0 (ok_text (said m p.id) a) n o₁
+    pub event_said : f ≡ true → {a : Offered} {t o₁ o₂ : List ℕ} {n r : ℕ} → a ≡ answer b (as_message m) → t ≡ next b (as_message m) → Puts out 0 (ok_text (said m p.id) a) n o₁
         → Puts o₁ n (0x0a ∷ []) r o₂ → Said (response b m) out (sent.Wrote r) o₂ × (t ≡ responded_table b m out)
     unfolding responded_table respond_row
     event_said q {a} ea et x y =
@@ -223,9 +223,9 @@ module _ (b m : List ℕ) (p : EventParts) (e : read_of m ≡ message.Event p) w
           rw (le-ltb (length out) (length (response b m)) h) (et ∙ sym (read_event b m p e).1),
         )
 
-    pub event_put : f ≡ true → {a : Offered} {t o₁ o₂ : List ℕ} {n r : ℕ} → a ≡ answer b (asParts m p) → t ≡ next b (asParts m p) → Puts out 0 (ok_text (said m p.id) a) n o₁
+    pub event_put : f ≡ true → {a : Offered} {t o₁ o₂ : List ℕ} {n r : ℕ} → a ≡ answer b (as_parts m p) → t ≡ next b (as_parts m p) → Puts out 0 (ok_text (said m p.id) a) n o₁
         → Puts o₁ n (0x0a ∷ []) r o₂ → Said (response b m) out (sent.Wrote r) o₂ × (t ≡ responded_table b m out)
-    event_put q ea et x y = event_said q (ea ∙ parts-answer) (et ∙ parts_next) x y
+    event_put q ea et x y = event_said q (ea ∙ parts_answer) (et ∙ parts_next) x y
 
 -- ---- EVENTs and EOSE
 -- what is left of a room, by what was answered
@@ -257,30 +257,30 @@ module _ (b m : List ℕ) (s : Span) (ks : List ℕ) (held : AllHeld b ks) (out 
   size : lines_size b (decode id) ks ≡ length events
   size = ap (λ w. lines_size b (decode w) ks) ei ∙ sym (lines_size_lem b (said m s) ks held.is_sound held.held)
 
-  text-length : length text ≡ length events + length (eose_line (said m s))
+  text_length : length text ≡ length events + length (eose_line (said m s))
   unfolding answer_text
-  text-length = length-append events (eose_line (said m s))
+  text_length = length-append events (eose_line (said m s))
 
   pub events_short : x ≡ left.Short → Said text out (sent.Refused 13) out
-  events_short e = said_short text out (omega (arith, text-length, size, left_short (length out) (lines_size b (decode id) ks) a e))
+  events_short e = said_short text out (omega (arith, text_length, size, left_short (length out) (lines_size b (decode id) ks) a e))
 
   module _ {l n : ℕ} {f : Bool} (few : l < 2 ^ 64) (e : x ≡ left.Room l) (en : n ≡ length_of (json_of (escape (decode id)))) (cut : Room (12 + n) l f) where
     room : Room (12 + length (json_of (escape (decode id)))) l f
     room = cut_room 12 (length (json_of (escape (decode id)))) n l (omega arith) few en cut
 
-    eose-is : 12 + length (json_of (escape (decode id))) ≡ length (eose_line (said m s))
-    eose-is = omega (arith, ap (λ w. length (json_of (escape (decode w)))) ei, eose_length (said m s))
+    eose_is : 12 + length (json_of (escape (decode id))) ≡ length (eose_line (said m s))
+    eose_is = omega (arith, ap (λ w. length (json_of (escape (decode w)))) ei, eose_length (said m s))
 
     pub eose_short : f ≡ false → Said text out (sent.Refused 13) out
     eose_short q =
         let (h, z) = left_room (length out) (lines_size b (decode id) ks) a e in
-        said_short text out (omega (arith, text-length, size, eose-is, room.no q))
+        said_short text out (omega (arith, text_length, size, eose_is, room.no q))
 
     pub answer_put : f ≡ true → {o₁ o₂ : List ℕ} {k r : ℕ} → Puts out 0 (written (events_of b (decode id) ks)) k o₁ → Puts o₁ k (eose_line (said m s)) r o₂ → Said text out (sent.Wrote r) o₂
     unfolding answer_text
     answer_put q y w =
         let (h, z) = left_room (length out) (lines_size b (decode id) ks) a e in
-        said_put text out (omega (arith, text-length, size, eose-is, room.yes q)) (puts_then (rw ei at y) w)
+        said_put text out (omega (arith, text_length, size, eose_is, room.yes q)) (puts_then (rw ei at y) w)
 
 -- ---- a REQ
 -- its filters, as values, are tested and lent; x is what is answered of them
@@ -301,24 +301,24 @@ module _ (b m : List ℕ) (q : ReqParts) (e : read_of m ≡ message.Req q) {fs :
       let t = filters_taken m q e in
       rw ef (read_listing b m q e (parts.filters_at m q.filters).parts (parts.filters_at m q.filters).n t.few t.all row)
 
-  sound-row : sound b ≡ true → listing_row b m fs.parts fs.n row ≡ 0
-  sound-row s = lent.1 ∙ rw (s, le-ltb (length row) (length ks) (omega (arith, few s)))
+  sound_row_lem : sound b ≡ true → listing_row b m fs.parts fs.n row ≡ 0
+  sound_row_lem s = lent.1 ∙ rw (s, le-ltb (length row) (length ks) (omega (arith, few s)))
 
-  sound-told : sound b ≡ true → x ≡ listing.Count (length ks)
+  sound_told : sound b ≡ true → x ≡ listing.Count (length ks)
   unfolding listed
-  sound-told s = a ∙ rw (sound-row s, lent.0)
+  sound_told s = a ∙ rw (sound_row_lem s, lent.0)
 
-  unsound-told : sound b ≡ false → x ≡ listing.Refused 11
+  unsound_told : sound b ≡ false → x ≡ listing.Refused 11
   unfolding listed
-  unsound-told s = a ∙ rw (lent.1, s)
+  unsound_told s = a ∙ rw (lent.1, s)
 
   module _ {k : ℕ} (z : x ≡ listing.Count k) where
     told : (sound b ≡ true) × (k ≡ length ks)
     told = go (sound b) refl
       where
         go : (t : Bool) → sound b ≡ t → (sound b ≡ true) × (k ≡ length ks)
-        go true s = (s, let y = sound-told s in cc)
-        go false s = absurd (let y = unsound-told s in let w : ◌≡◌ {A = ℕ} 0 1 = cc in omega arith)
+        go true s = (s, let y = sound_told s in cc)
+        go false s = absurd (let y = unsound_told s in let w : ◌≡◌ {A = ℕ} 0 1 = cc in omega arith)
 
     pub row_room_lem : k ≤ most_slots
     row_room_lem = let (s, n) = told in omega (arith, few s)
@@ -326,17 +326,17 @@ module _ (b m : List ℕ) (q : ReqParts) (e : read_of m ≡ message.Req q) {fs :
     module _ {row' : List ℕ} (y : row' ≡ listed_row b m fs.parts fs.n row) where
       taken : take k row' ≡ ks
       unfolding listed_row
-      taken = let (s, n) = told in rw (y, sound-row s, lent.0, n) (take-append_seam ks (drop (length ks) row))
+      taken = let (s, n) = told in rw (y, sound_row_lem s, lent.0, n) (take-append_seam ks (drop (length ks) row))
 
       pub all_held_lem : AllHeld b (take k row')
       all_held_lem = rw taken (record { is_sound = told.0; held = answers_held b (filters_meant m q.filters) })
 
-      answer-line : response b m ≡ answer_text b sub ks
+      answer_line_lem : response b m ≡ answer_text b sub ks
       unfolding response answer_text replies_to request_replies eose_line
-      answer-line = rw (e, told.0) (written_append (events_of b sub ks) (eose sub ∷ []) ∙ ap (written (events_of b sub ks) ++◌) (one_written (eose sub)))
+      answer_line_lem = rw (e, told.0) (written_append (events_of b sub ks) (eose sub ∷ []) ∙ ap (written (events_of b sub ks) ++◌) (one_written (eose sub)))
 
       pub request_said : {out o : List ℕ} {r : Written} → Said (answer_text b sub (take k row')) out r o → Said (response b m) out r o
-      request_said s = said_as (ap (answer_text b sub) taken ∙ sym answer-line) s
+      request_said s = said_as (ap (answer_text b sub) taken ∙ sym answer_line_lem) s
 
   -- only row 11 refuses: CLOSED
   pub request_refused : {k : ℕ} → x ≡ listing.Refused k → {y : Refusal} → y ≡ plain_refusal k → {out o : List ℕ} {r : Written}
@@ -345,9 +345,9 @@ module _ (b m : List ℕ) (q : ReqParts) (e : read_of m ≡ message.Req q) {fs :
   request_refused {k} z {y} f {out} {o} {r} s = go (sound b) refl
     where
       go : (t : Bool) → sound b ≡ t → Said (response b m) out r o
-      go true t = absurd (let y = sound-told t in let w : ◌≡◌ {A = ℕ} 0 1 = cc in omega arith)
+      go true t = absurd (let y = sound_told t in let w : ◌≡◌ {A = ℕ} 0 1 = cc in omega arith)
       go false t =
-          let n : k ≡ 11 = let y = unsound-told t in cc in
+          let n : k ≡ 11 = let y = unsound_told t in cc in
           let v : refusal_reason y ≡ reason_of 11 = ap refusal_reason (f ∙ ap plain_refusal n) ∙ append-nil (reason_of 11) in
           let w : response b m ≡ ended (reply_text (closed sub (reason_of 11))) = ap written (bad_table b m q e t).0 ∙ one_written _ in
           said_as (ap (λ l. ended (reply_text (closed sub l))) v ∙ sym w) s
@@ -391,8 +391,8 @@ responds_close b m out {x} {p} a e =
 
 -- ---- a message that was taken; t is the table at exit
 module _ (b m out : List ℕ) {x : Taken} (a : x ≡ taking.taken b m) {t : List ℕ} (et : t ≡ taking.taken_table b m) where
-  with-table : {r : Written} {o : List ℕ} → t ≡ b → Responds b m out r o b → Responds b m out r o t
-  with-table z k = (k.0, (k.1.0, (k.1.1.0, z ∙ k.1.1.1)))
+  with_table : {r : Written} {o : List ℕ} → t ≡ b → Responds b m out r o b → Responds b m out r o t
+  with_table z k = (k.0, (k.1.0, (k.1.1.0, z ∙ k.1.1.1)))
 
   pub taken_event : 116 ≤ length out → {i : Span} {v : Offered} → x ≡ takes.Event i v → {o₁ o₂ : List ℕ} {n r : ℕ} → Puts out 0 (ok_text (said m i) v) n o₁
       → Puts o₁ n (0x0a ∷ []) r o₂ → Responds b m out (sent.Wrote r) o₂ t
@@ -410,10 +410,10 @@ module _ (b m out : List ℕ) {x : Taken} (a : x ≡ taking.taken b m) {t : List
       let f = took_req b m a e in
       let z : t ≡ b = et ∙ table_req b m f in
       let y : Said (response b m) out r o = rw z at s in
-      with-table z (responds_request b m out refl f y)
+      with_table z (responds_request b m out refl f y)
 
   pub taken_close : {p : Span} → x ≡ takes.Close p → Responds b m out (sent.Wrote 0) out t
-  taken_close e = let f = took_close b m a e in with-table (et ∙ table_close b m f) (responds_close b m out refl f)
+  taken_close e = let f = took_close b m a e in with_table (et ∙ table_close b m f) (responds_close b m out refl f)
 
   pub taken_refused : {k : Refusal} {n : Naming} → x ≡ takes.Refused k → n ≡ naming_for m k.row → {r : Written} {o : List ℕ} → Said (ended (naming_text m n)) out r o → Responds b m out r o t
-  taken_refused e en s = let f = took_refused b m a e in with-table (et ∙ table_refused b m f) (responds_refused b m out refl f en s)
+  taken_refused e en s = let f = took_refused b m a e in with_table (et ∙ table_refused b m f) (responds_refused b m out refl f en s)

@@ -1,5 +1,7 @@
 // One message answered into a lent output, over a lent table; and the reply to a refused message alone. Every reply's
 // length is known before its first byte is written.
+#![tactic(auto)]
+
 ghost use Rattle.std.specs.Prelude.{◌≡◌, true, ◌+◌, ◌≤◌, length};
 ghost use Rattle.wire.specs.Put.{Puts};
 ghost use Rattle.message.specs.Read.{read_of};

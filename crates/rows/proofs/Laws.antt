@@ -2,7 +2,7 @@
 -- turn of the walk does.
 use mathlib.Core.Path.{◌≡◌, refl, sym, ap, ◌∙◌}
 use mathlib.Core.List.{List}
-use mathlib.Core.Bool.{Bool, true, false, cond, not, ◌&&◌, ◌||◌, or_false}
+use mathlib.Core.Bool.{Bool, true, false, cond, not, ◌&&◌, ◌||◌, or-false}
 use Prim.Native.Nat.{ℕ, ◌+◌, ◌-◌, ◌<◌, ◌≤◌}
 use native.Mathlib.Nat.{sub-zero}
 use native.Mathlib.Omega.{arith}
@@ -107,7 +107,7 @@ or_four false false y z = refl
 
 fold_refused : (s : List ℕ) (named a : Bool) (ts : Items) → fold_items (joined s named) a ts ≡ (a || refused_items s named ts)
 unfolding refused_in
-fold_refused s named a nil = sym (or_false a)
+fold_refused s named a nil = sym (or-false a)
 fold_refused s named a (item p v t ts) =
     fold_refused s named (joined s named a p v t) ts ∙ or_four a (named && refuses (spelled_at s p)) (refused_in s t) (refused_items s named ts)
 
@@ -128,15 +128,15 @@ seen_many s d at first named ne e =
 
 module _ (value : ℕ → Got Json) (s : List ℕ) (named : Bool) (k i : ℕ) (a : Bool) where
   pub seen_gone : length s ≤ k → seen_items s named a (items_at value s named (length s - k) i) ≡ Missing
-  seen_gone h = fold_gone _ _ _ _ value s named k i h
+  seen_gone h = fold_gone (joined s named) Missing (λ b n. made n b) a value s named k i h
 
   module _ (x : Seen) (h : k < length s) (ex : x ≡ name_seen s i named) where
     pub seen_unnamed : seen_end x ≡ Bad → seen_items s named a (items_at value s named (length s - k) i) ≡ Missing
-    seen_unnamed p = fold_unnamed _ _ _ _ value s named k i h (name_bad s i named x ex p)
+    seen_unnamed p = fold_unnamed (joined s named) Missing (λ b n. made n b) a value s named k i h (name_bad s i named x ex p)
 
     module _ (v : ℕ) (y : Seen) (p : seen_end x ≡ End v) (ey : y ≡ seen_of s (value v)) where
       pub seen_no_value : seen_end y ≡ Bad → seen_items s named a (items_at value s named (length s - k) i) ≡ Missing
-      seen_no_value q = fold_bad _ _ _ _ value s named k i v h (name_end s i named x ex v p).0 (seen_bad s (value v) y ey q)
+      seen_no_value q = fold_bad (joined s named) Missing (λ b n. made n b) a value s named k i v h (name_end s i named x ex v p).0 (seen_bad s (value v) y ey q)
 
       pub seen_next : (n : ℕ) (z : Next) (b : Bool) {f g : Bool} → seen_end y ≡ End n → next_at s n named ≡ z
           → f ≡ seen_refused x → g ≡ seen_refused y → b ≡ (a || (f || g))
@@ -144,7 +144,7 @@ module _ (value : ℕ → Got Json) (s : List ℕ) (named : Bool) (k i : ℕ) (a
           ≡ turned z Missing (λ e. made e b) (λ j. seen_items s named b (items_at value s named (length s - (k + 1)) j))
       seen_next n z b q w ef eg eb =
           let d = name_end s i named x ex v p in
-          fold_next _ _ _ _ value s named k i v n z b h d.0 (seen_end_lem s (value v) y ey n q) w
+          fold_next (joined s named) Missing (λ b n. made n b) a value s named k i v n z b h d.0 (seen_end_lem s (value v) y ey n q) w
           λ t r. eb ∙ rw (ef, eg, d.1, seen_refused_lem s (value v) y ey t n r)
 
 -- ---- the text
@@ -158,10 +158,10 @@ module _ (s : List ℕ) where
       go (got t n) = made_refused n (refused_in s t)
 
   -- rows 3 and 4, by the answer at the root
-  told-root : (k : ℕ) (g : Got Json) → seen_told (seen_of s g) k ≡ cond (not (ends_at k (end_of g))) 3 (cond (on_root (refused_in s) g) 4 0)
+  told_root : (k : ℕ) (g : Got Json) → seen_told (seen_of s g) k ≡ cond (not (ends_at k (end_of g))) 3 (cond (on_root (refused_in s) g) 4 0)
   unfolding made
-  told-root k none = refl
-  told-root k (got t n) = go (refused_in s t) (eqb n k) refl
+  told_root k none = refl
+  told_root k (got t n) = go (refused_in s t) (eqb n k) refl
     where
       go : (b e : Bool) → eqb n k ≡ e → seen_told (made n b) k ≡ cond (not e) 3 (cond b 4 0)
       go true true q = rw q
@@ -185,4 +185,4 @@ module _ (s : List ℕ) where
 
     pub row_told_lem : (b t : Bool) (x : Seen) (r : ℕ) → b ≡ is_utf8 s → not b ≡ false → t ≡ has_control s → t ≡ false → x ≡ seen_of s (root s) → r ≡ seen_told x (length s) → r ≡ text_row s
     unfolding text_row row4
-    row_told_lem b t x r e q f g ex er = er ∙ rw (ex, le-ltb most_message (length s) h, ← e, q, ← f, g) (told-root (length s) (root s))
+    row_told_lem b t x r e q f g ex er = er ∙ rw (ex, le-ltb most_message (length s) h, ← e, q, ← f, g) (told_root (length s) (root s))

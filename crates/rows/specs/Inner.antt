@@ -1,5 +1,5 @@
 -- What one walk over a value answers: where the value ends, and whether row 4 refuses some string in it.
-use Rattle.std.specs.Prelude.{ℕ, List, Bool, true, false, cond, ◌&&◌, eqb}
+use Rattle.std.specs.Prelude.{ℕ, Bool, true, false, cond, ◌&&◌, eqb}
 use Rattle.json_tree.specs.Grammar.{case, head_at}
 use Rattle.json_tree.specs.Tree.{Json, Got, none, got}
 use Rattle.json_tree.specs.declared.Out.{Out}

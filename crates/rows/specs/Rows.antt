@@ -1,5 +1,5 @@
 -- 01, "Numbers the relay answers with": the lowest of rows 1 to 4 that holds of a text, or 0.
-use Rattle.std.specs.Prelude.{ℕ, List, Bool, true, false, cond, not, length, ltb}
+use Rattle.std.specs.Prelude.{Bool, false, cond, not, length, ltb}
 use Rattle.wire.specs.Limits.{most_message}
 use Rattle.utf8.specs.Utf8.{is_utf8}
 use Rattle.json_tree.specs.Tree.{Json, Got, none, got, root, is_text}

@@ -1,4 +1,6 @@
 // Rows 1 to 4 of 01 over a whole text: length, UTF-8, JSON, and the strings that row 4 refuses.
+#![tactic(auto)]
+
 ghost use Rattle.std.specs.Prelude.{◌≡◌, ◌||◌, ◌+◌, ◌-◌, ◌≤◌, length};
 ghost use Rattle.json_tree.specs.Grammar.{scalar_at, token_at};
 ghost use Rattle.json_tree.specs.Tree.{on_leaf, tree_at, root};
@@ -10,7 +12,7 @@ ghost use Rattle.rows.specs.Inner.{made, seen_of, name_seen, seen_end, seen_refu
 use json_tree::{Kind, Next, Out, Start};
 
 // Where a value ends, by whether row 4 refuses some string in it; or that no value stands there.
-#[derive(Drop)]
+#[derive(Clone, Copy)]
 pub enum Seen {
     Clean(usize),
     Refused(usize),

@@ -1,13 +1,13 @@
 -- The slots taken, a bit each: a slot is taken after another was put in where it was taken before or is that other.
 use mathlib.Core.Path.{◌≡◌, refl, sym, ap, ◌∙◌}
-use mathlib.Core.Bool.{Bool, true, false, ◌&&◌, ◌||◌, or-true, or_false}
+use mathlib.Core.Bool.{Bool, true, false, ◌&&◌, ◌||◌, or-true, or-false}
 use Prim.Native.Nat.{ℕ, zero, suc, ◌+◌, ◌*◌, ◌/◌, ◌%◌, ◌^◌, ◌<◌, ◌≤◌}
 use native.Mathlib.Nat.{pow-le-pow_right, pow-suc, div-one, div-eq_of_lt, mul-mod_left, mul-div-mul_right, mod-lt}
 use native.Mathlib.Nat.{zero-div, mul-add-mod_self_right, mod-eq_of_lt}
 use native.Mathlib.Omega.{arith}
-use borrow.Author.Tests.{eq-eqb, ne_eqb, eqb-true, eqb-false}
+use borrow.Author.Tests.{eq-eqb, eqb-true, eqb-false}
 use lib.Dec.{eqb}
-use lib.Bits.{bit_or, or_shr, or_mod, or_zero_l, or_zero_r}
+use lib.Bits.{bit_or, or_shr, or_mod, or_zero_r}
 use Rattle.shape.specs.Inner.{is_in, is_full}
 use Rattle.shape.proofs.Names.{and_left, and_right, both_ways}
 
@@ -49,7 +49,7 @@ in_more j k m = go (eqb j k) refl
         ∙ or_bit (m / 2 ^ j % 2) (mod-lt (m / 2 ^ j) (omega arith)) ∙ sym (or-true (eqb (m / 2 ^ j % 2) 1))
     go false e =
         ap (λ (n : ℕ). eqb n 1) (bits ∙ ap (bit_or (m / 2 ^ j % 2)) (other_bit j k (eqb-false j k e)) ∙ or_zero_r (m / 2 ^ j % 2))
-        ∙ sym (or_false (eqb (m / 2 ^ j % 2) 1))
+        ∙ sym (or-false (eqb (m / 2 ^ j % 2) 1))
 
 pub in_none : (j : ℕ) → is_in j 0 ≡ false
 unfolding is_in

@@ -3,7 +3,7 @@ use mathlib.Core.Path.{◌≡◌, refl, sym, ap, ◌∙◌}
 use mathlib.Core.List.Memᴰ
 use mathlib.Core.List.{List, [], ◌∷◌, Memᴰ}
 use mathlib.Core.Bool.{Bool, true, false, cond}
-use mathlib.Core.Logic.{◌↔◌, ◌⊎◌, inl, inr, ⊎_elim}
+use mathlib.Core.Logic.{◌↔◌, inl, inr, ⊎_elim}
 use Prim.Native.Nat.{ℕ, ◌≤◌, min}
 use native.Mathlib.Omega.{arith}
 use borrow.Author.Tests.{ltb-true, ltb-false}
@@ -14,17 +14,16 @@ use Rattle.json_tree.specs.declared.Out.{Out}
 use Rattle.json_tree.specs.declared.Out.TheVariants.{End, Bad}
 use Rattle.json_tree.specs.declared.Kind.TheVariants.{Str, Num, Word, None}
 use Rattle.rows.specs.Rows.{on_root}
-use Rattle.shape.specs.declared.Offset.{Offset}
 use Rattle.shape.specs.declared.Offset.TheVariants.{Absent, At}
 use Rattle.shape.specs.Rows.{row6, row7, message_row}
 use Rattle.shape.specs.Lowest.{holds}
 use Rattle.shape.specs.Offsets.{least_of, earliest, number_places, hex_places, root_offset, offset_of}
-use Rattle.shape.specs.Earliest.{tree_places, root_places, IsEarliest, OffsetEarliest, OffsetCarried, OtherRows}
+use Rattle.shape.specs.Earliest.{root_places, OffsetEarliest, OffsetCarried, OtherRows}
 use Rattle.shape.specs.Earliest.{NumberThere, StringThere, OffsetInside}
 use Rattle.shape.proofs.Names.{no}
 use Rattle.shape.proofs.Places.{scalar_string}
 use Rattle.shape.proofs.Placed.{some, number_some, hex_some}
-use Rattle.shape.proofs.Offsets.{NumberStands, StringStands, offset_absent, offset_stands}
+use Rattle.shape.proofs.Offsets.{offset_absent, offset_stands}
 use Rattle.shape.proofs.Offsets.{offset_within as offset-in}
 use Rattle.shape.proofs.Exact.{row_given}
 
@@ -46,17 +45,17 @@ least_most p (r ∷ rs) q i = ⊎_elim (λ (e : q ≡ p). omega arith) (λ j. le
 -- p is a member of the list, and no member is less
 record Least (l : List ℕ) (p : ℕ) : Type 0 where
   member : Memᴰ p l
-  none-less : (q : ℕ) → Memᴰ q l → p ≤ q
+  none_less : (q : ℕ) → Memᴰ q l → p ≤ q
 
 earliest_least : (l : List ℕ) (p : ℕ) → (earliest l ≡ At p) ↔ Least l p
 earliest_least [] p = (λ e. no cc, λ w. absurd (Memᴰ.not-nil w.member))
 earliest_least (q ∷ qs) p = (there, back)
   where
     there : At (least_of q qs) ≡ At p → Least (q ∷ qs) p
-    there e = let z : least_of q qs ≡ p = cc in rw (← z) record { member = least_in q qs; none-less = least_most q qs }
+    there e = let z : least_of q qs ≡ p = cc in rw (← z) record { member = least_in q qs; none_less = least_most q qs }
 
     back : Least (q ∷ qs) p → At (least_of q qs) ≡ At p
-    back w = let a = w.none-less (least_of q qs) (least_in q qs) in let b = least_most q qs p w.member in ap At (omega arith)
+    back w = let a = w.none_less (least_of q qs) (least_in q qs) in let b = least_most q qs p w.member in ap At (omega arith)
 
 -- ---- the offset, by the places that break the row
 by_places : (row : ℕ) (s : List ℕ) (g : Got Json) → root_offset row s g ≡ earliest (root_places row s g)
@@ -73,8 +72,8 @@ unfolding offset_of
 offset_earliest s p =
     let (there, back) = earliest_least (root_places (message_row s) s (root s)) p in
     let e = by_places (message_row s) s (root s) in (
-      λ q. let w = there (sym e ∙ q) in record { breaking = w.member; none_earlier = w.none-less },
-      λ w. e ∙ back record { member = w.breaking; none-less = w.none_earlier },
+      λ q. let w = there (sym e ∙ q) in record { breaking = w.member; none_earlier = w.none_less },
+      λ w. e ∙ back record { member = w.breaking; none_less = w.none_earlier },
     )
 
 -- a row that holds has a place

@@ -2,7 +2,7 @@
 -- and the other way.
 use mathlib.Core.Path.{◌≡◌, refl, sym, ap, ◌∙◌}
 use mathlib.Core.List.{List, []}
-use mathlib.Core.Bool.{Bool, true, false, cond, not, ◌&&◌, ◌||◌, or_false}
+use mathlib.Core.Bool.{Bool, true, false, cond, not, ◌&&◌, ◌||◌, or-false}
 use Prim.Native.Nat.{ℕ, zero, suc, ◌≤◌, ◌<◌}
 use native.Mathlib.Omega.{arith}
 use borrow.Author.Tests.{lt-ltb, eq-eqb, eqb-true, ltb-true}
@@ -25,7 +25,7 @@ use Rattle.shape.proofs.Never.{never, never_after}
 use Rattle.shape.proofs.Leaves.{text, hex64, hex128, time, small}
 use Rattle.shape.proofs.Lists.{tags}
 use Rattle.shape.proofs.Placed.{own_time, own_small, own_hex}
-use Rattle.shape.proofs.Objects.{twice, taken, noTwo, slot_at, bit_at, object_after, count_same, any_count, twice_none}
+use Rattle.shape.proofs.Objects.{twice, taken, no_two, slot_at, bit_at, object_after, count_same, any_count, twice_none}
 use Rattle.shape.proofs.Objects.{taken_is, most_one, one_each, eqb_turned}
 use Rattle.shape.proofs.Known.{event_cases, event_back, event_back_lem, event_bit, same_bit}
 
@@ -66,33 +66,33 @@ module _ (s : List ℕ) where
     times : ℕ → ℕ
     times j = count_items (λ p t. eqb j (bit_at s EVENT p)) ts
 
-    name-times : (w : List ℕ) → (event_slot w ≡ UNKNOWN → ⊥) → times (bit_of (event_slot w)) ≡ count_items (λ p t. named s w p) ts
+    name_times : (w : List ℕ) → (event_slot w ≡ UNKNOWN → ⊥) → times (bit_of (event_slot w)) ≡ count_items (λ p t. named s w p) ts
     unfolding times name_slot
-    name-times w n = count_same _ _ (λ p t. eqb_turned (bit_of (event_slot w)) (bit_of (event_slot (name_at s p))) ∙ same_bit event_slot event_back event_back_lem event_bit (name_at s p) w n) ts
+    name_times w n = count_same _ _ (λ p t. eqb_turned (bit_of (event_slot w)) (bit_of (event_slot (name_at s p))) ∙ same_bit event_slot event_back event_back_lem event_bit (name_at s p) w n) ts
 
-    there-times : (j : ℕ) → is_in j (taken (bit_at s EVENT) 0 ts) ≡ ltb 0 (times j)
+    there_times : (j : ℕ) → is_in j (taken (bit_at s EVENT) 0 ts) ≡ ltb 0 (times j)
     unfolding times
-    there-times j = taken_is (bit_at s EVENT) j 0 ts ∙ ap (λ (x : Bool). x || any_item (λ p t. eqb j (bit_at s EVENT p)) ts) (in_none j) ∙ any_count _ ts
+    there_times j = taken_is (bit_at s EVENT) j 0 ts ∙ ap (λ (x : Bool). x || any_item (λ p t. eqb j (bit_at s EVENT p)) ts) (in_none j) ∙ any_count _ ts
 
-    one : (w : List ℕ) (n : event_slot w ≡ UNKNOWN → ⊥) → noTwo (bit_at s EVENT) ts ≡ true → is_in (bit_of (event_slot w)) (taken (bit_at s EVENT) 0 ts) ≡ true → once s w ts ≡ true
+    one : (w : List ℕ) (n : event_slot w ≡ UNKNOWN → ⊥) → no_two (bit_at s EVENT) ts ≡ true → is_in (bit_of (event_slot w)) (taken (bit_at s EVENT) 0 ts) ≡ true → once s w ts ≡ true
     unfolding once times
     one w n e h =
         let most = most_one (bit_at s EVENT) ts e (bit_of (event_slot w)) in
-        let some = ltb-true 0 (times (bit_of (event_slot w))) (sym (there-times (bit_of (event_slot w))) ∙ h) in
-        eq-eqb _ _ (sym (name-times w n) ∙ omega arith)
+        let some = ltb-true 0 (times (bit_of (event_slot w))) (sym (there_times (bit_of (event_slot w))) ∙ h) in
+        eq-eqb _ _ (sym (name_times w n) ∙ omega arith)
 
     is_one : (w : List ℕ) (n : event_slot w ≡ UNKNOWN → ⊥) → once s w ts ≡ true → times (bit_of (event_slot w)) ≡ 1
     unfolding once
-    is_one w n e = name-times w n ∙ eqb-true _ _ e
+    is_one w n e = name_times w n ∙ eqb-true _ _ e
 
     both : (x y : Bool) → x ≡ true → y ≡ true → (x && y) ≡ true
     both x y p q = rw (p, q)
 
-    eachOnce : Bool
-    eachOnce = once s id_name ts && (once s pubkey_name ts && (once s created_at_name ts && (once s kind_name ts && (once s tags_name ts && (once s content_name ts && once s sig_name ts)))))
+    each_once : Bool
+    each_once = once s id_name ts && (once s pubkey_name ts && (once s created_at_name ts && (once s kind_name ts && (once s tags_name ts && (once s content_name ts && once s sig_name ts)))))
 
-    there : noTwo (bit_at s EVENT) ts ≡ true → is_full (taken (bit_at s EVENT) 0 ts) ≡ true → eachOnce ≡ true
-    unfolding eachOnce event_slot same_bytes
+    there : no_two (bit_at s EVENT) ts ≡ true → is_full (taken (bit_at s EVENT) 0 ts) ≡ true → each_once ≡ true
+    unfolding each_once event_slot same_bytes
     there e h =
         let m = taken (bit_at s EVENT) 0 ts in
         let h₀ = sym (full_bits m) ∙ h in
@@ -108,8 +108,8 @@ module _ (s : List ℕ) where
         (both _ _ (one tags_name (λ z. omega arith) e (and_left (is_in 4 m) _ h₄))
         (both _ _ (one content_name (λ z. omega arith) e (and_left (is_in 5 m) _ h₅)) (one sig_name (λ z. omega arith) e (and_right (is_in 5 m) _ h₅)))))))
 
-    in-it : (j : ℕ) → times j ≡ 1 → is_in j (taken (bit_at s EVENT) 0 ts) ≡ true
-    in-it j c = there-times j ∙ lt-ltb 0 (times j) (omega arith)
+    in_it : (j : ℕ) → times j ≡ 1 → is_in j (taken (bit_at s EVENT) 0 ts) ≡ true
+    in_it j c = there_times j ∙ lt-ltb 0 (times j) (omega arith)
 
     -- where each of the seven is there once
     module _ (c₀ : times 0 ≡ 1) (c₁ : times 1 ≡ 1) (c₂ : times 2 ≡ 1) (c₃ : times 3 ≡ 1) (c₄ : times 4 ≡ 1) (c₅ : times 5 ≡ 1) (c₆ : times 6 ≡ 1) where
@@ -123,15 +123,15 @@ module _ (s : List ℕ) where
       most (suc (suc (suc (suc (suc (suc zero)))))) h = omega (arith, c₆)
       most (suc (suc (suc (suc (suc (suc (suc j))))))) h = absurd (omega arith)
 
-      seven : all_items (event_member s) ts ≡ true → (noTwo (bit_at s EVENT) ts && is_full (taken (bit_at s EVENT) 0 ts)) ≡ true
+      seven : all_items (event_member s) ts ≡ true → (no_two (bit_at s EVENT) ts && is_full (taken (bit_at s EVENT) 0 ts)) ≡ true
       unfolding times
       seven a =
           both _ _ (one_each (bit_at s EVENT) 7 ts (all_known ts a) most)
           (full_bits (taken (bit_at s EVENT) 0 ts)
-          ∙ both _ _ (in-it 0 c₀) (both _ _ (in-it 1 c₁) (both _ _ (in-it 2 c₂) (both _ _ (in-it 3 c₃) (both _ _ (in-it 4 c₄) (both _ _ (in-it 5 c₅) (in-it 6 c₆)))))))
+          ∙ both _ _ (in_it 0 c₀) (both _ _ (in_it 1 c₁) (both _ _ (in_it 2 c₂) (both _ _ (in_it 3 c₃) (both _ _ (in_it 4 c₄) (both _ _ (in_it 5 c₅) (in_it 6 c₆)))))))
 
-    back : all_items (event_member s) ts ≡ true → eachOnce ≡ true → (noTwo (bit_at s EVENT) ts && is_full (taken (bit_at s EVENT) 0 ts)) ≡ true
-    unfolding eachOnce event_slot same_bytes
+    back : all_items (event_member s) ts ≡ true → each_once ≡ true → (no_two (bit_at s EVENT) ts && is_full (taken (bit_at s EVENT) 0 ts)) ≡ true
+    unfolding each_once event_slot same_bytes
     back a e =
         let e₁ = and_right (once s id_name ts) _ e in
         let e₂ = and_right (once s pubkey_name ts) _ e₁ in
@@ -143,32 +143,32 @@ module _ (s : List ℕ) where
         (is_one tags_name (λ z. omega arith) (and_left (once s tags_name ts) _ e₄)) (is_one content_name (λ z. omega arith) (and_left (once s content_name ts) _ e₅))
         (is_one sig_name (λ z. omega arith) (and_right (once s content_name ts) _ e₅)) a
 
-    each-once : (not (all_items (event_member s) ts) || (twice (bit_at s EVENT) 0 ts || not (is_full (taken (bit_at s EVENT) 0 ts)))) ≡ not (all_items (event_member s) ts && eachOnce)
-    each-once = go (all_items (event_member s) ts) refl
+    each_once_lem : (not (all_items (event_member s) ts) || (twice (bit_at s EVENT) 0 ts || not (is_full (taken (bit_at s EVENT) 0 ts)))) ≡ not (all_items (event_member s) ts && each_once)
+    each_once_lem = go (all_items (event_member s) ts) refl
       where
-        not-and : (x y : Bool) → (not x || not y) ≡ not (x && y)
-        not-and true y = refl
-        not-and false y = refl
+        not_and : (x y : Bool) → (not x || not y) ≡ not (x && y)
+        not_and true y = refl
+        not_and false y = refl
 
-        go : (x : Bool) → all_items (event_member s) ts ≡ x → (not x || (twice (bit_at s EVENT) 0 ts || not (is_full (taken (bit_at s EVENT) 0 ts)))) ≡ not (x && eachOnce)
+        go : (x : Bool) → all_items (event_member s) ts ≡ x → (not x || (twice (bit_at s EVENT) 0 ts || not (is_full (taken (bit_at s EVENT) 0 ts)))) ≡ not (x && each_once)
         go false a = refl
         go true a =
-            let n = noTwo (bit_at s EVENT) ts in
+            let n = no_two (bit_at s EVENT) ts in
             let f = is_full (taken (bit_at s EVENT) 0 ts) in
-            ap (λ (x : Bool). x || not f) (twice_none (bit_at s EVENT) ts) ∙ not-and n f
-            ∙ ap not (both_ways (n && f) eachOnce (λ e. there (and_left n f e) (and_right n f e)) (back a))
+            ap (λ (x : Bool). x || not f) (twice_none (bit_at s EVENT) ts) ∙ not_and n f
+            ∙ ap not (both_ways (n && f) each_once (λ e. there (and_left n f e) (and_right n f e)) (back a))
 
   -- ---- the whole
   pub event : (v : ℕ) (t : Json)
       → Lowest (fault_of s EVENT v t) (refused_in s t) (not (is_event s t)) (of_object [] (member_places (event_number s) (wrong_small s)) t)
       (of_object [] (member_places (event_hex s) (wrong_hex hex_length s)) t) (on_object (any_item (event_count s)) t)
-  unfolding low placed_at fault_of refused_in string_fault string_form number_fault group_form fresh end_fault is_event eachOnce
+  unfolding low placed_at fault_of refused_in string_fault string_form number_fault group_form fresh end_fault is_event each_once
   event v (word a n) = record { is = refl }
   event v (num a n) = record { is = refl }
   event v (str a n) = record { is = refl }
   event v (arr ts) = begins (never_after s false 0 fresh ts)
   event v (obj ts) =
-      said refl (each-once ts) refl refl (or_false (any_item (event_count s) ts))
+      said refl (each_once_lem ts) refl refl (or-false (any_item (event_count s) ts))
       (begins (object_after s EVENT (event_member s) (event_count s) number_at hex_at (λ m. not (is_full m)) (λ n. false) member (λ k a. record { is = ends (is_full a.seen) }) 0 fresh ts))
     where
       ends : (x : Bool) → cond x no_fault SHAPE ≡ cond (not x) SHAPE no_fault

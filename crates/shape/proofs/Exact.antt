@@ -10,7 +10,7 @@ use lib.Dec.{eqb, ltb}
 use lib.ListN.{length}
 use Rattle.wire.specs.Bytes.{has_control}
 use Rattle.json_tree.specs.Tree.{Json, Got, none, got, end_of, ends_at, root}
-use Rattle.rows.specs.Rows.{row1, row2, row3, on_root}
+use Rattle.rows.specs.Rows.{row1, row2, on_root}
 use Rattle.shape.specs.Rows.{row4, row5, row6, row7, row8, tree_row, root_row, message_row}
 use Rattle.shape.specs.Lowest.{holds, LowestRow}
 use Rattle.shape.proofs.Names.{no}
@@ -68,16 +68,16 @@ module _ (f : ℕ → Bool) where
       go true q w ih j l m = absurd (omega arith)
       go false q w ih j l m = before k (k + 1 + n) q (ih w) j l (omega arith)
 
-  finds-none : (n k : ℕ) → ((j : ℕ) → f j ≡ false) → first f n k ≡ 0
+  finds_none : (n k : ℕ) → ((j : ℕ) → f j ≡ false) → first f n k ≡ 0
   unfolding first
-  finds-none zero k h = refl
-  finds-none (suc n) k h = rw (h k) (finds-none n (k + 1) h)
+  finds_none zero k h = refl
+  finds_none (suc n) k h = rw (h k) (finds_none n (k + 1) h)
 
 -- ---- the rows
 module _ (s : List ℕ) where
-  answer-first : message_row s ≡ first (holds s) 8 1
+  answer_first : message_row s ≡ first (holds s) 8 1
   unfolding message_row tree_row first holds
-  answer-first = ap (λ (n : ℕ). cond (row1 s) 1 (cond (row2 s) 2 n)) (go (has_control s) (root s))
+  answer_first = ap (λ (n : ℕ). cond (row1 s) 1 (cond (row2 s) 2 n)) (go (has_control s) (root s))
     where
       go : (c : Bool) (g : Got Json) → cond (not (not c && ends_at (length s) (end_of g))) 3 (root_row s g)
           ≡ cond (not (not c && ends_at (length s) (end_of g))) 3 (cond (on_root (row4 s) g) 4 (cond (on_root (row5 s) g) 5 (cond (on_root (row6 s) g) 6 (cond (on_root (row7 s) g) 7 (cond (on_root (row8 s) g) 8 0)))))
@@ -89,10 +89,10 @@ module _ (s : List ℕ) where
   unfolding holds
   no_zero_lem = refl
 
-  only-eight : (r : ℕ) → holds s r ≡ true → (1 ≤ r) × (r < 9)
+  only_eight : (r : ℕ) → holds s r ≡ true → (1 ≤ r) × (r < 9)
   unfolding holds
-  only-eight zero e = no cc
-  only-eight (suc r) e = go (ltb r 8) refl
+  only_eight zero e = no cc
+  only_eight (suc r) e = go (ltb r 8) refl
     where
       go : (x : Bool) → ltb r 8 ≡ x → (1 ≤ suc r) × (suc r < 9)
       go true q = let h = ltb-true r 8 q in (omega arith, omega arith)
@@ -119,22 +119,22 @@ module _ (s : List ℕ) where
       lower g (suc k) l = g.none_before (suc k) (omega arith) l
 
       there : message_row s ≡ r → LowestRow s r
-      there e = let g = found (holds s) 8 1 r h (sym answer-first ∙ e) in record { held = g.held; none_lower = lower g }
+      there e = let g = found (holds s) 8 1 r h (sym answer_first ∙ e) in record { held = g.held; none_lower = lower g }
 
       back : LowestRow s r → message_row s ≡ r
       back w =
-          let b = only-eight r w.held in
-          answer-first ∙ finds (holds s) 8 1 r record { from = h; to = omega arith; held = w.held; none_before = λ j l m. w.none_lower j m }
+          let b = only_eight r w.held in
+          answer_first ∙ finds (holds s) 8 1 r record { from = h; to = omega arith; held = w.held; none_before = λ j l m. w.none_lower j m }
 
   -- and 0 exactly where none holds
   pub none_given : (message_row s ≡ 0) ↔ ((r : ℕ) → holds s r ≡ false)
-  none_given = (there, λ f. answer-first ∙ finds-none (holds s) 8 1 f)
+  none_given = (there, λ f. answer_first ∙ finds_none (holds s) 8 1 f)
     where
       there : message_row s ≡ 0 → (r : ℕ) → holds s r ≡ false
       there e r = go (holds s r) refl
         where
           go : (x : Bool) → holds s r ≡ x → x ≡ false
-          go true q = let b = only-eight r q in let w = none_found (holds s) 8 1 (omega arith) (sym answer-first ∙ e) r b.0 (omega arith) in no cc
+          go true q = let b = only_eight r q in let w = none_found (holds s) 8 1 (omega arith) (sym answer_first ∙ e) r b.0 (omega arith) in no cc
           go false q = refl
 
   -- so there is one answer, 0 to 8
@@ -143,4 +143,4 @@ module _ (s : List ℕ) where
     where
       go : (r : ℕ) → message_row s ≡ r → r ≤ 8
       go zero e = omega arith
-      go (suc r) e = let b = only-eight (suc r) ((row_given (suc r) (omega arith)).0 e).held in omega arith
+      go (suc r) e = let b = only_eight (suc r) ((row_given (suc r) (omega arith)).0 e).held in omega arith

@@ -2,7 +2,7 @@
 -- be.
 use mathlib.Core.Path.{◌≡◌, refl, sym, ap, ◌∙◌}
 use mathlib.Core.List.{List, [], ◌∷◌}
-use mathlib.Core.Bool.{Bool, true, false, cond, not, ◌&&◌, ◌||◌, or_false}
+use mathlib.Core.Bool.{Bool, true, false, cond, not, ◌&&◌, ◌||◌, or-false}
 use Prim.Native.Nat.{ℕ, suc, ◌+◌, ◌-◌, ◌≤◌, min}
 use native.Mathlib.Omega.{arith}
 use borrow.Author.Tests.{lt-ltb, le-ltb, ltb-true, ltb-false, le-leb, eqb-true, eqb-false, ne_eqb}
@@ -28,7 +28,7 @@ use Rattle.shape.proofs.Never.{never, never_after}
 use Rattle.shape.proofs.Leaves.{bounds_is, time, small}
 use Rattle.shape.proofs.Lists.{texts, hexes, smalls}
 use Rattle.shape.proofs.Placed.{lists, own_time, own_small}
-use Rattle.shape.proofs.Objects.{twice, marked, noTwo, slot_at, bit_at, object_after, any_same, twice_none}
+use Rattle.shape.proofs.Objects.{twice, marked, no_two, slot_at, bit_at, object_after, any_same, twice_none}
 use Rattle.shape.proofs.Known.{filter_cases, filter_back, filter_back_lem, condition_slot_lem, filter_bit, same_bit}
 
 -- ---- the slot of a condition
@@ -75,13 +75,13 @@ module _ (s : List ℕ) where
   hex_at p v t = cond (filter_hex s p t) (value_places (wrong_hex hex_length s) v t) []
 
   -- row 7 does not look at the list of another letter
-  free-list : (b : ℕ) (t : Json) → eqb b 101 ≡ false → eqb b 112 ≡ false
+  free_list : (b : ℕ) (t : Json) → eqb b 101 ≡ false → eqb b 112 ≡ false
       → cond (same_bytes (35 ∷ b ∷ []) e_condition_name) (wrong_hexes s t) (cond (same_bytes (35 ∷ b ∷ []) p_condition_name) (wrong_hexes s t) false) ≡ false
   unfolding same_bytes
-  free-list b t x y = rw (x, y)
+  free_list b t x y = rw (x, y)
 
-  hex-list : (v : ℕ) (t : Json) → Lowest (fault_of s 12 v t) (refused_in s t) (not (is_array_of is_string t)) [] (cond (wrong_hexes s t) (value_places (wrong_hex hex_length s) v t) []) (wrong_list t)
-  hex-list v t = said refl refl refl (lists (wrong_hex hex_length s) v t) refl (hexes s v t)
+  hex_list : (v : ℕ) (t : Json) → Lowest (fault_of s 12 v t) (refused_in s t) (not (is_array_of is_string t)) [] (cond (wrong_hexes s t) (value_places (wrong_hex hex_length s) v t) []) (wrong_list t)
+  hex_list v t = said refl refl refl (lists (wrong_hex hex_length s) v t) refl (hexes s v t)
 
   condition : (p v : ℕ) (t : Json) (b : ℕ) → name_at s p ≡ 35 ∷ b ∷ [] → is_letter b ≡ true
       → Lowest (fault_of s (member_form FILTER (slot_at s FILTER p)) v t) (refused_in s t) (not (filter_member s p t)) (number_at p v t) (hex_at p v t) (wrong_filter s p t)
@@ -90,18 +90,18 @@ module _ (s : List ℕ) where
     where
       go : (x : Bool) → eqb b 101 ≡ x → (y : Bool) → eqb b 112 ≡ y
           → Lowest (fault_of s (member_form FILTER (slot_at s FILTER p)) v t) (refused_in s t) (not (filter_member s p t)) (number_at p v t) (hex_at p v t) (wrong_filter s p t)
-      go true x y q = rw (e, eqb-true b 101 x) (hex-list v t)
-      go false x true q = rw (e, eqb-true b 112 q) (hex-list v t)
+      go true x y q = rw (e, eqb-true b 101 x) (hex_list v t)
+      go false x true q = rw (e, eqb-true b 112 q) (hex_list v t)
       go false x false q =
           rw (e, condition_slot_lem b, condition_form (letter_slot b) (letter_high b l) (letter_other b l x q), l)
-          (said refl refl refl (sym (ap (λ (w : Bool). cond w (value_places (wrong_hex hex_length s) v t) []) (free-list b t x q))) refl (texts s v t))
+          (said refl refl refl (sym (ap (λ (w : Bool). cond w (value_places (wrong_hex hex_length s) v t) []) (free_list b t x q))) refl (texts s v t))
 
   member : (p v : ℕ) (t : Json) → Lowest (fault_of s (member_form FILTER (slot_at s FILTER p)) v t) (refused_in s t) (not (filter_member s p t)) (number_at p v t) (hex_at p v t) (wrong_filter s p t)
   unfolding member_form name_slot filter_form filter_slot condition_slot filter_member filter_number filter_hex wrong_filter same_bytes is_condition
   member p v t =
       filter_cases
       (λ w. name_at s p ≡ w → Lowest (fault_of s (member_form FILTER (slot_at s FILTER p)) v t) (refused_in s t) (not (filter_member s p t)) (number_at p v t) (hex_at p v t) (wrong_filter s p t))
-      (λ e. rw e (hex-list v t)) (λ e. rw e (hex-list v t)) (λ e. rw e (said refl refl (lists (wrong_small s) v t) refl refl (smalls s v t)))
+      (λ e. rw e (hex_list v t)) (λ e. rw e (hex_list v t)) (λ e. rw e (said refl refl (lists (wrong_small s) v t) refl refl (smalls s v t)))
       (λ e. rw e (said refl refl (own_time s (wrong_small s) v t) refl refl (time s v t))) (λ e. rw e (said refl refl (own_time s (wrong_small s) v t) refl refl (time s v t)))
       (λ e. rw e (said refl refl (own_small s (wrong_small s) v t) refl refl (small s v t)))
       (λ b l e. condition p v t b e l) (λ w a b c d f g h e. rw (e, a, b, c, d, f, g, h, other_name w 101 refl h, other_name w 112 refl h) (never s v t)) (name_at s p) refl
@@ -116,41 +116,41 @@ module _ (s : List ℕ) where
       (λ w a b c d f g h e m z. no (let y : false ≡ true = rw (e, a, b, c, d, f, g, h) at m in cc)) (name_at s p) refl
 
   -- ---- each at most once
-  two-same : (ts : Items) → all_items (filter_member s) ts ≡ true → noTwo (bit_at s FILTER) ts ≡ no_name_twice s ts
-  unfolding noTwo no_name_twice all_items name_slot
-  two-same nil e = refl
-  two-same (item p v t ts) e =
+  two_same : (ts : Items) → all_items (filter_member s) ts ≡ true → no_two (bit_at s FILTER) ts ≡ no_name_twice s ts
+  unfolding no_two no_name_twice all_items name_slot
+  two_same nil e = refl
+  two_same (item p v t ts) e =
       rw (
         any_same _ _ (λ q u. same_bit filter_slot filter_back filter_back_lem filter_bit (name_at s q) (name_at s p) (known p t (and_left (filter_member s p t) _ e))) ts,
-        two-same ts (and_right (filter_member s p t) _ e),
+        two_same ts (and_right (filter_member s p t) _ e),
       )
 
-  none-twice : (ts : Items) → (not (all_items (filter_member s) ts) || (twice (bit_at s FILTER) 0 ts || false)) ≡ not (all_items (filter_member s) ts && no_name_twice s ts)
-  none-twice ts = go (all_items (filter_member s) ts) refl
+  none_twice_lem : (ts : Items) → (not (all_items (filter_member s) ts) || (twice (bit_at s FILTER) 0 ts || false)) ≡ not (all_items (filter_member s) ts && no_name_twice s ts)
+  none_twice_lem ts = go (all_items (filter_member s) ts) refl
     where
       go : (x : Bool) → all_items (filter_member s) ts ≡ x → (not x || (twice (bit_at s FILTER) 0 ts || false)) ≡ not (x && no_name_twice s ts)
       go false a = refl
-      go true a = or_false _ ∙ twice_none (bit_at s FILTER) ts ∙ ap not (two-same ts a)
+      go true a = or-false _ ∙ twice_none (bit_at s FILTER) ts ∙ ap not (two_same ts a)
 
   -- ---- the # conditions
-  marks-one : (p n : ℕ) → marks_after (slot_at s FILTER p) n ≡ cond (is_condition (name_at s p)) (min (n + 1) 5) n
+  marks_one : (p n : ℕ) → marks_after (slot_at s FILTER p) n ≡ cond (is_condition (name_at s p)) (min (n + 1) 5) n
   unfolding marks_after name_slot filter_slot condition_slot same_bytes is_condition
-  marks-one p n =
+  marks_one p n =
       filter_cases (λ w. name_at s p ≡ w → marks_after (slot_at s FILTER p) n ≡ cond (is_condition (name_at s p)) (min (n + 1) 5) n) (λ e. rw e) (λ e. rw e) (λ e. rw e)
       (λ e. rw e) (λ e. rw e) (λ e. rw e) (λ b l e. rw (e, l, le-ltb (letter_slot b) LOWER (letter_high b l))) (λ w a b c d f g h e. rw (e, a, b, c, d, f, g, h)) (name_at s p) refl
 
-  marks-are : (n : ℕ) (ts : Items) → n ≤ 5 → marked (slot_at s FILTER) n ts ≡ min (n + count_items (λ p t. is_condition (name_at s p)) ts) 5
+  marks_are : (n : ℕ) (ts : Items) → n ≤ 5 → marked (slot_at s FILTER) n ts ≡ min (n + count_items (λ p t. is_condition (name_at s p)) ts) 5
   unfolding marked count_items
-  marks-are n nil h = omega arith
-  marks-are n (item p v t ts) h = ap (λ (m : ℕ). marked (slot_at s FILTER) m ts) (marks-one p n) ∙ go (is_condition (name_at s p)) (λ m l. marks-are m ts l)
+  marks_are n nil h = omega arith
+  marks_are n (item p v t ts) h = ap (λ (m : ℕ). marked (slot_at s FILTER) m ts) (marks_one p n) ∙ go (is_condition (name_at s p)) (λ m l. marks_are m ts l)
     where
       go : (x : Bool) → ((m : ℕ) → m ≤ 5 → marked (slot_at s FILTER) m ts ≡ min (m + count_items (λ p t. is_condition (name_at s p)) ts) 5)
           → marked (slot_at s FILTER) (cond x (min (n + 1) 5) n) ts ≡ min (n + cond x (suc (count_items (λ p t. is_condition (name_at s p)) ts)) (count_items (λ p t. is_condition (name_at s p)) ts)) 5
       go true f = f (min (n + 1) 5) (omega arith) ∙ omega arith
       go false f = f n h
 
-  outside-most : (n : ℕ) → outside 0 most_conditions (min (0 + n) 5) ≡ outside 0 most_conditions n
-  outside-most n = rw (le-ltb (min (0 + n) 5) 0 (omega arith), le-ltb n 0 (omega arith)) (go (ltb most_conditions n) refl)
+  outside_most : (n : ℕ) → outside 0 most_conditions (min (0 + n) 5) ≡ outside 0 most_conditions n
+  outside_most n = rw (le-ltb (min (0 + n) 5) 0 (omega arith), le-ltb n 0 (omega arith)) (go (ltb most_conditions n) refl)
     where
       go : (x : Bool) → ltb most_conditions n ≡ x → ltb most_conditions (min (0 + n) 5) ≡ ltb most_conditions n
       go true e = let h = ltb-true most_conditions n e in lt-ltb most_conditions (min (0 + n) 5) (omega arith) ∙ sym e
@@ -166,8 +166,8 @@ module _ (s : List ℕ) where
   filter v (str a n) = record { is = refl }
   filter v (arr ts) = begins (never_after s false 0 fresh ts)
   filter v (obj ts) =
-      said refl (none-twice ts) refl refl
-      (ap (λ (x : Bool). any_item (wrong_filter s) ts || x) (ap (outside 0 most_conditions) (marks-are 0 ts (omega arith)) ∙ outside-most (count_items (λ p t. is_condition (name_at s p)) ts)))
+      said refl (none_twice_lem ts) refl refl
+      (ap (λ (x : Bool). any_item (wrong_filter s) ts || x) (ap (outside 0 most_conditions) (marks_are 0 ts (omega arith)) ∙ outside_most (count_items (λ p t. is_condition (name_at s p)) ts)))
       (begins
       (object_after s FILTER (filter_member s) (wrong_filter s) number_at hex_at (λ m. false) (outside 0 most_conditions) member
       (λ k a. record { is = bounds_is 0 most_conditions a.marks }) 0 fresh ts))

@@ -1,8 +1,8 @@
 -- Arrays: where every element from a number on has one form, the rows of the whole are those of some element, and of
 -- the count.
-use mathlib.Core.Path.{◌≡◌, refl, sym, ap, ◌∙◌}
-use mathlib.Core.List.{List, [], ◌∷◌, ◌++◌}
-use mathlib.Core.Bool.{Bool, true, false, cond, not, ◌&&◌, ◌||◌, or_false, or_comm}
+use mathlib.Core.Path.{◌≡◌, refl, ap, ◌∙◌}
+use mathlib.Core.List.{List, []}
+use mathlib.Core.Bool.{Bool, true, false, not, ◌&&◌, ◌||◌, or-false, or_comm}
 use Prim.Native.Nat.{ℕ, suc, ◌+◌, ◌≤◌}
 use native.Mathlib.Nat.{add-zero, zero-add}
 use native.Mathlib.Omega.{arith}
@@ -60,7 +60,7 @@ module _ (s : List ℕ) (f h most : ℕ) (ok : Json → Bool) (w₆ w₇ : ℕ �
       (outside 1 most (count ts))
   unfolding fresh
   members ts =
-      said refl (or_false _) refl refl (ap (λ (x : Bool). x || outside 1 most (0 + count ts)) (no_item ts) ∙ ap (outside 1 most) (zero-add (count ts)))
+      said refl (or-false _) refl refl (ap (λ (x : Bool). x || outside 1 most (0 + count ts)) (no_item ts) ∙ ap (outside 1 most) (zero-add (count ts)))
       (begins (array_after s f h 0 ok (λ t. false) w₆ w₇ (λ k. false) (outside 1 most) inner form end 0 fresh ts (omega arith)))
 
 -- the places of the members of a list of which g holds
@@ -107,7 +107,7 @@ tags s v (word a n) = record { is = refl }
 tags s v (num a n) = record { is = refl }
 tags s v (str a n) = record { is = refl }
 tags s v (arr ts) =
-    said refl (or_false _) (no_place ts) (no_place ts) (or_comm (any_item (λ q u. wrong_tag u) ts) (outside 0 most_tags (0 + count ts)) ∙ ap (λ (n : ℕ). outside 0 most_tags n || any_item (λ q u. wrong_tag u) ts) (zero-add (count ts)))
+    said refl (or-false _) (no_place ts) (no_place ts) (or_comm (any_item (λ q u. wrong_tag u) ts) (outside 0 most_tags (0 + count ts)) ∙ ap (λ (n : ℕ). outside 0 most_tags n || any_item (λ q u. wrong_tag u) ts) (zero-add (count ts)))
     (begins
     (array_after s TAGLIST TAG 0 (is_array_of is_string) wrong_tag (λ v t. []) (λ v t. []) (λ k. false) (outside 0 most_tags) (tag s) (λ k l. refl) (λ k a. record { is = bounds_is 0 most_tags k }) 0
     fresh ts (omega arith)))

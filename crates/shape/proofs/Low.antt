@@ -1,6 +1,6 @@
 -- The lowest of rows 4 to 8 with the earliest of its places, as a fault. The least of two faults is the lowest row that
 -- holds on either side, with the earliest of its places on either side.
-use mathlib.Core.Path.{◌≡◌, refl, sym, ap, ◌∙◌}
+use mathlib.Core.Path.{◌≡◌, refl, ap, ◌∙◌}
 use mathlib.Core.List.{List, [], ◌∷◌, ◌++◌, append-nil}
 use mathlib.Core.Bool.{Bool, true, false, cond, not, ◌&&◌, ◌||◌}
 use Prim.Native.Nat.{ℕ, ◌+◌, ◌≤◌, min}

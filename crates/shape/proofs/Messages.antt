@@ -1,16 +1,16 @@
 -- A whole message: what the walk answers is the lowest of the rows that hold, with its earliest place.
 use mathlib.Core.Path.{◌≡◌, refl, sym, ap, ◌∙◌}
-use mathlib.Core.List.{List, [], ◌∷◌}
-use mathlib.Core.Bool.{Bool, true, false, cond, not, ◌&&◌, ◌||◌, or_false}
-use Prim.Native.Nat.{ℕ, suc, ◌+◌, ◌≤◌, ◌<◌}
+use mathlib.Core.List.{List, []}
+use mathlib.Core.Bool.{Bool, true, false, cond, not, ◌&&◌, ◌||◌, or-false}
+use Prim.Native.Nat.{ℕ, ◌+◌, ◌≤◌}
 use native.Mathlib.Omega.{arith}
-use borrow.Author.Tests.{lt-ltb, le-ltb, ltb-true, ltb-false, ne_eqb}
+use borrow.Author.Tests.{lt-ltb, le-ltb, ltb-true, ne_eqb}
 use lib.Dec.{eqb, ltb}
 use Rattle.json_tree.specs.Tree.{Json, word, num, str, arr, obj, Items, nil, item, on_object, of_object}
 use Rattle.spell.specs.Spell.{decode}
 use Rattle.rows.specs.Strings.{part, refused_in, refused_items}
 use Rattle.shape.specs.declared.Tally.{Tally}
-use Rattle.shape.specs.Shape.{any_item, all_items, count_items, count, is_string, is_event, is_filter, is_one, Word}
+use Rattle.shape.specs.Shape.{any_item, all_items, count, is_string, is_event, is_filter, is_one, Word}
 use Rattle.shape.specs.Shape.{event, req, close, other, word_of, opened, has_shape}
 use Rattle.wire.specs.Limits.{most_filters, hex_length}
 use Rattle.shape.specs.Rows.{row4, row5, row8, in_message, wrong_request, outside, wrong_small, wrong_hex, event_number}
@@ -58,16 +58,16 @@ module _ (s : List ℕ) (f h : ℕ) (ok w₈ : Json → Bool) (w₆ w₇ : ℕ �
   and_none true = refl
   and_none false = refl
 
-  and-all : (x : Bool) → not (x && true) ≡ not x
-  and-all true = refl
-  and-all false = refl
+  and_all : (x : Bool) → not (x && true) ≡ not x
+  and_all true = refl
+  and_all false = refl
 
   pair : (p v a n : ℕ) (ts : Items)
       → Lowest (fault_items s false f 0 fresh (item p v (str a n) ts)) (refused_items s false (item p v (str a n) ts)) (not (is_one ok ts)) (collect (λ p v t. w₆ v t) ts) (collect (λ p v t. w₇ v t) ts)
       (any_item (λ p t. w₈ t) ts)
   unfolding fits_from some_from places_from collect any_item fresh
   pair p v a n nil = begins (elements (item p v (str a n) nil))
-  pair p v a n (item q w u nil) = said refl (and-all (ok u)) refl refl refl (begins (elements (item p v (str a n) (item q w u nil))))
+  pair p v a n (item q w u nil) = said refl (and_all (ok u)) refl refl refl (begins (elements (item p v (str a n) (item q w u nil))))
   pair p v a n (item q w u (item q' w' u' us)) =
       hidden (said refl (and_none (ok u)) refl refl refl (begins (elements (item p v (str a n) (item q w u (item q' w' u' us))))))
 
@@ -77,20 +77,20 @@ module _ (s : List ℕ) where
   abbrev numbers_in : (w : Word) (ts : Items) → List ℕ
   numbers_in w ts = message_places (member_places (event_number s) (wrong_small s)) (member_places (filter_number s) (wrong_small s)) w ts
 
-  abbrev hexesIn : (w : Word) (ts : Items) → List ℕ
-  hexesIn w ts = message_places (member_places (event_hex s) (wrong_hex hex_length s)) (member_places (filter_hex s) (wrong_hex hex_length s)) w ts
+  abbrev hexes_in : (w : Word) (ts : Items) → List ℕ
+  hexes_in w ts = message_places (member_places (event_hex s) (wrong_hex hex_length s)) (member_places (filter_hex s) (wrong_hex hex_length s)) w ts
 
-  over-filters : (k : ℕ) (a : Tally) → Lowest (end_fault REQUEST k a) false (ltb k 2) [] [] (outside 3 (2 + most_filters) k)
+  over_filters : (k : ℕ) (a : Tally) → Lowest (end_fault REQUEST k a) false (ltb k 2) [] [] (outside 3 (2 + most_filters) k)
   unfolding low placed_at end_fault
-  over-filters k a = record { is = ap (cond (ltb k 2) SHAPE) (bounds_is 3 (2 + most_filters) k) }
+  over_filters k a = record { is = ap (cond (ltb k 2) SHAPE) (bounds_is 3 (2 + most_filters) k) }
 
   later : (k : ℕ) → 2 ≤ k → element_form REQUEST k ≡ FILTER
   unfolding element_form message_form
   later k h = rw (ne_eqb k 0 (λ e. omega arith), ne_eqb k 1 (λ e. omega arith))
 
   -- two elements stand before the filters
-  two-less : (n : ℕ) → outside 3 (2 + most_filters) (2 + n) ≡ outside 1 most_filters n
-  two-less n = rw (shift 1, shift' most_filters)
+  two_less : (n : ℕ) → outside 3 (2 + most_filters) (2 + n) ≡ outside 1 most_filters n
+  two_less n = rw (shift 1, shift' most_filters)
     where
       shift : (m : ℕ) → ltb (2 + n) (2 + m) ≡ ltb n m
       shift m = both_ways _ _ (λ e. let h = ltb-true (2 + n) (2 + m) e in lt-ltb n m (omega arith)) (λ e. let h = ltb-true n m e in lt-ltb (2 + n) (2 + m) (omega arith))
@@ -99,24 +99,24 @@ module _ (s : List ℕ) where
       shift' m = both_ways _ _ (λ e. let h = ltb-true (2 + m) (2 + n) e in lt-ltb m n (omega arith)) (λ e. let h = ltb-true m n e in lt-ltb (2 + m) (2 + n) (omega arith))
 
   request : (a : Tally) (ts : Items)
-      → After (fault_items s false REQUEST 1 a ts) a.fault (refused_items s false ts) (not (has_shape s req ts)) (numbers_in req ts) (hexesIn req ts)
+      → After (fault_items s false REQUEST 1 a ts) a.fault (refused_items s false ts) (not (has_shape s req ts)) (numbers_in req ts) (hexes_in req ts)
       (wrong_request s req ts || in_message (on_object (any_item (event_count s))) (on_object (filter_counts s)) req ts)
   unfolding fault_of refused_in item_of element_form message_form closed
-  request a nil = after_hidden (ends refl (over-filters 1 a))
+  request a nil = after_hidden (ends refl (over_filters 1 a))
   request a (item q w u us) =
       after_said refl
       (ap (λ (x : Bool). not (is_string u) || (not (all_items (λ p t. is_filter s t) us) || x)) (le-ltb (2 + count us) 2 (omega arith)) ∙ not_both (is_string u) (all_items (λ p t. is_filter s t) us) false
-      ∙ or_false (not (is_string u && all_items (λ p t. is_filter s t) us))) refl refl
-      (ap (λ (x : Bool). wrong_subscription s u || (any_item (λ p t. on_object (filter_counts s) t) us || x)) (two-less (count us))
+      ∙ or-false (not (is_string u && all_items (λ p t. is_filter s t) us))) refl refl
+      (ap (λ (x : Bool). wrong_subscription s u || (any_item (λ p t. on_object (filter_counts s) t) us || x)) (two_less (count us))
       ∙ between_last (wrong_subscription s u) (any_item (λ p t. on_object (filter_counts s) t) us) (outside 1 most_filters (count us)))
       (turn_after s REQUEST false 1 q a (label s w u)
       (array_after s REQUEST FILTER 2 (is_filter s) (on_object (filter_counts s)) (λ v t. of_object [] (member_places (filter_number s) (wrong_small s)) t)
       (λ v t. of_object [] (member_places (filter_hex s) (wrong_hex hex_length s)) t) (λ k. ltb k 2) (outside 3 (2 + most_filters)) (filter s)
-      later over-filters 2 _ us (omega arith)))
+      later over_filters 2 _ us (omega arith)))
 
   -- ---- by the first word
   by_word : (x : Word) (at p v a n : ℕ) (ts : Items)
-      → Lowest (fault_of s (word_form x) at (arr (item p v (str a n) ts))) (refused_in s (arr (item p v (str a n) ts))) (not (has_shape s x ts)) (numbers_in x ts) (hexesIn x ts)
+      → Lowest (fault_of s (word_form x) at (arr (item p v (str a n) ts))) (refused_in s (arr (item p v (str a n) ts))) (not (has_shape s x ts)) (numbers_in x ts) (hexes_in x ts)
       (wrong_request s x ts || in_message (on_object (any_item (event_count s))) (on_object (filter_counts s)) x ts)
   unfolding fault_of refused_in word_form group_form element_form message_form end_fault item_of fresh
   by_word event at p v a n ts =
@@ -124,7 +124,7 @@ module _ (s : List ℕ) where
       (λ v t. of_object [] (member_places (event_hex s) (wrong_hex hex_length s)) t) (the-event s) (λ k. refl) (λ k a. refl) p v a n ts
   by_word req at p v a n ts = begins (turn_after s REQUEST false 0 p fresh (text s v (str a n)) (request _ ts))
   by_word close at p v a n ts =
-      said refl refl (no_place ts) (no_place ts) (sym (or_false _))
+      said refl refl (no_place ts) (no_place ts) (sym (or-false _))
       (pair s CLOSING LABEL is_string (wrong_subscription s) (λ v t. []) (λ v t. []) (label s) (λ k. refl) (λ k a. refl) p v a n ts)
   by_word other at p v a n ts = never s at (arr (item p v (str a n) ts))
 

@@ -2,10 +2,10 @@
 -- there, and of the number of # conditions.
 use mathlib.Core.Path.{◌≡◌, refl, sym, ap, ◌∙◌}
 use mathlib.Core.List.{List, []}
-use mathlib.Core.Bool.{Bool, true, false, cond, not, ◌&&◌, ◌||◌, or_false}
+use mathlib.Core.Bool.{Bool, true, false, cond, not, ◌&&◌, ◌||◌, or-false}
 use Prim.Native.Nat.{ℕ, suc, ◌+◌, ◌^◌, ◌≤◌, ◌<◌}
 use native.Mathlib.Omega.{arith}
-use borrow.Author.Tests.{lt-ltb, le-ltb, eq-eqb, eqb-true, eqb-false, ltb-true, ltb-false}
+use borrow.Author.Tests.{lt-ltb, le-ltb, eq-eqb, eqb-true, ltb-true, ltb-false}
 use lib.Dec.{eqb, ltb}
 use lib.Bits.{bit_or}
 use Rattle.json_tree.specs.Tree.{Json, Items, nil, item}
@@ -36,9 +36,9 @@ module _ (slot : ℕ → ℕ) where
   marked n (item p v t ts) = marked (marks_after (slot p) n) ts
 
   -- no two items have the same bit
-  unfoldable pub noTwo : Items → Bool
-  noTwo nil = true
-  noTwo (item p v t ts) = not (any_item (λ q u. eqb (slot q) (slot p)) ts) && noTwo ts
+  unfoldable pub no_two : Items → Bool
+  no_two nil = true
+  no_two (item p v t ts) = not (any_item (λ q u. eqb (slot q) (slot p)) ts) && no_two ts
 
 abbrev pub slot_at : List ℕ → ℕ → ℕ → ℕ
 slot_at s f p = name_slot f (name_at s p)
@@ -104,15 +104,15 @@ not_not false e = refl
 
 -- ---- the slots
 module _ (slot : ℕ → ℕ) where
-  twice-is : (m : ℕ) (ts : Items) → twice slot m ts ≡ (any_item (λ p t. is_in (slot p) m) ts || not (noTwo slot ts))
-  unfolding twice noTwo any_item
-  twice-is m nil = refl
-  twice-is m (item p v t ts) =
+  twice_is : (m : ℕ) (ts : Items) → twice slot m ts ≡ (any_item (λ p t. is_in (slot p) m) ts || not (no_two slot ts))
+  unfolding twice no_two any_item
+  twice_is m nil = refl
+  twice_is m (item p v t ts) =
       ap (λ (x : Bool). is_in (slot p) m || x)
-      (twice-is (bit_or m (2 ^ slot p)) ts
-      ∙ ap (λ (x : Bool). x || not (noTwo slot ts))
+      (twice_is (bit_or m (2 ^ slot p)) ts
+      ∙ ap (λ (x : Bool). x || not (no_two slot ts))
       (any_same _ _ (λ q u. in_more (slot q) (slot p) m) ts ∙ any_or (λ q u. is_in (slot q) m) (λ q u. eqb (slot q) (slot p)) ts))
-      ∙ go (is_in (slot p) m) (any_item (λ q u. is_in (slot q) m) ts) (any_item (λ q u. eqb (slot q) (slot p)) ts) (noTwo slot ts)
+      ∙ go (is_in (slot p) m) (any_item (λ q u. is_in (slot q) m) ts) (any_item (λ q u. eqb (slot q) (slot p)) ts) (no_two slot ts)
     where
       go : (i a b n : Bool) → (i || ((a || b) || not n)) ≡ ((i || a) || not (not b && n))
       go true a b n = refl
@@ -120,22 +120,22 @@ module _ (slot : ℕ → ℕ) where
       go false false true n = refl
       go false false false n = refl
 
-  pub twice_none : (ts : Items) → twice slot 0 ts ≡ not (noTwo slot ts)
+  pub twice_none : (ts : Items) → twice slot 0 ts ≡ not (no_two slot ts)
   twice_none ts =
-      twice-is 0 ts ∙ ap (λ (x : Bool). x || not (noTwo slot ts)) (any_same _ (λ p t. false) (λ p t. in_none (slot p)) ts ∙ no_item ts)
+      twice_is 0 ts ∙ ap (λ (x : Bool). x || not (no_two slot ts)) (any_same _ (λ p t. false) (λ p t. in_none (slot p)) ts ∙ no_item ts)
 
   pub taken_is : (j m : ℕ) (ts : Items) → is_in j (taken slot m ts) ≡ (is_in j m || any_item (λ p t. eqb j (slot p)) ts)
   unfolding taken any_item
-  taken_is j m nil = sym (or_false (is_in j m))
+  taken_is j m nil = sym (or-false (is_in j m))
   taken_is j m (item p v t ts) =
       taken_is j (bit_or m (2 ^ slot p)) ts ∙ ap (λ (x : Bool). x || any_item (λ q u. eqb j (slot q)) ts) (in_more j (slot p) m)
       ∙ sym (either_first (is_in j m) (eqb j (slot p)) (any_item (λ q u. eqb j (slot q)) ts))
 
   -- each slot at most once
-  pub most_one : (ts : Items) → noTwo slot ts ≡ true → (j : ℕ) → count_items (λ p t. eqb j (slot p)) ts ≤ 1
-  unfolding noTwo count_items
+  pub most_one : (ts : Items) → no_two slot ts ≡ true → (j : ℕ) → count_items (λ p t. eqb j (slot p)) ts ≤ 1
+  unfolding no_two count_items
   most_one nil e j = omega arith
-  most_one (item p v t ts) e j = go (eqb j (slot p)) refl (most_one ts (and_right (not others) (noTwo slot ts) e) j)
+  most_one (item p v t ts) e j = go (eqb j (slot p)) refl (most_one ts (and_right (not others) (no_two slot ts) e) j)
     where
       others : Bool
       others = any_item (λ q u. eqb (slot q) (slot p)) ts
@@ -143,13 +143,13 @@ module _ (slot : ℕ → ℕ) where
       go : (x : Bool) → eqb j (slot p) ≡ x → count_items (λ q u. eqb j (slot q)) ts ≤ 1
           → cond x (suc (count_items (λ q u. eqb j (slot q)) ts)) (count_items (λ q u. eqb j (slot q)) ts) ≤ 1
       go true r h =
-          let z = any_none (λ q u. eqb (slot q) (slot p)) ts (not_not others (and_left (not others) (noTwo slot ts) e)) in
+          let z = any_none (λ q u. eqb (slot q) (slot p)) ts (not_not others (and_left (not others) (no_two slot ts) e)) in
           let w = count_same (λ q u. eqb j (slot q)) (λ q u. eqb (slot q) (slot p)) (λ q u. eqb_turned j (slot q) ∙ ap (eqb (slot q)) (eqb-true j (slot p) r)) ts in
           omega arith
       go false r h = h
 
-  pub one_each : (n : ℕ) (ts : Items) → all_items (λ p t. ltb (slot p) n) ts ≡ true → ((j : ℕ) → j < n → count_items (λ p t. eqb j (slot p)) ts ≤ 1) → noTwo slot ts ≡ true
-  unfolding noTwo count_items all_items
+  pub one_each : (n : ℕ) (ts : Items) → all_items (λ p t. ltb (slot p) n) ts ≡ true → ((j : ℕ) → j < n → count_items (λ p t. eqb j (slot p)) ts ≤ 1) → no_two slot ts ≡ true
+  unfolding no_two count_items all_items
   one_each n nil e f = refl
   one_each n (item p v t ts) e f = rw (none, one_each n ts (and_right (ltb (slot p) n) _ e) (λ j h. fewer (eqb j (slot p)) _ (f j h)))
     where

@@ -1,6 +1,6 @@
 -- What a refusal carries: nothing with rows other than 6 and 7; with these the place of a number, or of a string, of
 -- the message.
-use mathlib.Core.Path.{◌≡◌, refl, sym, ap, ◌∙◌}
+use mathlib.Core.Path.{◌≡◌, refl, ◌∙◌}
 use mathlib.Core.List.{List, [], ◌∷◌}
 use mathlib.Core.Bool.{Bool, true, false, cond}
 use mathlib.Core.Logic.{◌⊎◌, inl, inr}
@@ -10,22 +10,21 @@ use borrow.Author.Tests.{eq-eqb, ne_eqb, eqb-true, ltb-true, ltb-false}
 use lib.Dec.{eqb, ltb}
 use lib.ListN.{length}
 use Rattle.json_tree.specs.Grammar.{ws_at, scalar_at}
-use Rattle.json_tree.specs.Tree.{Json, word, num, str, arr, obj, Items, nil, item, Got, none, got, depth, tree_at, root, on_array}
+use Rattle.json_tree.specs.Tree.{Json, word, num, str, arr, obj, nil, item, Got, none, got, depth, root, on_array}
 use Rattle.json_tree.specs.Tree.{of_array}
 use Rattle.json_tree.specs.declared.Kind.TheVariants.{Str, Num}
 use Rattle.wire.specs.Limits.{most_message, hex_length, sig_length}
-use Rattle.shape.specs.declared.Offset.{Offset}
 use Rattle.shape.specs.declared.Offset.TheVariants.{Absent, At}
 use Rattle.shape.specs.Shape.{any_item, named, is_number, is_string, id_name, pubkey_name, created_at_name, kind_name}
 use Rattle.shape.specs.Shape.{sig_name, ids_name, authors_name, kinds_name, since_name, until_name, limit_name}
 use Rattle.shape.specs.Shape.{e_condition_name, p_condition_name, opened}
-use Rattle.shape.specs.Rows.{wrong_time, wrong_small, wrong_smalls, event_number, filter_number, wrong_hex, wrong_hexes}
+use Rattle.shape.specs.Rows.{wrong_time, wrong_small, event_number, filter_number, wrong_hex}
 use Rattle.shape.specs.Rows.{event_hex, filter_hex, message_row}
 use Rattle.shape.specs.Lowest.{holds}
-use Rattle.shape.specs.Offsets.{least_of, earliest, number_places, hex_places, tree_offset, root_offset, offset_of}
+use Rattle.shape.specs.Offsets.{least_of, earliest, number_places, hex_places, root_offset, offset_of}
 use Rattle.shape.specs.Offsets.{offset_for, refusal_of, refusal_for, plain_refusal}
 use Rattle.shape.proofs.Names.{no}
-use Rattle.shape.proofs.Standing.{Stands, a-number, a-string, an-array, AllStand, no_more, one_more, tree_stands}
+use Rattle.shape.proofs.Standing.{Stands, a_number, a_string, an_array, AllStand, no_more, one_more, tree_stands}
 use Rattle.shape.proofs.Standing.{scalar_within, Each, each_object, each_message}
 use Rattle.shape.proofs.Exact.{row_given}
 
@@ -70,76 +69,76 @@ only_leaf : (leaf : Json → Bool) (t : Json) {x : Bool} → (x ≡ true → lea
 only_leaf leaf t f = record { is = λ e. wider leaf t (f e) }
 
 module _ (s : List ℕ) where
-  time-only : (t : Json) → wrong_time s t ≡ true → is_number t ≡ true
+  time_only : (t : Json) → wrong_time s t ≡ true → is_number t ≡ true
   unfolding wrong_time
-  time-only (word a n) e = no cc
-  time-only (num a n) e = refl
-  time-only (str a n) e = no cc
-  time-only (arr ts) e = no cc
-  time-only (obj ts) e = no cc
+  time_only (word a n) e = no cc
+  time_only (num a n) e = refl
+  time_only (str a n) e = no cc
+  time_only (arr ts) e = no cc
+  time_only (obj ts) e = no cc
 
-  small-only : (t : Json) → wrong_small s t ≡ true → is_number t ≡ true
+  small_only : (t : Json) → wrong_small s t ≡ true → is_number t ≡ true
   unfolding wrong_small
-  small-only (word a n) e = no cc
-  small-only (num a n) e = refl
-  small-only (str a n) e = no cc
-  small-only (arr ts) e = no cc
-  small-only (obj ts) e = no cc
+  small_only (word a n) e = no cc
+  small_only (num a n) e = refl
+  small_only (str a n) e = no cc
+  small_only (arr ts) e = no cc
+  small_only (obj ts) e = no cc
 
-  hex-only : (k : ℕ) (t : Json) → wrong_hex k s t ≡ true → is_string t ≡ true
+  hex_only : (k : ℕ) (t : Json) → wrong_hex k s t ≡ true → is_string t ≡ true
   unfolding wrong_hex
-  hex-only k (word a n) e = no cc
-  hex-only k (num a n) e = no cc
-  hex-only k (str a n) e = refl
-  hex-only k (arr ts) e = no cc
-  hex-only k (obj ts) e = no cc
+  hex_only k (word a n) e = no cc
+  hex_only k (num a n) e = no cc
+  hex_only k (str a n) e = refl
+  hex_only k (arr ts) e = no cc
+  hex_only k (obj ts) e = no cc
 
-  at-number : (v : ℕ) (t : Json) → is_number t ≡ true → Stands s v t → NumberStands s v
-  at-number v (word a n) e w = no cc
-  at-number v (num a n) e (a-number q) = (_, q)
-  at-number v (str a n) e w = no cc
-  at-number v (arr ts) e w = no cc
-  at-number v (obj ts) e w = no cc
+  at_number : (v : ℕ) (t : Json) → is_number t ≡ true → Stands s v t → NumberStands s v
+  at_number v (word a n) e w = no cc
+  at_number v (num a n) e (a_number q) = (_, q)
+  at_number v (str a n) e w = no cc
+  at_number v (arr ts) e w = no cc
+  at_number v (obj ts) e w = no cc
 
-  at-string : (v : ℕ) (t : Json) → is_string t ≡ true → Stands s v t → StringStands s v
-  at-string v (word a n) e w = no cc
-  at-string v (num a n) e w = no cc
-  at-string v (str a n) e (a-string q) = (_, q)
-  at-string v (arr ts) e w = no cc
-  at-string v (obj ts) e w = no cc
+  at_string : (v : ℕ) (t : Json) → is_string t ≡ true → Stands s v t → StringStands s v
+  at_string v (word a n) e w = no cc
+  at_string v (num a n) e w = no cc
+  at_string v (str a n) e (a_string q) = (_, q)
+  at_string v (arr ts) e w = no cc
+  at_string v (obj ts) e w = no cc
 
-  rest-stands : (at : ℕ) (t : Json) → Stands s at t → AllStand s (opened s t).rest
-  rest-stands at (word a n) w = no_more
-  rest-stands at (num a n) w = no_more
-  rest-stands at (str a n) w = no_more
-  rest-stands at (obj ts) w = no_more
-  rest-stands at (arr nil) w = no_more
-  rest-stands at (arr (item p v (word a n) ts)) (an-array (one_more x w)) = w
-  rest-stands at (arr (item p v (num a n) ts)) (an-array (one_more x w)) = w
-  rest-stands at (arr (item p v (str a n) ts)) (an-array (one_more x w)) = w
-  rest-stands at (arr (item p v (arr us) ts)) (an-array (one_more x w)) = w
-  rest-stands at (arr (item p v (obj us) ts)) (an-array (one_more x w)) = w
+  rest_stands : (at : ℕ) (t : Json) → Stands s at t → AllStand s (opened s t).rest
+  rest_stands at (word a n) w = no_more
+  rest_stands at (num a n) w = no_more
+  rest_stands at (str a n) w = no_more
+  rest_stands at (obj ts) w = no_more
+  rest_stands at (arr nil) w = no_more
+  rest_stands at (arr (item p v (word a n) ts)) (an_array (one_more x w)) = w
+  rest_stands at (arr (item p v (num a n) ts)) (an_array (one_more x w)) = w
+  rest_stands at (arr (item p v (str a n) ts)) (an_array (one_more x w)) = w
+  rest_stands at (arr (item p v (arr us) ts)) (an_array (one_more x w)) = w
+  rest_stands at (arr (item p v (obj us) ts)) (an_array (one_more x w)) = w
 
-  event-number-only : (p : ℕ) (t : Json) → Only is_number t (event_number s p t)
+  event_number_only : (p : ℕ) (t : Json) → Only is_number t (event_number s p t)
   unfolding event_number
-  event-number-only p t = only_if (named s created_at_name p) (only_leaf is_number t (time-only t)) (only_if (named s kind_name p) (only_leaf is_number t (small-only t)) only_no)
+  event_number_only p t = only_if (named s created_at_name p) (only_leaf is_number t (time_only t)) (only_if (named s kind_name p) (only_leaf is_number t (small_only t)) only_no)
 
-  filter-number-only : (p : ℕ) (t : Json) → Only is_number t (filter_number s p t)
+  filter_number_only : (p : ℕ) (t : Json) → Only is_number t (filter_number s p t)
   unfolding filter_number
-  filter-number-only p t =
+  filter_number_only p t =
       only_if (named s kinds_name p) (only_list is_number (wrong_small s) t)
-      (only_if (named s since_name p) (only_leaf is_number t (time-only t))
-      (only_if (named s until_name p) (only_leaf is_number t (time-only t)) (only_if (named s limit_name p) (only_leaf is_number t (small-only t)) only_no)))
+      (only_if (named s since_name p) (only_leaf is_number t (time_only t))
+      (only_if (named s until_name p) (only_leaf is_number t (time_only t)) (only_if (named s limit_name p) (only_leaf is_number t (small_only t)) only_no)))
 
-  event-hex-only : (p : ℕ) (t : Json) → Only is_string t (event_hex s p t)
+  event_hex_only : (p : ℕ) (t : Json) → Only is_string t (event_hex s p t)
   unfolding event_hex
-  event-hex-only p t =
-      only_if (named s id_name p) (only_leaf is_string t (hex-only hex_length t))
-      (only_if (named s pubkey_name p) (only_leaf is_string t (hex-only hex_length t)) (only_if (named s sig_name p) (only_leaf is_string t (hex-only sig_length t)) only_no))
+  event_hex_only p t =
+      only_if (named s id_name p) (only_leaf is_string t (hex_only hex_length t))
+      (only_if (named s pubkey_name p) (only_leaf is_string t (hex_only hex_length t)) (only_if (named s sig_name p) (only_leaf is_string t (hex_only sig_length t)) only_no))
 
-  filter-hex-only : (p : ℕ) (t : Json) → Only is_string t (filter_hex s p t)
+  filter_hex_only : (p : ℕ) (t : Json) → Only is_string t (filter_hex s p t)
   unfolding filter_hex
-  filter-hex-only p t =
+  filter_hex_only p t =
       only_if (named s ids_name p) (only_list is_string (wrong_hex hex_length s) t)
       (only_if (named s authors_name p) (only_list is_string (wrong_hex hex_length s) t)
       (only_if (named s e_condition_name p) (only_list is_string (wrong_hex hex_length s) t) (only_if (named s p_condition_name p) (only_list is_string (wrong_hex hex_length s) t) only_no)))
@@ -147,18 +146,18 @@ module _ (s : List ℕ) where
   pub numbers_stand : {t : Json} {n : ℕ} → root s ≡ got t n → Each (NumberStands s) (number_places s t)
   unfolding number_places
   numbers_stand {t} {n} e =
-      each_message s (NumberStands s) is_number at-number _ _
-      (each_object s (NumberStands s) is_number at-number (event_number s) (wrong_small s) (λ p t. (event-number-only p t).is) small-only)
-      (each_object s (NumberStands s) is_number at-number (filter_number s) (wrong_small s) (λ p t. (filter-number-only p t).is) small-only) (opened s t).first (opened s t).rest
-      (rest-stands (ws_at s 0) t (tree_stands s depth (ws_at s 0) e))
+      each_message s (NumberStands s) is_number at_number _ _
+      (each_object s (NumberStands s) is_number at_number (event_number s) (wrong_small s) (λ p t. (event_number_only p t).is) small_only)
+      (each_object s (NumberStands s) is_number at_number (filter_number s) (wrong_small s) (λ p t. (filter_number_only p t).is) small_only) (opened s t).first (opened s t).rest
+      (rest_stands (ws_at s 0) t (tree_stands s depth (ws_at s 0) e))
 
   pub hexes_stand : {t : Json} {n : ℕ} → root s ≡ got t n → Each (StringStands s) (hex_places s t)
   unfolding hex_places
   hexes_stand {t} {n} e =
-      each_message s (StringStands s) is_string at-string _ _
-      (each_object s (StringStands s) is_string at-string (event_hex s) (wrong_hex hex_length s) (λ p t. (event-hex-only p t).is) (hex-only hex_length))
-      (each_object s (StringStands s) is_string at-string (filter_hex s) (wrong_hex hex_length s) (λ p t. (filter-hex-only p t).is) (hex-only hex_length)) (opened s t).first (opened s t).rest
-      (rest-stands (ws_at s 0) t (tree_stands s depth (ws_at s 0) e))
+      each_message s (StringStands s) is_string at_string _ _
+      (each_object s (StringStands s) is_string at_string (event_hex s) (wrong_hex hex_length s) (λ p t. (event_hex_only p t).is) (hex_only hex_length))
+      (each_object s (StringStands s) is_string at_string (filter_hex s) (wrong_hex hex_length s) (λ p t. (filter_hex_only p t).is) (hex_only hex_length)) (opened s t).first (opened s t).rest
+      (rest_stands (ws_at s 0) t (tree_stands s depth (ws_at s 0) e))
 
   pub number_within : (v : ℕ) → NumberStands s v → v < length s
   number_within v (k, e) = scalar_within s v e (λ z. no cc)

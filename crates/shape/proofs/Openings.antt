@@ -6,7 +6,7 @@ use mathlib.Core.Bool.{Bool, true, false, cond, not}
 use Prim.Native.Nat.{ℕ, zero, suc, ◌+◌, ◌-◌, ◌≤◌, ◌<◌}
 use native.Mathlib.Omega.{arith}
 use borrow.Author.Tests.{eqb-true, eq-eqb, ne_eqb, lt-ltb, le-ltb}
-use lib.Dec.{eqb, ltb}
+use lib.Dec.{eqb}
 use lib.ListN.{length, get_or}
 use Rattle.json_tree.specs.Grammar.{case, ws_at, in_class, one_at, token_at, string_at, number_at, literal_at, scalar_at, opened_at}
 use Rattle.json_tree.specs.Grammar.{start_at, next_at}
@@ -29,7 +29,6 @@ use Rattle.spell.specs.Spell.{chars_from, chars_bytes, decode}
 use Rattle.rows.specs.Strings.{part, spelled_at}
 use Rattle.shape.specs.Shape.{name_at, other, word_of, opened}
 use Rattle.shape.specs.Shape.{Word as TheWord}
-use Rattle.rows.specs.Rows.{row3}
 use Rattle.utf8.specs.Utf8.{is_utf8}
 use Rattle.shape.specs.declared.Judged.TheVariants.{Ends, Wrong}
 use Rattle.shape.specs.declared.Offset.{Offset}
@@ -65,23 +64,23 @@ first_opened s (item p v (arr us) ts) = refl
 first_opened s (item p v (obj us) ts) = refl
 
 module _ (s : List ℕ) (p : ℕ) where
-  no-string : string_at s p ≡ Bad → other ≡ word_of (name_at s p)
+  no_string : string_at s p ≡ Bad → other ≡ word_of (name_at s p)
   unfolding name_at spelled_at decode chars_bytes chars_from word_of same_bytes
-  no-string e = rw e
+  no_string e = rw e
 
-  a-string : (n : ℕ) → string_at s p ≡ End n → word_of (decode (part s (p + 1) (n - p - 2))) ≡ word_of (name_at s p)
+  a_string : (n : ℕ) → string_at s p ≡ End n → word_of (decode (part s (p + 1) (n - p - 2))) ≡ word_of (name_at s p)
   unfolding name_at spelled_at
-  a-string n e = rw e
+  a_string n e = rw e
 
   -- ---- a value that holds no value
-  leaf-word : (t : Json) (m : ℕ) → on_leaf s p (scalar_at s p) ≡ got t m → word_in s t ≡ word_of (name_at s p)
+  leaf_word : (t : Json) (m : ℕ) → on_leaf s p (scalar_at s p) ≡ got t m → word_in s t ≡ word_of (name_at s p)
   unfolding scalar_at
-  leaf-word t m e = go (string_at s p) (number_at s p) (literal_at s p) refl e
+  leaf_word t m e = go (string_at s p) (number_at s p) (literal_at s p) refl e
     where
       go : (o q r : Out) → string_at s p ≡ o → on_leaf s p (case o Str (case q Num (case r Word None))) ≡ got t m → word_in s t ≡ word_of (name_at s p)
-      go (End n) q r e w = let z : str (p + 1) (n - p - 2) ≡ t = cc in rw (← z) (a-string n e)
-      go Bad (End n) r e w = let z : num p (n - p) ≡ t = cc in rw (← z) (no-string e)
-      go Bad Bad (End n) e w = let z : word p (n - p) ≡ t = cc in rw (← z) (no-string e)
+      go (End n) q r e w = let z : str (p + 1) (n - p - 2) ≡ t = cc in rw (← z) (a_string n e)
+      go Bad (End n) r e w = let z : num p (n - p) ≡ t = cc in rw (← z) (no_string e)
+      go Bad Bad (End n) e w = let z : word p (n - p) ≡ t = cc in rw (← z) (no_string e)
       go Bad Bad Bad e w = no cc
 
   -- ---- brackets and braces are no quotes
@@ -93,41 +92,41 @@ module _ (s : List ℕ) (p : ℕ) where
       go true q w = eqb-true _ _ q
       go false q w = ends_bad w
 
-  not-quote : (b : ℕ) → get_or s p 0 ≡ b → eqb b 0x22 ≡ false → string_at s p ≡ Bad
+  not_quote : (b : ℕ) → get_or s p 0 ≡ b → eqb b 0x22 ≡ false → string_at s p ≡ Bad
   unfolding string_at one_at in_class
-  not-quote b e f = rw (e, f)
+  not_quote b e f = rw (e, f)
 
-  group-word : (r : Start) → start_at s p ≡ r → (r ≡ Leaf → ⊥) → other ≡ word_of (name_at s p)
-  group-word r e n = go (token_at s 0x5B p) refl (token_at s 0x7B p) refl e
+  group_word : (r : Start) → start_at s p ≡ r → (r ≡ Leaf → ⊥) → other ≡ word_of (name_at s p)
+  group_word r e n = go (token_at s 0x5B p) refl (token_at s 0x7B p) refl e
     where
       go : (x : Out) → token_at s 0x5B p ≡ x → (y : Out) → token_at s 0x7B p ≡ y → case x (λ n. opened_at s n false) (case y (λ n. opened_at s n true) Leaf) ≡ r → other ≡ word_of (name_at s p)
-      go (End m) q y w z = no-string (not-quote 0x5B (token_byte 0x5B m q) refl)
-      go Bad q (End m) w z = no-string (not-quote 0x7B (token_byte 0x7B m w) refl)
+      go (End m) q y w z = no_string (not_quote 0x5B (token_byte 0x5B m q) refl)
+      go Bad q (End m) w z = no_string (not_quote 0x7B (token_byte 0x7B m w) refl)
       go Bad q Bad w z = absurd (n (sym z))
 
   -- ---- any value
-  value-word : (d : ℕ) (t : Json) (m : ℕ) → tree_at s d p ≡ got t m → word_in s t ≡ word_of (name_at s p)
-  value-word zero t m e = leaf-word t m (value_flat s zero p refl ∙ e)
-  value-word (suc d) t m e = go (start_at s p) refl (sym (tree_open s d p (start_at s p) refl) ∙ e)
+  value_word : (d : ℕ) (t : Json) (m : ℕ) → tree_at s d p ≡ got t m → word_in s t ≡ word_of (name_at s p)
+  value_word zero t m e = leaf_word t m (value_flat s zero p refl ∙ e)
+  value_word (suc d) t m e = go (start_at s p) refl (sym (tree_open s d p (start_at s p) refl) ∙ e)
     where
-      node-word : (b : Bool) (ts : Items) → other ≡ word_in s (node b ts)
-      node-word true ts = refl
-      node-word false ts = refl
+      node_word : (b : Bool) (ts : Items) → other ≡ word_in s (node b ts)
+      node_word true ts = refl
+      node_word false ts = refl
 
       many : (b : Bool) (g : Got Items) → bind g (λ ts n. got (node b ts) n) ≡ got t m → other ≡ word_in s t
       many b none w = no cc
-      many b (got ts n) w = let z : node b ts ≡ t = cc in rw (← z) (node-word b ts)
+      many b (got ts n) w = let z : node b ts ≡ t = cc in rw (← z) (node_word b ts)
 
       go : (r : Start) → start_at s p ≡ r → group_at (tree_at s d) s p r ≡ got t m → word_in s t ≡ word_of (name_at s p)
-      go Leaf q w = leaf-word t m w
-      go (Empty n b) q w = sym (many b (got nil n) w) ∙ group-word (Empty n b) q (λ z. no cc)
-      go (Many i b) q w = sym (many b (items_at (tree_at s d) s b (length s) i) w) ∙ group-word (Many i b) q (λ z. no cc)
+      go Leaf q w = leaf_word t m w
+      go (Empty n b) q w = sym (many b (got nil n) w) ∙ group_word (Empty n b) q (λ z. no cc)
+      go (Many i b) q w = sym (many b (items_at (tree_at s d) s b (length s) i) w) ∙ group_word (Many i b) q (λ z. no cc)
 
   -- ---- the first item of an array
-  items-word : (d f : ℕ) (ts : Items) (m : ℕ) → items_at (tree_at s d) s false f p ≡ got ts m → word_first s ts ≡ word_of (name_at s p)
+  items_word : (d f : ℕ) (ts : Items) (m : ℕ) → items_at (tree_at s d) s false f p ≡ got ts m → word_first s ts ≡ word_of (name_at s p)
   unfolding items_at
-  items-word d zero ts m e = no cc
-  items-word d (suc f) ts m e = go (tree_at s d p) refl e
+  items_word d zero ts m e = no cc
+  items_word d (suc f) ts m e = go (tree_at s d p) refl e
     where
       next : (t : Json) (x : Next) (k : ℕ → Got Items) → follow (item p p t) x k ≡ got ts m → word_first s ts ≡ word_in s t
       next t (More j) k w = more (k j) w
@@ -140,37 +139,37 @@ module _ (s : List ℕ) (p : ℕ) where
 
       go : (g : Got Json) → tree_at s d p ≡ g → bind g (λ t n. follow (item p p t) (next_at s n false) (items_at (tree_at s d) s false f)) ≡ got ts m → word_first s ts ≡ word_of (name_at s p)
       go none q w = no cc
-      go (got t n) q w = next t (next_at s n false) _ w ∙ value-word d t n q
+      go (got t n) q w = next t (next_at s n false) _ w ∙ value_word d t n q
 
 -- ---- the form of a message
 module _ (s : List ℕ) (d at : ℕ) where
-  leaf-other : (t : Json) (m : ℕ) (k : Kind) → on_leaf s at k ≡ got t m → (opened s t).first ≡ other
-  leaf-other t m (Str n) w = let z : str (at + 1) (n - at - 2) ≡ t = cc in rw (← z)
-  leaf-other t m (Num n) w = let z : num at (n - at) ≡ t = cc in rw (← z)
-  leaf-other t m (Word n) w = let z : word at (n - at) ≡ t = cc in rw (← z)
-  leaf-other t m None w = no cc
+  leaf_other : (t : Json) (m : ℕ) (k : Kind) → on_leaf s at k ≡ got t m → (opened s t).first ≡ other
+  leaf_other t m (Str n) w = let z : str (at + 1) (n - at - 2) ≡ t = cc in rw (← z)
+  leaf_other t m (Num n) w = let z : num at (n - at) ≡ t = cc in rw (← z)
+  leaf_other t m (Word n) w = let z : word at (n - at) ≡ t = cc in rw (← z)
+  leaf_other t m None w = no cc
 
-  empty-other : (t : Json) (m : ℕ) (b : Bool) (n : ℕ) → group_at (tree_at s d) s at (Empty n b) ≡ got t m → (opened s t).first ≡ other
-  empty-other t m true n w = let z : obj nil ≡ t = cc in rw (← z)
-  empty-other t m false n w = let z : arr nil ≡ t = cc in rw (← z)
+  empty_other : (t : Json) (m : ℕ) (b : Bool) (n : ℕ) → group_at (tree_at s d) s at (Empty n b) ≡ got t m → (opened s t).first ≡ other
+  empty_other t m true n w = let z : obj nil ≡ t = cc in rw (← z)
+  empty_other t m false n w = let z : arr nil ≡ t = cc in rw (← z)
 
   named_other : (t : Json) (m : ℕ) (g : Got Items) → bind g (λ ts n. got (obj ts) n) ≡ got t m → (opened s t).first ≡ other
   named_other t m none w = no cc
   named_other t m (got ts n) w = let z : obj ts ≡ t = cc in rw (← z)
 
-  items-first : (t : Json) (m i : ℕ) (g : Got Items) → items_at (tree_at s d) s false (length s) i ≡ g → bind g (λ ts n. got (arr ts) n) ≡ got t m → (opened s t).first ≡ word_of (name_at s i)
-  items-first t m i none q w = no cc
-  items-first t m i (got ts n) q w = let z : arr ts ≡ t = cc in rw (← z) (first_opened s ts ∙ items-word s i d (length s) ts n q)
+  items_first : (t : Json) (m i : ℕ) (g : Got Items) → items_at (tree_at s d) s false (length s) i ≡ g → bind g (λ ts n. got (arr ts) n) ≡ got t m → (opened s t).first ≡ word_of (name_at s i)
+  items_first t m i none q w = no cc
+  items_first t m i (got ts n) q w = let z : arr ts ≡ t = cc in rw (← z) (first_opened s ts ∙ items_word s i d (length s) ts n q)
 
   pub opening_is : (t : Json) (m : ℕ) → tree_at s (suc d) at ≡ got t m → word_form (opened s t).first ≡ opening_of s (start_at s at)
   unfolding word_form
   opening_is t m e = go (start_at s at) (sym (tree_open s d at (start_at s at) refl) ∙ e)
     where
       go : (r : Start) → group_at (tree_at s d) s at r ≡ got t m → word_form (opened s t).first ≡ opening_of s r
-      go Leaf w = ap word_form (leaf-other t m (scalar_at s at) w)
-      go (Empty n b) w = ap word_form (empty-other t m b n w)
+      go Leaf w = ap word_form (leaf_other t m (scalar_at s at) w)
+      go (Empty n b) w = ap word_form (empty_other t m b n w)
       go (Many i true) w = ap word_form (named_other t m (items_at (tree_at s d) s true (length s) i) w)
-      go (Many i false) w = ap word_form (items-first t m i (items_at (tree_at s d) s false (length s) i) refl w)
+      go (Many i false) w = ap word_form (items_first t m i (items_at (tree_at s d) s false (length s) i) refl w)
 
 -- ---- the ways out of message_refusal
 module _ (s : List ℕ) where
@@ -187,13 +186,13 @@ module _ (s : List ℕ) where
   message_control h u k = plain_refusal_lem s 3 (omega arith) (rw (le-ltb most_message (length s) h, u, k))
 
 module _ (s : List ℕ) {f : ℕ} {at : ℕ} (short : length s ≤ most_message) (utf : is_utf8 s ≡ true) (clean : has_control s ≡ false) (place : at ≡ ws_at s 0) (form : f ≡ opening_of s (start_at s at)) where
-  by-root : {x : ℕ} → x ≡ cond (not (ends_at (length s) (end_of (root s)))) 3 (root_row s (root s)) → x ≡ message_row s
+  by_root : {x : ℕ} → x ≡ cond (not (ends_at (length s) (end_of (root s)))) 3 (root_row s (root s)) → x ≡ message_row s
   unfolding message_row
-  by-root e = rw (le-ltb most_message (length s) short, utf, clean) e
+  by_root e = rw (le-ltb most_message (length s) short, utf, clean) e
 
   pub message_wrong : Wrong ≡ judged_of s f at (tree_at s depth at) → plain_refusal 3 ≡ refusal_of s
   unfolding judged_of
-  message_wrong e = plain_refusal_lem s 3 (omega arith) (by-root (go (root s) (rw place at e)))
+  message_wrong e = plain_refusal_lem s 3 (omega arith) (by_root (go (root s) (rw place at e)))
     where
       go : (g : Got Json) → Wrong ≡ judged_of s f (ws_at s 0) g → 3 ≡ cond (not (ends_at (length s) (end_of g))) 3 (root_row s g)
       go none w = refl
@@ -217,7 +216,7 @@ module _ (s : List ℕ) {f : ℕ} {at : ℕ} (short : length s ≤ most_message)
     rows : n ≡ length s → (t : Json) → root s ≡ got t n → Lowest x (row4 s t) (row5 s t) (number_places s t) (hex_places s t) (row8 s t) → fault_row x ≡ message_row s
     unfolding tree_row
     rows h t q w =
-        by-root (rw (q, eq-eqb n (length s) h, number_some s t, hex_some s t) (told_row_lem w))
+        by_root (rw (q, eq-eqb n (length s) h, number_some s t, hex_some s t) (told_row_lem w))
 
     pub message_told : n ≡ length s → {row : ℕ} {o : Offset} → row ≡ fault_row x → o ≡ fault_offset x → record { row = row; offset = o } ≡ refusal_of s
     unfolding offset_of
@@ -235,4 +234,4 @@ module _ (s : List ℕ) {f : ℕ} {at : ℕ} (short : length s ≤ most_message)
     pub message_early : (n ≡ length s → ⊥) → plain_refusal 3 ≡ refusal_of s
     message_early h =
         let (t, q, w) = judged in
-        plain_refusal_lem s 3 (omega arith) (by-root (rw (q, ne_eqb n (length s) h)))
+        plain_refusal_lem s 3 (omega arith) (by_root (rw (q, ne_eqb n (length s) h)))

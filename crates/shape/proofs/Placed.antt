@@ -2,9 +2,9 @@
 -- has some place.
 use mathlib.Core.Path.{◌≡◌, refl, sym, ap, ◌∙◌}
 use mathlib.Core.List.{List, [], ◌∷◌, ◌++◌}
-use mathlib.Core.Bool.{Bool, true, false, cond, not, ◌||◌}
+use mathlib.Core.Bool.{Bool, true, false, cond, ◌||◌}
 use Prim.Native.Nat.{ℕ}
-use Rattle.json_tree.specs.Tree.{Json, word, num, str, arr, obj, Items, nil, item, of_array, on_array, of_object, on_object}
+use Rattle.json_tree.specs.Tree.{Json, word, num, str, arr, obj, Items, nil, item, on_array, of_object, on_object}
 use Rattle.wire.specs.Limits.{hex_length}
 use Rattle.shape.specs.Shape.{any_item, named, id_name, pubkey_name, created_at_name, kind_name, sig_name, ids_name}
 use Rattle.shape.specs.Shape.{authors_name, kinds_name, since_name, until_name, limit_name, e_condition_name}
@@ -89,15 +89,15 @@ pub record Tells (g : Json → Bool) (v : ℕ) (t : Json) (x : Bool) : Type 0 wh
   pub is : x ≡ some (cond x (value_places g v t) [])
 
 module _ {g : Json → Bool} {v : ℕ} {t : Json} where
-  tells-no : Tells g v t false
-  tells-no = record { is = refl }
+  tells_no : Tells g v t false
+  tells_no = record { is = refl }
 
-  tells-if : (b : Bool) {x y : Bool} → Tells g v t x → Tells g v t y → Tells g v t (cond b x y)
-  tells-if true p q = p
-  tells-if false p q = q
+  tells_if : (b : Bool) {x y : Bool} → Tells g v t x → Tells g v t y → Tells g v t (cond b x y)
+  tells_if true p q = p
+  tells_if false p q = q
 
-  tells-own : {x : Bool} → place_if x v ≡ cond x (value_places g v t) [] → Tells g v t x
-  tells-own {x} e = record { is = place_some x v ∙ ap some e }
+  tells_own : {x : Bool} → place_if x v ≡ cond x (value_places g v t) [] → Tells g v t x
+  tells_own {x} e = record { is = place_some x v ∙ ap some e }
 
 listed : (g : Json → Bool) (t : Json) → on_array (any_item (λ q u. g u)) t ≡ some (list_places g t)
 listed g (word a n) = refl
@@ -110,22 +110,22 @@ tells_list : (g : Json → Bool) (v : ℕ) (t : Json) → Tells g v t (on_array 
 tells_list g v t = record { is = listed g t ∙ ap some (lists g v t) }
 
 module _ (s : List ℕ) (p v : ℕ) (t : Json) where
-  event-number : Tells (wrong_small s) v t (event_number s p t)
+  event_number_lem : Tells (wrong_small s) v t (event_number s p t)
   unfolding event_number
-  event-number = tells-if (named s created_at_name p) (tells-own (own_time s (wrong_small s) v t)) (tells-if (named s kind_name p) (tells-own (own_small s (wrong_small s) v t)) tells-no)
+  event_number_lem = tells_if (named s created_at_name p) (tells_own (own_time s (wrong_small s) v t)) (tells_if (named s kind_name p) (tells_own (own_small s (wrong_small s) v t)) tells_no)
 
-  filter-number : Tells (wrong_small s) v t (filter_number s p t)
+  filter_number_lem : Tells (wrong_small s) v t (filter_number s p t)
   unfolding filter_number
-  filter-number =
-      tells-if (named s kinds_name p) (tells_list _ v t) (tells-if (named s since_name p) (tells-own (own_time s (wrong_small s) v t)) (tells-if (named s until_name p) (tells-own (own_time s (wrong_small s) v t)) (tells-if (named s limit_name p) (tells-own (own_small s (wrong_small s) v t)) tells-no)))
+  filter_number_lem =
+      tells_if (named s kinds_name p) (tells_list _ v t) (tells_if (named s since_name p) (tells_own (own_time s (wrong_small s) v t)) (tells_if (named s until_name p) (tells_own (own_time s (wrong_small s) v t)) (tells_if (named s limit_name p) (tells_own (own_small s (wrong_small s) v t)) tells_no)))
 
-  event-hex : Tells (wrong_hex hex_length s) v t (event_hex s p t)
+  event_hex_lem : Tells (wrong_hex hex_length s) v t (event_hex s p t)
   unfolding event_hex
-  event-hex = tells-if (named s id_name p) (tells-own (own_hex s (wrong_hex hex_length s) v _ t)) (tells-if (named s pubkey_name p) (tells-own (own_hex s (wrong_hex hex_length s) v _ t)) (tells-if (named s sig_name p) (tells-own (own_hex s (wrong_hex hex_length s) v _ t)) tells-no))
+  event_hex_lem = tells_if (named s id_name p) (tells_own (own_hex s (wrong_hex hex_length s) v _ t)) (tells_if (named s pubkey_name p) (tells_own (own_hex s (wrong_hex hex_length s) v _ t)) (tells_if (named s sig_name p) (tells_own (own_hex s (wrong_hex hex_length s) v _ t)) tells_no))
 
-  filter-hex : Tells (wrong_hex hex_length s) v t (filter_hex s p t)
+  filter_hex_lem : Tells (wrong_hex hex_length s) v t (filter_hex s p t)
   unfolding filter_hex
-  filter-hex = tells-if (named s ids_name p) (tells_list _ v t) (tells-if (named s authors_name p) (tells_list _ v t) (tells-if (named s e_condition_name p) (tells_list _ v t) (tells-if (named s p_condition_name p) (tells_list _ v t) tells-no)))
+  filter_hex_lem = tells_if (named s ids_name p) (tells_list _ v t) (tells_if (named s authors_name p) (tells_list _ v t) (tells_if (named s e_condition_name p) (tells_list _ v t) (tells_if (named s p_condition_name p) (tells_list _ v t) tells_no)))
 
 -- ---- of an object, of a message
 module _ (f : ℕ → Json → Bool) (g : Json → Bool) (tells : (p v : ℕ) (t : Json) → Tells g v t (f p t)) where
@@ -146,19 +146,19 @@ message_some e f e' f' x y other ts = refl
 
 module _ (s : List ℕ) where
   pub filter_numbers_lem : (t : Json) → on_object (any_item (filter_number s)) t ≡ some (of_object [] (member_places (filter_number s) (wrong_small s)) t)
-  filter_numbers_lem = object_some (filter_number s) (wrong_small s) (filter-number s)
+  filter_numbers_lem = object_some (filter_number s) (wrong_small s) (filter_number_lem s)
 
   pub filter_hexes : (t : Json) → on_object (any_item (filter_hex s)) t ≡ some (of_object [] (member_places (filter_hex s) (wrong_hex hex_length s)) t)
-  filter_hexes = object_some (filter_hex s) (wrong_hex hex_length s) (filter-hex s)
+  filter_hexes = object_some (filter_hex s) (wrong_hex hex_length s) (filter_hex_lem s)
 
   -- row 6 holds where some number breaks it, row 7 where some string does
   pub number_some : (t : Json) → row6 s t ≡ some (number_places s t)
   unfolding row6 number_places
-  number_some t = message_some _ _ _ _ (object_some (event_number s) (wrong_small s) (event-number s)) filter_numbers_lem (opened s t).first (opened s t).rest
+  number_some t = message_some _ _ _ _ (object_some (event_number s) (wrong_small s) (event_number_lem s)) filter_numbers_lem (opened s t).first (opened s t).rest
 
   pub hex_some : (t : Json) → row7 s t ≡ some (hex_places s t)
   unfolding row7 hex_places
-  hex_some t = message_some _ _ _ _ (object_some (event_hex s) (wrong_hex hex_length s) (event-hex s)) filter_hexes (opened s t).first (opened s t).rest
+  hex_some t = message_some _ _ _ _ (object_some (event_hex s) (wrong_hex hex_length s) (event_hex_lem s)) filter_hexes (opened s t).first (opened s t).rest
 
   -- a list by itself
   pub smalls_some : (t : Json) → wrong_smalls s t ≡ some (list_places (wrong_small s) t)

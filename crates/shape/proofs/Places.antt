@@ -1,14 +1,13 @@
 -- A string's quotes lie within the text, so the part between them can be cut out.
-use mathlib.Core.Path.{◌≡◌, refl, sym, ap, ◌∙◌}
+use mathlib.Core.Path.{◌≡◌, refl, sym, ◌∙◌}
 use mathlib.Core.List.{List, []}
 use Prim.Native.Nat.{ℕ, ◌+◌, ◌-◌, ◌<◌, ◌≤◌}
 use native.Mathlib.Omega.{arith}
 use lib.ListN.{length, take, drop, length-drop, drop_of_length-le}
 use lib.Seq.{take_all, take-nil}
-use Rattle.json_tree.specs.Grammar.{in_class, one_at, chars_at, string_at, number_at, literal_at, scalar_at, case}
+use Rattle.json_tree.specs.Grammar.{in_class, chars_at, string_at, number_at, literal_at, scalar_at, case}
 use Rattle.json_tree.specs.declared.Out.{Out}
 use Rattle.json_tree.specs.declared.Out.TheVariants.{End, Bad}
-use Rattle.json_tree.specs.declared.Kind.{Kind}
 use Rattle.json_tree.specs.declared.Kind.TheVariants.{Str, Num, Word, None}
 use Rattle.json_tree.proofs.Ends.{Ends, one_ends, ends_bad}
 use Rattle.rows.specs.Strings.{part}

@@ -1,10 +1,9 @@
 -- Every number and string of a tree stands in the text where its item says: so the places that break a row are places
 -- of numbers, or of strings, and lie within the text.
-use mathlib.Core.Path.{◌≡◌, refl, sym, ap, ◌∙◌}
+use mathlib.Core.Path.{◌≡◌, refl, sym, ◌∙◌}
 use mathlib.Core.List.{List, [], ◌∷◌, ◌++◌}
 use mathlib.Core.Bool.{Bool, true, false, cond}
 use Prim.Native.Nat.{ℕ, zero, suc, ◌+◌, ◌-◌, ◌≤◌, ◌<◌}
-use native.Mathlib.Decide.{dec_lt}
 use native.Mathlib.Omega.{arith}
 use lib.Dec.{ltb}
 use lib.ListN.{length, get_or}
@@ -39,9 +38,9 @@ module _ (s : List ℕ) (at : ℕ) where
       go true q = let w = class_within class s at z q in absurd (omega arith)
       go false q = refl
 
-  no-scalar : length s ≤ at → scalar_at s at ≡ None
+  no_scalar : length s ≤ at → scalar_at s at ≡ None
   unfolding scalar_at string_at number_at int_at digits_at literal_at word_at in_class
-  no-scalar h =
+  no_scalar h =
       simp (
         past_end h (Byte 0x22) refl,
         past_end h (Byte 0x2D) refl,
@@ -57,37 +56,37 @@ module _ (s : List ℕ) (at : ℕ) where
     where
       go : (b : Bool) → ltb at (length s) ≡ b → at < length s
       go true q = ltb-true at (length s) q
-      go false q = absurd (n (sym e ∙ no-scalar (ltb-false at (length s) q)))
+      go false q = absurd (n (sym e ∙ no_scalar (ltb-false at (length s) q)))
 
 -- ---- the tree
 mutual
   -- t, which is read at v
   pub data Stands (s : List ℕ) : ℕ → Json → Type 0 where
     a_word : {v a n : ℕ} → Stands s v (word a n)
-    a-number : {v a n k : ℕ} → scalar_at s v ≡ Num k → Stands s v (num a n)
-    a-string : {v a n k : ℕ} → scalar_at s v ≡ Str k → Stands s v (str a n)
-    an-array : {v : ℕ} {ts : Items} → AllStand s ts → Stands s v (arr ts)
-    an-object : {v : ℕ} {ts : Items} → AllStand s ts → Stands s v (obj ts)
+    a_number : {v a n k : ℕ} → scalar_at s v ≡ Num k → Stands s v (num a n)
+    a_string : {v a n k : ℕ} → scalar_at s v ≡ Str k → Stands s v (str a n)
+    an_array : {v : ℕ} {ts : Items} → AllStand s ts → Stands s v (arr ts)
+    an_object : {v : ℕ} {ts : Items} → AllStand s ts → Stands s v (obj ts)
 
   pub data AllStand (s : List ℕ) : Items → Type 0 where
     no_more : AllStand s nil
     one_more : {p v : ℕ} {t : Json} {ts : Items} → Stands s v t → AllStand s ts → AllStand s (item p v t ts)
 
 module _ (s : List ℕ) where
-  leaf-stands : (at : ℕ) {t : Json} {n : ℕ} → on_leaf s at (scalar_at s at) ≡ got t n → Stands s at t
-  leaf-stands at {t} {n} e = go (scalar_at s at) refl e
+  leaf_stands : (at : ℕ) {t : Json} {n : ℕ} → on_leaf s at (scalar_at s at) ≡ got t n → Stands s at t
+  leaf_stands at {t} {n} e = go (scalar_at s at) refl e
     where
       go : (k : Kind) → scalar_at s at ≡ k → on_leaf s at k ≡ got t n → Stands s at t
-      go (Str m) q w = let z : str (at + 1) (m - at - 2) ≡ t = cc in rw (← z) (a-string q)
-      go (Num m) q w = let z : num at (m - at) ≡ t = cc in rw (← z) (a-number q)
+      go (Str m) q w = let z : str (at + 1) (m - at - 2) ≡ t = cc in rw (← z) (a_string q)
+      go (Num m) q w = let z : num at (m - at) ≡ t = cc in rw (← z) (a_number q)
       go (Word m) q w = let z : word at (m - at) ≡ t = cc in rw (← z) a_word
       go None q w = no cc
 
   module _ (value : ℕ → Got Json) (inner : (v : ℕ) (t : Json) (n : ℕ) → value v ≡ got t n → Stands s v t) where
-    items-stand : (named : Bool) (f i : ℕ) {ts : Items} {n : ℕ} → items_at value s named f i ≡ got ts n → AllStand s ts
+    items_stand : (named : Bool) (f i : ℕ) {ts : Items} {n : ℕ} → items_at value s named f i ≡ got ts n → AllStand s ts
     unfolding items_at
-    items-stand named zero i e = no cc
-    items-stand named (suc f) i {ts} {n} e = head (head_at s i named) (λ j us m q. items-stand named f j q) e
+    items_stand named zero i e = no cc
+    items_stand named (suc f) i {ts} {n} e = head (head_at s i named) (λ j us m q. items_stand named f j q) e
       where
         next : ((j : ℕ) (us : Items) (m : ℕ) → items_at value s named f j ≡ got us m → AllStand s us) → (v : ℕ) (t : Json) → Stands s v t → (x : Next)
             → follow (item i v t) x (items_at value s named f) ≡ got ts n → AllStand s ts
@@ -110,19 +109,19 @@ module _ (s : List ℕ) where
         head Bad ih w = no cc
 
   pub tree_stands : (d at : ℕ) {t : Json} {n : ℕ} → tree_at s d at ≡ got t n → Stands s at t
-  tree_stands zero at e = leaf-stands at (value_flat s zero at refl ∙ e)
+  tree_stands zero at e = leaf_stands at (value_flat s zero at refl ∙ e)
   tree_stands (suc d) at {t} {n} e = go (start_at s at) (λ v u m q. tree_stands d v q) (sym (tree_open s d at (start_at s at) refl) ∙ e)
     where
       group : (named : Bool) {ts : Items} → AllStand s ts → Stands s at (node named ts)
-      group true h = an-object h
-      group false h = an-array h
+      group true h = an_object h
+      group false h = an_array h
 
       many : ((v : ℕ) (u : Json) (m : ℕ) → tree_at s d v ≡ got u m → Stands s v u) → (named : Bool) (i : ℕ) (g : Got Items) → items_at (tree_at s d) s named (length s) i ≡ g → (bind g λ ts m. got (node named ts) m) ≡ got t n → Stands s at t
       many ih named i none q w = no cc
-      many ih named i (got ts m) q w = let z : node named ts ≡ t = cc in rw (← z) (group named (items-stand (tree_at s d) ih named (length s) i q))
+      many ih named i (got ts m) q w = let z : node named ts ≡ t = cc in rw (← z) (group named (items_stand (tree_at s d) ih named (length s) i q))
 
       go : (r : Start) → ((v : ℕ) (u : Json) (m : ℕ) → tree_at s d v ≡ got u m → Stands s v u) → group_at (tree_at s d) s at r ≡ got t n → Stands s at t
-      go Leaf ih w = leaf-stands at w
+      go Leaf ih w = leaf_stands at w
       go (Empty m named) ih w = let z : node named nil ≡ t = cc in rw (← z) (group named no_more)
       go (Many i named) ih w = many ih named i (items_at (tree_at s d) s named (length s) i) refl w
 
@@ -138,28 +137,28 @@ each_both P (p ∷ c) d (h, hs) k = (h, each_both P c d hs k)
 -- P holds where a leaf stands, of a sort of leaves; f and g tell only of these, and f of lists
 module _ (s : List ℕ) (P : ℕ → Type 0) (leaf : Json → Bool) (at_leaf : (v : ℕ) (t : Json) → leaf t ≡ true → Stands s v t → P v) where
   module _ (h : ℕ → ℕ → Json → List ℕ) (inner : (p v : ℕ) (t : Json) → Stands s v t → Each P (h p v t)) where
-    each-collect : (ts : Items) → AllStand s ts → Each P (collect h ts)
+    each_collect : (ts : Items) → AllStand s ts → Each P (collect h ts)
     unfolding collect
-    each-collect nil w = tt
-    each-collect (item p v t ts) (one_more w ws) = each_both P (h p v t) (collect h ts) (inner p v t w) (each-collect ts ws)
+    each_collect nil w = tt
+    each_collect (item p v t ts) (one_more w ws) = each_both P (h p v t) (collect h ts) (inner p v t w) (each_collect ts ws)
 
   module _ (f : ℕ → Json → Bool) (g : Json → Bool) (only-f : (p : ℕ) (t : Json) → f p t ≡ true → of_array (leaf t) (λ ts. true) t ≡ true) (only-g : (t : Json) → g t ≡ true → leaf t ≡ true) where
-    one-leaf : (v : ℕ) (t : Json) (x : Bool) → (x ≡ true → leaf t ≡ true) → Stands s v t → Each P (cond x (v ∷ []) [])
-    one-leaf v t true e w = (at_leaf v t (e refl) w, tt)
-    one-leaf v t false e w = tt
+    one_leaf : (v : ℕ) (t : Json) (x : Bool) → (x ≡ true → leaf t ≡ true) → Stands s v t → Each P (cond x (v ∷ []) [])
+    one_leaf v t true e w = (at_leaf v t (e refl) w, tt)
+    one_leaf v t false e w = tt
 
-    each-value : (v : ℕ) (t : Json) → of_array (leaf t) (λ ts. true) t ≡ true → Stands s v t → Each P (value_places g v t)
-    each-value v (word a n) e w = (at_leaf v (word a n) e w, tt)
-    each-value v (num a n) e w = (at_leaf v (num a n) e w, tt)
-    each-value v (str a n) e w = (at_leaf v (str a n) e w, tt)
-    each-value v (arr ts) e (an-array w) = each-collect _ (λ q x u k. one-leaf x u (g u) (only-g u) k) ts w
-    each-value v (obj ts) e w = (at_leaf v (obj ts) e w, tt)
+    each_value : (v : ℕ) (t : Json) → of_array (leaf t) (λ ts. true) t ≡ true → Stands s v t → Each P (value_places g v t)
+    each_value v (word a n) e w = (at_leaf v (word a n) e w, tt)
+    each_value v (num a n) e w = (at_leaf v (num a n) e w, tt)
+    each_value v (str a n) e w = (at_leaf v (str a n) e w, tt)
+    each_value v (arr ts) e (an_array w) = each_collect _ (λ q x u k. one_leaf x u (g u) (only-g u) k) ts w
+    each_value v (obj ts) e w = (at_leaf v (obj ts) e w, tt)
 
     each_member : (p v : ℕ) (t : Json) → Stands s v t → Each P (cond (f p t) (value_places g v t) [])
     each_member p v t w = go (f p t) refl
       where
         go : (x : Bool) → f p t ≡ x → Each P (cond x (value_places g v t) [])
-        go true q = each-value v t (only-f p t q) w
+        go true q = each_value v t (only-f p t q) w
         go false q = tt
 
     pub each_object : (v : ℕ) (t : Json) → Stands s v t → Each P (of_object [] (member_places f g) t)
@@ -167,12 +166,12 @@ module _ (s : List ℕ) (P : ℕ → Type 0) (leaf : Json → Bool) (at_leaf : (
     each_object v (num a n) w = tt
     each_object v (str a n) w = tt
     each_object v (arr ts) w = tt
-    each_object v (obj ts) (an-object w) = each-collect _ each_member ts w
+    each_object v (obj ts) (an_object w) = each_collect _ each_member ts w
 
   pub each_message : (e f : Items → List ℕ) → ((v : ℕ) (t : Json) → Stands s v t → Each P (of_object [] e t)) → ((v : ℕ) (t : Json) → Stands s v t → Each P (of_object [] f t))
       → (x : TheWord) (ts : Items) → AllStand s ts → Each P (message_places e f x ts)
-  each_message e f h k event ts w = each-collect _ (λ p v t y. h v t y) ts w
+  each_message e f h k event ts w = each_collect _ (λ p v t y. h v t y) ts w
   each_message e f h k req nil w = tt
-  each_message e f h k req (item p v t ts) (one_more y w) = each-collect _ (λ p v t y. k v t y) ts w
+  each_message e f h k req (item p v t ts) (one_more y w) = each_collect _ (λ p v t y. k v t y) ts w
   each_message e f h k close ts w = tt
   each_message e f h k other ts w = tt

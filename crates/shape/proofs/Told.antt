@@ -1,11 +1,11 @@
 -- The row and the offset that a fault tells: the lowest row that holds, and the earliest of its places.
-use mathlib.Core.Path.{◌≡◌, refl, sym, ap, ◌∙◌}
+use mathlib.Core.Path.{◌≡◌, refl, ap, ◌∙◌}
 use mathlib.Core.List.{List, [], ◌∷◌}
 use mathlib.Core.Bool.{Bool, true, false, cond}
-use Prim.Native.Nat.{ℕ, ◌+◌, ◌/◌, ◌%◌, ◌≤◌, ◌<◌, min}
+use Prim.Native.Nat.{ℕ, ◌+◌, ◌%◌, ◌≤◌, ◌<◌, min}
 use native.Mathlib.Omega.{arith}
-use borrow.Author.Tests.{eq-eqb, ne_eqb, lt-ltb, le-ltb}
-use lib.Dec.{eqb, ltb}
+use borrow.Author.Tests.{ne_eqb, lt-ltb, le-ltb}
+use lib.Dec.{eqb}
 use Rattle.shape.specs.declared.Offset.{Offset}
 use Rattle.shape.specs.declared.Offset.TheVariants.{Absent, At}
 use Rattle.shape.specs.Offsets.{least_of, earliest}
@@ -18,24 +18,24 @@ abbrev pub row_by : (a b : Bool) (c d : List ℕ) (e : Bool) → ℕ
 row_by a b c d e = cond a 4 (cond b 5 (cond (some c) 6 (cond (some d) 7 (cond e 8 0))))
 
 module _ (q : ℕ) where
-  number-row : fault_row (NUMBER + min q last_place) ≡ 6
+  number_row : fault_row (NUMBER + min q last_place) ≡ 6
   unfolding fault_row
-  number-row = rw (ne_eqb (NUMBER + min q last_place) no_fault (λ z. omega arith)) (omega arith)
+  number_row = rw (ne_eqb (NUMBER + min q last_place) no_fault (λ z. omega arith)) (omega arith)
 
-  hex-row : fault_row (HEX + min q last_place) ≡ 7
+  hex_row_lem : fault_row (HEX + min q last_place) ≡ 7
   unfolding fault_row
-  hex-row = rw (ne_eqb (HEX + min q last_place) no_fault (λ z. omega arith)) (omega arith)
+  hex_row_lem = rw (ne_eqb (HEX + min q last_place) no_fault (λ z. omega arith)) (omega arith)
 
   module _ (h : q < places) where
-    number-offset : fault_offset (NUMBER + min q last_place) ≡ At q
+    number_offset : fault_offset (NUMBER + min q last_place) ≡ At q
     unfolding fault_offset
-    number-offset =
+    number_offset =
         let z : (NUMBER + min q last_place) % places ≡ q = omega arith in
         rw (le-ltb (NUMBER + min q last_place) NUMBER (omega arith), lt-ltb (NUMBER + min q last_place) COUNT (omega arith), z)
 
-    hex-offset : fault_offset (HEX + min q last_place) ≡ At q
+    hex_offset : fault_offset (HEX + min q last_place) ≡ At q
     unfolding fault_offset
-    hex-offset =
+    hex_offset =
         let z : (HEX + min q last_place) % places ≡ q = omega arith in
         rw (le-ltb (HEX + min q last_place) NUMBER (omega arith), lt-ltb (HEX + min q last_place) COUNT (omega arith), z)
 
@@ -43,8 +43,8 @@ row_of : (a b : Bool) (c d : List ℕ) (e : Bool) → fault_row (low a b c d e) 
 unfolding fault_row low placed_at
 row_of true b c d e = refl
 row_of false true c d e = refl
-row_of false false (p ∷ ps) d e = number-row (least_of p ps)
-row_of false false [] (p ∷ ps) e = hex-row (least_of p ps)
+row_of false false (p ∷ ps) d e = number_row (least_of p ps)
+row_of false false [] (p ∷ ps) e = hex_row_lem (least_of p ps)
 row_of false false [] [] true = refl
 row_of false false [] [] false = refl
 
@@ -68,8 +68,8 @@ offset_of_lem : (a b : Bool) (c d : List ℕ) (e : Bool) → Told c → Told d �
 unfolding fault_offset low placed_at
 offset_of_lem true b c d e h k = refl
 offset_of_lem false true c d e h k = refl
-offset_of_lem false false (p ∷ ps) d e h k = number-offset (least_of p ps) (let l = least_first p ps in omega arith)
-offset_of_lem false false [] (p ∷ ps) e h k = hex-offset (least_of p ps) (let l = least_first p ps in omega arith)
+offset_of_lem false false (p ∷ ps) d e h k = number_offset (least_of p ps) (let l = least_first p ps in omega arith)
+offset_of_lem false false [] (p ∷ ps) e h k = hex_offset (least_of p ps) (let l = least_first p ps in omega arith)
 offset_of_lem false false [] [] true h k = refl
 offset_of_lem false false [] [] false h k = refl
 

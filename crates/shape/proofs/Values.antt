@@ -1,6 +1,6 @@
 -- The walk over a value by itself answers its lowest row of 4 to 8, the law of its form, and where it ends: so row 2 is
 -- tested on its text.
-use mathlib.Core.Path.{◌≡◌, refl, sym, ap, ◌∙◌}
+use mathlib.Core.Path.{◌≡◌, refl}
 use mathlib.Core.List.{List, []}
 use mathlib.Core.Bool.{true, false, cond, not}
 use Prim.Native.Nat.{ℕ, ◌-◌}
@@ -30,36 +30,36 @@ module _ (s : List ℕ) where
   numbers_in Smalls t = list_places (wrong_small s) t
   numbers_in Filter t = of_object [] (member_places (filter_number s) (wrong_small s)) t
 
-  hexesIn : Sort → Json → List ℕ
-  hexesIn Tags t = []
-  hexesIn Hexes t = list_places (wrong_hex hex_length s) t
-  hexesIn Smalls t = []
-  hexesIn Filter t = of_object [] (member_places (filter_hex s) (wrong_hex hex_length s)) t
+  hexes_in : Sort → Json → List ℕ
+  hexes_in Tags t = []
+  hexes_in Hexes t = list_places (wrong_hex hex_length s) t
+  hexes_in Smalls t = []
+  hexes_in Filter t = of_object [] (member_places (filter_hex s) (wrong_hex hex_length s)) t
 
-  numbers-some : (k : Sort) (t : Json) → sort6 s k t ≡ some (numbers_in k t)
+  numbers_some : (k : Sort) (t : Json) → sort6 s k t ≡ some (numbers_in k t)
   unfolding numbers_in
-  numbers-some Tags t = refl
-  numbers-some Hexes t = refl
-  numbers-some Smalls t = smalls_some s t
-  numbers-some Filter t = filter_numbers_lem s t
+  numbers_some Tags t = refl
+  numbers_some Hexes t = refl
+  numbers_some Smalls t = smalls_some s t
+  numbers_some Filter t = filter_numbers_lem s t
 
-  hexes-are : (k : Sort) (t : Json) → sort7 s k t ≡ some (hexesIn k t)
-  unfolding hexesIn
-  hexes-are Tags t = refl
-  hexes-are Hexes t = hexes_some s t
-  hexes-are Smalls t = refl
-  hexes-are Filter t = filter_hexes s t
+  hexes_are : (k : Sort) (t : Json) → sort7 s k t ≡ some (hexes_in k t)
+  unfolding hexes_in
+  hexes_are Tags t = refl
+  hexes_are Hexes t = hexes_some s t
+  hexes_are Smalls t = refl
+  hexes_are Filter t = filter_hexes s t
 
-  sort-lowest : (k : Sort) (v : ℕ) (t : Json) → Lowest (fault_of s (form_of k) v t) (refused_in s t) (not (fits s k t)) (numbers_in k t) (hexesIn k t) (sort8 s k t)
-  unfolding form_of numbers_in hexesIn
-  sort-lowest Tags v t = tags s v t
-  sort-lowest Hexes v t = hexes s v t
-  sort-lowest Smalls v t = smalls s v t
-  sort-lowest Filter v t = filter s v t
+  sort_lowest : (k : Sort) (v : ℕ) (t : Json) → Lowest (fault_of s (form_of k) v t) (refused_in s t) (not (fits s k t)) (numbers_in k t) (hexes_in k t) (sort8 s k t)
+  unfolding form_of numbers_in hexes_in
+  sort_lowest Tags v t = tags s v t
+  sort_lowest Hexes v t = hexes s v t
+  sort_lowest Smalls v t = smalls s v t
+  sort_lowest Filter v t = filter s v t
 
-  sort-told : (k : Sort) (v : ℕ) (t : Json) → fault_row (fault_of s (form_of k) v t) ≡ sort_row s k t
+  sort_told : (k : Sort) (v : ℕ) (t : Json) → fault_row (fault_of s (form_of k) v t) ≡ sort_row s k t
   unfolding sort_row
-  sort-told k v t = rw (numbers-some k t, hexes-are k t) (told_row_lem (sort-lowest k v t))
+  sort_told k v t = rw (numbers_some k t, hexes_are k t) (told_row_lem (sort_lowest k v t))
 
   module _ (at : ℕ) (k : Sort) {f : ℕ} (form : f ≡ form_of k) where
     module _ {n r : ℕ} (e : Ends n r ≡ judged_of s f at (tree_at s depth at)) {w : List ℕ} (q : w ≡ part s at (n - at)) where
@@ -72,7 +72,7 @@ module _ (s : List ℕ) where
           go (got t m) e =
               let y : m ≡ n = cc in
               let z : r ≡ fault_of s f at t = cc in
-              rw (y, ← q, u, z, form) (sort-told k at t)
+              rw (y, ← q, u, z, form) (sort_told k at t)
 
       pub value_bytes : is_utf8 w ≡ false → 2 ≡ value_row s at k
       unfolding judged_of value_row

@@ -1,13 +1,12 @@
 -- The walk a step at a time: where a value begins, and what a turn over an item does to the rows from there on.
-use mathlib.Core.Path.{◌≡◌, refl, sym, ap, ◌∙◌}
+use mathlib.Core.Path.{◌≡◌, refl, ap, ◌∙◌}
 use mathlib.Core.List.{List}
-use mathlib.Core.Bool.{Bool, true, false, cond}
+use mathlib.Core.Bool.{Bool, true, false}
 use Prim.Native.Nat.{ℕ, ◌+◌, ◌-◌, ◌<◌, ◌≤◌}
 use native.Mathlib.Nat.{sub-zero}
-use native.Mathlib.Omega.{arith}
 use lib.ListN.{length}
 use Rattle.json_tree.specs.Grammar.{start_at, head_at, next_at}
-use Rattle.json_tree.specs.Tree.{Json, Items, nil, item, fold_items, Got, none, got, end_of, bind, node, items_at, group_at}
+use Rattle.json_tree.specs.Tree.{Json, Items, nil, item, fold_items, Got, none, got, end_of, bind, node, items_at}
 use Rattle.json_tree.specs.Tree.{tree_at}
 use Rattle.json_tree.specs.declared.Out.TheVariants.{End, Bad}
 use Rattle.json_tree.specs.declared.Start.TheVariants.{Empty, Many}
@@ -66,14 +65,14 @@ judged_fault s f v (got u m) t e w = cc
 
 module _ (value : ℕ → Got Json) (s : List ℕ) (named : Bool) (f k i : ℕ) (a : Tally) where
   pub judge_gone : length s ≤ k → judged_items s named f k a (items_at value s named (length s - k) i) ≡ Wrong
-  judge_gone h = fold_gone (turn s named f) Wrong _ (k, a) value s named k i h
+  judge_gone h = fold_gone (turn s named f) Wrong (λ b n. Ends n (closed f b.0 b.1)) (k, a) value s named k i h
 
   pub judge_unnamed : k < length s → head_at s i named ≡ Bad → judged_items s named f k a (items_at value s named (length s - k) i) ≡ Wrong
-  judge_unnamed h e = fold_unnamed (turn s named f) Wrong _ (k, a) value s named k i h e
+  judge_unnamed h e = fold_unnamed (turn s named f) Wrong (λ b n. Ends n (closed f b.0 b.1)) (k, a) value s named k i h e
 
   pub judge_bad : (v g : ℕ) → k < length s → head_at s i named ≡ End v → Wrong ≡ judged_of s g v (value v)
       → judged_items s named f k a (items_at value s named (length s - k) i) ≡ Wrong
-  judge_bad v g h e w = fold_bad (turn s named f) Wrong _ (k, a) value s named k i v h e (judged_bad s g v (value v) w)
+  judge_bad v g h e w = fold_bad (turn s named f) Wrong (λ b n. Ends n (closed f b.0 b.1)) (k, a) value s named k i v h e (judged_bad s g v (value v) w)
 
   pub judge_next : (v n : ℕ) (x : Next) {it : Item} {g x₀ : ℕ} {b : Tally} → k < length s → head_at s i named ≡ End v → it ≡ item_of s f named k i
       → g ≡ it.form → Ends n x₀ ≡ judged_of s g v (value v) → b ≡ stepped named a it x₀ → next_at s n named ≡ x

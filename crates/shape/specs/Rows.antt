@@ -1,6 +1,6 @@
 -- 01, "Numbers the relay answers with": rows 4 to 8 of a message, each by itself, over the tree t of the text s. Row r
 -- holds where its sentence is broken anywhere in the message.
-use Rattle.std.specs.Prelude.{ℕ, List, Bool, true, false, cond, not, ◌||◌, ltb, ℤ, pos, neg_ℤ}
+use Rattle.std.specs.Prelude.{ℕ, Bool, false, cond, not, ◌||◌, ltb, pos, neg_ℤ}
 use Rattle.json_tree.specs.Tree.{Json, Items, nil, item, Got, none, got, root, on_string, on_number, on_array, on_object}
 use Rattle.rows.specs.Strings.{part, refused_in}
 use Rattle.rows.specs.Rows.{row1, row2, row3}
@@ -9,7 +9,7 @@ use Rattle.wire.specs.Limits.{widest, most_small, hex_length, sig_length, most_t
 use Rattle.wire.specs.Limits.{most_conditions, most_characters}
 use Rattle.numeral.specs.Whole.{whole_of, whole_answer, is_within}
 use Rattle.shape.specs.Shape.{any_item, count_items, count, name_at, named, id_name, pubkey_name, created_at_name}
-use Rattle.shape.specs.Shape.{kind_name, tags_name, content_name, sig_name, ids_name, authors_name, kinds_name}
+use Rattle.shape.specs.Shape.{kind_name, tags_name, sig_name, ids_name, authors_name, kinds_name}
 use Rattle.shape.specs.Shape.{since_name, until_name, limit_name, is_condition, e_condition_name, p_condition_name}
 use Rattle.shape.specs.Shape.{Word, event, req, close, other, opened, has_shape}
 use Rattle.wire.specs.Bytes.{Bytes, Row}

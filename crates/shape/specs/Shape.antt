@@ -1,6 +1,6 @@
 -- 01, "Shape": what an EVENT, a REQ and a CLOSE are, over the tree of a text s. Names and the first word compare as
 -- decoded. A name that begins at p is a member's; t is its value.
-use Rattle.std.specs.Prelude.{ℕ, suc, List, Bool, true, false, cond, not, ◌&&◌, ◌||◌, eqb, leb, length, get_or}
+use Rattle.std.specs.Prelude.{ℕ, suc, Bool, true, false, cond, not, ◌&&◌, ◌||◌, eqb, leb, length, get_or}
 use Rattle.json_tree.specs.Tree.{Json, word, num, str, arr, obj, Items, nil, item, on_string, on_number, on_array, on_object}
 use Rattle.wire.specs.Ascii.{ascii}
 use Rattle.wire.specs.Bytes.{Bytes, same_bytes}

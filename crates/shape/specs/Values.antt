@@ -1,7 +1,7 @@
 -- A value by itself, where the tags of an event, a list of a filter or a filter must stand. 01: "Parts of an event,
 -- filter or reply are tested by rows 2 and 4 to 8": the lowest that holds, 0 where none does, 5 where there is no
 -- value.
-use Rattle.std.specs.Prelude.{ℕ, ◌-◌, List, Bool, true, false, cond, not}
+use Rattle.std.specs.Prelude.{ℕ, ◌-◌, Bool, false, cond, not}
 use Rattle.utf8.specs.Utf8.{is_utf8}
 use Rattle.json_tree.specs.Tree.{Json, Got, none, got, depth, tree_at, on_object}
 use Rattle.rows.specs.Strings.{part, refused_in}

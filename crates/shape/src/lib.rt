@@ -1,6 +1,8 @@
 // Rows 1 to 8 of 01 for a client message: the lowest that holds anywhere in it, and with rows 6 and 7 the place that
 // breaks it first. Every part answers its least fault, a row and a place as one number, and NO_FAULT for none; parts are
 // joined by the least. What must stand at a place is its form, a small number.
+#![tactic(auto)]
+
 ghost use Rattle.std.specs.Prelude.{◌≡◌};
 ghost use Rattle.json_tree.specs.Grammar.{start_at};
 ghost use Rattle.json_tree.specs.Tree.{tree_at};
@@ -16,7 +18,7 @@ mod scalar;
 use json_tree::{Next, Out, Start};
 
 // The byte offset in a message, from 0, that a refusal carries with it.
-#[derive(Drop)]
+#[derive(Clone, Copy)]
 pub enum Offset {
     Absent,
     At(usize),
@@ -24,7 +26,7 @@ pub enum Offset {
 
 // What refuses a message: a row, 0 where none does, and with rows 6 and 7 the offset of the earliest number, or opening
 // quote of a string, that breaks that row.
-#[derive(Drop)]
+#[derive(Clone, Copy)]
 pub struct Refusal {
     pub row: u8,
     pub offset: Offset,
@@ -41,14 +43,14 @@ pub fn plain_refusal(row: u8) -> Refusal
 }
 
 // Where a value ends, and the least fault in it; or that no value stands there.
-#[derive(Drop)]
+#[derive(Clone, Copy)]
 enum Judged {
     Ends(usize, u64),
     Wrong,
 }
 
 // A member's slot, the form that its value must have, and the fault of its name.
-#[derive(Drop)]
+#[derive(Clone, Copy)]
 struct Item {
     slot: u8,
     form: u8,
@@ -57,7 +59,7 @@ struct Item {
 
 // What is kept from item to item: the least fault, the slots taken, a bit each, and the # conditions, to one more than
 // may be.
-#[derive(Drop)]
+#[derive(Clone, Copy)]
 struct Tally {
     fault: u64,
     seen: u64,
@@ -180,7 +182,7 @@ pub fn message_refusal(s: &[u8]) -> Refusal
 
 // What may have to stand at a place, apart from a message: the tags of an event, a list of 64 hex characters each, a
 // list of kinds, a filter.
-#[derive(Drop)]
+#[derive(Clone, Copy)]
 pub enum Sort {
     Tags,
     Hexes,

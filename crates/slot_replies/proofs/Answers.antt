@@ -88,8 +88,8 @@ module _ (b : List ℕ) (k : ℕ) (m : List ℕ) (s : Span) (out : List ℕ) {x 
       size : length text ≡ length (json_of (text_in t)) + length (json_of (escape (decode id))) + 266
       size = let (a, h) = shown_if b k (sym f ∙ v) in slot_length b k a h (said m s) ∙ rw (et, ei)
 
-      pub no_room : r ≡ false → AsSent b k m s out (Refused 13) out
-      no_room q =
+      pub no_room_lem : r ≡ false → AsSent b k m s out (Refused 13) out
+      no_room_lem q =
           let (g, h) = too_short text out (let n = room.no q in omega (arith, size)) in
           later (passed text out (shown_row b k) (short_row text out) (sym f ∙ v) g h)
 

@@ -49,16 +49,16 @@ module _ (b ks : List ℕ) (i : ℕ) (inv : held_len b ks ≡ i + held_len b (dr
     unfolding count_of
     count_is = f.is
 
-    next-is : held_len b (drop i ks) ≡ cond (ltb k (count_of b)) (suc (held_len b (drop (i + 1) ks))) 0
+    next_is : held_len b (drop i ks) ≡ cond (ltb k (count_of b)) (suc (held_len b (drop (i + 1) ks))) 0
     unfolding held_len
-    next-is = rw (drop-cons ks i 0 h, add-one i, ek) refl
+    next_is = rw (drop-cons ks i 0 h, add-one i, ek) refl
 
     pub held_stop : c ≤ k → i ≡ held_len b ks
-    held_stop q = let z : held_len b (drop i ks) ≡ 0 = next-is ∙ rw (le-ltb k (count_of b) (omega (arith, count_is))) refl in omega arith
+    held_stop q = let z : held_len b (drop i ks) ≡ 0 = next_is ∙ rw (le-ltb k (count_of b) (omega (arith, count_is))) refl in omega arith
 
     pub held_turn : k < c → held_len b ks ≡ i + 1 + held_len b (drop (i + 1) ks)
     held_turn q =
-        let z : held_len b (drop i ks) ≡ suc (held_len b (drop (i + 1) ks)) = next-is ∙ rw (lt-ltb k (count_of b) (omega (arith, count_is))) refl in
+        let z : held_len b (drop i ks) ≡ suc (held_len b (drop (i + 1) ks)) = next_is ∙ rw (lt-ltb k (count_of b) (omega (arith, count_is))) refl in
         omega arith
 
 held_full : (b ks : List ℕ) → all_held b ks ≡ true → held_len b ks ≡ length ks
@@ -128,56 +128,56 @@ fitted_few b n i room (k ∷ ks) = go (ltb room (line_size b n k)) (fitted_few b
     go false h = omega arith
 
 module _ (b sub : List ℕ) (s : sound b ≡ true) where
-  abbrev id-size : ℕ
-  id-size = length (json_of (escape sub))
+  abbrev id_size_lem : ℕ
+  id_size_lem = length (json_of (escape sub))
 
-  not-held-line : (k : ℕ) → ltb k (count_of b) ≡ false → length (slot_line b sub k) ≡ 0
+  not_held_line : (k : ℕ) → ltb k (count_of b) ≡ false → length (slot_line b sub k) ≡ 0
   unfolding slot_line written
-  not-held-line k e = rw e refl
+  not_held_line k e = rw e refl
 
   -- the first line does not fit
-  none_is : (room : ℕ) (ks : List ℕ) → (ltb 0 (held_len b ks) && eqb (fitted_in 0 room (sizes b id-size (take (held_len b ks) ks))).lines 0) ≡ none_fits room (slot_lines b sub ks)
+  none_is : (room : ℕ) (ks : List ℕ) → (ltb 0 (held_len b ks) && eqb (fitted_in 0 room (sizes b id_size_lem (take (held_len b ks) ks))).lines 0) ≡ none_fits room (slot_lines b sub ks)
   unfolding held_len fitted_in
   none_is room [] = refl
   none_is room (k ∷ ks) = go (ltb k (count_of b)) refl
     where
-      fits : (h : ℕ) (u : Bool) → (ltb 0 (suc h) && eqb (cond u (stopped 0 room) (fitted_in 1 (room - line_size b id-size k) (sizes b id-size (take h ks)))).lines 0) ≡ u
+      fits : (h : ℕ) (u : Bool) → (ltb 0 (suc h) && eqb (cond u (stopped 0 room) (fitted_in 1 (room - line_size b id_size_lem k) (sizes b id_size_lem (take h ks)))).lines 0) ≡ u
       fits h true = rw (lt-ltb 0 (suc h) (omega arith)) refl
       fits h false =
-          let l = fitted_from 1 (room - line_size b id-size k) (sizes b id-size (take h ks)) in
-          rw (lt-ltb 0 (suc h) (omega arith), ne_eqb (fitted_in 1 (room - line_size b id-size k) (sizes b id-size (take h ks))).lines 0 (λ z. omega arith)) refl
+          let l = fitted_from 1 (room - line_size b id_size_lem k) (sizes b id_size_lem (take h ks)) in
+          rw (lt-ltb 0 (suc h) (omega arith), ne_eqb (fitted_in 1 (room - line_size b id_size_lem k) (sizes b id_size_lem (take h ks))).lines 0 (λ z. omega arith)) refl
 
       go : (t : Bool) → ltb k (count_of b) ≡ t
-          → (ltb 0 (cond t (suc (held_len b ks)) 0) && eqb (fitted_in 0 room (sizes b id-size (take (cond t (suc (held_len b ks)) 0) (k ∷ ks)))).lines 0)
+          → (ltb 0 (cond t (suc (held_len b ks)) 0) && eqb (fitted_in 0 room (sizes b id_size_lem (take (cond t (suc (held_len b ks)) 0) (k ∷ ks)))).lines 0)
           ≡ ltb room (length (slot_line b sub k))
-      go true e = fits (held_len b ks) (ltb room (line_size b id-size k)) ∙ ap (ltb room) (sym (line_length b k s (ltb-true k (count_of b) e) sub))
-      go false e = sym (ap (ltb room) (not-held-line k e) ∙ le-ltb room 0 (omega arith))
+      go true e = fits (held_len b ks) (ltb room (line_size b id_size_lem k)) ∙ ap (ltb room) (sym (line_length b k s (ltb-true k (count_of b) e) sub))
+      go false e = sym (ap (ltb room) (not_held_line k e) ∙ le-ltb room 0 (omega arith))
 
-  row_is : (out ks : List ℕ) → fit_row (fitted_in 0 (length out) (sizes b id-size (take (held_len b ks) ks))).lines (held_len b ks) (length ks) ≡ lines_row b sub ks out
+  row_is : (out ks : List ℕ) → fit_row (fitted_in 0 (length out) (sizes b id_size_lem (take (held_len b ks) ks))).lines (held_len b ks) (length ks) ≡ lines_row b sub ks out
   unfolding fit_row
   row_is out ks = ap₂ (λ x y. cond x 13 y) (none_is (length out) ks) (held_row b ks)
 
   -- where all are held
-  fitted-lines : (i room : ℕ) (ks : List ℕ) → all_held b ks ≡ true → (fitted_in i room (sizes b id-size ks)).lines ≡ i + fitting room (slot_lines b sub ks)
+  fitted_lines : (i room : ℕ) (ks : List ℕ) → all_held b ks ≡ true → (fitted_in i room (sizes b id_size_lem ks)).lines ≡ i + fitting room (slot_lines b sub ks)
   unfolding all fitted_in fitting
-  fitted-lines i room [] e = omega arith
-  fitted-lines i room (k ∷ ks) e =
+  fitted_lines i room [] e = omega arith
+  fitted_lines i room (k ∷ ks) e =
       let (g, h) = both (ltb k (count_of b)) (all_held b ks) e in
-      rw (line_length b k s (ltb-true k (count_of b) g) sub) (go (ltb room (line_size b id-size k)) (fitted-lines (i + 1) (room - line_size b id-size k) ks h))
+      rw (line_length b k s (ltb-true k (count_of b) g) sub) (go (ltb room (line_size b id_size_lem k)) (fitted_lines (i + 1) (room - line_size b id_size_lem k) ks h))
     where
-      go : (t : Bool) → (fitted_in (i + 1) (room - line_size b id-size k) (sizes b id-size ks)).lines ≡ i + 1 + fitting (room - line_size b id-size k) (slot_lines b sub ks)
-          → (cond t (stopped i room) (fitted_in (i + 1) (room - line_size b id-size k) (sizes b id-size ks))).lines ≡ i + cond t 0 (suc (fitting (room - line_size b id-size k) (slot_lines b sub ks)))
+      go : (t : Bool) → (fitted_in (i + 1) (room - line_size b id_size_lem k) (sizes b id_size_lem ks)).lines ≡ i + 1 + fitting (room - line_size b id_size_lem k) (slot_lines b sub ks)
+          → (cond t (stopped i room) (fitted_in (i + 1) (room - line_size b id_size_lem k) (sizes b id_size_lem ks))).lines ≡ i + cond t 0 (suc (fitting (room - line_size b id_size_lem k) (slot_lines b sub ks)))
       go true ih = omega arith
       go false ih = omega arith
 
-  lines-joined : (i : ℕ) (ks : List ℕ) → all_held b ks ≡ true → written (events_of b sub (take i ks)) ≡ joined (take i (slot_lines b sub ks))
+  lines_joined : (i : ℕ) (ks : List ℕ) → all_held b ks ≡ true → written (events_of b sub (take i ks)) ≡ joined (take i (slot_lines b sub ks))
   unfolding all events_of joined slot_line written
-  lines-joined zero ks e = refl
-  lines-joined (suc i) [] e = refl
-  lines-joined (suc i) (k ∷ ks) e =
+  lines_joined zero ks e = refl
+  lines_joined (suc i) [] e = refl
+  lines_joined (suc i) (k ∷ ks) e =
       let (g, h) = both (ltb k (count_of b)) (all_held b ks) e in
       written_append (event_replies sub (slot_at b k) (read_text (text_in (slot_at b k)))) (events_of b sub (take i ks))
-      ∙ ap₂ ◌++◌ (sym (ap (λ x. written (cond x (event_replies sub (slot_at b k) (read_text (text_in (slot_at b k)))) [])) g)) (lines-joined i ks h)
+      ∙ ap₂ ◌++◌ (sym (ap (λ x. written (cond x (event_replies sub (slot_at b k) (read_text (text_in (slot_at b k)))) [])) g)) (lines_joined i ks h)
 
 -- ---- the parts of the row that are taken lie in it
 pub held_few : (b ks : List ℕ) {held : ℕ} → held ≡ held_len b ks → held ≤ length ks
@@ -207,57 +207,57 @@ module _ (b sub ks out : List ℕ) (s : sound b ≡ true) {m held : ℕ} {f : Fi
       ef ∙ ap (λ y. fitted_in 0 (length out) (sizes b m (take y ks))) eh
       ∙ cut_fitted b m (length (json_of (escape sub))) em 0 (length out) room (take (held_len b ks) ks)
 
-  fit_row : row ≡ lines_row b sub ks out
-  fit_row = er ∙ ap₂ (λ x y. fit_row x.lines y (length ks)) fit_is eh ∙ row_is b sub s out ks
+  fit_row_lem : row ≡ lines_row b sub ks out
+  fit_row_lem = er ∙ ap₂ (λ x y. fit_row x.lines y (length ks)) fit_is eh ∙ row_is b sub s out ks
 
   pub lines_refused : (row ≡ 0 → ⊥) → (Refused row ≡ sent_lines b sub ks out) × (out ≡ sent_lines_out b sub ks out)
   unfolding sent_lines sent_lines_out
   lines_refused z =
-      let h = ne_eqb (lines_row b sub ks out) 0 (λ q. z (fit_row ∙ q)) in
-      (rw h (ap Refused fit_row), rw h)
+      let h = ne_eqb (lines_row b sub ks out) 0 (λ q. z (fit_row_lem ∙ q)) in
+      (rw h (ap Refused fit_row_lem), rw h)
 
   module _ (z : row ≡ 0) where
     held_all : all_held b ks ≡ true
-    held_all = none_refuses (none_fits (length out) (slot_lines b sub ks)) (all_held b ks) (sym fit_row ∙ z)
+    held_all = none_refuses (none_fits (length out) (slot_lines b sub ks)) (all_held b ks) (sym fit_row_lem ∙ z)
 
-    count-is-fitting : f.lines ≡ fitting (length out) (slot_lines b sub ks)
-    count-is-fitting =
+    count_is_fitting : f.lines ≡ fitting (length out) (slot_lines b sub ks)
+    count_is_fitting =
         let e : take (held_len b ks) ks ≡ ks = take_all (held_len b ks) ks (omega (arith, held_full b ks held_all)) in
         ap (λ v. v.lines) (fit_is ∙ ap (λ v. fitted_in 0 (length out) (sizes b (length (json_of (escape sub))) v)) e)
-        ∙ fitted-lines b sub s 0 (length out) ks held_all ∙ omega arith
+        ∙ fitted_lines b sub s 0 (length out) ks held_all ∙ omega arith
 
-    text-is : written (events_of b sub (take f.lines ks)) ≡ fitting_text b sub ks out
+    text_is : written (events_of b sub (take f.lines ks)) ≡ fitting_text b sub ks out
     unfolding fitting_text
-    text-is = ap (λ v. written (events_of b sub (take v ks))) count-is-fitting ∙ lines-joined b sub s (fitting (length out) (slot_lines b sub ks)) ks held_all
+    text_is = ap (λ v. written (events_of b sub (take v ks))) count_is_fitting ∙ lines_joined b sub s (fitting (length out) (slot_lines b sub ks)) ks held_all
 
-    text-fits : length (fitting_text b sub ks out) ≤ length out
+    text_fits : length (fitting_text b sub ks out) ≤ length out
     unfolding fitting_text
-    text-fits = (batches (length out) (slot_lines b sub ks)).fits
+    text_fits = (batches (length out) (slot_lines b sub ks)).fits
 
     pub lines_sent : {r : ℕ} {o : List ℕ} → Puts out 0 (written (events_of b sub (take f.lines ks))) r o
         → (Wrote r f.lines ≡ sent_lines b sub ks out) × (o ≡ sent_lines_out b sub ks out)
     unfolding sent_lines sent_lines_out
     lines_sent p =
-        let h = eq-eqb (lines_row b sub ks out) 0 (sym fit_row ∙ z) in
-        let (x, y) = puts_whole text-fits (rw text-is at p) in
-        (rw h (ap₂ Wrote x count-is-fitting), rw h y)
+        let h = eq-eqb (lines_row b sub ks out) 0 (sym fit_row_lem ∙ z) in
+        let (x, y) = puts_whole text_fits (rw text_is at p) in
+        (rw h (ap₂ Wrote x count_is_fitting), rw h y)
 
 -- ---- what is answered
 abbrev pub AsEvents : (b ks m : List ℕ) → Span → List ℕ → Sent → List ℕ → Type 0
 AsEvents b ks m s out w o = (w ≡ sent_events b ks m s out) × ((sent_number w ≡ events_row b ks m s out) × (o ≡ sent_events_out b ks m s out))
 
 module _ (b ks m : List ℕ) (s : Span) (out : List ℕ) {x : ℕ} (e : x ≡ subscription_row m s) where
-  as-sent : (row : ℕ) {w : Sent} {o : List ℕ} → events_row b ks m s out ≡ row
+  as_sent : (row : ℕ) {w : Sent} {o : List ℕ} → events_row b ks m s out ≡ row
       → w ≡ sent_by row (length (fitting_text b (said m s) ks out)) (fitting (length out) (slot_lines b (said m s) ks))
       → o ≡ output_after row (fitting_text b (said m s) ks out) out → AsEvents b ks m s out w o
   unfolding sent_events sent_events_out
-  as-sent row q f g = (rw q f, (ap sent_number f ∙ sent_number_lem row _ _ ∙ sym q, rw q g))
+  as_sent row q f g = (rw q f, (ap sent_number f ∙ sent_number_lem row _ _ ∙ sym q, rw q g))
 
   pub name_refused : (x ≡ 0 → ⊥) → AsEvents b ks m s out (Refused x) out
   unfolding events_row
   name_refused ne =
       let q = eose_row_lem m s e in
-      as-sent x (rw (ne_eqb (eose_row m s) 0 (λ z. ne (q ∙ z))) (sym q)) (rw (ne_eqb x 0 ne) refl) (rw (ne_eqb x 0 ne) refl)
+      as_sent x (rw (ne_eqb (eose_row m s) 0 (λ z. ne (q ∙ z))) (sym q)) (rw (ne_eqb x 0 ne) refl) (rw (ne_eqb x 0 ne) refl)
 
   module _ (z : x ≡ 0) {y : Bool} (f : y ≡ sound b) where
     later : events_row b ks m s out ≡ cond y (lines_row b (said m s) ks out) 11
@@ -265,10 +265,10 @@ module _ (b ks m : List ℕ) (s : Span) (out : List ℕ) {x : ℕ} (e : x ≡ su
     later = rw (eq-eqb (eose_row m s) 0 (sym (eose_row_lem m s e) ∙ z), f) refl
 
     pub table_refused : y ≡ false → AsEvents b ks m s out (Refused 11) out
-    table_refused q = as-sent 11 (later ∙ ap (λ v. cond v (lines_row b (said m s) ks out) 11) q) refl refl
+    table_refused q = as_sent 11 (later ∙ ap (λ v. cond v (lines_row b (said m s) ks out) 11) q) refl refl
 
     pub events_sent : y ≡ true → {id : List ℕ} → id ≡ part m s.start s.len → {w : Sent} {o : List ℕ}
         → (w ≡ sent_lines b (decode id) ks out) × (o ≡ sent_lines_out b (decode id) ks out) → AsEvents b ks m s out w o
     unfolding sent_lines sent_lines_out
     events_sent q i (g, h) =
-        as-sent (lines_row b (said m s) ks out) (later ∙ ap (λ v. cond v (lines_row b (said m s) ks out) 11) q) (rw i at g) (rw i at h)
+        as_sent (lines_row b (said m s) ks out) (later ∙ ap (λ v. cond v (lines_row b (said m s) ks out) 11) q) (rw i at g) (rw i at h)

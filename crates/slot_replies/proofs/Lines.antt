@@ -13,7 +13,7 @@ use lib.Seq.{drop-cons}
 use Rattle.wire.specs.Put.{Puts}
 use Rattle.wire.specs.Escape.{escape, json_of}
 use Rattle.wire.proofs.Laws.{put_out, length_put, puts_then, puts_out}
-use Rattle.text.specs.Read.{Read, tooLarge, wrongShape, read, read_text}
+use Rattle.text.specs.Read.{Read, too_large, wrong_shape, read, read_text}
 use Rattle.law.specs.Lists.{◌∈◌}
 use Rattle.event.specs.Lent.{most_length, length_of}
 use Rattle.table.specs.Layout.{count_of, slot_at, text_in}
@@ -39,8 +39,8 @@ unfolding held_line held_text written reply_text
 line_is sub s = go (read_text (text_in s))
   where
     go : (r : Read) → Line (written (event_replies sub s r)) (first_text (event_replies sub s r))
-    go tooLarge = nothing refl refl
-    go wrongShape = nothing refl refl
+    go too_large = nothing refl refl
+    go wrong_shape = nothing refl refl
     go (read e) = ended (append-nil _) (omega arith)
 
 -- where writing the text did not move on there is none, or no room for it
@@ -210,11 +210,11 @@ module _ (b sub : List ℕ) where
       go false e ih q = ih (omega arith) ∙ sym (left_turn room (size_of k) (lines_size b sub ks) (ltb-false room (size_of k) e))
 
   module _ (ks : List ℕ) (room : ℕ) (h : room < 2 ^ 64) {n : ℕ} {f : Fitted} (en : n ≡ length_of (json_of (escape sub))) (ef : f ≡ fitted_in 0 room (sizes b n ks)) where
-    fitted-is : f ≡ fitted_in 0 room (each ks)
-    fitted-is = ef ∙ cut_fitted b n (length (json_of (escape sub))) en 0 room h ks
+    fitted_is : f ≡ fitted_in 0 room (each ks)
+    fitted_is = ef ∙ cut_fitted b n (length (json_of (escape sub))) en 0 room h ks
 
     pub all_fit : length ks ≤ f.lines → Room f.left ≡ left_in room (lines_size b sub ks)
-    all_fit g = ap (λ v. Room v.left) fitted-is ∙ all_left 0 room ks (omega (arith, ap (λ v. v.lines) fitted-is))
+    all_fit g = ap (λ v. Room v.left) fitted_is ∙ all_left 0 room ks (omega (arith, ap (λ v. v.lines) fitted_is))
 
     pub not_all_fit : f.lines < length ks → Short ≡ left_in room (lines_size b sub ks)
-    not_all_fit g = too_many 0 room ks (omega (arith, ap (λ v. v.lines) fitted-is))
+    not_all_fit g = too_many 0 room ks (omega (arith, ap (λ v. v.lines) fitted_is))

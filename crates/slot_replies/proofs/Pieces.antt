@@ -19,7 +19,7 @@ use Rattle.numeral.proofs.Ways.{back}
 use Rattle.rows.specs.Strings.{part}
 use Rattle.text.specs.Event.{Event, quoted, tags_text}
 use Rattle.text.proofs.Limits.{limits_of}
-use Rattle.text.specs.Read.{Read, tooLarge, wrongShape, read, read_text}
+use Rattle.text.specs.Read.{Read, too_large, wrong_shape, read, read_text}
 use Rattle.text.specs.Answer.{text_answer_of}
 use Rattle.text.specs.declared.Text.{Text}
 use Rattle.text.specs.declared.TextAnswer.TheVariants as answer
@@ -90,34 +90,34 @@ regroup a b c d e₀ e₁ e₂ e₃ e₄ e₅ e₆ e₇ e₈ e₉ f g h j = simp
 
 -- its text, as the code takes it
 module _ (s : List ℕ) {t : List ℕ} {n : ℕ} (f : Field s 106 2 n) (q : t ≡ part s 112 n) where
-  text-is : text_in s ≡ t
+  text_is : text_in s ≡ t
   unfolding text_in length_in
-  text-is = ap (part s 112) (sym f.is) ∙ sym q
+  text_is = ap (part s 112) (sym f.is) ∙ sym q
 
   slot_is : (sub : List ℕ) (r : Read) → read_text t ≡ r → held_text sub s ≡ first_text (event_replies sub s r)
   unfolding held_text
-  slot_is sub r e = ap (λ v. first_text (event_replies sub s (read_text v))) text-is ∙ ap (λ v. first_text (event_replies sub s v)) e
+  slot_is sub r e = ap (λ v. first_text (event_replies sub s (read_text v))) text_is ∙ ap (λ v. first_text (event_replies sub s v)) e
 
-  none-large : (sub : List ℕ) (r : Read) → read_text t ≡ r → answer.TooLarge ≡ text_answer_of r → held_text sub s ≡ []
-  none-large sub tooLarge e z = slot_is sub tooLarge e
-  none-large sub wrongShape e z = absurd (let y : ◌≡◌ {A = ℕ} 0 1 = cc in omega arith)
-  none-large sub (read x) e z = absurd (let y : ◌≡◌ {A = ℕ} 0 1 = cc in omega arith)
+  none_large : (sub : List ℕ) (r : Read) → read_text t ≡ r → answer.TooLarge ≡ text_answer_of r → held_text sub s ≡ []
+  none_large sub too_large e z = slot_is sub too_large e
+  none_large sub wrong_shape e z = absurd (let y : ◌≡◌ {A = ℕ} 0 1 = cc in omega arith)
+  none_large sub (read x) e z = absurd (let y : ◌≡◌ {A = ℕ} 0 1 = cc in omega arith)
 
-  none-shape : (sub : List ℕ) (r : Read) → read_text t ≡ r → answer.WrongShape ≡ text_answer_of r → held_text sub s ≡ []
-  none-shape sub tooLarge e z = absurd (let y : ◌≡◌ {A = ℕ} 0 1 = cc in omega arith)
-  none-shape sub wrongShape e z = slot_is sub wrongShape e
-  none-shape sub (read x) e z = absurd (let y : ◌≡◌ {A = ℕ} 0 1 = cc in omega arith)
+  none_shape : (sub : List ℕ) (r : Read) → read_text t ≡ r → answer.WrongShape ≡ text_answer_of r → held_text sub s ≡ []
+  none_shape sub too_large e z = absurd (let y : ◌≡◌ {A = ℕ} 0 1 = cc in omega arith)
+  none_shape sub wrong_shape e z = slot_is sub wrong_shape e
+  none_shape sub (read x) e z = absurd (let y : ◌≡◌ {A = ℕ} 0 1 = cc in omega arith)
 
   module _ (sub : List ℕ) {d o : List ℕ} {i r : ℕ} where
     pub slot_large : answer.TooLarge ≡ text_answer_of (read_text t) → Puts d i [] r o → Puts d i (held_text sub s) r o
-    slot_large z x = rw (none-large sub (read_text t) refl z) x
+    slot_large z x = rw (none_large sub (read_text t) refl z) x
 
     pub slot_shape : answer.WrongShape ≡ text_answer_of (read_text t) → Puts d i [] r o → Puts d i (held_text sub s) r o
-    slot_shape z x = rw (none-shape sub (read_text t) refl z) x
+    slot_shape z x = rw (none_shape sub (read_text t) refl z) x
 
-  slot-halves : (sub i g : List ℕ) (e : Event) → i ≡ hex_of (id_in s) → g ≡ hex_of (sig_in s) → read_text t ≡ read e → held_text sub s ≡ ((front_text sub i ++ numbers_text e) ++ held_strings e) ++ back_text g
+  slot_halves : (sub i g : List ℕ) (e : Event) → i ≡ hex_of (id_in s) → g ≡ hex_of (sig_in s) → read_text t ≡ read e → held_text sub s ≡ ((front_text sub i ++ numbers_text e) ++ held_strings e) ++ back_text g
   unfolding reply_text object_text front_text back_text
-  slot-halves sub i g e ei eg rd =
+  slot_halves sub i g e ei eg rd =
       slot_is sub (read e) rd
       ∙ rw (ei, eg) (regroup (ascii "[\"EVENT\",") (string_json sub) (ascii ",{\"id\":") (string_json (hex_of (id_in s))) (ascii ",\"pubkey\":") (string_json e.pubkey) (ascii ",\"created_at\":")
       (decimal e.time) (ascii ",\"kind\":") (digits e.kind) (ascii ",\"tags\":") (tags_json e.tags) (ascii ",\"content\":") (string_json e.content) (ascii ",\"sig\":")
@@ -128,4 +128,4 @@ module _ (s : List ℕ) {t : List ℕ} {n : ℕ} (f : Field s 106 2 n) (q : t �
   unfolding number_bytes string_bytes id_in sig_in
   slot_put sub {x} {i} {g} w ei eg x₁ x₂ x₃ x₄ =
       let (e, rd, q) = read_told (read_text t) x w in
-      rw (slot-halves sub (hex_of i) (hex_of g) e (ap hex_of ei) (ap hex_of eg) rd) (puts_then (puts_then (puts_then x₁ (rw rd at x₂)) (rw rd at x₃)) x₄)
+      rw (slot_halves sub (hex_of i) (hex_of g) e (ap hex_of ei) (ap hex_of eg) rd) (puts_then (puts_then (puts_then x₁ (rw rd at x₂)) (rw rd at x₃)) x₄)

@@ -5,7 +5,7 @@ use Rattle.wire.specs.Escape.{json_of}
 use Rattle.numeral.specs.Decimal.{digits, decimal}
 use Rattle.text.specs.Event.{Event}
 use Rattle.reply.specs.Replies.{string_json, tags_json}
-use Rattle.text.specs.Read.{Read, tooLarge, wrongShape, read, read_text}
+use Rattle.text.specs.Read.{Read, too_large, wrong_shape, read, read_text}
 use Rattle.text.specs.Answer.{text_answer_of}
 use Rattle.text.specs.declared.Text.{Text}
 use Rattle.text.specs.declared.TextAnswer.TheVariants as answer
@@ -16,8 +16,6 @@ use Rattle.reply.specs.Lent.{output_after}
 use Rattle.program.specs.Respond.{first_text, fitting, slot_lines, fitting_text, none_fits, all_held}
 use Rattle.program.specs.declared.Sent.{Sent}
 use Rattle.program.specs.declared.Sent.TheVariants.{Wrote, Refused}
-use Rattle.slot_replies.specs.declared.Left.{Left}
-use Rattle.slot_replies.specs.declared.Left.TheVariants.{Room, Short}
 use Rattle.slot_replies.specs.declared.Fitted.{Fitted}
 use Rattle.wire.specs.Bytes.{Bytes, Row}
 
@@ -37,8 +35,8 @@ back_text s = ascii ",\"sig\":" ++ (string_json s ++ ascii "}]")
 
 -- of a text that reads
 abbrev pub of_read : (Event → List ℕ) → Read → Bytes
-of_read f tooLarge = []
-of_read f wrongShape = []
+of_read f too_large = []
+of_read f wrong_shape = []
 of_read f (read e) = f e
 
 unfoldable pub number_bytes : Bytes → Bytes

@@ -1,5 +1,7 @@
 // EVENT replies of held slots, written into lent bytes. The text of a slot is copied, its control characters spelled
 // out, and never decoded. Every row is tested before the first byte is written.
+#![tactic(auto)]
+
 ghost use Rattle.std.specs.Prelude.{◌≡◌, true, ◌+◌, ◌≤◌, length, get_or};
 ghost use Rattle.wire.specs.Put.{Puts};
 ghost use Rattle.wire.specs.Escape.{escape, json_of};
@@ -24,7 +26,7 @@ use slots::Shown;
 use text::{Text, TextAnswer};
 
 // What lines leave of a room: so many bytes, or there are too few.
-#[derive(Drop)]
+#[derive(Clone, Copy)]
 pub enum Left {
     Room(usize),
     Short,
@@ -172,7 +174,7 @@ pub fn slot_event(table: &[u8], slot: usize, m: &[u8], sub: Span, out: &mut [u8]
 
 // ---- the EVENTs of many slots, each a line
 // How many lines fit whole, from the first on, and what they leave of the room.
-#[derive(Drop)]
+#[derive(Clone, Copy)]
 struct Fitted {
     lines: usize,
     left: usize,

@@ -1,6 +1,6 @@
 -- One slot: its fields against what its text answers, and a law for each way out of the code that tests it.
 use mathlib.Core.Path.{◌≡◌, refl, sym, ap, ap₂, ◌∙◌}
-use mathlib.Core.Bool.{Bool, true, false, not, ◌&&◌, and_assoc, and_comm, and_false}
+use mathlib.Core.Bool.{Bool, true, false, not, ◌&&◌, and_assoc, and_comm, and-false}
 use mathlib.Core.List.{List}
 use Prim.Native.Nat.{ℕ, ◌+◌, ◌≤◌, ◌<◌}
 use native.Mathlib.Omega.{arith}
@@ -12,7 +12,7 @@ use Rattle.wire.specs.Bytes.{part}
 use Rattle.wire.specs.Limits.{most_text}
 use Rattle.wire.specs.Field.{field_at, unsigned}
 use Rattle.text.specs.Event.{Event}
-use Rattle.text.specs.Read.{Read, tooLarge, wrongShape, read, read_text}
+use Rattle.text.specs.Read.{Read, too_large, wrong_shape, read, read_text}
 use Rattle.text.specs.Kinds.{is_ephemeral, key_of, class_of}
 use Rattle.text.specs.Answer.{text_parts, text_answer_of}
 use Rattle.text.specs.declared.Class.{Class}
@@ -36,19 +36,19 @@ module _ (s : List ℕ) (t : Text) {r u : ℕ} (a : r ≡ field_at s 96 8) (b : 
       (ap (◌&& (eqb (kind_in s) t.kind && d_agrees (class_of t.kind) (d_in s).at (d_in s).len t.d t.d_len)) (ne_eqb (field_at s 96 8) (unsigned t.time) (λ e. n (a ∙ e ∙ sym b))))
 
   module _ (e : r ≡ u) {k : ℕ} (c : k ≡ field_at s 104 2) where
-    same-time : eqb (field_at s 96 8) (unsigned t.time) ≡ true
-    same-time = eq-eqb (field_at s 96 8) (unsigned t.time) (sym a ∙ e ∙ b)
+    same_time : eqb (field_at s 96 8) (unsigned t.time) ≡ true
+    same_time = eq-eqb (field_at s 96 8) (unsigned t.time) (sym a ∙ e ∙ b)
 
     pub other_kind : (k ≡ t.kind → ⊥) → false ≡ agrees_text s t
     unfolding agrees_text kind_in
-    other_kind n = sym (rw (same-time, ne_eqb (field_at s 104 2) t.kind (λ q. n (c ∙ q))))
+    other_kind n = sym (rw (same_time, ne_eqb (field_at s 104 2) t.kind (λ q. n (c ∙ q))))
 
     pub by_d : {x : Bool} {i l : ℕ} → k ≡ t.kind → i ≡ field_at s 108 2 → l ≡ field_at s 110 2
         → x ≡ d_agrees (class_of t.kind) i l t.d t.d_len → x ≡ agrees_text s t
     unfolding agrees_text kind_in d_in
     by_d {x} {i} {l} q f g h =
         h ∙ ap₂ (λ m n. d_agrees (class_of t.kind) m n t.d t.d_len) f g
-        ∙ sym (rw (same-time, eq-eqb (field_at s 104 2) t.kind (sym c ∙ q)))
+        ∙ sym (rw (same_time, eq-eqb (field_at s 104 2) t.kind (sym c ∙ q)))
 
 -- d's place and the kind, by class
 d_by : (c : Class) (s : List ℕ) (e : Event)
@@ -56,7 +56,7 @@ d_by : (c : Class) (s : List ℕ) (e : Event)
     ≡ d_agrees c (d_in s).at (d_in s).len (text_parts e).d (text_parts e).d_len
 d_by Regular s e = and_comm (eqb (d_in s).at 0 && eqb (d_in s).len 0) true
 d_by Replaceable s e = and_comm (eqb (d_in s).at 0 && eqb (d_in s).len 0) true
-d_by Ephemeral s e = and_false (eqb (d_in s).at 0 && eqb (d_in s).len 0)
+d_by Ephemeral s e = and-false (eqb (d_in s).at 0 && eqb (d_in s).len 0)
 d_by Addressable s e = and_comm (eqb (d_in s).at (text_parts e).d && eqb (d_in s).len (text_parts e).d_len) true
 
 agrees_same : (s : List ℕ) (e : Event) → (agrees_with s e && is_lasting s) ≡ agrees_text s (text_parts e)
@@ -94,22 +94,22 @@ module _ (s : List ℕ) {n : ℕ} (l : n ≡ field_at s 106 2) where
     unfolding slot_sound text_reads
     no_text r e f =
         ap (λ t. (leb (length_in s) most_text && is_read t) && rest s) e ∙ ap (λ t. (leb (length_in s) most_text && t) && rest s) f
-        ∙ ap (◌&& rest s) (and_false (leb (length_in s) most_text))
+        ∙ ap (◌&& rest s) (and-false (leb (length_in s) most_text))
 
-    pub too_large : x ≡ answer.TooLarge → false ≡ slot_sound s
-    too_large e = sym (go (read_text (text_in s)) refl (sym e ∙ answers))
+    pub too_large_lem : x ≡ answer.TooLarge → false ≡ slot_sound s
+    too_large_lem e = sym (go (read_text (text_in s)) refl (sym e ∙ answers))
       where
         go : (r : Read) → read_text (text_in s) ≡ r → answer.TooLarge ≡ text_answer_of r → slot_sound s ≡ false
-        go tooLarge h f = no_text tooLarge h refl
-        go wrongShape h f = no_text wrongShape h refl
+        go too_large h f = no_text too_large h refl
+        go wrong_shape h f = no_text wrong_shape h refl
         go (read v) h f = absurd (let z : ◌≡◌ {A = ℕ} 0 1 = cc in omega arith)
 
-    pub wrong_shape : x ≡ answer.WrongShape → false ≡ slot_sound s
-    wrong_shape e = sym (go (read_text (text_in s)) refl (sym e ∙ answers))
+    pub wrong_shape_lem : x ≡ answer.WrongShape → false ≡ slot_sound s
+    wrong_shape_lem e = sym (go (read_text (text_in s)) refl (sym e ∙ answers))
       where
         go : (r : Read) → read_text (text_in s) ≡ r → answer.WrongShape ≡ text_answer_of r → slot_sound s ≡ false
-        go tooLarge h f = no_text tooLarge h refl
-        go wrongShape h f = no_text wrongShape h refl
+        go too_large h f = no_text too_large h refl
+        go wrong_shape h f = no_text wrong_shape h refl
         go (read v) h f = absurd (let z : ◌≡◌ {A = ℕ} 0 1 = cc in omega arith)
 
     module _ {t : Text} (m : n ≤ 4096) (e : x ≡ answer.Read t) where
@@ -117,26 +117,26 @@ module _ (s : List ℕ) {n : ℕ} (l : n ≡ field_at s 106 2) where
       unfolding length_in
       short = omega arith
 
-      slot-by : slot_sound s ≡ (agrees_text s t && zero_after_text s)
+      slot_by : slot_sound s ≡ (agrees_text s t && zero_after_text s)
       unfolding slot_sound text_reads fields_agree
-      slot-by =
+      slot_by =
           ap (λ b. (b && is_read (read_text (text_in s))) && rest s) (le-leb (length_in s) most_text short)
           ∙ go (read_text (text_in s)) refl (sym e ∙ answers)
         where
           go : (r : Read) → read_text (text_in s) ≡ r → answer.Read t ≡ text_answer_of r
               → (is_read (read_text (text_in s)) && rest s) ≡ (agrees_text s t && zero_after_text s)
-          go tooLarge h f = absurd (let z : ◌≡◌ {A = ℕ} 0 1 = cc in omega arith)
-          go wrongShape h f = absurd (let z : ◌≡◌ {A = ℕ} 0 1 = cc in omega arith)
+          go too_large h f = absurd (let z : ◌≡◌ {A = ℕ} 0 1 = cc in omega arith)
+          go wrong_shape h f = absurd (let z : ◌≡◌ {A = ℕ} 0 1 = cc in omega arith)
           go (read v) h f =
               let z : text_parts v ≡ t = cc in
               rw h
               (sym (and_assoc (agrees_with s v) (is_lasting s) (zero_after_text s)) ∙ ap (◌&& zero_after_text s) (agrees_same s v ∙ ap (agrees_text s) z))
 
       pub fields_bad : {y : Bool} → y ≡ agrees_text s t → y ≡ false → false ≡ slot_sound s
-      fields_bad f h = sym (slot-by ∙ ap (◌&& zero_after_text s) (sym f ∙ h))
+      fields_bad f h = sym (slot_by ∙ ap (◌&& zero_after_text s) (sym f ∙ h))
 
       pub rest_decides : {y z : Bool} {w : List ℕ} → y ≡ agrees_text s t → y ≡ true → w ≡ part s (112 + n) (length s) → z ≡ is_zero w → z ≡ slot_sound s
       unfolding zero_after_text rest_in length_in
       rest_decides {y} {z} {w} f h g k =
           k ∙ ap is_zero (g ∙ take_all (length s) (drop (112 + n) s) (omega (arith, length-drop (112 + n) s)) ∙ ap (λ j. drop (112 + j) s) l)
-          ∙ sym (slot-by ∙ ap (◌&& zero_after_text s) (sym f ∙ h))
+          ∙ sym (slot_by ∙ ap (◌&& zero_after_text s) (sym f ∙ h))

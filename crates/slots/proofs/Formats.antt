@@ -1,15 +1,15 @@
 -- A buffer formatted and a slot shown: a law for each way out.
-use mathlib.Core.Path.{◌≡◌, refl, sym, ap, ◌∙◌}
+use mathlib.Core.Path.{◌≡◌, sym, ap, ◌∙◌}
 use mathlib.Core.Bool.{Bool, true, false, cond}
-use mathlib.Core.List.{List, [], ◌++◌, append_assoc}
+use mathlib.Core.List.{List, ◌++◌, append_assoc}
 use Prim.Native.Nat.{ℕ, ◌+◌, ◌*◌, ◌≤◌, ◌<◌}
 use native.Mathlib.Omega.{arith}
-use lib.Dec.{eqb, ltb, leb}
+use lib.Dec.{eqb}
 use lib.ListN.{length, drop, replicate, length-append, length-replicate}
 use borrow.Author.Tests.{le-leb, lt-leb, lt-ltb, le-ltb, ne_eqb}
 use Rattle.wire.specs.Bytes.{part}
 use Rattle.wire.specs.Limits.{most_slots}
-use Rattle.wire.specs.Put.{put, Puts}
+use Rattle.wire.specs.Put.{Puts}
 use Rattle.wire.specs.Field.{le_bytes, field_at}
 use Rattle.wire.proofs.Laws.{puts_whole}
 use Rattle.wire.proofs.Fields.{length_le_bytes}

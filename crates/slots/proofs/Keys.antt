@@ -1,27 +1,21 @@
 -- Two slots: in sound ones the test on bytes is the test on keys, so no two clash exactly where no id and no key is
 -- held twice.
 use mathlib.Core.Path.{◌≡◌, refl, sym, ap, ap₂, ◌∙◌}
-use mathlib.Core.Bool.{Bool, true, false, not, cond, ◌&&◌, ◌||◌, and_comm}
+use mathlib.Core.Bool.{Bool, true, false, ◌&&◌, and_comm}
 use mathlib.Core.Logic.{◌≢◌, inl}
-use mathlib.Core.List.{List, [], ◌∷◌, map}
-use Prim.Native.Nat.{ℕ, ◌+◌}
+use mathlib.Core.List.{List, []}
+use Prim.Native.Nat.{ℕ}
 use native.Mathlib.Omega.{arith}
-use lib.Dec.{eqb, leb}
-use lib.ListN.{length}
+use lib.Dec.{eqb}
 use borrow.Author.Tests.{eqb-true, eq-eqb, ne_eqb}
-use Rattle.wire.specs.Limits.{most_strings, most_tags}
-use Rattle.utf8.specs.Utf8.{is_utf8}
 use Rattle.wire.specs.Escape.{escape}
 use Rattle.wire.specs.Field.{field_at}
-use Rattle.wire.specs.Bytes.{same_bytes, part}
+use Rattle.wire.specs.Bytes.{same_bytes}
 use Rattle.wire.proofs.Bytes.{same_equal, equal_same}
 use Rattle.text.specs.Event.{Event, is_tags}
-use Rattle.text.specs.Read.{Read, read, read_text, IsTextOf}
-use Rattle.text.specs.Kinds.{Key, same_key, key_in, key_of, class_of, is_named_d, second, d_of}
+use Rattle.text.specs.Kinds.{same_key, key_in, key_of, class_of, d_of}
 use Rattle.text.specs.declared.Class.{Class}
 use Rattle.text.specs.declared.Class.TheVariants.{Regular, Replaceable, Ephemeral, Addressable}
-use Rattle.text.proofs.Pieces.{both}
-use Rattle.text.proofs.Limits.{limits_of}
 use Rattle.text.proofs.Strings.{escape_once}
 use Rattle.text.proofs.Places.{pubkey_stands}
 use Rattle.text.proofs.RoundTrip.{read_same}

@@ -129,8 +129,8 @@ module _ {ids keys : List ℕ} {c : ℕ} where
     pub noted_more : Noted ids keys i c (set (set seen (bucket_of (get_or ids i 0)) 1) (bucket_of (get_or keys i 0)) 1)
     noted_more = record {
       seen_long = simp length-set n.seen_long;
-      ids_noted = λ j p q. ⊎_elim (λ e. rw e (stays noted (bucket_of (get_or ids i 0)) (bucket_of (get_or keys i 0)) second (get_or-set_same seen (bucket_of (get_or ids i 0)) 1 0 first))) (λ l. both-stay (bucket_of (get_or ids j 0)) (n.ids_noted j l q)) (at-or j p);
-      keys_noted = λ j p q. ⊎_elim (λ e. rw e (get_or-set_same noted (bucket_of (get_or keys i 0)) 1 0 second)) (λ l. both-stay (bucket_of (get_or keys j 0)) (n.keys_noted j l q)) (at-or j p);
+      ids_noted = λ j p q. ⊎_elim (λ e. rw e (stays noted (bucket_of (get_or ids i 0)) (bucket_of (get_or keys i 0)) second (get_or-set_same seen (bucket_of (get_or ids i 0)) 1 0 first))) (λ l. both_stay (bucket_of (get_or ids j 0)) (n.ids_noted j l q)) (at_or j p);
+      keys_noted = λ j p q. ⊎_elim (λ e. rw e (get_or-set_same noted (bucket_of (get_or keys i 0)) 1 0 second)) (λ l. both_stay (bucket_of (get_or keys j 0)) (n.keys_noted j l q)) (at_or j p);
     }
       where
         noted : List ℕ
@@ -142,12 +142,12 @@ module _ {ids keys : List ℕ} {c : ℕ} where
         second : bucket_of (get_or keys i 0) < length (set seen (bucket_of (get_or ids i 0)) 1)
         second = simp length-set (omega (arith, bucket_small (get_or keys i 0), n.seen_long))
 
-        both-stay : (k : ℕ) → get_or seen k 0 ≡ 1 → get_or (set (set seen (bucket_of (get_or ids i 0)) 1) (bucket_of (get_or keys i 0)) 1) k 0 ≡ 1
-        both-stay k e =
+        both_stay : (k : ℕ) → get_or seen k 0 ≡ 1 → get_or (set (set seen (bucket_of (get_or ids i 0)) 1) (bucket_of (get_or keys i 0)) 1) k 0 ≡ 1
+        both_stay k e =
             stays (set seen (bucket_of (get_or ids i 0)) 1) k (bucket_of (get_or keys i 0)) second (stays seen k (bucket_of (get_or ids i 0)) first e)
 
-        at-or : (j : ℕ) → i ≤ j → (j ≡ i) ⊎ (i + 1 ≤ j)
-        at-or j p = go (dec_lt i j)
+        at_or : (j : ℕ) → i ≤ j → (j ≡ i) ⊎ (i + 1 ≤ j)
+        at_or j p = go (dec_lt i j)
           where
             go : Dec (i < j) → (j ≡ i) ⊎ (i + 1 ≤ j)
             go (yes l) = inr (omega arith)

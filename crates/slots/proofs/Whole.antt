@@ -66,19 +66,19 @@ grouped true false c d e r = refl
 grouped false b c d e r = refl
 
 module _ (b : List ℕ) where
-  by-header : sound b ≡ (header_sound b && (slots_sound b && (no_id_twice b && (no_key_twice b && later_zero b))))
+  by_header : sound b ≡ (header_sound b && (slots_sound b && (no_id_twice b && (no_key_twice b && later_zero b))))
   unfolding sound sound_up_to header_sound
-  by-header =
+  by_header =
       grouped (has_header b) (capacity_fits most_slots b) (slots_fit b) (count_fits b) (others_as_above b)
       (slots_sound b && (no_id_twice b && (no_key_twice b && later_zero b)))
 
   module _ {x : Bool} (h : x ≡ header_sound b) where
     pub header_bad : x ≡ false → false ≡ sound b
-    header_bad e = sym (by-header ∙ ap (◌&& (slots_sound b && (no_id_twice b && (no_key_twice b && later_zero b)))) (sym h ∙ e))
+    header_bad e = sym (by_header ∙ ap (◌&& (slots_sound b && (no_id_twice b && (no_key_twice b && later_zero b)))) (sym h ∙ e))
 
     module _ (e : x ≡ true) where
-      after-header : sound b ≡ (slots_sound b && (no_id_twice b && (no_key_twice b && later_zero b)))
-      after-header = by-header ∙ ap (◌&& (slots_sound b && (no_id_twice b && (no_key_twice b && later_zero b)))) (sym h ∙ e)
+      after_header : sound b ≡ (slots_sound b && (no_id_twice b && (no_key_twice b && later_zero b)))
+      after_header = by_header ∙ ap (◌&& (slots_sound b && (no_id_twice b && (no_key_twice b && later_zero b)))) (sym h ∙ e)
 
       pub few : {n c : ℕ} → n ≡ field_at b 0 4 → c ≡ field_at b 4 4 → (c ≤ n) × (n ≤ most_slots) × (16 + n * 4208 ≤ length b)
       unfolding header_sound capacity_fits slots_fit count_fits capacity_of count_of
@@ -91,27 +91,27 @@ module _ (b : List ℕ) where
           (omega (arith, leb-true (count_of b) (capacity_of b) g.0), omega (arith, leb-true (capacity_of b) most_slots i.1), omega (arith, leb-true (table_size (capacity_of b)) (length b) f.0))
 
       module _ {c : ℕ} (p : c ≡ field_at b 4 4) {y : Bool} (k : y ≡ all slot_sound (slots_from b 0 c)) where
-        slots-are : y ≡ slots_sound b
+        slots_are : y ≡ slots_sound b
         unfolding slots_sound slots_from count_of
-        slots-are = k ∙ ap (λ n. all slot_sound (slots_from b 0 n)) p
+        slots_are = k ∙ ap (λ n. all slot_sound (slots_from b 0 n)) p
 
         pub slots_bad : y ≡ false → false ≡ sound b
-        slots_bad f = sym (after-header ∙ ap (◌&& (no_id_twice b && (no_key_twice b && later_zero b))) (sym slots-are ∙ f))
+        slots_bad f = sym (after_header ∙ ap (◌&& (no_id_twice b && (no_key_twice b && later_zero b))) (sym slots_are ∙ f))
 
         module _ (f : y ≡ true) {z : Bool} (g : z ≡ none_twice clash (slots_from b 0 c)) where
-          apart-are : z ≡ (no_id_twice b && no_key_twice b)
+          apart_are : z ≡ (no_id_twice b && no_key_twice b)
           unfolding count_of
-          apart-are = g ∙ ap (λ n. none_twice clash (slots_from b 0 n)) p ∙ sym (apart_is b (sym slots-are ∙ f))
+          apart_are = g ∙ ap (λ n. none_twice clash (slots_from b 0 n)) p ∙ sym (apart_is b (sym slots_are ∙ f))
 
-          after-slots : sound b ≡ (z && later_zero b)
-          after-slots = after-header ∙ ap (◌&& (no_id_twice b && (no_key_twice b && later_zero b))) (sym slots-are ∙ f)
-              ∙ sym (and_assoc (no_id_twice b) (no_key_twice b) (later_zero b)) ∙ ap (◌&& later_zero b) (sym apart-are)
+          after_slots : sound b ≡ (z && later_zero b)
+          after_slots = after_header ∙ ap (◌&& (no_id_twice b && (no_key_twice b && later_zero b))) (sym slots_are ∙ f)
+              ∙ sym (and_assoc (no_id_twice b) (no_key_twice b) (later_zero b)) ∙ ap (◌&& later_zero b) (sym apart_are)
 
           pub twice_held : z ≡ false → false ≡ sound b
-          twice_held q = sym (after-slots ∙ ap (◌&& later_zero b) q)
+          twice_held q = sym (after_slots ∙ ap (◌&& later_zero b) q)
 
           pub later_decides : {n : ℕ} {w : List ℕ} {u : Bool} → z ≡ true → n ≡ field_at b 0 4 → w ≡ part b (16 + c * 4208) ((n - c) * 4208)
               → u ≡ is_zero w → u ≡ sound b
           unfolding later_zero capacity_of count_of
           later_decides {n} {w} {u} q i j v =
-              v ∙ ap is_zero (j ∙ ap₂ (λ x y. part b (16 + x * 4208) ((y - x) * 4208)) p i) ∙ sym (after-slots ∙ ap (◌&& later_zero b) q)
+              v ∙ ap is_zero (j ∙ ap₂ (λ x y. part b (16 + x * 4208) ((y - x) * 4208)) p i) ∙ sym (after_slots ∙ ap (◌&& later_zero b) q)

@@ -1,6 +1,6 @@
 -- "Showing a slot hands back the very bytes of its text, inside the table": what the call that gives their place
 -- answers.
-use Rattle.std.specs.Prelude.{cond, List, [], ℕ, ◌+◌, eqb}
+use Rattle.std.specs.Prelude.{cond, [], ℕ, ◌+◌, eqb}
 use Rattle.wire.specs.Bytes.{Bytes, part}
 use Rattle.table.specs.Layout.{slot_place, text_place, length_in, slot_at}
 use Rattle.table.specs.Format.{shown_row}

@@ -1,5 +1,7 @@
 // The bytes of a table (01, "The table"): whether it is sound, a buffer formatted, a slot shown, and two slots
 // compared. The definitions stand in table/specs and, for the tests that the code makes, in specs/.
+#![tactic(auto)]
+
 ghost use Rattle.std.specs.Prelude.{◌≡◌};
 ghost use Rattle.table.specs.Layout.{slot_at};
 ghost use Rattle.table.specs.Sound.{sound};
@@ -51,7 +53,7 @@ pub const TEXT_PLACE: usize = D_LENGTH_PLACE + 2;
 pub const PUBKEY_PLACE: usize = 4;
 
 // What showing a slot answers: where its text begins in the table and how many bytes it has, or row 11 or 14.
-#[derive(Drop)]
+#[derive(Clone, Copy)]
 pub enum Shown {
     At(usize, usize),
     Refused(u8),
@@ -81,7 +83,7 @@ pub fn same_id(s: &[u8], t: &[u8]) -> bool
 }
 
 // Whether slot t has the key of slot s: kind, pubkey, and d's bytes, of which a replaceable event has none.
-pub fn same_key_lem(s: &[u8], t: &[u8]) -> bool
+pub fn same_key(s: &[u8], t: &[u8]) -> bool
     ensures { result ≡ same_key_in s.now t.now }
 {
     let k = wire::le_at(t, KIND_PLACE, 2);

@@ -10,7 +10,7 @@ ghost use Rattle.wire.specs.Field.{field_at};
 ghost use Rattle.slots.specs.Marks.{id_mark, word_from, last_words, first_words, key_number, key_mark, Marked};
 ghost use Rattle.slots.specs.Marks.{Unlike, bucket_count, bucket_of, Noted};
 
-use crate::{ID_PLACE, ID_SIZE, KIND_PLACE, PUBKEY_PLACE, held, same_id, same_key_lem, slot};
+use crate::{ID_PLACE, ID_SIZE, KIND_PLACE, PUBKEY_PLACE, held, same_id, same_key, slot};
 
 // Whether events of a kind have a key.
 pub(crate) fn keyed(kind: u16) -> bool
@@ -125,7 +125,7 @@ fn same_key_at(table: &[u8], c: usize, ids: &[u16], keys: &[u16], i: usize, j: u
     if keys[i] != keys[j] {
         return false;
     }
-    same_key_lem(slot(table, i), slot(table, j))
+    same_key(slot(table, i), slot(table, j))
 }
 
 // Whether a later slot has a mark of slot i. No way out of the loop, so that the compiler takes many marks at a time.

@@ -102,19 +102,19 @@ module _ {x : ℕ} where
   hex_low (digit l h) = l
   hex_low (letter l h) = omega arith
 
-  hex-high : HexDigit x → x ≤ 0x66
-  hex-high (digit l h) = omega arith
-  hex-high (letter l h) = h
+  hex_high : HexDigit x → x ≤ 0x66
+  hex_high (digit l h) = omega arith
+  hex_high (letter l h) = h
 
-  hex-no-slash : HexDigit x → x ≡ 0x5c → ⊥
-  hex-no-slash (digit l h) q = omega arith
-  hex-no-slash (letter l h) q = omega arith
+  hex_no_slash : HexDigit x → x ≡ 0x5c → ⊥
+  hex_no_slash (digit l h) q = omega arith
+  hex_no_slash (letter l h) q = omega arith
 
 hex_points : (s : List ℕ) → all is_hex s ≡ true → points s ≡ length s
 unfolding points all
 hex_points [] e = refl
 hex_points (x ∷ s) e =
-    let h = hex-high (hex_digit_lem x (and_left (is_hex x) (all is_hex s) e)) in
+    let h = hex_high (hex_digit_lem x (and_left (is_hex x) (all is_hex s) e)) in
     rw (lt-leb 0x80 x (omega arith)) (ap suc (hex_points s (and_right (is_hex x) (all is_hex s) e)))
 
 pub hex_characters : (n : ℕ) (l : List ℕ) → is_hex_of n l ≡ true → character_count l ≡ n
@@ -124,7 +124,7 @@ hex_characters n l e = hex_points (decode l) (hex_all n l e) ∙ hex_length_lem 
 -- hex has no backslash, so it decodes to itself; it needs no escape; and row 4 lets it pass
 pub hex_itself : (s : List ℕ) → all is_hex s ≡ true → decode s ≡ s
 unfolding not_slash
-hex_itself s e = decode_plain s (all_from {f = is_hex} {g = not_slash} (λ x h. rw (ne_eqb x 0x5c (hex-no-slash (hex_digit_lem x h)))) s e)
+hex_itself s e = decode_plain s (all_from {f = is_hex} {g = not_slash} (λ x h. rw (ne_eqb x 0x5c (hex_no_slash (hex_digit_lem x h)))) s e)
 
 pub hex_escape : (s : List ℕ) → all is_hex s ≡ true → escape s ≡ s
 unfolding escape esc_one letter_of all
@@ -132,5 +132,5 @@ hex_escape [] e = refl
 hex_escape (x ∷ s) e =
     let h = hex_digit_lem x (and_left (is_hex x) (all is_hex s) e) in
     let l = hex_low h in
-    let none : letter_of x ≡ 0 = rw (ne_eqb x 0x0a (λ q. omega arith), ne_eqb x 0x22 (λ q. omega arith), ne_eqb x 0x5c (hex-no-slash h), ne_eqb x 0x0d (λ q. omega arith), ne_eqb x 0x09 (λ q. omega arith), ne_eqb x 0x08 (λ q. omega arith), ne_eqb x 0x0c (λ q. omega arith)) in
+    let none : letter_of x ≡ 0 = rw (ne_eqb x 0x0a (λ q. omega arith), ne_eqb x 0x22 (λ q. omega arith), ne_eqb x 0x5c (hex_no_slash h), ne_eqb x 0x0d (λ q. omega arith), ne_eqb x 0x09 (λ q. omega arith), ne_eqb x 0x08 (λ q. omega arith), ne_eqb x 0x0c (λ q. omega arith)) in
     rw none (ap (λ (t : List ℕ). x ∷ t) (hex_escape s (and_right (is_hex x) (all is_hex s) e)))

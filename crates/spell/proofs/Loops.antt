@@ -1,7 +1,7 @@
 -- What a loop over the decoded bytes knows of the list left, an element a turn: a comparison, a count of characters,
 -- hex, escapes, pairs of hex digits.
-use mathlib.Core.Bool.{Bool, true, false, cond, ◌&&◌, and_true, and_false}
-use mathlib.Core.Path.{◌≡◌, refl, sym, ◌∙◌, ap}
+use mathlib.Core.Bool.{Bool, true, false, cond, ◌&&◌, and-true, and-false}
+use mathlib.Core.Path.{◌≡◌, refl, ◌∙◌, ap}
 use mathlib.Core.List.{List, [], ◌∷◌, ◌++◌}
 use Prim.Native.Nat.{ℕ, zero, suc, ◌+◌, ◌-◌, ◌*◌, ◌≤◌, ◌<◌}
 use native.Mathlib.Omega.{arith}
@@ -70,7 +70,7 @@ point_end e = rw e
 module _ {b : Bool} (n : ℕ) {k : List ℕ} (inv : b ≡ (eqb (length k) n && all is_hex k)) where
   pub hex_end : k ≡ [] → b ≡ eqb 0 n
   unfolding all
-  hex_end p = inv ∙ rw p (and_true (eqb 0 n))
+  hex_end p = inv ∙ rw p (and-true (eqb 0 n))
 
   module _ {x : ℕ} {l : List ℕ} (p : k ≡ x ∷ l) where
     pub hex_long : n ≡ 0 → b ≡ false
@@ -79,7 +79,7 @@ module _ {b : Bool} (n : ℕ) {k : List ℕ} (inv : b ≡ (eqb (length k) n && a
 
     pub hex_bad : is_hex x ≡ false → b ≡ false
     unfolding all
-    hex_bad e = inv ∙ rw (p, all, e) (and_false (eqb (suc (length l)) n))
+    hex_bad e = inv ∙ rw (p, all, e) (and-false (eqb (suc (length l)) n))
 
     pub hex_good : is_hex x ≡ true → (n ≡ 0 → ⊥) → b ≡ (eqb (length l) (n - 1) && all is_hex l)
     unfolding all

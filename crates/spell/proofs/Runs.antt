@@ -2,18 +2,18 @@
 use mathlib.Core.Bool.{Bool, true, false, cond, not}
 use mathlib.Core.Path.{◌≡◌, refl, sym, ◌∙◌, ap}
 use mathlib.Core.List.{List, [], ◌∷◌, ◌++◌, append_assoc}
-use Prim.Native.Nat.{ℕ, zero, suc, ◌+◌, ◌-◌, ◌≤◌, ◌<◌}
+use Prim.Native.Nat.{ℕ, suc, ◌+◌, ◌-◌, ◌≤◌, ◌<◌}
 use native.Mathlib.Decide.{dec_le}
 use native.Mathlib.Omega.{arith}
 use native.Mathlib.Numerals.{add-one}
-use borrow.Author.Tests.{eq-eqb, ne_eqb}
+use borrow.Author.Tests.{ne_eqb}
 use lib.Dec.{eqb, lit≤}
 use lib.ListN.{length, get_or, take, drop, length-append, length-drop, get_or-eq_default}
 use lib.Seq.{drop-cons, drop-drop, take-add, length-take-le}
 use Rattle.wire.specs.Escape.{letter_of, esc_one, escape}
 use Rattle.wire.proofs.Escapes.{plain}
 use Rattle.spell.specs.Spell.{short_of}
-use Rattle.spell.specs.Inner.{left_of, Within, Stepped, Stays, Same}
+use Rattle.spell.specs.Inner.{left_of, Within, Stays, Same}
 use Rattle.spell.proofs.Chars.{step_byte, step_short}
 use Rattle.spell.proofs.Loops.{escape_turn}
 

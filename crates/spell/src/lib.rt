@@ -1,4 +1,6 @@
 // Strings as they are spelled between their quotes: what they decode to, compared, measured and written.
+#![tactic(auto)]
+
 ghost use Rattle.std.specs.Prelude.{◌≡◌, length};
 ghost use Rattle.wire.specs.Put.{Puts};
 ghost use Rattle.wire.specs.Bytes.{same_bytes};
@@ -11,7 +13,7 @@ mod steps;
 
 // One character of a spelling, and how many bytes spell it: a byte of the decoded string (raw), which stands as it is
 // or after a backslash, or the code point of an escape with u.
-#[derive(Drop)]
+#[derive(Clone, Copy)]
 pub struct Char {
     pub code: u32,
     pub raw: bool,
@@ -26,7 +28,7 @@ fn is_surrogate(n: u32) -> bool
 
 // A byte of the decoded string, and where what is left after it begins: how many bytes of the character at which place
 // are taken.
-#[derive(Drop)]
+#[derive(Clone, Copy)]
 struct Step {
     pub byte: u8,
     pub at: usize,

@@ -6,7 +6,7 @@ use mathlib.Core.Path.{◌≡◌, refl}
 use mathlib.Core.List.{List, [], ◌∷◌}
 use Prim.Native.Nat.{ℕ, ◌+◌, ◌-◌, ◌≤◌}
 use native.Mathlib.Omega.{arith}
-use borrow.Author.Tests.{le-ltb, leb-true, eq-eqb, not_false}
+use borrow.Author.Tests.{le-ltb, leb-true, eq-eqb, not-false}
 use lib.Dec.{leb}
 use lib.ListN.{length}
 use Rattle.wire.specs.Bytes.{is_hex}
@@ -82,51 +82,51 @@ module _ {b : List ℕ} {p : Span} {v : List ℕ} (s : Spells b p v) where
 
 -- ---- tags: from lo to hi the buffer is UTF-8
 module _ (b : List ℕ) (lo hi : ℕ) (clear : is_utf8 (part b lo (hi - lo)) ≡ true) where
-  string-again : (v : ℕ) (t : Json) (m : ℕ) → tree_at b 6 v ≡ got t m → lo ≤ v → m ≤ hi → shape.is_string t ≡ true → is_string_bytes (string_of b t) ≡ true → refused_in b t ≡ false
+  string_again : (v : ℕ) (t : Json) (m : ℕ) → tree_at b 6 v ≡ got t m → lo ≤ v → m ≤ hi → shape.is_string t ≡ true → is_string_bytes (string_of b t) ≡ true → refused_in b t ≡ false
   unfolding refused_in
-  string-again v t m w l h s e =
+  string_again v t m w l h s e =
       let q = quoted b 5 v t m w s in
       let f : is_string_bytes (decode (part b (v + 1) (q.end - v - 2))) ≡ true = rw q.is at e in
       let u = inner b lo hi v q.end clear l (omega (arith, ws_after b q.end, q.after)) q.string in
       rw q.is (not_refused (part b (v + 1) (q.end - v - 2)) u (string_spelled b v q.end q.string) f)
 
-  strings-again : {k i n : ℕ} {us : Items} → Walk (tree_at b 6) b k i us n → lo ≤ i → n ≤ hi → all_items (λ p t. shape.is_string t) us ≡ true
+  strings_again : {k i n : ℕ} {us : Items} → Walk (tree_at b 6) b k i us n → lo ≤ i → n ≤ hi → all_items (λ p t. shape.is_string t) us ≡ true
       → all is_string_bytes (strings_of b us) ≡ true → refused_items b false us ≡ false
   unfolding all_items refused_items strings_of all
-  strings-again (last {i = i} {m = m} {n = n} {t = t} w q) l h s e =
+  strings_again (last {i = i} {m = m} {n = n} {t = t} w q) l h s e =
       let a = both (shape.is_string t) _ s in
       let c = both (is_string_bytes (string_of b t)) _ e in
-      neither _ _ (string-again i t m w l (omega (arith, done_after b m n q)) a.0 c.0) refl
-  strings-again (more {i = i} {m = m} {j = j} {n = n} {t = t} w q y) l h s e =
+      neither _ _ (string_again i t m w l (omega (arith, done_after b m n q)) a.0 c.0) refl
+  strings_again (more {i = i} {m = m} {j = j} {n = n} {t = t} w q y) l h s e =
       let a = both (shape.is_string t) _ s in
       let c = both (is_string_bytes (string_of b t)) _ e in
       let x = string_after_lem b 5 i t m w a.0 in
       let z = more_after b m j q in
       let o = walk_after b shape.is_string 6 (string_after_lem b 5) y a.1 in
-      neither _ _ (string-again i t m w l (omega arith) a.0 c.0) (strings-again y (omega arith) h a.1 c.1)
+      neither _ _ (string_again i t m w l (omega arith) a.0 c.0) (strings_again y (omega arith) h a.1 c.1)
 
-  tag-again : (v : ℕ) (t : Json) (m : ℕ) → tree_at b 7 v ≡ got t m → lo ≤ v → m ≤ hi → is_array_of shape.is_string t ≡ true → is_tag (tag_of b t) ≡ true → refused_in b t ≡ false
+  tag_again : (v : ℕ) (t : Json) (m : ℕ) → tree_at b 7 v ≡ got t m → lo ≤ v → m ≤ hi → is_array_of shape.is_string t ≡ true → is_tag (tag_of b t) ≡ true → refused_in b t ≡ false
   unfolding is_tag refused_in
-  tag-again v t m w l h s e = go (array b shape.is_string 6 v t m w s) s e
+  tag_again v t m w l h s e = go (array b shape.is_string 6 v t m w s) s e
     where
       go : {t : Json} → Array b 6 v t m → is_array_of shape.is_string t ≡ true → is_tag (tag_of b t) ≡ true → refused_in b t ≡ false
       go (bare k) s e = refl
-      go (full {us = us} k y) s e = strings-again y (omega arith) h s (both (leb (length (strings_of b us)) 16) _ (both (leb 1 (length (strings_of b us))) _ e).1).1
+      go (full {us = us} k y) s e = strings_again y (omega arith) h s (both (leb (length (strings_of b us)) 16) _ (both (leb 1 (length (strings_of b us))) _ e).1).1
 
-  tags-again : {k i n : ℕ} {ts : Items} → Walk (tree_at b 7) b k i ts n → lo ≤ i → n ≤ hi → all_items (λ p t. is_array_of shape.is_string t) ts ≡ true
+  tags_again : {k i n : ℕ} {ts : Items} → Walk (tree_at b 7) b k i ts n → lo ≤ i → n ≤ hi → all_items (λ p t. is_array_of shape.is_string t) ts ≡ true
       → all is_tag (tags_of b ts) ≡ true → refused_items b false ts ≡ false
   unfolding all_items refused_items tags_of all
-  tags-again (last {i = i} {m = m} {n = n} {t = t} w q) l h s e =
+  tags_again (last {i = i} {m = m} {n = n} {t = t} w q) l h s e =
       let a = both (is_array_of shape.is_string t) _ s in
       let c = both (is_tag (tag_of b t)) _ e in
-      neither _ _ (tag-again i t m w l (omega (arith, done_after b m n q)) a.0 c.0) refl
-  tags-again (more {i = i} {m = m} {j = j} {n = n} {t = t} w q y) l h s e =
+      neither _ _ (tag_again i t m w l (omega (arith, done_after b m n q)) a.0 c.0) refl
+  tags_again (more {i = i} {m = m} {j = j} {n = n} {t = t} w q y) l h s e =
       let a = both (is_array_of shape.is_string t) _ s in
       let c = both (is_tag (tag_of b t)) _ e in
       let x = tag_after b i t m w a.0 in
       let z = more_after b m j q in
       let o = walk_after b (is_array_of shape.is_string) 7 (tag_after b) y a.1 in
-      neither _ _ (tag-again i t m w l (omega arith) a.0 c.0) (tags-again y (omega arith) h a.1 c.1)
+      neither _ _ (tag_again i t m w l (omega arith) a.0 c.0) (tags_again y (omega arith) h a.1 c.1)
 
 -- a tag has as many strings as items
 tag_counted : (b : List ℕ) (t : Json) → is_array_of shape.is_string t ≡ true → is_tag (tag_of b t) ≡ true → wrong_tag t ≡ false
@@ -162,11 +162,11 @@ tags_pass b at r2 r5 e = go (tree_at b depth at) refl r2 r5 e
         let k = length (tags_of b us) in
         let (p, r) = both (leb k 64) _ e in
         let c = tags_count b us in
-        (tags-again b at n u y h (omega arith) s r, neither _ _ (inside 0 64 (count us) (omega arith) (omega (arith, leb-true k 64 p))) (tags_counted b us s r))
+        (tags_again b at n u y h (omega arith) s r, neither _ _ (inside 0 64 (count us) (omega arith) (omega (arith, leb-true k 64 p))) (tags_counted b us s r))
 
     go : (g : Got Json) → tree_at b depth at ≡ g → own_text b at g ≡ false → not (on_value lent.is_tags_shape g) ≡ false → is_tags (tags_in b g) ≡ true
         → (on_value (refused_in b) g ≡ false) × (on_value wrong_tags g ≡ false)
     go none w r2 r5 e = (refl, refl)
     go (got t n) w r2 r5 e =
-        let s = not_false (lent.is_tags_shape t) r5 in
-        on (array b (is_array_of shape.is_string) 7 at t n w s) (not_false (is_utf8 (part b at (n - at))) r2) s e
+        let s = not-false (lent.is_tags_shape t) r5 in
+        on (array b (is_array_of shape.is_string) 7 at t n w s) (not-false (is_utf8 (part b at (n - at))) r2) s e

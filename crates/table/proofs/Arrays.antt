@@ -54,9 +54,9 @@ module _ (s : List ℕ) where
   pub next_done : (n : ℕ) → get_or s n 0 ≡ 93 → Tight s (n + 1) → next_at s n false ≡ Done (n + 1)
   next_done n e w = rw (token_not 0x2C n (rw e), token_is 0x5D n e w)
 
-  array-none : (d at : ℕ) → get_or s at 0 ≡ 91 → get_or s (at + 1) 0 ≡ 93 → Tight s (at + 1 + 1) → tree_at s (suc d) at ≡ got (arr nil) (at + 1 + 1)
+  array_none : (d at : ℕ) → get_or s at 0 ≡ 91 → get_or s (at + 1) 0 ≡ 93 → Tight s (at + 1 + 1) → tree_at s (suc d) at ≡ got (arr nil) (at + 1 + 1)
   unfolding in_class
-  array-none d at e f w =
+  array_none d at e f w =
       let z : start_at s at ≡ Empty (at + 1 + 1) false = rw (token_is 0x5B at e (rw f), token_is 0x5D (at + 1) f w) in
       tree_open s d at (Empty (at + 1 + 1) false) (sym z)
 
@@ -133,17 +133,17 @@ quoted_begins v = record { first = 34; rest = escape v ++ (34 ∷ []); is = refl
 -- with so many brackets open at once as they hold, and d more; a string as `string` prints it
 module _ (string : List ℕ → List ℕ) (begins : (v : List ℕ) → Begins (string v)) (s : List ℕ) (d : ℕ)
     (stands : (v : List ℕ) (at n : ℕ) → is_string_bytes v ≡ true → Spelt s at (string v) n → Tight s n → Stands (tree_at s (suc d)) (string_of s) shape.is_string at v n) where
-  abbrev pub tagBy : Tag → List ℕ
-  tagBy t = 91 ∷ members_text string t
+  abbrev pub tag_by : Tag → List ℕ
+  tag_by t = 91 ∷ members_text string t
 
-  tag-begins : (t : Tag) → Begins (tagBy t)
+  tag_begins : (t : Tag) → Begins (tag_by t)
   unfolding in_class
-  tag-begins t = record { first = 91; rest = members_text string t; is = refl; dark = refl; opens = refl }
+  tag_begins t = record { first = 91; rest = members_text string t; is = refl; dark = refl; opens = refl }
 
-  tag-stands : (t : Tag) (at n : ℕ) → is_tag t ≡ true → Spelt s at (tagBy t) n → Tight s n → Stands (tree_at s (suc (suc d))) (tag_of s) (is_array_of shape.is_string) at t n
+  tag_stands : (t : Tag) (at n : ℕ) → is_tag t ≡ true → Spelt s at (tag_by t) n → Tight s n → Stands (tree_at s (suc (suc d))) (tag_of s) (is_array_of shape.is_string) at t n
   unfolding is_tag strings_of
-  tag-stands [] at n h a w = absurd (let z : ◌≡◌ {A = ℕ} 0 1 = cc in omega arith)
-  tag-stands (v ∷ t) at n h a w =
+  tag_stands [] at n h a w = absurd (let z : ◌≡◌ {A = ℕ} 0 1 = cc in omega arith)
+  tag_stands (v ∷ t) at n h a w =
       let b = members_begin string begins v t in
       let g = (both (leb (length (v ∷ t)) 16) _ (both (leb 1 (length (v ∷ t))) _ h).1).1 in
       let l = spelt_inside s at (91 ∷ members_text string (v ∷ t)) n a (omega arith) in
@@ -151,28 +151,28 @@ module _ (string : List ℕ → List ℕ) (begins : (v : List ℕ) → Begins (s
       let e = begins_byte b (tail a) in
       record { tree = arr i.items; there = array_many s (suc d) at n i.items (byte_is a) (rw e b.dark) (rw e b.opens) i.there; means = i.means; fine = i.fine }
 
-  pub tags_by : (ts : List Tag) (at n : ℕ) → is_tags ts ≡ true → Spelt s at (91 ∷ members_text tagBy ts) n → Tight s n
+  pub tags_by : (ts : List Tag) (at n : ℕ) → is_tags ts ≡ true → Spelt s at (91 ∷ members_text tag_by ts) n → Tight s n
       → Stands (tree_at s (suc (suc (suc d)))) (λ t. tags_in s (got t n)) lent.is_tags_shape at ts n
   unfolding is_tags tags_of members_text all_items
   tags_by [] at n h a w =
       let z : at + 1 + 1 ≡ n = omega (arith, a.end) in
-      record { tree = arr nil; there = rw (← z) (array-none s (suc (suc d)) at (byte_is a) (byte_is (tail a)) (rw z w)); means = refl; fine = refl }
+      record { tree = arr nil; there = rw (← z) (array_none s (suc (suc d)) at (byte_is a) (byte_is (tail a)) (rw z w)); means = refl; fine = refl }
   tags_by (t ∷ ts) at n h a w =
-      let b = members_begin tagBy tag-begins t ts in
+      let b = members_begin tag_by tag_begins t ts in
       let g = (both (leb (length (t ∷ ts)) 64) _ h).1 in
-      let l = spelt_inside s at (91 ∷ members_text tagBy (t ∷ ts)) n a (omega arith) in
-      let i = members_read tagBy tag-begins s (tree_at s (suc (suc d))) (tag_of s) (tags_of s) (is_array_of shape.is_string) is_tag refl (λ p v t ts. refl) tag-stands t ts (length s) (at + 1) n g (tail a) w (omega (arith, a.end)) in
+      let l = spelt_inside s at (91 ∷ members_text tag_by (t ∷ ts)) n a (omega arith) in
+      let i = members_read tag_by tag_begins s (tree_at s (suc (suc d))) (tag_of s) (tags_of s) (is_array_of shape.is_string) is_tag refl (λ p v t ts. refl) tag_stands t ts (length s) (at + 1) n g (tail a) w (omega (arith, a.end)) in
       let e = begins_byte b (tail a) in
       record { tree = arr i.items; there = array_many s (suc (suc d)) at n i.items (byte_is a) (rw e b.dark) (rw e b.opens) i.there; means = i.means; fine = i.fine }
 
 -- as the text has them
 module _ (s : List ℕ) (d : ℕ) where
-  string-stands : (v : List ℕ) (at n : ℕ) → is_string_bytes v ≡ true → Spelt s at (quoted v) n → Tight s n → Stands (tree_at s (suc d)) (string_of s) shape.is_string at v n
-  string-stands v at n h a w = record { tree = _; there = string_read s d v at n a w; means = string_says s v at n a; fine = refl }
+  string_stands : (v : List ℕ) (at n : ℕ) → is_string_bytes v ≡ true → Spelt s at (quoted v) n → Tight s n → Stands (tree_at s (suc d)) (string_of s) shape.is_string at v n
+  string_stands v at n h a w = record { tree = _; there = string_read s d v at n a w; means = string_says s v at n a; fine = refl }
 
   pub tags_read : (ts : List Tag) (at n : ℕ) → is_tags ts ≡ true → Spelt s at (tags_text ts) n → Tight s n → Stands (tree_at s (suc (suc (suc d)))) (λ t. tags_in s (got t n)) lent.is_tags_shape at ts n
   unfolding tags_text tag_text
-  tags_read ts at n h a w = tags_by quoted quoted_begins s d string-stands ts at n h a w
+  tags_read ts at n h a w = tags_by quoted quoted_begins s d string_stands ts at n h a w
 
 -- and as a reply has them: piece by piece
 members_json : {A : Type 0} (print : A → List ℕ) (xs : List A) → json_of (members_text print xs) ≡ members_text (λ x. json_of (print x)) xs

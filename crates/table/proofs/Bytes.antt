@@ -127,18 +127,18 @@ module _ (b : List ℕ) (k n : ℕ) (w : List ℕ) where
   written_count h s =
       field_put (put b (slot_place k) w) count_place 4 n (omega (arith, length_put b (slot_place k) w)) (omega arith)
 
-  behind-count : (i : ℕ) → 8 ≤ i → i + 4 ≤ header_size → field_at (written b k n w) i 4 ≡ field_at b i 4
-  behind-count i h s =
+  behind_count : (i : ℕ) → 8 ≤ i → i + 4 ≤ header_size → field_at (written b k n w) i 4 ≡ field_at b i 4
+  behind_count i h s =
       field_after (put b (slot_place k) w) i 4 count_place (le_bytes 4 n) (omega (arith, length_le_bytes 4 n))
       ∙ field_before b i 4 (slot_place k) w (omega arith)
 
   pub written_size : slot_size_of (written b k n w) ≡ slot_size_of b
   unfolding slot_size_of
-  written_size = behind-count 8 (omega arith) (omega arith)
+  written_size = behind_count 8 (omega arith) (omega arith)
 
   pub written_first : first_slot_of (written b k n w) ≡ first_slot_of b
   unfolding first_slot_of
-  written_first = behind-count 12 (omega arith) (omega arith)
+  written_first = behind_count 12 (omega arith) (omega arith)
 
   -- the slots: the count stands before them
   pub written_slots : drop header_size (written b k n w) ≡ sets (drop header_size b) (k * slot_size) w

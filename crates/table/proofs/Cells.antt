@@ -49,14 +49,14 @@ module _ (size : ℕ) where
   -- ---- one cell written
 
   module _ (w : List ℕ) (full : length w ≡ size) where
-    first-written : (b : List ℕ) → size ≤ length b → sets b 0 w ≡ w ++ drop size b
-    first-written b h = sets-eq w b 0 (omega arith) ∙ ap (λ k. w ++ drop k b) (zero-add (length w) ∙ full)
+    first_written : (b : List ℕ) → size ≤ length b → sets b 0 w ≡ w ++ drop size b
+    first_written b h = sets-eq w b 0 (omega arith) ∙ ap (λ k. w ++ drop k b) (zero-add (length w) ∙ full)
 
     pub cells_over : (n i : ℕ) (b : List ℕ) → i < n → n * size ≤ length b → cells size n (sets b (i * size) w) ≡ set (cells size n b) i w
     cells_over zero i b h k = let z : ◌≡◌ {A = ℕ} 0 1 = omega arith in absurd (omega arith)
     cells_over (suc n) zero b h k =
         let e : 0 * size ≡ 0 = omega arith in
-        let f : sets b (0 * size) w ≡ w ++ drop size b = ap (λ j. sets b j w) e ∙ first-written b (omega arith) in
+        let f : sets b (0 * size) w ≡ w ++ drop size b = ap (λ j. sets b j w) e ∙ first_written b (omega arith) in
         ap (cells size (suc n)) f ∙ ap₂ (λ x y. x ∷ cells size n y) (take_at w (drop size b) size full) (drop_at w (drop size b) size full)
     cells_over (suc n) (suc i) b h k =
         let e : suc i * size ≡ size + i * size = omega arith in
@@ -68,7 +68,7 @@ module _ (size : ℕ) where
     cells_behind zero b k =
         let e : 0 * size ≡ 0 = omega arith in
         ap (λ j. take size (sets b j w) ∷ []) e
-        ∙ ap (λ c. take size c ∷ []) (first-written b (omega arith))
+        ∙ ap (λ c. take size c ∷ []) (first_written b (omega arith))
         ∙ ap (◌∷ []) (take_at w (drop size b) size full)
     cells_behind (suc n) b k =
         let e : suc n * size ≡ size + n * size = omega arith in
@@ -79,10 +79,10 @@ module _ (size : ℕ) where
   -- ---- an entry stored in the cell that `store` fills, where `read` gives the entry of a cell
 
   module _ {A : Type 0} (read : List ℕ → A) (p : A → Bool) (w : List ℕ) (full : length w ≡ size) where
-    map-set : (xs : List (List ℕ)) (i : ℕ) → map read (set xs i w) ≡ set (map read xs) i (read w)
-    map-set [] i = refl
-    map-set (x ∷ xs) zero = refl
-    map-set (x ∷ xs) (suc i) = ap (read x ∷◌) (map-set xs i)
+    map_set : (xs : List (List ℕ)) (i : ℕ) → map read (set xs i w) ≡ set (map read xs) i (read w)
+    map_set [] i = refl
+    map_set (x ∷ xs) zero = refl
+    map_set (x ∷ xs) (suc i) = ap (read x ∷◌) (map_set xs i)
 
     pub stored_over : (n : ℕ) (b : List ℕ) → n * size ≤ length b → T (any p (map read (cells size n b))) →
         map read (cells size n (sets b (find p (map read (cells size n b)) * size) w)) ≡ store p (read w) (map read (cells size n b))
@@ -90,7 +90,7 @@ module _ (size : ℕ) where
         let xs = map read (cells size n b) in
         let i : find p xs < n = omega (arith, find_lt p xs t, length-map (cells size n b) read, length_cells n b) in
         ap (map read) (cells_over w full n (find p xs) b i k)
-        ∙ map-set (cells size n b) (find p xs)
+        ∙ map_set (cells size n b) (find p xs)
         ∙ sym (store_over p (read w) xs t)
 
     pub stored_behind : (n : ℕ) (b : List ℕ) → suc n * size ≤ length b → T (not (any p (map read (cells size n b)))) →

@@ -117,13 +117,13 @@ module _ (s : List ℕ) where
     is_read : read_text (text_in s) ≡ read e
     is_read = let a = h.text in rw (← a.same) (read_back e a.fit (rw a.same a.small))
 
-    class-is : class_of_text (text_in s) ≡ class_of_event e
+    class_is : class_of_text (text_in s) ≡ class_of_event e
     unfolding class_of_text
-    class-is = ap class_in is_read
+    class_is = ap class_in is_read
 
-    is-slot : class_of (kind_in s) ≢ Ephemeral → is_zero (rest_in s) ≡ true → slot_sound s ≡ true
+    is_slot : class_of (kind_in s) ≢ Ephemeral → is_zero (rest_in s) ≡ true → slot_sound s ≡ true
     unfolding slot_sound text_reads fields_agree is_lasting zero_after_text agrees_with
-    is-slot n z = rw (
+    is_slot n z = rw (
       is_read,
       le-leb (length_in s) most_text h.inside,
       eq-eqb (field_at s 96 8) (unsigned e.time) h.time,
@@ -136,25 +136,25 @@ module _ (s : List ℕ) where
 
 -- ---- a sound table
 module _ (b : List ℕ) (ok : sound b ≡ true) where
-  is-distinct : Distinct signed_events (view b)
-  is-distinct = let c = clauses b ok in distinct b c.slots c.ids c.keys
+  is_distinct : Distinct signed_events (view b)
+  is_distinct = let c = clauses b ok in distinct b c.slots c.ids c.keys
 
   -- what any two entries of the view are told apart by, said of their slots
-  apart-at : (R : SignedEvent → SignedEvent → Type 0) → Pairwise R (view b) → (j k : ℕ) → j < k → k < count_of b
+  apart_at : (R : SignedEvent → SignedEvent → Type 0) → Pairwise R (view b) → (j k : ℕ) → j < k → k < count_of b
       → R (in_slot (slot_at b j)) (in_slot (slot_at b k))
-  apart-at R o j k l h = rw (view_at b j (omega arith), view_at b k h) at (pairwise_at (in_slot []) R (view b) o j k l (omega (arith, length_view b)))
+  apart_at R o j k l h = rw (view_at b j (omega arith), view_at b k h) at (pairwise_at (in_slot []) R (view b) o j k l (omega (arith, length_view b)))
 
-  rest-zero : (k i : ℕ) → k < count_of b → 112 + length_in (slot_at b k) ≤ i → get_or (slot_at b k) i 0 ≡ 0
+  rest_zero : (k i : ℕ) → k < count_of b → 112 + length_in (slot_at b k) ≤ i → get_or (slot_at b k) i 0 ≡ 0
   unfolding rest_in
-  rest-zero k i h l =
+  rest_zero k i h l =
       let s = slot_at b k in
       let n = 112 + length_in s in
       let z : n + (i - n) ≡ i = omega arith in
       ap (λ (m : ℕ). get_or s m 0) (sym z) ∙ sym (get_or-drop n s (i - n) 0) ∙ zero_at (rest_in s) (i - n) (sound_rest s (slot_sound_at b ok k h))
 
-  later-zero : (i : ℕ) → slot_place (count_of b) ≤ i → i < table_size (capacity_of b) → get_or b i 0 ≡ 0
+  later_zero_lem : (i : ℕ) → slot_place (count_of b) ≤ i → i < table_size (capacity_of b) → get_or b i 0 ≡ 0
   unfolding later_zero
-  later-zero i l h =
+  later_zero_lem i l h =
       let n = (capacity_of b - count_of b) * slot_size in
       let j = i - slot_place (count_of b) in
       let z : slot_place (count_of b) + j ≡ i = omega arith in
@@ -163,10 +163,10 @@ module _ (b : List ℕ) (ok : sound b ≡ true) where
       ∙ sym (get_or-take n (drop (slot_place (count_of b)) b) j 0 (omega arith))
       ∙ zero_at (later_slots b) j (clauses b ok).later
 
-  is-clauses : SoundClauses b
-  is-clauses =
+  is_clauses : SoundClauses b
+  is_clauses =
       let c = clauses b ok in
-      let d = is-distinct in
+      let d = is_distinct in
       record {
         header = c.header;
         capacity = (c.low, c.high);
@@ -176,31 +176,31 @@ module _ (b : List ℕ) (ok : sound b ≡ true) where
         first = c.first;
         held = λ k h. holds (slot_at b k) (slot_sound_at b ok k h);
         lasting = λ k h. not_ephemeral (kind_in (slot_at b k)) (sound_lasting (slot_at b k) (slot_sound_at b ok k h));
-        ids = apart-at (λ x y. x.0.id ≢ y.0.id) d.ids;
+        ids = apart_at (λ x y. x.0.id ≢ y.0.id) d.ids;
         keys = λ j k e f l h he hf has q.
-            apart-at (λ x y. T (law.has_key signed_events x y) → ⊥) d.keys j k l h
-            (rw (class-is (slot_at b j) e he, class-is (slot_at b k) f hf) (key_shared e f has q));
-        rest = λ k i h l m. rest-zero k i h l;
-        later = later-zero;
+            apart_at (λ x y. T (law.has_key signed_events x y) → ⊥) d.keys j k l h
+            (rw (class_is (slot_at b j) e he, class_is (slot_at b k) f hf) (key_shared e f has q));
+        rest = λ k i h l m. rest_zero k i h l;
+        later = later_zero_lem;
       }
 
 -- ---- and back
 module _ (b : List ℕ) (c : SoundClauses b) where
-  slot-is-sound : (k : ℕ) → k < count_of b → slot_sound (slot_at b k) ≡ true
+  slot_is_sound : (k : ℕ) → k < count_of b → slot_sound (slot_at b k) ≡ true
   unfolding rest_in
-  slot-is-sound k h =
+  slot_is_sound k h =
       let s = slot_at b k in
       let (e, held) = c.held k h in
       let n = 112 + length_in s in
       let size = part_length b (slot_place k) slot_size (omega (arith, c.count, c.fit)) in
-      is-slot s e held (c.lasting k h)
+      is_slot s e held (c.lasting k h)
       (zero_from (rest_in s) (λ j l. get_or-drop n s j 0 ∙ c.rest k (n + j) h (omega arith) (omega (arith, length-drop n s))))
 
   all_sound : slots_sound b ≡ true
   unfolding slots_sound
   all_sound = all_from [] slot_sound (held_slots b) (λ k h.
       let l : k < count_of b = omega (arith, length_cells slot_size (count_of b) (drop header_size b)) in
-      ap slot_sound (slot_entry b k l) ∙ slot-is-sound k l)
+      ap slot_sound (slot_entry b k l) ∙ slot_is_sound k l)
 
   apart_from : (R : SignedEvent → SignedEvent → Type 0) → ((j k : ℕ) → j < k → k < count_of b → R (in_slot (slot_at b j)) (in_slot (slot_at b k)))
       → Pairwise R (view b)
@@ -208,9 +208,9 @@ module _ (b : List ℕ) (c : SoundClauses b) where
       let n : k < count_of b = omega (arith, length_view b) in
       rw (view_at b j (omega arith), view_at b k n) (f j k l n))
 
-  all-later : later_zero b ≡ true
+  all_later : later_zero b ≡ true
   unfolding later_zero
-  all-later =
+  all_later =
       let n = (capacity_of b - count_of b) * slot_size in
       let p = slot_place (count_of b) in
       let few = c.count in
@@ -218,19 +218,19 @@ module _ (b : List ℕ) (c : SoundClauses b) where
       let m : j < n = omega (arith, length-take n (drop p b)) in
       get_or-take n (drop p b) j 0 m ∙ get_or-drop p b j 0 ∙ c.later (p + j) (omega arith) (omega arith))
 
-  are-distinct : Distinct signed_events (view b)
-  are-distinct = record {
+  are_distinct : Distinct signed_events (view b)
+  are_distinct = record {
     lasting = λ x m. distinct_lasting b all_sound x m;
     ids = apart_from (λ x y. x.0.id ≢ y.0.id) c.ids;
     keys = apart_from (λ x y. T (law.has_key signed_events x y) → ⊥) (λ j k l h t.
         let (e, he) = c.held j (omega arith) in
         let (f, hf) = c.held k h in
-        let (has, q) = shared_key e f (rw (class-is (slot_at b j) e he, class-is (slot_at b k) f hf) at t) in
+        let (has, q) = shared_key e f (rw (class_is (slot_at b j) e he, class_is (slot_at b k) f hf) at t) in
         c.keys j k e f l h he hf has q);
   }
 
-  from-clauses : sound b ≡ true
-  from-clauses = is_sound b (record {
+  from_clauses : sound b ≡ true
+  from_clauses = is_sound b (record {
     header = c.header;
     low = c.capacity.0;
     high = c.capacity.1;
@@ -239,10 +239,10 @@ module _ (b : List ℕ) (c : SoundClauses b) where
     size = c.size;
     first = c.first;
     slots = all_sound;
-    ids = distinct_ids b are-distinct;
-    keys = distinct_keys b are-distinct;
-    later = all-later;
+    ids = distinct_ids b are_distinct;
+    keys = distinct_keys b are_distinct;
+    later = all_later;
   })
 
 pub sound_exactly : SoundExactly
-sound_exactly b = (is-clauses b, from-clauses b)
+sound_exactly b = (is_clauses b, from_clauses b)

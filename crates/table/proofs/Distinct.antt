@@ -8,7 +8,7 @@ use Prim.Native.Nat.{ℕ, ◌≤◌}
 use native.Mathlib.Omega.{arith}
 use lib.Dec.{T, eqb, leb}
 use borrow.Author.Tests.{leb-true, le-leb, lt-leb, ne_eqb, not-true, eqb-true}
-use Rattle.text.specs.Read.{Read, tooLarge, wrongShape, read, read_text}
+use Rattle.text.specs.Read.{Read, too_large, wrong_shape, read, read_text}
 use Rattle.text.specs.Kinds.{Key, same_key, key_of, class_of, is_replaceable, is_ephemeral, is_addressable}
 use Rattle.text.specs.declared.Class.TheVariants.{Regular, Replaceable, Ephemeral, Addressable}
 use Rattle.text.proofs.Pieces.{both}
@@ -65,8 +65,8 @@ slot_lasts s e =
     go (read_text (text_in s)) i.0 (not-true (is_ephemeral (kind_in s)) j.0)
   where
     go : (r : Read) → agrees_in s r ≡ true → is_ephemeral (kind_in s) ≡ false → law.is_ephemeral (class_in r) ≡ false
-    go tooLarge a l = refl
-    go wrongShape a l = refl
+    go too_large a l = refl
+    go wrong_shape a l = refl
     go (read x) a l =
         let h = both (eqb (field_at s 96 8) (unsigned x.time)) (eqb (kind_in s) x.kind && (eqb (d_in s).at (d_place x).at && eqb (d_in s).len (d_place x).len)) a in
         let i = both (eqb (kind_in s) x.kind) (eqb (d_in s).at (d_place x).at && eqb (d_in s).len (d_place x).len) h.1 in

@@ -7,7 +7,7 @@ use mathlib.Core.Option.{none, some}
 use mathlib.Core.List.{List, [], ◌∷◌}
 use Prim.Native.Nat.{ℕ, zero, suc, ◌+◌, ◌-◌, ◌*◌, ◌/◌, ◌%◌, ◌<◌}
 use native.Mathlib.Omega.{arith}
-use borrow.Author.Tests.{lt-ltb, le-ltb, le-leb, lt-leb, not_false}
+use borrow.Author.Tests.{lt-ltb, le-ltb, le-leb, lt-leb, not-false}
 use lib.IntN.{ℤ, pos, negsuc}
 use lib.ListN.{length}
 use Rattle.wire.specs.Bytes.{is_hex}
@@ -30,10 +30,10 @@ use Rattle.event.specs.Answer.{hex_of, has_id, offered_row}
 use Rattle.wire.specs.Bytes.{hex_digit}
 use Rattle.event.proofs.Decoded.{or_neither}
 use Rattle.event.proofs.Fit.{and_fails}
-use Rattle.law.specs.Demand3.{runOn}
+use Rattle.law.specs.Demand3.{run_on}
 use Rattle.law.proofs.Machine.{good_run, exchanges_on}
 use Rattle.table.specs.Events.{SignedEvent, Signature, table_events, of_held}
-use Rattle.table.specs.Offer.{asParts, is_valid, judge, held_of, unhex}
+use Rattle.table.specs.Offer.{as_parts, is_valid, judge, held_of, unhex}
 use Rattle.table.specs.Demand3.{Spells, Tells, relay}
 use Rattle.table.specs.Claims.{ToldExactly, Tellable, Exchanges}
 use Rattle.table.proofs.Valid.{rows, clean, id_hashed, valid_read, parts_pass}
@@ -72,8 +72,8 @@ hex_unhex (suc n) (x ∷ y ∷ l) e h =
 spells_of : (b : List ℕ) (p : Span) (v : List ℕ) → string2 b p ≡ false → string5 b p ≡ false → said b p ≡ v → Spells b p v
 unfolding string2 string5 is_spelled
 spells_of b p v e f d =
-    let (i, s) = both (is_inside b p) (is_spelling (span_bytes b p)) (not_false _ f) in
-    record { inside = i; utf8 = not_false (is_utf8 (span_bytes b p)) (and_fails (is_inside b p) _ i e); spelling = s; says = d }
+    let (i, s) = both (is_inside b p) (is_spelling (span_bytes b p)) (not-false _ f) in
+    record { inside = i; utf8 = not-false (is_utf8 (span_bytes b p)) (and_fails (is_inside b p) _ i e); spelling = s; says = d }
 
 kind_natural : (z : ℤ) → wrong_number (pos 0) (pos 65535) z ≡ false → z ≡ pos (natural z)
 unfolding wrong_number is_within
@@ -81,17 +81,17 @@ kind_natural (pos n) e = refl
 kind_natural (negsuc n) e = absurd (let z : ◌≡◌ {A = ℕ} 0 1 = cc in omega arith)
 
 module _ (b : List ℕ) (p : EventParts) (e : offered_row b p ≡ 0) where
-  sig-again : hex_of (unhex (said b p.sig)) ≡ said b p.sig
+  sig_again : hex_of (unhex (said b p.sig)) ≡ said b p.sig
   unfolding event5 event7 string5 string7
-  sig-again =
+  sig_again =
       let n = clean b p e in
-      let s = not_false (is_spelled b p.sig) (or_neither (body5 b p.body) _ (or_neither (string5 b p.id) _ n.not5).1).1 in
-      let h = not_false _ (and_fails (is_spelled b p.sig) _ s (or_neither (body7 b p.body) _ (or_neither (string7 64 b p.id) _ n.not7).1).1) in
+      let s = not-false (is_spelled b p.sig) (or_neither (body5 b p.body) _ (or_neither (string5 b p.id) _ n.not5).1).1 in
+      let h = not-false _ (and_fails (is_spelled b p.sig) _ s (or_neither (body7 b p.body) _ (or_neither (string7 64 b p.id) _ n.not7).1).1) in
       hex_unhex 64 (said b p.sig) (hex_length_lem 128 (span_bytes b p.sig) h) (hex_all 128 (span_bytes b p.sig) h)
 
-  tells-own : Tells b p (of_held (held_of b p))
+  tells_own : Tells b p (of_held (held_of b p))
   unfolding held_of event_of event2 event5 body2 body5 body6 has_id text_of
-  tells-own =
+  tells_own =
       let n = clean b p e in
       let (i2, x2) = or_neither (string2 b p.id) _ n.not2 in
       let (y2, g2) = or_neither (body2 b p.body) _ x2 in
@@ -105,33 +105,33 @@ module _ (b : List ℕ) (p : EventParts) (e : offered_row b p ≡ 0) where
       let d = same_equal (said b p.id) (hex_of (digest (serialise (event_of b p.body)))) (rows b p e).2 in
       record {
         event = event_of b p.body;
-        text = valid_read (asParts b p) (rw e);
+        text = valid_read (as_parts b p) (rw e);
         id = spells_of b p.id _ i2 i5 (d ∙ ap hex_of (sym (id_hashed b p e)));
         pubkey = spells_of b p.body.pubkey _ k2 k5 refl;
         time = refl;
         kind = kind_natural p.body.kind m6;
         tags = record { utf8 = t2; array = t5; says = refl };
         content = spells_of b p.body.content _ c2 c5 refl;
-        sig = spells_of b p.sig _ g2 g5 (sym sig-again);
+        sig = spells_of b p.sig _ g2 g5 (sym sig_again);
       }
 
 -- parts that are judged s tell s: the converse of `passes`
-pub judged_tells : (b : List ℕ) (p : EventParts) (s : SignedEvent) → judge (asParts b p) ≡ some s → Tells b p s
+pub judged_tells : (b : List ℕ) (p : EventParts) (s : SignedEvent) → judge (as_parts b p) ≡ some s → Tells b p s
 unfolding judge
-judged_tells b p s e = go (is_valid (asParts b p)) refl e
+judged_tells b p s e = go (is_valid (as_parts b p)) refl e
   where
-    go : (t : Bool) → is_valid (asParts b p) ≡ t → cond t (some (of_held (held_of b p))) none ≡ some s → Tells b p s
-    go true v z = let y : of_held (held_of b p) ≡ s = cc in rw y at (tells-own b p (parts_pass (asParts b p) v))
+    go : (t : Bool) → is_valid (as_parts b p) ≡ t → cond t (some (of_held (held_of b p))) none ≡ some s → Tells b p s
+    go true v z = let y : of_held (held_of b p) ≡ s = cc in rw y at (tells_own b p (parts_pass (as_parts b p) v))
     go false v z = absurd (let y : ◌≡◌ {A = ℕ} 0 1 = cc in omega arith)
 
 -- ---- what a list of offers leaves in a fresh table
 pub told_exactly : ToldExactly
 told_exactly b os s f m c p =
     let g = good_run table_events Signature relay Good faithful b os f in
-    (λ t. passes (runOn table_events Signature relay b os) (asParts c p) s g m t, judged_tells c p s)
+    (λ t. passes (run_on table_events Signature relay b os) (as_parts c p) s g m t, judged_tells c p s)
 
 pub tellable : Tellable
-tellable b os s f m = held.tellable (runOn table_events Signature relay b os) s (good_run table_events Signature relay Good faithful b os f) m
+tellable b os s f m = held.tellable (run_on table_events Signature relay b os) s (good_run table_events Signature relay Good faithful b os f) m
 
 pub exchanges : Exchanges
 exchanges = exchanges_on table_events Signature relay Good faithful held.tellable

@@ -15,8 +15,8 @@ use Rattle.shape.specs.declared.Refusal.{Refusal}
 use Rattle.shape.proofs.Offsets.{offset_plain}
 use Rattle.text.specs.Kinds.{key_of, is_ephemeral}
 use Rattle.law.specs.Lists.{◌∈◌, any}
-use Rattle.law.specs.Table.{Verdict, refused, wasEphemeral, duplicate, older, stored, noRoom, first_verdict, has_id}
-use Rattle.law.specs.Table.{hasKeyNewer, lacksSlot, verdict, after}
+use Rattle.law.specs.Table.{Verdict, refused, was_ephemeral, duplicate, older, stored, no_room, first_verdict, has_id}
+use Rattle.law.specs.Table.{has_key_newer, lacks_slot, verdict, after}
 use Rattle.law.specs.Table as law
 use Rattle.law.proofs.Machine.{Faithful}
 use Rattle.law.proofs.Lists.{either, store_from}
@@ -25,7 +25,7 @@ use Rattle.table.specs.Layout.{Fits, table_size, capacity_of, slot_bytes}
 use Rattle.table.specs.Events.{SignedEvent, Signature, table_events, signed_events, of_held, class_of_event}
 use Rattle.table.specs.Events.{class_of_text, view}
 use Rattle.table.specs.Sound.{sound}
-use Rattle.table.specs.Offer.{Offering, asMessage, asParts, offering_row, offering_refusal, is_valid, offered_of}
+use Rattle.table.specs.Offer.{Offering, as_message, as_parts, offering_row, offering_refusal, is_valid, offered_of}
 use Rattle.table.specs.Offer.{judge, offered_by, verdict_on, answer, is_stored, slot_for, count_after, stored_in, next}
 use Rattle.table.specs.Demand3.{verdict_of, relay}
 use Rattle.table.specs.Claims.{Unchanged, OtherBytes, BytesAfter}
@@ -43,11 +43,11 @@ use Rattle.table.proofs.Valid.{valid_fits, valid_hashed, valid_read, refused_row
 -- ---- verdicts
 answer_stored : (r : Refusal) (v : Verdict) → is_stored (offered_by r v) ≡ true → v ≡ stored
 answer_stored r refused e = absurd (false≢true e)
-answer_stored r wasEphemeral e = absurd (false≢true e)
+answer_stored r was_ephemeral e = absurd (false≢true e)
 answer_stored r duplicate e = absurd (false≢true e)
 answer_stored r older e = absurd (false≢true e)
 answer_stored r stored e = refl
-answer_stored r noRoom e = absurd (false≢true e)
+answer_stored r no_room e = absurd (false≢true e)
 
 -- the verdict of an answer is stored if the answer is
 stored_as : (a : Offered) → law.is_stored (verdict_of a) ≡ is_stored a
@@ -57,7 +57,7 @@ stored_as Older = refl
 stored_as Stored = refl
 stored_as (Refused r) = go (eqb r.row 12)
   where
-    go : (t : Bool) → law.is_stored (cond t noRoom refused) ≡ false
+    go : (t : Bool) → law.is_stored (cond t no_room refused) ≡ false
     go true = refl
     go false = refl
 
@@ -77,12 +77,12 @@ first_stored false false false false e = (refl, refl)
 
 -- ---- what refuses an offer: by its row, and none with an offset where no row does
 pub refusal_row : (o : Offering) → (offering_refusal o).row ≡ offering_row o
-refusal_row (asMessage m) = refl
-refusal_row (asParts b p) = refl
+refusal_row (as_message m) = refl
+refusal_row (as_parts b p) = refl
 
 pub valid_plain : (o : Offering) → offering_row o ≡ 0 → offering_refusal o ≡ plain_refusal 0
-valid_plain (asMessage m) z = rw z (ap (λ x. record { row = 0; offset = x }) (offset_plain m 0 (λ e. omega arith) (λ e. omega arith)))
-valid_plain (asParts b p) z = ap plain_refusal z
+valid_plain (as_message m) z = rw z (ap (λ x. record { row = 0; offset = x }) (offset_plain m 0 (λ e. omega arith) (λ e. omega arith)))
+valid_plain (as_parts b p) z = ap plain_refusal z
 
 -- ---- an offer
 module _ (b : List ℕ) (o : Offering) where
@@ -101,13 +101,13 @@ module _ (b : List ℕ) (o : Offering) where
   unfolding answer verdict_on judge
   answer_valid e s = rw (e, s)
 
-  judge-invalid : is_valid o ≡ false → judge o ≡ none
+  judge_invalid : is_valid o ≡ false → judge o ≡ none
   unfolding judge
-  judge-invalid e = rw e
+  judge_invalid e = rw e
 
-  judge-valid : is_valid o ≡ true → judge o ≡ some offered
+  judge_valid : is_valid o ≡ true → judge o ≡ some offered
   unfolding judge
-  judge-valid e = rw e
+  judge_valid e = rw e
 
   -- the offer is stored
   pub record Stores : Type 0 where
@@ -128,13 +128,13 @@ module _ (b : List ℕ) (o : Offering) where
       }
 
   module _ (s : Stores) where
-    told : (law.is_ephemeral (signed_events.class_of offered) ≡ false) × (lacksSlot signed_events (capacity_of b) (view b) offered ≡ false)
+    told : (law.is_ephemeral (signed_events.class_of offered) ≡ false) × (lacks_slot signed_events (capacity_of b) (view b) offered ≡ false)
     unfolding verdict
     told = first_stored (law.is_ephemeral (signed_events.class_of offered)) (any (has_id signed_events offered) (view b))
-        (any (hasKeyNewer signed_events offered) (view b)) (lacksSlot signed_events (capacity_of b) (view b) offered) s.stores
+        (any (has_key_newer signed_events offered) (view b)) (lacks_slot signed_events (capacity_of b) (view b) offered) s.stores
 
-    has-slot : HasSlot b (offered_of o)
-    has-slot = go (either (any (shares b (offered_of o)) (view b)))
+    has_slot : HasSlot b (offered_of o)
+    has_slot = go (either (any (shares b (offered_of o)) (view b)))
       where
         go : T (any (shares b (offered_of o)) (view b)) ⊎ T (not (any (shares b (offered_of o)) (view b))) → HasSlot b (offered_of o)
         go (inl t) = inl t
@@ -155,7 +155,7 @@ module _ (b : List ℕ) (o : Offering) where
     sound_parts = clauses b s.is_sound
 
     pub leaves : After b (offered_of o) sound_parts fits
-    leaves = after_store b (offered_of o) sound_parts fits has-slot
+    leaves = after_store b (offered_of o) sound_parts fits has_slot
 
     -- the law keeps a table distinct
     pub stays_sound : sound (stored_in b (offered_of o)) ≡ true
@@ -165,15 +165,15 @@ module _ (b : List ℕ) (o : Offering) where
         (rw (after_stored signed_events (capacity_of b) (view b) offered s.stores) at
         (distinct_after signed_events signed_event_laws (capacity_of b) (view b) (some offered) (distinct b c.slots c.ids c.keys)))
 
-    view-from : (x : SignedEvent) → x ∈ view (stored_in b (offered_of o)) → (x ≡ offered) ⊎ (x ∈ view b)
-    view-from x m = store_from (shares b (offered_of o)) offered (view b) (rw leaves.holds at m)
+    view_from : (x : SignedEvent) → x ∈ view (stored_in b (offered_of o)) → (x ≡ offered) ⊎ (x ∈ view b)
+    view_from x m = store_from (shares b (offered_of o)) offered (view b) (rw leaves.holds at m)
 
-    stays-good : Good b → Good (stored_in b (offered_of o))
-    stays-good g = record {
+    stays_good : Good b → Good (stored_in b (offered_of o))
+    stays_good g = record {
       is_sound = stays_sound;
-      hashed = λ x m. ⊎_elim (λ q. rw q (valid_hashed o s.valid)) (g.hashed x) (view-from x m);
-      sig_length_lem = λ x m. ⊎_elim (λ q. rw q fits.sig) (g.sig_length_lem x) (view-from x m);
-      sig_bytes = λ x m. ⊎_elim (λ q. rw q fits.sig_bytes) (g.sig_bytes x) (view-from x m);
+      hashed = λ x m. ⊎_elim (λ q. rw q (valid_hashed o s.valid)) (g.hashed x) (view_from x m);
+      sig_length_lem = λ x m. ⊎_elim (λ q. rw q fits.sig) (g.sig_length_lem x) (view_from x m);
+      sig_bytes = λ x m. ⊎_elim (λ q. rw q fits.sig_bytes) (g.sig_bytes x) (view_from x m);
     }
 
 -- ---- the theorems
@@ -200,7 +200,7 @@ module _ (b : List ℕ) (o : Offering) (g : Good b) where
   good = go (is_stored (answer b o)) refl
     where
       go : (t : Bool) → is_stored (answer b o) ≡ t → Good (cond t (stored_in b (offered_of o)) b)
-      go true e = stays-good b o (stores_if b o e) g
+      go true e = stays_good b o (stores_if b o e) g
       go false e = g
 
   keeps : capacity_of (next b o) ≡ capacity_of b
@@ -215,12 +215,12 @@ module _ (b : List ℕ) (o : Offering) (g : Good b) where
           let x = offered b o in
           ap verdict_of (answer_valid b o e g.is_sound)
           ∙ first_said (offering_refusal o) (law.is_ephemeral (signed_events.class_of x)) (any (has_id signed_events x) (view b))
-          (any (hasKeyNewer signed_events x) (view b)) (lacksSlot signed_events (capacity_of b) (view b) x)
-          ∙ ap (verdict signed_events (capacity_of b) (view b)) (sym (judge-valid b o e))
+          (any (has_key_newer signed_events x) (view b)) (lacks_slot signed_events (capacity_of b) (view b) x)
+          ∙ ap (verdict signed_events (capacity_of b) (view b)) (sym (judge_valid b o e))
       go false e =
           ap verdict_of (answer_invalid b o e)
-          ∙ ap (λ t. cond t noRoom refused) (ap (λ r. eqb r 12) (refusal_row o) ∙ ne_eqb (offering_row o) 12 (λ q. omega (arith, refused_row_lem o e)))
-          ∙ ap (verdict signed_events (capacity_of b) (view b)) (sym (judge-invalid b o e))
+          ∙ ap (λ t. cond t no_room refused) (ap (λ r. eqb r 12) (refusal_row o) ∙ ne_eqb (offering_row o) 12 (λ q. omega (arith, refused_row_lem o e)))
+          ∙ ap (verdict signed_events (capacity_of b) (view b)) (sym (judge_invalid b o e))
 
   does : view (next b o) ≡ after signed_events (capacity_of b) (view b) (judge o)
   unfolding next
@@ -231,7 +231,7 @@ module _ (b : List ℕ) (o : Offering) (g : Good b) where
           let s = stores_if b o e in
           (leaves b o s).holds
           ∙ sym (after_stored signed_events (capacity_of b) (view b) (offered b o) s.stores)
-          ∙ ap (after signed_events (capacity_of b) (view b)) (sym (judge-valid b o s.valid))
+          ∙ ap (after signed_events (capacity_of b) (view b)) (sym (judge_valid b o s.valid))
       go false e =
           sym (after_other signed_events (capacity_of b) (view b) (judge o) (ap law.is_stored (sym says) ∙ stored_as (answer b o) ∙ e))
 

@@ -60,45 +60,45 @@ module _ (N : ℕ) (b : List ℕ) (r : format_row N b ≡ 0) where
   small = leb-true N most_slots (both (leb 1 N) (leb N most_slots) (passed N b r).capacity).1
 
   -- the bytes from each number of the header on
-  at-capacity : formatted N b ≡ le_bytes 4 N ++ (le_bytes 4 0 ++ (le_bytes 4 slot_size ++ (le_bytes 4 header_size ++ from_slots N b)))
+  at_capacity : formatted N b ≡ le_bytes 4 N ++ (le_bytes 4 0 ++ (le_bytes 4 slot_size ++ (le_bytes 4 header_size ++ from_slots N b)))
   unfolding formatted header_bytes
-  at-capacity = rw r (simp append_assoc)
+  at_capacity = rw r (simp append_assoc)
 
   at_count : drop 4 (formatted N b) ≡ le_bytes 4 0 ++ (le_bytes 4 slot_size ++ (le_bytes 4 header_size ++ from_slots N b))
-  at_count = after_field (formatted N b) _ 0 4 N at-capacity
+  at_count = after_field (formatted N b) _ 0 4 N at_capacity
 
-  at-slot-size : drop 8 (formatted N b) ≡ le_bytes 4 slot_size ++ (le_bytes 4 header_size ++ from_slots N b)
-  at-slot-size = after_field (formatted N b) _ 4 4 0 at_count
+  at_slot_size : drop 8 (formatted N b) ≡ le_bytes 4 slot_size ++ (le_bytes 4 header_size ++ from_slots N b)
+  at_slot_size = after_field (formatted N b) _ 4 4 0 at_count
 
   at_first : drop 12 (formatted N b) ≡ le_bytes 4 header_size ++ from_slots N b
-  at_first = after_field (formatted N b) _ 8 4 slot_size at-slot-size
+  at_first = after_field (formatted N b) _ 8 4 slot_size at_slot_size
 
   at_slots : drop 16 (formatted N b) ≡ from_slots N b
   at_slots = after_field (formatted N b) _ 12 4 header_size at_first
 
   pub formatted_capacity : capacity_of (formatted N b) ≡ N
   unfolding capacity_of
-  formatted_capacity = let l = small in field (formatted N b) _ 0 4 N at-capacity (omega arith)
+  formatted_capacity = let l = small in field (formatted N b) _ 0 4 N at_capacity (omega arith)
 
   pub formatted_count : count_of (formatted N b) ≡ 0
   unfolding count_of
   formatted_count = field (formatted N b) _ 4 4 0 at_count (omega arith)
 
-  formatted-slot-size : slot_size_of (formatted N b) ≡ slot_size
+  formatted_slot_size : slot_size_of (formatted N b) ≡ slot_size
   unfolding slot_size_of
-  formatted-slot-size = field (formatted N b) _ 8 4 slot_size at-slot-size (omega arith)
+  formatted_slot_size = field (formatted N b) _ 8 4 slot_size at_slot_size (omega arith)
 
-  formatted-first : first_slot_of (formatted N b) ≡ header_size
+  formatted_first : first_slot_of (formatted N b) ≡ header_size
   unfolding first_slot_of
-  formatted-first = field (formatted N b) _ 12 4 header_size at_first (omega arith)
+  formatted_first = field (formatted N b) _ 12 4 header_size at_first (omega arith)
 
   pub formatted_length : length (formatted N b) ≡ length b
   formatted_length =
       let m = (passed N b r).room in
-      ap length at-capacity ∙ simp (length-append, length_le_bytes, length-replicate, length-drop) (omega arith)
+      ap length at_capacity ∙ simp (length-append, length_le_bytes, length-replicate, length-drop) (omega arith)
 
-  formatted-later : later_slots (formatted N b) ≡ replicate (N * slot_size) 0
-  formatted-later =
+  formatted_later : later_slots (formatted N b) ≡ replicate (N * slot_size) 0
+  formatted_later =
       let l : length (replicate {A = ℕ} (N * slot_size) 0) ≡ (N - 0) * slot_size = length-replicate {A = ℕ} (N * slot_size) 0 ∙ omega arith in
       rw (formatted_count, formatted_capacity) (piece (formatted N b) (replicate (N * slot_size) 0) _ 16 ((N - 0) * slot_size) at_slots l)
 
@@ -113,15 +113,15 @@ module _ (N : ℕ) (b : List ℕ) (r : format_row N b ≡ 0) where
       rw (
         formatted_length,
         le-leb header_size (length b) (omega arith),
-        formatted-later,
+        formatted_later,
         formatted_view,
         formatted_capacity,
         formatted_count,
         (passed N b r).capacity,
         le-leb (table_size N) (length b) m,
         le-leb 0 N (omega arith),
-        formatted-slot-size,
-        formatted-first,
+        formatted_slot_size,
+        formatted_first,
       )
       (zeros_zero (N * slot_size))
 

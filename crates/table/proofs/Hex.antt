@@ -23,9 +23,9 @@ use Rattle.table.specs.Offer.{unhex}
 
 -- ---- a digit
 module _ (d : ℕ) (h : d < 16) where
-  digit-back : hex_val (hex_digit d) ≡ d
+  digit_back : hex_val (hex_digit d) ≡ d
   unfolding hex_val
-  digit-back = elim (dec_lt d 10) [
+  digit_back = elim (dec_lt d 10) [
     | yes l ↦ rw (lt-ltb d 10 l, le-ltb (48 + d) 0x30 (omega arith), le-leb (48 + d) 0x39 (omega arith)) (omega arith)
     | no l ↦
         rw (
@@ -40,9 +40,9 @@ module _ (d : ℕ) (h : d < 16) where
         (omega arith)
   ]
 
-  digit-hex : is_hex (hex_digit d) ≡ true
+  digit_hex : is_hex (hex_digit d) ≡ true
   unfolding is_hex
-  digit-hex = elim (dec_lt d 10) [
+  digit_hex = elim (dec_lt d 10) [
     | yes l ↦ rw (lt-ltb d 10 l, le-leb 0x30 (48 + d) (omega arith), le-leb (48 + d) 0x39 (omega arith))
     | no l ↦ rw (le-ltb d 10 (omega arith), lt-leb (87 + d) 0x39 (omega arith), le-leb 0x30 (87 + d) (omega arith), le-leb 0x61 (87 + d) (omega arith), le-leb (87 + d) 0x66 (omega arith))
   ]
@@ -58,12 +58,12 @@ unhex_hex [] e = refl
 unhex_hex (x ∷ l) e =
     let (h, r) = byte_small x l e in
     let y : x / 16 * 16 + x % 16 ≡ x = omega arith in
-    ap₂ (λ (n : ℕ) (t : List ℕ). n ∷ t) (rw (digit-back (x / 16) (omega arith), digit-back (x % 16) (omega arith)) y) (unhex_hex l r)
+    ap₂ (λ (n : ℕ) (t : List ℕ). n ∷ t) (rw (digit_back (x / 16) (omega arith), digit_back (x % 16) (omega arith)) y) (unhex_hex l r)
 
 pub hex_is : (l : List ℕ) → all is_byte l ≡ true → spell.all is_hex (hex_of l) ≡ true
 unfolding spell.all hex_of
 hex_is [] e = refl
-hex_is (x ∷ l) e = let (h, r) = byte_small x l e in rw (digit-hex (x / 16) (omega arith), digit-hex (x % 16) (omega arith)) (hex_is l r)
+hex_is (x ∷ l) e = let (h, r) = byte_small x l e in rw (digit_hex (x / 16) (omega arith), digit_hex (x % 16) (omega arith)) (hex_is l r)
 
 -- 2n hex characters stand for n bytes
 pub unhex_length : (n : ℕ) (l : List ℕ) → length l ≡ n + n → length (unhex l) ≡ n

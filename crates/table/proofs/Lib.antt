@@ -6,7 +6,7 @@
 -- Again: a spelling that decodes to a string within the limits is not refused. Strings, Arrays, Tellable, Fair: the
 -- parts of what is held, and that parts judged to be it are just those. Rows: the rows of an offer in their order.
 -- Texts: what the law takes from a text. Clauses: soundness clause by clause. StillSound: tables of at most 64 slots. DPlaces: where d stands. SoundBytes: a
--- held slot byte for byte. WrongRelays: relays that demand 3 shuts out.
+-- held slot byte for byte. WrongRelays: relays that demand 3 shuts out. Examples: a full table at work.
 pub mod Cells
 pub mod Fields
 pub mod Slots
@@ -36,3 +36,4 @@ pub mod StillSound
 pub mod Fair
 pub mod Demand3
 pub mod WrongRelays
+pub mod Examples

@@ -53,6 +53,7 @@ module _ {A : Type 0} (p : A → Bool) where
 
   pub all_has : {x : A} (xs : List A) → all p xs ≡ true → x ∈ xs → p x ≡ true
   unfolding all
+  all_has [] e m = elim m [ ]
   all_has (y ∷ ys) e (Memᴰ.head q) = ap p q ∙ (both (p y) (all p ys) e).0
   all_has (y ∷ ys) e (Memᴰ.tail m) = all_has ys (both (p y) (all p ys) e).1 m
 

@@ -33,7 +33,7 @@ use Rattle.event.proofs.Fit.{hex_same}
 use Rattle.law.proofs.Machine.{Passes}
 use Rattle.table.specs.Layout.{is_byte}
 use Rattle.table.specs.Events.{SignedEvent, Signature, table_events, of_held}
-use Rattle.table.specs.Offer.{asMessage, asParts, judge, held_of}
+use Rattle.table.specs.Offer.{as_message, as_parts, judge, held_of}
 use Rattle.table.specs.Demand3.{Tells, relay}
 use Rattle.table.proofs.Good.{Good}
 use Rattle.table.proofs.Hex.{unhex_hex, hex_is, digest_length, digest_bytes_lem}
@@ -64,16 +64,16 @@ module _ (b : List ℕ) (p : EventParts) (s : SignedEvent) (hashed : s.0.id ≡ 
   id_bytes : all is_byte s.0.id ≡ true
   id_bytes = rw hashed (digest_bytes_lem s.0.text)
 
-  id-length : length (hex_of s.0.id) ≡ 64
-  id-length = omega (arith, hex_length_lem s.0.id, ap length hashed ∙ digest_length s.0.text)
+  id_length : length (hex_of s.0.id) ≡ 64
+  id_length = omega (arith, hex_length_lem s.0.id, ap length hashed ∙ digest_length s.0.text)
 
-  told-event : event_of b p.body ≡ t.event
+  told_event : event_of b p.body ≡ t.event
   unfolding event_of
-  told-event = rw (t.pubkey.says, t.time, t.kind, t.tags.says, t.content.says)
+  told_event = rw (t.pubkey.says, t.time, t.kind, t.tags.says, t.content.says)
 
-  rows-again : event_row b p ≡ 0
+  rows_again : event_row b p ≡ 0
   unfolding event_row event2 event4 event5 event7 body2 body4 body5 body6 body7 body8
-  rows-again =
+  rows_again =
       let l = limits in
       let i = hex_is s.0.id id_bytes in
       let g = hex_is s.1 sig_bytes in
@@ -99,28 +99,28 @@ module _ (b : List ℕ) (p : EventParts) (s : SignedEvent) (hashed : s.0.id ≡ 
         t.tags.array,
         n6,
         m6,
-        again7 t.id 64 id-length i,
+        again7 t.id 64 id_length i,
         again7 t.pubkey 64 (pubkey_length t.event.pubkey l.pubkey) k,
         again7 t.sig 128 (omega (arith, hex_length_lem s.1, sig_length_lem)) g,
         n8,
       )
 
-  offered-again : offered_row b p ≡ 0
+  offered_again : offered_row b p ≡ 0
   unfolding offered_row is_large has_id text_of
-  offered-again =
-      let e = told-event in
+  offered_again =
+      let e = told_event in
       let x = is_text_lem.same in
       let i : same_bytes (said b p.id) (hex_of (digest s.0.text)) ≡ true = equal_same _ _ (t.id.says ∙ ap hex_of hashed) in
-      rw (rows-again, e, x, le-ltb most_text (length s.0.text) is_text_lem.small, i)
+      rw (rows_again, e, x, le-ltb most_text (length s.0.text) is_text_lem.small, i)
 
-  held-again : of_held (held_of b p) ≡ s
+  held_again : of_held (held_of b p) ≡ s
   unfolding held_of
-  held-again = rw (t.id.says, t.sig.says, unhex_hex s.0.id id_bytes, unhex_hex s.1 sig_bytes, told-event, is_text_lem.same)
+  held_again = rw (t.id.says, t.sig.says, unhex_hex s.0.id id_bytes, unhex_hex s.1 sig_bytes, told_event, is_text_lem.same)
 
-  pub judged_again : judge (asParts b p) ≡ some s
+  pub judged_again : judge (as_parts b p) ≡ some s
   unfolding judge
-  judged_again = rw (eq-eqb (offered_row b p) 0 offered-again, held-again)
+  judged_again = rw (eq-eqb (offered_row b p) 0 offered_again, held_again)
 
 pub passes : Passes table_events Signature relay Good
-passes b (asMessage m) s g h t = absurd t
-passes b (asParts c p) s g h t = judged_again c p s (g.hashed s h) (g.sig_length_lem s h) (g.sig_bytes s h) t
+passes b (as_message m) s g h t = absurd t
+passes b (as_parts c p) s g h t = judged_again c p s (g.hashed s h) (g.sig_length_lem s h) (g.sig_bytes s h) t

@@ -26,7 +26,7 @@ use Rattle.message.specs.declared.Message.TheVariants as message
 use Rattle.message.proofs.Passes.{event_passes}
 use Rattle.event.specs.Lent.{said, text_of}
 use Rattle.event.specs.Answer.{or_else, is_large, hex_of, has_id, offered_row}
-use Rattle.table.specs.Offer.{Offering, asMessage, asParts, is_event_word, is_event, message_offer_row, offering_row}
+use Rattle.table.specs.Offer.{Offering, as_message, as_parts, is_event_word, is_event, message_offer_row, offering_row}
 use Rattle.table.specs.Offer.{judge}
 use Rattle.table.specs.Offer as offer
 use Rattle.table.specs.Claims.{OfferRows, MessageRows, EventRows, RowsInOrder}
@@ -97,24 +97,24 @@ module _ (m : List ℕ) (p : EventParts) (e : read_of m ≡ message.Event p) whe
       go true q z = (eqb-true (message_row m) 0 q, event_first m p (root m) z)
       go false q z = absurd (let y : ◌≡◌ {A = ℕ} 0 1 = cc in omega arith)
 
-  own-parts : offer.parts_of m ≡ p
+  own_parts : offer.parts_of m ≡ p
   unfolding offer.parts_of
-  own-parts = rw e
+  own_parts = rw e
 
-  as_parts : message_offer_row m ≡ offered_row m p
+  as_parts_lem : message_offer_row m ≡ offered_row m p
   unfolding message_offer_row
-  as_parts =
+  as_parts_lem =
       let (z, w) = accepted in
-      or_next (text_row m) _ (text_clean m z) ∙ (rw w (or_next (message_row m) _ z ∙ ap (offered_row m) own-parts))
+      or_next (text_row m) _ (text_clean m z) ∙ (rw w (or_next (message_row m) _ z ∙ ap (offered_row m) own_parts))
 
   -- rows 2 and 4 to 8 let its parts pass
-  nine-ten : message_offer_row m ≡ cond (is_large m p.body) 9 (cond (has_id m p) 0 10)
+  nine_ten : message_offer_row m ≡ cond (is_large m p.body) 9 (cond (has_id m p) 0 10)
   unfolding offered_row
-  nine-ten = as_parts ∙ or_next (event_row m p) _ (event_passes m p e)
+  nine_ten = as_parts_lem ∙ or_next (event_row m p) _ (event_passes m p e)
 
-  same_event : judge (asMessage m) ≡ judge (asParts m p)
+  same_event : judge (as_message m) ≡ judge (as_parts m p)
   unfolding judge
-  same_event = rw (as_parts, own-parts)
+  same_event = rw (as_parts_lem, own_parts)
 
   differ_same : (s t : List ℕ) → s ≢ t → same_bytes s t ≡ false
   differ_same s t n = go (same_bytes s t) refl
@@ -128,10 +128,10 @@ module _ (m : List ℕ) (p : EventParts) (e : read_of m ≡ message.Event p) whe
   event_rows =
       let t = text_of m p.body in
       record {
-        large = λ l. nine-ten ∙ (rw (lt-ltb most_text (length t) l));
-        other_id = λ l n. nine-ten ∙ (rw (le-ltb most_text (length t) l, differ_same (said m p.id) (hex_of (digest t)) n));
-        none = λ l q. nine-ten ∙ (rw (le-ltb most_text (length t) l, q, same_self (hex_of (digest t))));
-        as_parts = as_parts;
+        large = λ l. nine_ten ∙ (rw (lt-ltb most_text (length t) l));
+        other_id = λ l n. nine_ten ∙ (rw (le-ltb most_text (length t) l, differ_same (said m p.id) (hex_of (digest t)) n));
+        none = λ l q. nine_ten ∙ (rw (le-ltb most_text (length t) l, q, same_self (hex_of (digest t))));
+        as_parts_lem = as_parts_lem;
         same_event = same_event;
       }
 

@@ -95,26 +95,26 @@ shown_inside b k r =
     rw r (sym (ap (part b (slot_place k + text_place)) (sym (length_at b k)) ∙ text_at b k m))
 
 module _ (b t : List ℕ) (k : ℕ) (full : length b ≡ table_size (capacity_of b)) where
-  row-append : shown_row (b ++ t) k ≡ shown_row b k
+  row_append : shown_row (b ++ t) k ≡ shown_row b k
   unfolding shown_row
-  row-append = rw (sound_append b t full, count_append b t full)
+  row_append = rw (sound_append b t full, count_append b t full)
 
   -- a held slot lies within the table
-  slot-append : shown_row b k ≡ 0 → slot_at (b ++ t) k ≡ slot_at b k
-  slot-append r =
+  slot_append : shown_row b k ≡ 0 → slot_at (b ++ t) k ≡ slot_at b k
+  slot_append r =
       let (s, h) = shown_if b k r in
       let few = (clauses b s).count in
       let fit : slot_place k + slot_size ≤ length b = omega arith in
       ap (take slot_size) (drop-append-le (slot_place k) b t (omega arith))
       ∙ take-append-le slot_size (drop (slot_place k) b) t (omega (arith, length-drop (slot_place k) b))
 
-  text-append : shown (b ++ t) k ≡ shown b k
+  text_append : shown (b ++ t) k ≡ shown b k
   unfolding shown
-  text-append = ap (λ r. cond (eqb r 0) (text_in (slot_at (b ++ t) k)) []) row-append ∙ go (eqb (shown_row b k) 0) refl
+  text_append = ap (λ r. cond (eqb r 0) (text_in (slot_at (b ++ t) k)) []) row_append ∙ go (eqb (shown_row b k) 0) refl
     where
       go : (q : Bool) → eqb (shown_row b k) 0 ≡ q → cond q (text_in (slot_at (b ++ t) k)) [] ≡ cond q (text_in (slot_at b k)) []
-      go true e = ap text_in (slot-append (eqb-true (shown_row b k) 0 e))
+      go true e = ap text_in (slot_append (eqb-true (shown_row b k) 0 e))
       go false e = refl
 
 pub shown_never_read : ShownNeverRead
-shown_never_read b t k full = (row-append b t k full, text-append b t k full)
+shown_never_read b t k full = (row_append b t k full, text_append b t k full)

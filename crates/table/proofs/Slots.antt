@@ -17,7 +17,7 @@ use Rattle.wire.proofs.Fields.{length_le_bytes, signed_unsigned}
 use Rattle.numeral.specs.Whole.{is_within}
 use Rattle.rows.specs.Strings.{part}
 use Rattle.text.specs.Event.{Event, serialise, is_time, all}
-use Rattle.text.specs.Read.{Read, tooLarge, wrongShape, read, read_text, IsTextOf}
+use Rattle.text.specs.Read.{Read, too_large, wrong_shape, read, read_text, IsTextOf}
 use Rattle.text.specs.Kinds.{is_ephemeral, class_of}
 use Rattle.text.specs.declared.Class.{Class}
 use Rattle.text.specs.declared.Class.TheVariants.{Regular, Replaceable, Ephemeral, Addressable}
@@ -59,11 +59,11 @@ d_in_text e a = go (class_of e.kind)
 abbrev from_text : Event → List ℕ
 from_text e = text_bytes (serialise e)
 
-abbrev from_dLength : Event → List ℕ
-from_dLength e = le_bytes 2 (d_place e).len ++ from_text e
+abbrev from_d_length : Event → List ℕ
+from_d_length e = le_bytes 2 (d_place e).len ++ from_text e
 
 abbrev from_d : Event → List ℕ
-from_d e = le_bytes 2 (d_place e).at ++ from_dLength e
+from_d e = le_bytes 2 (d_place e).at ++ from_d_length e
 
 abbrev from_length : Event → List ℕ
 from_length e = le_bytes 2 (length (serialise e)) ++ from_d e
@@ -83,35 +83,35 @@ module _ (h : Held) (f : Fits h) where
   unfolding slot_bytes text_bytes
   slot_length = let m = f.text in simp (length-append, length_le_bytes, length-replicate, f.id, f.sig) (omega arith)
 
-  at-sig : drop 32 (slot_bytes h) ≡ h.sig ++ from_time h.event
+  at_sig : drop 32 (slot_bytes h) ≡ h.sig ++ from_time h.event
   unfolding slot_bytes
-  at-sig = drop_at h.id (h.sig ++ from_time h.event) 32 f.id
+  at_sig = drop_at h.id (h.sig ++ from_time h.event) 32 f.id
 
-  at-time : drop 96 (slot_bytes h) ≡ from_time h.event
-  at-time = after (slot_bytes h) h.sig _ 32 64 at-sig f.sig
+  at_time : drop 96 (slot_bytes h) ≡ from_time h.event
+  at_time = after (slot_bytes h) h.sig _ 32 64 at_sig f.sig
 
-  at-kind : drop 104 (slot_bytes h) ≡ from_kind h.event
-  at-kind = after_field (slot_bytes h) (from_kind h.event) 96 8 (unsigned h.event.time) at-time
+  at_kind : drop 104 (slot_bytes h) ≡ from_kind h.event
+  at_kind = after_field (slot_bytes h) (from_kind h.event) 96 8 (unsigned h.event.time) at_time
 
   at_length : drop 106 (slot_bytes h) ≡ from_length h.event
-  at_length = after_field (slot_bytes h) _ 104 2 _ at-kind
+  at_length = after_field (slot_bytes h) _ 104 2 _ at_kind
 
-  at-d : drop 108 (slot_bytes h) ≡ from_d h.event
-  at-d = after_field (slot_bytes h) _ 106 2 _ at_length
+  at_d : drop 108 (slot_bytes h) ≡ from_d h.event
+  at_d = after_field (slot_bytes h) _ 106 2 _ at_length
 
-  at-d-length : drop 110 (slot_bytes h) ≡ from_dLength h.event
-  at-d-length = after_field (slot_bytes h) _ 108 2 _ at-d
+  at_d_length : drop 110 (slot_bytes h) ≡ from_d_length h.event
+  at_d_length = after_field (slot_bytes h) _ 108 2 _ at_d
 
-  at-text : drop 112 (slot_bytes h) ≡ serialise h.event ++ replicate (most_text - length (serialise h.event)) 0
+  at_text : drop 112 (slot_bytes h) ≡ serialise h.event ++ replicate (most_text - length (serialise h.event)) 0
   unfolding text_bytes
-  at-text = after_field (slot_bytes h) _ 110 2 _ at-d-length
+  at_text = after_field (slot_bytes h) _ 110 2 _ at_d_length
 
   pub slot_time : field_at (slot_bytes h) 96 8 ≡ unsigned h.event.time
-  slot_time = field (slot_bytes h) (from_kind h.event) 96 8 (unsigned h.event.time) at-time (small_time h.event.time (limits_of h.event f.event).time)
+  slot_time = field (slot_bytes h) (from_kind h.event) 96 8 (unsigned h.event.time) at_time (small_time h.event.time (limits_of h.event f.event).time)
 
   pub slot_kind : kind_in (slot_bytes h) ≡ h.event.kind
   unfolding kind_in
-  slot_kind = let l = (limits_of h.event f.event).kind in field (slot_bytes h) _ 104 2 _ at-kind (omega arith)
+  slot_kind = let l = (limits_of h.event f.event).kind in field (slot_bytes h) _ 104 2 _ at_kind (omega arith)
 
   pub slot_text_length : length_in (slot_bytes h) ≡ length (serialise h.event)
   unfolding length_in
@@ -122,17 +122,17 @@ module _ (h : Held) (f : Fits h) where
   slot_d =
       let d = d_in_text h.event is_text_lem in
       let l = f.text in
-      let a = field (slot_bytes h) _ 108 2 _ at-d (omega arith) in
-      let b = field (slot_bytes h) _ 110 2 _ at-d-length (omega arith) in
+      let a = field (slot_bytes h) _ 108 2 _ at_d (omega arith) in
+      let b = field (slot_bytes h) _ 110 2 _ at_d_length (omega arith) in
       rw (a, b)
 
   pub slot_text_lem : text_in (slot_bytes h) ≡ serialise h.event
   unfolding text_in
-  slot_text_lem = piece (slot_bytes h) (serialise h.event) _ 112 (length_in (slot_bytes h)) at-text (sym slot_text_length)
+  slot_text_lem = piece (slot_bytes h) (serialise h.event) _ 112 (length_in (slot_bytes h)) at_text (sym slot_text_length)
 
   pub slot_rest : rest_in (slot_bytes h) ≡ replicate (most_text - length (serialise h.event)) 0
   unfolding rest_in
-  slot_rest = after (slot_bytes h) (serialise h.event) _ 112 (length_in (slot_bytes h)) at-text (sym slot_text_length)
+  slot_rest = after (slot_bytes h) (serialise h.event) _ 112 (length_in (slot_bytes h)) at_text (sym slot_text_length)
 
   pub slot_id : id_in (slot_bytes h) ≡ h.id
   unfolding id_in slot_bytes
@@ -140,7 +140,7 @@ module _ (h : Held) (f : Fits h) where
 
   pub slot_sig : sig_in (slot_bytes h) ≡ h.sig
   unfolding sig_in
-  slot_sig = piece (slot_bytes h) h.sig _ 32 64 at-sig f.sig
+  slot_sig = piece (slot_bytes h) h.sig _ 32 64 at_sig f.sig
 
   pub slot_holds : in_slot (slot_bytes h) ≡ of_held h
   slot_holds = rw (slot_id, slot_text_lem, slot_sig)
@@ -167,8 +167,8 @@ module _ (h : Held) (f : Fits h) where
 
 -- ---- what soundness says of a slot whose text is read as e
 pub read_of_lem : (r : Read) → is_read r ≡ true → (e : Event) × (r ≡ read e)
-read_of_lem tooLarge h = absurd (let z : ◌≡◌ {A = ℕ} 0 1 = cc in omega arith)
-read_of_lem wrongShape h = absurd (let z : ◌≡◌ {A = ℕ} 0 1 = cc in omega arith)
+read_of_lem too_large h = absurd (let z : ◌≡◌ {A = ℕ} 0 1 = cc in omega arith)
+read_of_lem wrong_shape h = absurd (let z : ◌≡◌ {A = ℕ} 0 1 = cc in omega arith)
 read_of_lem (read e) h = (e, refl)
 
 module _ (s : List ℕ) (ok : slot_sound s ≡ true) where
@@ -176,9 +176,9 @@ module _ (s : List ℕ) (ok : slot_sound s ≡ true) where
   unfolding slot_sound
   text_sound = (both (text_reads s) (fields_agree s && (is_lasting s && zero_after_text s)) ok).0
 
-  rest-sound : (fields_agree s && (is_lasting s && zero_after_text s)) ≡ true
+  rest_sound : (fields_agree s && (is_lasting s && zero_after_text s)) ≡ true
   unfolding slot_sound
-  rest-sound = (both (text_reads s) (fields_agree s && (is_lasting s && zero_after_text s)) ok).1
+  rest_sound = (both (text_reads s) (fields_agree s && (is_lasting s && zero_after_text s)) ok).1
 
   pub sound_text_length : length_in s ≤ most_text
   unfolding text_reads
@@ -192,38 +192,38 @@ module _ (s : List ℕ) (ok : slot_sound s ≡ true) where
   unfolding is_lasting
   sound_lasting =
       not-true (is_ephemeral (kind_in s))
-      (both (is_lasting s) (zero_after_text s) (both (fields_agree s) (is_lasting s && zero_after_text s) rest-sound).1).0
+      (both (is_lasting s) (zero_after_text s) (both (fields_agree s) (is_lasting s && zero_after_text s) rest_sound).1).0
 
   pub sound_rest : is_zero (rest_in s) ≡ true
   unfolding zero_after_text
-  sound_rest = (both (is_lasting s) (zero_after_text s) (both (fields_agree s) (is_lasting s && zero_after_text s) rest-sound).1).1
+  sound_rest = (both (is_lasting s) (zero_after_text s) (both (fields_agree s) (is_lasting s && zero_after_text s) rest_sound).1).1
 
   module _ (e : Event) (r : read_text (text_in s) ≡ read e) where
-    sound-fields : agrees_with s e ≡ true
+    sound_fields : agrees_with s e ≡ true
     unfolding fields_agree
-    sound-fields = rw r at (both (fields_agree s) (is_lasting s && zero_after_text s) rest-sound).0
+    sound_fields = rw r at (both (fields_agree s) (is_lasting s && zero_after_text s) rest_sound).0
 
     pub sound_time : field_at s 96 8 ≡ unsigned e.time
     unfolding agrees_with
-    sound_time = eqb-true (field_at s 96 8) (unsigned e.time) (both (eqb (field_at s 96 8) (unsigned e.time)) _ sound-fields).0
+    sound_time = eqb-true (field_at s 96 8) (unsigned e.time) (both (eqb (field_at s 96 8) (unsigned e.time)) _ sound_fields).0
 
     -- the event's time, not its bits
     pub sound_signed : signed (time_in s) ≡ e.time
     sound_signed = ap signed sound_time ∙ signed_unsigned e.time (mag_time e.time (limits_of e (read_same (text_in s) e r).fit).time)
 
-    sound-others : (eqb (kind_in s) e.kind && (eqb (d_in s).at (d_place e).at && eqb (d_in s).len (d_place e).len)) ≡ true
+    sound_others : (eqb (kind_in s) e.kind && (eqb (d_in s).at (d_place e).at && eqb (d_in s).len (d_place e).len)) ≡ true
     unfolding agrees_with
-    sound-others = (both (eqb (field_at s 96 8) (unsigned e.time)) _ sound-fields).1
+    sound_others = (both (eqb (field_at s 96 8) (unsigned e.time)) _ sound_fields).1
 
     pub sound_kind : kind_in s ≡ e.kind
-    sound_kind = eqb-true (kind_in s) e.kind (both (eqb (kind_in s) e.kind) _ sound-others).0
+    sound_kind = eqb-true (kind_in s) e.kind (both (eqb (kind_in s) e.kind) _ sound_others).0
 
-    sound-d-both : (eqb (d_in s).at (d_place e).at && eqb (d_in s).len (d_place e).len) ≡ true
-    sound-d-both = (both (eqb (kind_in s) e.kind) _ sound-others).1
+    sound_d_both : (eqb (d_in s).at (d_place e).at && eqb (d_in s).len (d_place e).len) ≡ true
+    sound_d_both = (both (eqb (kind_in s) e.kind) _ sound_others).1
 
     pub sound_d : d_in s ≡ d_place e
     sound_d =
-        let b = both (eqb (d_in s).at (d_place e).at) (eqb (d_in s).len (d_place e).len) sound-d-both in
+        let b = both (eqb (d_in s).at (d_place e).at) (eqb (d_in s).len (d_place e).len) sound_d_both in
         ap₂ (λ i n. record { at = i; len = n }) (eqb-true (d_in s).at (d_place e).at b.0) (eqb-true (d_in s).len (d_place e).len b.1)
 
 -- ---- read, then written: the slot's bytes are known from each field on, the last field first
@@ -239,7 +239,7 @@ slot_is s e l b ok r =
     let r112 : drop 112 s ≡ from_text e =
     cut s 112 (length_in s) ∙ ap₂ ◌++◌ t (zero_zeros (rest_in s) (sound_rest s ok) ∙ ap (λ k. replicate k 0) z) in
     let r110 = field_back s (from_text e) 110 2 (d_place e).len (omega arith) small (ap (λ p. p.len) (sound_d s ok e r)) r112 in
-    let r108 = field_back s (from_dLength e) 108 2 (d_place e).at (omega arith) small (ap (λ p. p.at) (sound_d s ok e r)) r110 in
+    let r108 = field_back s (from_d_length e) 108 2 (d_place e).at (omega arith) small (ap (λ p. p.at) (sound_d s ok e r)) r110 in
     let r106 = field_back s (from_d e) 106 2 (length (serialise e)) (omega arith) small n r108 in
     let r104 = field_back s (from_length e) 104 2 e.kind (omega arith) small (sound_kind s ok e r) r106 in
     let r96 = field_back s (from_kind e) 96 8 (unsigned e.time) (omega arith) small (sound_time s ok e r) r104 in

@@ -1,14 +1,13 @@
 -- A table of at most 64 slots is sound exactly if it was with 64 for 1,024: one clause of soundness has the number.
 use mathlib.Core.Path.{◌≡◌, refl, sym, ap, ◌∙◌}
 use mathlib.Core.Bool.{Bool, true, false, false≢true}
-use mathlib.Core.Logic.{◌↔◌}
 use mathlib.Core.List.{List}
 use Prim.Native.Nat.{ℕ, ◌≤◌}
 use native.Mathlib.Omega.{arith}
 use Rattle.wire.specs.Limits.{most_slots}
 use Rattle.table.specs.Layout.{capacity_of}
 use Rattle.table.specs.Sound.{sound_up_to, sound}
-use Rattle.table.specs.Offer.{Offering, answer_if, answer, next}
+use Rattle.table.specs.Offer.{answer_if, answer, next}
 use Rattle.table.specs.Format.{shown_row_if, shown_row}
 use Rattle.table.specs.Claims.{StillSound, SameOffers, SameShown}
 use Rattle.table.proofs.Bytes.{ClausesUpTo, clauses_up_to, is_sound_up_to}
@@ -16,8 +15,8 @@ use Rattle.table.proofs.Faithful.{next_capacity, next_sound}
 
 -- ---- soundness with one most, and with another
 module _ (m n : ℕ) (b : List ℕ) where
-  with-most : ClausesUpTo m b → capacity_of b ≤ n → ClausesUpTo n b
-  with-most c h = record {
+  with_most : ClausesUpTo m b → capacity_of b ≤ n → ClausesUpTo n b
+  with_most c h = record {
     header = c.header;
     low = c.low;
     high = h;
@@ -32,7 +31,7 @@ module _ (m n : ℕ) (b : List ℕ) where
   }
 
   pub sound_with : sound_up_to m b ≡ true → capacity_of b ≤ n → sound_up_to n b ≡ true
-  sound_with e h = is_sound_up_to n b (with-most (clauses_up_to m b e) h)
+  sound_with e h = is_sound_up_to n b (with_most (clauses_up_to m b e) h)
 
 pub still_sound : StillSound
 unfolding sound

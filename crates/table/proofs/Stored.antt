@@ -50,13 +50,13 @@ module _ (b : List ℕ) (h : Held) where
   unfolding stored_in
   stored_capacity = written_capacity b (slot_for b h) (count_after b (slot_for b h)) (slot_bytes h)
 
-  stored-size : slot_size_of (stored_in b h) ≡ slot_size_of b
+  stored_size : slot_size_of (stored_in b h) ≡ slot_size_of b
   unfolding stored_in
-  stored-size = written_size b (slot_for b h) (count_after b (slot_for b h)) (slot_bytes h)
+  stored_size = written_size b (slot_for b h) (count_after b (slot_for b h)) (slot_bytes h)
 
-  stored-first : first_slot_of (stored_in b h) ≡ first_slot_of b
+  stored_first : first_slot_of (stored_in b h) ≡ first_slot_of b
   unfolding stored_in
-  stored-first = written_first b (slot_for b h) (count_after b (slot_for b h)) (slot_bytes h)
+  stored_first = written_first b (slot_for b h) (count_after b (slot_for b h)) (slot_bytes h)
 
   -- the slot and the count that are written
   pub record Fills (k n : ℕ) : Type 0 where
@@ -77,21 +77,21 @@ module _ (b : List ℕ) (h : Held) where
 
   module _ (c : Clauses b) (f : Fits h) where
     module _ (k n : ℕ) (p : Fills k n) (small : n ≤ most_slots) where
-      is-written : stored_in b h ≡ written b k n (slot_bytes h)
+      is_written : stored_in b h ≡ written b k n (slot_bytes h)
       unfolding stored_in
-      is-written = rw (p.count, p.place)
+      is_written = rw (p.count, p.place)
 
-      is-count : count_of (stored_in b h) ≡ n
-      is-count = ap count_of is-written ∙ written_count b k n (slot_bytes h) c.header small
+      is_count : count_of (stored_in b h) ≡ n
+      is_count = ap count_of is_written ∙ written_count b k n (slot_bytes h) c.header small
 
-      is-slots : held_slots (stored_in b h) ≡ cells slot_size n (sets (drop header_size b) (k * slot_size) (slot_bytes h))
-      is-slots = ap₂ (cells slot_size) is-count (ap (drop header_size) is-written ∙ written_slots b k n (slot_bytes h))
+      is_slots : held_slots (stored_in b h) ≡ cells slot_size n (sets (drop header_size b) (k * slot_size) (slot_bytes h))
+      is_slots = ap₂ (cells slot_size) is_count (ap (drop header_size) is_written ∙ written_slots b k n (slot_bytes h))
 
       -- what stands behind the slot that is written
       is_later : k < n → later_slots (stored_in b h) ≡ take ((capacity_of b - n) * slot_size) (drop (slot_place n) b)
       is_later l =
-          ap₂ (λ N C. take ((N - C) * slot_size) (drop (slot_place C) (stored_in b h))) stored_capacity is-count
-          ∙ ap (λ d. take ((capacity_of b - n) * slot_size) (drop (slot_place n) d)) is-written
+          ap₂ (λ N C. take ((N - C) * slot_size) (drop (slot_place C) (stored_in b h))) stored_capacity is_count
+          ∙ ap (λ d. take ((capacity_of b - n) * slot_size) (drop (slot_place n) d)) is_written
           ∙ ap (take ((capacity_of b - n) * slot_size)) (written_after b k n (slot_bytes h) (slot_place n) (omega (arith, slot_length h f)))
 
     -- what a store leaves
@@ -102,16 +102,16 @@ module _ (b : List ℕ) (h : Held) where
       pub slots : slot_sound (slot_bytes h) ≡ true → slots_sound (stored_in b h) ≡ true
       pub later : later_zero (stored_in b h) ≡ true
 
-    after-over : T (any shares (view b)) → After
+    after_over : T (any shares (view b)) → After
     unfolding view slot_for slots_sound later_zero
-    after-over t =
+    after_over t =
         let (i, p) = fills_over t in
         let small : count_of b ≤ most_slots = omega (arith, c.count, c.high) in
         let room : count_of b * slot_size ≤ length (drop header_size b) = omega (arith, c.count, c.fit, length-drop header_size b) in
-        let s = is-slots (slot_for b h) (count_of b) p small in
+        let s = is_slots (slot_for b h) (count_of b) p small in
         record {
           inside = omega (arith, c.count);
-          count = omega (arith, is-count (slot_for b h) (count_of b) p small, c.count);
+          count = omega (arith, is_count (slot_for b h) (count_of b) p small, c.count);
           holds =
               ap (map in_slot) s
               ∙ stored_over slot_size in_slot shares (slot_bytes h) (slot_length h f) (count_of b) (drop header_size b) room t
@@ -122,14 +122,14 @@ module _ (b : List ℕ) (h : Held) where
         }
 
     -- the later slots are the new one and those that stay
-    after-behind : T (not (any shares (view b))) → count_of b < capacity_of b → After
+    after_behind : T (not (any shares (view b))) → count_of b < capacity_of b → After
     unfolding view slot_for slots_sound later_zero
-    after-behind t l =
+    after_behind t l =
         let p = fills_behind t in
         let n : ℕ = suc (count_of b) in
         let small : n ≤ most_slots = omega (arith, c.high) in
         let room : n * slot_size ≤ length (drop header_size b) = omega (arith, c.fit, length-drop header_size b) in
-        let s = is-slots (count_of b) n p small in
+        let s = is_slots (count_of b) n p small in
         let next : slot_place (count_of b) + slot_size ≡ slot_place n = omega arith in
         let more : (capacity_of b - count_of b) * slot_size ≡ slot_size + (capacity_of b - n) * slot_size = omega arith in
         let split : later_slots b ≡ take slot_size (drop (slot_place (count_of b)) b) ++ take ((capacity_of b - n) * slot_size) (drop (slot_place n) b) =
@@ -140,7 +140,7 @@ module _ (b : List ℕ) (h : Held) where
         in
         record {
           inside = omega (arith, p.place);
-          count = omega (arith, is-count (count_of b) n p small);
+          count = omega (arith, is_count (count_of b) n p small);
           holds =
               ap (map in_slot) s
               ∙ stored_behind slot_size in_slot shares (slot_bytes h) (slot_length h f) (count_of b) (drop header_size b) room t
@@ -154,8 +154,8 @@ module _ (b : List ℕ) (h : Held) where
         }
 
     pub after_store : HasSlot → After
-    after_store (inl t) = after-over t
-    after_store (inr (t, l)) = after-behind t l
+    after_store (inl t) = after_over t
+    after_store (inr (t, l)) = after_behind t l
 
     pub stored_sound : After → slot_sound (slot_bytes h) ≡ true → Distinct signed_events (store shares (of_held h) (view b)) → sound (stored_in b h) ≡ true
     stored_sound a e d =
@@ -166,8 +166,8 @@ module _ (b : List ℕ) (h : Held) where
           high = rw stored_capacity c.high;
           fit = rw (stored_capacity, stored_length) c.fit;
           count = rw stored_capacity a.count;
-          size = stored-size ∙ c.size;
-          first = stored-first ∙ c.first;
+          size = stored_size ∙ c.size;
+          first = stored_first ∙ c.first;
           slots = a.slots e;
           ids = distinct_ids (stored_in b h) u;
           keys = distinct_keys (stored_in b h) u;

@@ -1,6 +1,6 @@
 -- A string as the text spells it, between quotes, is a JSON string that decodes to itself: its escapes are characters
 -- of RFC 8259, a byte at a time by the view `Seven`.
-use mathlib.Core.Bool.{Bool, true, false, cond, ◌||◌, or-true}
+use mathlib.Core.Bool.{Bool, true, false, cond, or-true}
 use mathlib.Core.Path.{◌≡◌, refl, sym, ap, ◌∙◌}
 use mathlib.Core.List.{List, [], ◌∷◌, ◌++◌}
 use Prim.Native.Nat.{ℕ, suc, ◌+◌, ◌-◌, ◌≤◌, ◌<◌}
@@ -84,11 +84,11 @@ module _ (s : List ℕ) where
   unfolding esc_one
   escaped_char b i n a = one_char b (letter_of b) i n (seven b) refl a
 
-  escape-chars : (v : List ℕ) (i n : ℕ) → Spelt s i (escape v) n → Chars s i n
+  escape_chars : (v : List ℕ) (i n : ℕ) → Spelt s i (escape v) n → Chars s i n
   unfolding escape
-  escape-chars [] i n a = let z : i ≡ n = omega (arith, a.end) in rw (← z) stop
-  escape-chars (b ∷ v) i n a =
-      more (escaped_char b i (i + length (esc_one b)) (left (esc_one b) (escape v) a)) (escape-chars v (i + length (esc_one b)) n (right (esc_one b) (escape v) a))
+  escape_chars [] i n a = let z : i ≡ n = omega (arith, a.end) in rw (← z) stop
+  escape_chars (b ∷ v) i n a =
+      more (escaped_char b i (i + length (esc_one b)) (left (esc_one b) (escape v) a)) (escape_chars v (i + length (esc_one b)) n (right (esc_one b) (escape v) a))
 
   -- ---- with its quotes
   pub chars_between : (w : List ℕ) (at n : ℕ) → ((i k : ℕ) → Spelt s i w k → Chars s i k) → Spelt s at (34 ∷ (w ++ (34 ∷ []))) n → string_at s at ≡ End n
@@ -104,7 +104,7 @@ module _ (s : List ℕ) where
 
   pub string_here : (v : List ℕ) (at n : ℕ) → Spelt s at (quoted v) n → string_at s at ≡ End n
   unfolding quoted
-  string_here v at n a = chars_between (escape v) at n (escape-chars v) a
+  string_here v at n a = chars_between (escape v) at n (escape_chars v) a
 
   -- its place in the tree, and what it says
   pub string_read : (d : ℕ) (v : List ℕ) (at n : ℕ) → Spelt s at (quoted v) n → in_class Space (get_or s n 0) ≡ false
@@ -122,4 +122,4 @@ module _ (s : List ℕ) where
 pub escape_spelling : (v : List ℕ) → is_spelling (escape v) ≡ true
 escape_spelling v =
     let l = escape v in
-    eq-eqb _ _ (sym (chars_taken l 0 (length l) (escape-chars l v 0 (length l) (all_of l l refl))) ∙ chars_past l (length l) (omega arith))
+    eq-eqb _ _ (sym (chars_taken l 0 (length l) (escape_chars l v 0 (length l) (all_of l l refl))) ∙ chars_past l (length l) (omega arith))

@@ -40,7 +40,7 @@ use Rattle.law.proofs.Machine.{Tellable}
 use Rattle.table.specs.Layout.{is_byte, held_slots}
 use Rattle.table.specs.Events.{SignedEvent, Signature, table_events, in_slot, of_held, view}
 use Rattle.table.specs.Sound.{slot_sound, slots_sound, sound}
-use Rattle.table.specs.Offer.{asParts}
+use Rattle.table.specs.Offer.{as_parts}
 use Rattle.table.specs.Demand3.{Spells, SpellsTags, Tells, relay}
 use Rattle.table.specs.Claims.{Offerable}
 use Rattle.table.proofs.Good.{Good}
@@ -67,28 +67,28 @@ held_read b s g m =
 
 -- ---- a part
 module _ (p q r : List ℕ) (at k : ℕ) (l : length p ≡ at) (m : length q ≡ k) where
-  part-is : part (p ++ (q ++ r)) at k ≡ q
-  part-is = rw (drop_at p (q ++ r) at l) (take_at q r k m)
+  part_is : part (p ++ (q ++ r)) at k ≡ q
+  part_is = rw (drop_at p (q ++ r) at l) (take_at q r k m)
 
   spells : (v : List ℕ) → is_utf8 q ≡ true → is_spelling q ≡ true → decode q ≡ v → Spells (p ++ (q ++ r)) (record { start = at; len = k }) v
   unfolding is_inside
   spells v u s d = record {
     inside = le-leb (at + k) (length (p ++ (q ++ r))) (simp length-append (omega arith));
-    utf8 = rw part-is u;
-    spelling = rw part-is s;
-    says = rw part-is d;
+    utf8 = rw part_is u;
+    spelling = rw part_is s;
+    says = rw part_is d;
   }
 
 -- hex spells itself; and what is escaped spells what it was
 module _ (p q r : List ℕ) (at k : ℕ) (l : length p ≡ at) where
-  spells-hex : length q ≡ k → spell.all is_hex q ≡ true → Spells (p ++ (q ++ r)) (record { start = at; len = k }) q
+  spells_hex_lem : length q ≡ k → spell.all is_hex q ≡ true → Spells (p ++ (q ++ r)) (record { start = at; len = k }) q
   unfolding is_string_bytes
-  spells-hex m h =
+  spells_hex_lem m h =
       spells p q r at k l m q (hex_string q h) (rw (hex_escape q h) at (escape_spelling q)) (hex_itself q h)
 
-  spells-string : length (escape q) ≡ k → is_string_bytes q ≡ true → Spells (p ++ (escape q ++ r)) (record { start = at; len = k }) q
+  spells_string : length (escape q) ≡ k → is_string_bytes q ≡ true → Spells (p ++ (escape q ++ r)) (record { start = at; len = k }) q
   unfolding is_string_bytes
-  spells-string m h =
+  spells_string m h =
       spells p (escape q) r at k l m q (utf8_escape q ∙ h) (escape_spelling q) (decode_escape q)
 
 -- ---- the parts of an event in its text t, with any bytes r behind
@@ -113,50 +113,50 @@ module _ (t : List ℕ) (e : Event) (a : IsTextOf t e) where
   limits : Limits e
   limits = limits_of e a.fit
 
-  pubkey-size : length e.pubkey ≡ 64
-  pubkey-size = pubkey_length e.pubkey limits.pubkey
+  pubkey_size : length e.pubkey ≡ 64
+  pubkey_size = pubkey_length e.pubkey limits.pubkey
 
-  front-size : length (front e) ≡ tags_place e
-  front-size = let h = pubkey-size in simp length-append (omega arith)
+  front_size : length (front e) ≡ tags_place e
+  front_size = let h = pubkey_size in simp length-append (omega arith)
 
   module _ (r : List ℕ) where
     whole : {l : List ℕ} → l ≡ serialise e ++ r → l ≡ t ++ r
     whole z = z ∙ ap (λ (x : List ℕ). x ++ r) a.same
 
-    told-pubkey : Spells (t ++ r) pubkey_part e.pubkey
+    told_pubkey : Spells (t ++ r) pubkey_part e.pubkey
     unfolding serialise
-    told-pubkey =
+    told_pubkey =
         let z : opening ++ (e.pubkey ++ (back e ++ (tags_text e.tags ++ (comma ++ after e r)))) ≡ t ++ r = whole (simp append_assoc) in
         rw z at
-        (spells-hex opening e.pubkey (back e ++ (tags_text e.tags ++ (comma ++ after e r))) 4 64 refl pubkey-size
+        (spells_hex_lem opening e.pubkey (back e ++ (tags_text e.tags ++ (comma ++ after e r))) 4 64 refl pubkey_size
         (pubkey_hex e.pubkey limits.pubkey))
 
-    told-content : Spells (t ++ r) (content_part e) e.content
+    told_content : Spells (t ++ r) (content_part e) e.content
     unfolding serialise quoted
-    told-content =
+    told_content =
         let p : List ℕ = front e ++ (tags_text e.tags ++ (44 ∷ 34 ∷ [])) in
         let z : p ++ (escape e.content ++ (34 ∷ (bracket ++ r))) ≡ t ++ r = whole (simp append_assoc) in
-        let l : length p ≡ content_place e = simp length-append (omega (arith, pubkey-size)) in
-        rw z at (spells-string p e.content (34 ∷ (bracket ++ r)) (content_place e) (length (escape e.content)) l refl limits.content)
+        let l : length p ≡ content_place e = simp length-append (omega (arith, pubkey_size)) in
+        rw z at (spells_string p e.content (34 ∷ (bracket ++ r)) (content_place e) (length (escape e.content)) l refl limits.content)
 
-    told-tags : SpellsTags (t ++ r) (tags_place e) e.tags
+    told_tags : SpellsTags (t ++ r) (tags_place e) e.tags
     unfolding serialise
-    told-tags =
+    told_tags =
         let k = tags_text e.tags in
         let z : t ++ r ≡ front e ++ ((k ++ (44 ∷ [])) ++ after e r) = sym (whole (simp append_assoc)) in
-        let d : drop (tags_place e) (t ++ r) ≡ (k ++ (44 ∷ [])) ++ after e r = rw z (drop_at (front e) ((k ++ (44 ∷ [])) ++ after e r) (tags_place e) front-size) in
+        let d : drop (tags_place e) (t ++ r) ≡ (k ++ (44 ∷ [])) ++ after e r = rw z (drop_at (front e) ((k ++ (44 ∷ [])) ++ after e r) (tags_place e) front_size) in
         let b = spelt (t ++ r) (k ++ (44 ∷ [])) (after e r) (tags_place e) (tags_place e + length (k ++ (44 ∷ []))) d refl in
         tags_spelled (t ++ r) e.tags (tags_place e) (tags_place e + length k) limits.tags (left k (44 ∷ []) b) (byte_is (right k (44 ∷ []) b))
 
   -- the text alone
   pub pubkey_said : Spells t pubkey_part e.pubkey
-  pubkey_said = rw (append-nil t) at (told-pubkey [])
+  pubkey_said = rw (append-nil t) at (told_pubkey [])
 
   pub content_said : Spells t (content_part e) e.content
-  content_said = rw (append-nil t) at (told-content [])
+  content_said = rw (append-nil t) at (told_content [])
 
   pub tags_said : SpellsTags t (tags_place e) e.tags
-  tags_said = rw (append-nil t) at (told-tags [])
+  tags_said = rw (append-nil t) at (told_tags [])
 
 -- ---- and with the hex of its id and signature behind
 abbrev pub told_in : SignedEvent → List ℕ
@@ -170,15 +170,15 @@ told_parts s e = record {
 }
 
 module _ (s : SignedEvent) (e : Event) (a : IsTextOf s.0.text e)
-    (id-length : length (hex_of s.0.id) ≡ 64) (id_hex : spell.all is_hex (hex_of s.0.id) ≡ true)
+    (id_length : length (hex_of s.0.id) ≡ 64) (id_hex : spell.all is_hex (hex_of s.0.id) ≡ true)
     (sig_length_lem : length (hex_of s.1) ≡ 128) (sig_hex : spell.all is_hex (hex_of s.1) ≡ true) where
-  told-id : Spells (told_in s) (told_parts s e).id (hex_of s.0.id)
-  told-id = spells-hex s.0.text (hex_of s.0.id) (hex_of s.1) (length s.0.text) 64 refl id-length id_hex
+  told_id : Spells (told_in s) (told_parts s e).id (hex_of s.0.id)
+  told_id = spells_hex_lem s.0.text (hex_of s.0.id) (hex_of s.1) (length s.0.text) 64 refl id_length id_hex
 
-  told-sig : Spells (told_in s) (told_parts s e).sig (hex_of s.1)
-  told-sig =
+  told_sig : Spells (told_in s) (told_parts s e).sig (hex_of s.1)
+  told_sig =
       let z : (s.0.text ++ hex_of s.0.id) ++ (hex_of s.1 ++ []) ≡ told_in s = simp (append_assoc, append-nil) in
-      rw z at (spells-hex (s.0.text ++ hex_of s.0.id) (hex_of s.1) [] (length s.0.text + 64) 128 (simp length-append (omega arith)) sig_length_lem sig_hex)
+      rw z at (spells_hex_lem (s.0.text ++ hex_of s.0.id) (hex_of s.1) [] (length s.0.text + 64) 128 (simp length-append (omega arith)) sig_length_lem sig_hex)
 
   told : read_text s.0.text ≡ read e → Tells (told_in s) (told_parts s e) s
   told r =
@@ -186,13 +186,13 @@ module _ (s : SignedEvent) (e : Event) (a : IsTextOf s.0.text e)
       record {
         event = e;
         text = r;
-        id = told-id;
-        pubkey = told-pubkey s.0.text e a h;
+        id = told_id;
+        pubkey = told_pubkey s.0.text e a h;
         time = refl;
         kind = refl;
-        tags = told-tags s.0.text e a h;
-        content = told-content s.0.text e a h;
-        sig = told-sig;
+        tags = told_tags s.0.text e a h;
+        content = told_content s.0.text e a h;
+        sig = told_sig;
       }
 
 -- parts of an event whose id is its text's hash, with a signature of 64 bytes
@@ -208,7 +208,7 @@ tells_text s e r h l k =
 pub tellable : Tellable table_events Signature relay Good
 tellable b s g m =
     let (e, r) = held_read b s g.is_sound m in
-    (asParts (told_in s) (told_parts s e), tells_text s e r (g.hashed s m) (g.sig_length_lem s m) (g.sig_bytes s m))
+    (as_parts (told_in s) (told_parts s e), tells_text s e r (g.hashed s m) (g.sig_length_lem s m) (g.sig_bytes s m))
 
 pub offerable : Offerable
 offerable e sig f l n k =

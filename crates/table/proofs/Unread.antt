@@ -52,37 +52,37 @@ same_test false false f g = refl
 
 -- ---- a table with bytes behind its last slot
 module _ (b t : List ℕ) (full : length b ≡ table_size (capacity_of b)) where
-  capacity-append : capacity_of (b ++ t) ≡ capacity_of b
+  capacity_append : capacity_of (b ++ t) ≡ capacity_of b
   unfolding capacity_of
-  capacity-append = field_append b t 0 4 (omega arith)
+  capacity_append = field_append b t 0 4 (omega arith)
 
   pub count_append : count_of (b ++ t) ≡ count_of b
   unfolding count_of
   count_append = field_append b t count_place 4 (omega arith)
 
-  size-append : slot_size_of (b ++ t) ≡ slot_size_of b
+  size_append : slot_size_of (b ++ t) ≡ slot_size_of b
   unfolding slot_size_of
-  size-append = field_append b t 8 4 (omega arith)
+  size_append = field_append b t 8 4 (omega arith)
 
   first_append : first_slot_of (b ++ t) ≡ first_slot_of b
   unfolding first_slot_of
   first_append = field_append b t 12 4 (omega arith)
 
   module _ (few : count_of b ≤ capacity_of b) where
-    slots-append : held_slots (b ++ t) ≡ held_slots b
-    slots-append =
+    slots_append : held_slots (b ++ t) ≡ held_slots b
+    slots_append =
         ap₂ (cells slot_size) count_append (drop-append-le header_size b t (omega arith))
         ∙ cells_append slot_size (count_of b) (drop header_size b) t (omega (arith, length-drop header_size b))
 
-    view-append : view (b ++ t) ≡ view b
+    view_append : view (b ++ t) ≡ view b
     unfolding view
-    view-append = ap (map in_slot) slots-append
+    view_append = ap (map in_slot) slots_append
 
-    later-append : later_slots (b ++ t) ≡ later_slots b
-    later-append =
+    later_append : later_slots (b ++ t) ≡ later_slots b
+    later_append =
         let n : ℕ = (capacity_of b - count_of b) * slot_size in
         let at : ℕ = slot_place (count_of b) in
-        ap₂ (λ N C. take ((N - C) * slot_size) (drop (slot_place C) (b ++ t))) capacity-append count_append
+        ap₂ (λ N C. take ((N - C) * slot_size) (drop (slot_place C) (b ++ t))) capacity_append count_append
         ∙ ap (take n) (drop-append-le at b t (omega arith))
         ∙ take-append-le n (drop at b) t (omega (arith, length-drop at b))
 
@@ -92,51 +92,51 @@ module _ (b t : List ℕ) (full : length b ≡ table_size (capacity_of b)) where
     where
       to : Clauses (b ++ t) → Clauses b
       to c =
-          let few : count_of b ≤ capacity_of b = rw (← count_append, ← capacity-append) c.count in
+          let few : count_of b ≤ capacity_of b = rw (← count_append, ← capacity_append) c.count in
           record {
             header = omega arith;
-            low = rw (← capacity-append) c.low;
-            high = rw (← capacity-append) c.high;
+            low = rw (← capacity_append) c.low;
+            high = rw (← capacity_append) c.high;
             fit = omega arith;
             count = few;
-            size = sym size-append ∙ c.size;
+            size = sym size_append ∙ c.size;
             first = sym first_append ∙ c.first;
-            slots = ap (all slot_sound) (sym (slots-append few)) ∙ c.slots;
-            ids = ap (none_twice (has_id signed_events)) (sym (view-append few)) ∙ c.ids;
-            keys = ap (none_twice (has_key signed_events)) (sym (view-append few)) ∙ c.keys;
-            later = ap is_zero (sym (later-append few)) ∙ c.later;
+            slots = ap (all slot_sound) (sym (slots_append few)) ∙ c.slots;
+            ids = ap (none_twice (has_id signed_events)) (sym (view_append few)) ∙ c.ids;
+            keys = ap (none_twice (has_key signed_events)) (sym (view_append few)) ∙ c.keys;
+            later = ap is_zero (sym (later_append few)) ∙ c.later;
           }
 
       from : Clauses b → Clauses (b ++ t)
       from c = record {
         header = omega (arith, length-append b t);
-        low = rw capacity-append c.low;
-        high = rw capacity-append c.high;
-        fit = rw capacity-append (omega (arith, length-append b t));
-        count = rw (count_append, capacity-append) c.count;
-        size = size-append ∙ c.size;
+        low = rw capacity_append c.low;
+        high = rw capacity_append c.high;
+        fit = rw capacity_append (omega (arith, length-append b t));
+        count = rw (count_append, capacity_append) c.count;
+        size = size_append ∙ c.size;
         first = first_append ∙ c.first;
-        slots = ap (all slot_sound) (slots-append c.count) ∙ c.slots;
-        ids = ap (none_twice (has_id signed_events)) (view-append c.count) ∙ c.ids;
-        keys = ap (none_twice (has_key signed_events)) (view-append c.count) ∙ c.keys;
-        later = ap is_zero (later-append c.count) ∙ c.later;
+        slots = ap (all slot_sound) (slots_append c.count) ∙ c.slots;
+        ids = ap (none_twice (has_id signed_events)) (view_append c.count) ∙ c.ids;
+        keys = ap (none_twice (has_key signed_events)) (view_append c.count) ∙ c.keys;
+        later = ap is_zero (later_append c.count) ∙ c.later;
       }
 
   module _ (o : Offering) where
-    answer-append : answer (b ++ t) o ≡ answer b o
-    answer-append = go (is_valid o) (sound b) refl refl
+    answer_append : answer (b ++ t) o ≡ answer b o
+    answer_append = go (is_valid o) (sound b) refl refl
       where
         go : (u s : Bool) → is_valid o ≡ u → sound b ≡ s → answer (b ++ t) o ≡ answer b o
         go false s p q = answer_invalid (b ++ t) o p ∙ sym (answer_invalid b o p)
         go true false p q = answer_unsound (b ++ t) o p (sound_append ∙ q) ∙ sym (answer_unsound b o p q)
         go true true p q =
             answer_valid (b ++ t) o p (sound_append ∙ q)
-            ∙ ap₂ (λ N v. offered_by (offering_refusal o) (verdict signed_events N v (some (of_held (offered_of o))))) capacity-append (view-append (clauses b q).count)
+            ∙ ap₂ (λ N v. offered_by (offering_refusal o) (verdict signed_events N v (some (of_held (offered_of o))))) capacity_append (view_append (clauses b q).count)
             ∙ sym (answer_valid b o p q)
 
-    stored-append : is_stored (answer b o) ≡ true → stored_in (b ++ t) (offered_of o) ≡ stored_in b (offered_of o) ++ t
+    stored_append : is_stored (answer b o) ≡ true → stored_in (b ++ t) (offered_of o) ≡ stored_in b (offered_of o) ++ t
     unfolding stored_in slot_for
-    stored-append e =
+    stored_append e =
         let h = offered_of o in
         let s = stores_if b o e in
         let c = clauses b s.is_sound in
@@ -145,19 +145,19 @@ module _ (b t : List ℕ) (full : length b ≡ table_size (capacity_of b)) where
         let l = slot_length h (fits b o s) in
         let w = slot_bytes h in
         let n = le_bytes 4 (count_after b k) in
-        let place : slot_for (b ++ t) h ≡ k = ap (find (has_key signed_events (of_held h))) (view-append c.count) in
+        let place : slot_for (b ++ t) h ≡ k = ap (find (has_key signed_events (of_held h))) (view_append c.count) in
         let count : count_after (b ++ t) (slot_for (b ++ t) h) ≡ count_after b k = rw (place, count_append) in
         ap₂ (λ i m. put (put (b ++ t) (slot_place i) w) count_place (le_bytes 4 m)) place count
         ∙ ap (λ d. put d count_place n) (put_append b t (slot_place k) w (omega arith))
         ∙ put_append (put b (slot_place k) w) t count_place n (omega (arith, length_put b (slot_place k) w, length_le_bytes 4 (count_after b k)))
 
-    next-append : next (b ++ t) o ≡ next b o ++ t
+    next_append : next (b ++ t) o ≡ next b o ++ t
     unfolding next
-    next-append = ap (λ a. cond (is_stored a) (stored_in (b ++ t) (offered_of o)) (b ++ t)) answer-append ∙ go (is_stored (answer b o)) refl
+    next_append = ap (λ a. cond (is_stored a) (stored_in (b ++ t) (offered_of o)) (b ++ t)) answer_append ∙ go (is_stored (answer b o)) refl
       where
         go : (u : Bool) → is_stored (answer b o) ≡ u → cond u (stored_in (b ++ t) (offered_of o)) (b ++ t) ≡ cond u (stored_in b (offered_of o)) b ++ t
-        go true e = stored-append e
+        go true e = stored_append e
         go false e = refl
 
 pub never_read : NeverRead
-never_read b t o full = (answer-append b t full o, next-append b t full o)
+never_read b t o full = (answer_append b t full o, next_append b t full o)

@@ -5,7 +5,7 @@ use mathlib.Core.Path.{◌≡◌, refl, ap, ◌∙◌}
 use mathlib.Core.List.{List}
 use Prim.Native.Nat.{ℕ, ◌≤◌}
 use native.Mathlib.Omega.{arith}
-use borrow.Author.Tests.{eqb-true, eqb-false, ltb-false, not_false}
+use borrow.Author.Tests.{eqb-true, eqb-false, ltb-false, not-false}
 use lib.Dec.{eqb, lit≤}
 use lib.ListN.{length}
 use Rattle.wire.specs.Limits.{most_text}
@@ -29,7 +29,7 @@ use Rattle.event.specs.Answer.{or_else, is_large, hex_of, has_id, offered_row}
 use Rattle.event.proofs.Decoded.{or_neither}
 use Rattle.event.proofs.Fit.{lent_fit, and_fails}
 use Rattle.table.specs.Layout.{Fits}
-use Rattle.table.specs.Offer.{Offering, asMessage, asParts, is_event, parts_of, message_offer_row, offering_row}
+use Rattle.table.specs.Offer.{Offering, as_message, as_parts, is_event, parts_of, message_offer_row, offering_row}
 use Rattle.table.specs.Offer.{is_valid, held_of, offered_of}
 use Rattle.table.proofs.Hex.{unhex_hex, unhex_length, unhex_bytes, digest_length, digest_bytes_lem}
 
@@ -76,7 +76,7 @@ lowest_most r2 r4 r5 r6 r7 r8 = search (cond_most, lit≤, tt) depth 14
 -- ---- parts that rows 2 and 4 to 10 let pass
 pub hex_part : (k : ℕ) (b : List ℕ) (p : Span) → string5 b p ≡ false → string7 k b p ≡ false → length (said b p) ≡ k
 unfolding string5 string7
-hex_part k b p e f = hex_length_lem k (part b p.start p.len) (not_false _ (and_fails (is_spelled b p) _ (not_false (is_spelled b p) e) f))
+hex_part k b p e f = hex_length_lem k (part b p.start p.len) (not-false _ (and_fails (is_spelled b p) _ (not-false (is_spelled b p) e) f))
 
 module _ (b : List ℕ) (p : EventParts) (e : offered_row b p ≡ 0) where
   pub rows : (event_row b p ≡ 0) × (is_large b p.body ≡ false) × (has_id b p ≡ true)
@@ -121,9 +121,9 @@ module _ (b : List ℕ) (p : EventParts) (e : offered_row b p ≡ 0) where
       let z = same_equal (said b p.id) (hex_of d) rows.2 in
       rw z (unhex_hex d (digest_bytes_lem (serialise (event_of b p.body))))
 
-  parts-fit : Fits (held_of b p)
+  parts_fit : Fits (held_of b p)
   unfolding held_of
-  parts-fit =
+  parts_fit =
       let t = serialise (event_of b p.body) in
       record {
         id = ap length id_hashed ∙ digest_length t;
@@ -136,28 +136,28 @@ module _ (b : List ℕ) (p : EventParts) (e : offered_row b p ≡ 0) where
 
 -- ---- an offer
 abbrev pub buffer_of : Offering → List ℕ
-buffer_of (asMessage m) = m
-buffer_of (asParts b p) = b
+buffer_of (as_message m) = m
+buffer_of (as_parts b p) = b
 
 abbrev pub parts_in : Offering → EventParts
-parts_in (asMessage m) = parts_of m
-parts_in (asParts b p) = p
+parts_in (as_message m) = parts_of m
+parts_in (as_parts b p) = p
 
 pub parts_pass : (o : Offering) → is_valid o ≡ true → offered_row (buffer_of o) (parts_in o) ≡ 0
 unfolding message_offer_row
-parts_pass (asParts b p) e = eqb-true (offered_row b p) 0 e
-parts_pass (asMessage m) e = let (x, y) = or_else_lem (text_row m) _ (eqb-true _ 0 e) in go (is_event m) y
+parts_pass (as_parts b p) e = eqb-true (offered_row b p) 0 e
+parts_pass (as_message m) e = let (x, y) = or_else_lem (text_row m) _ (eqb-true _ 0 e) in go (is_event m) y
   where
     go : (t : Bool) → cond t (or_else (message_row m) (offered_row m (parts_of m))) 5 ≡ 0 → offered_row m (parts_of m) ≡ 0
     go true z = (or_else_lem (message_row m) _ z).1
     go false z = absurd (omega arith)
 
 offered_is : (o : Offering) → offered_of o ≡ held_of (buffer_of o) (parts_in o)
-offered_is (asMessage m) = refl
-offered_is (asParts b p) = refl
+offered_is (as_message m) = refl
+offered_is (as_parts b p) = refl
 
 pub valid_fits : (o : Offering) → is_valid o ≡ true → Fits (offered_of o)
-valid_fits o e = rw (offered_is o) (parts-fit (buffer_of o) (parts_in o) (parts_pass o e))
+valid_fits o e = rw (offered_is o) (parts_fit (buffer_of o) (parts_in o) (parts_pass o e))
 
 pub valid_hashed : (o : Offering) → is_valid o ≡ true → (offered_of o).id ≡ digest (serialise (offered_of o).event)
 unfolding held_of
@@ -187,6 +187,6 @@ message_most s = cond_most 10 (row1 s) 1 _ (omega arith) (cond_most 10 (row2 s) 
 
 pub refused_row_lem : (o : Offering) → is_valid o ≡ false → offering_row o ≤ 10
 unfolding message_offer_row
-refused_row_lem (asParts b p) e = offered_most b p
-refused_row_lem (asMessage m) e =
+refused_row_lem (as_parts b p) e = offered_most b p
+refused_row_lem (as_message m) e =
     or_else_most 10 _ _ (text_most m) (cond_most 10 (is_event m) _ 5 (or_else_most 10 _ _ (message_most m) (offered_most m (parts_of m))) (omega arith))

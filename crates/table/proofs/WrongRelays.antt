@@ -1,7 +1,7 @@
 -- Relays over the same table, offers and judge that do not meet the claims of demand 3, and that this one does: 01,
 -- "How far each promise must reach". Law's WrongRelays, with two events and a fresh table in bytes.
 use mathlib.Core.Path.{◌≡◌, refl, sym, ap, ◌∙◌}
-use mathlib.Core.Bool.{true, false}
+use mathlib.Core.Bool.{false}
 use mathlib.Core.Logic.{◌≢◌}
 use mathlib.Core.Option.{some}
 use mathlib.Core.List.{List, []}
@@ -12,15 +12,15 @@ use Rattle.digest.specs.Digest.{digest}
 use Rattle.text.specs.Event.{Event, serialise, all}
 use Rattle.text.specs.Kinds.{class_of}
 use Rattle.event.proofs.TwoEvents.{noted, Suits, suits₀, suits₁, ids_differ}
-use Rattle.law.specs.Table.{regular, IdPremise, slotsNeeded}
+use Rattle.law.specs.Table.{regular, IdPremise, slots_needed}
 use Rattle.law.specs.Event as law
 use Rattle.law.specs.Lists.{◌∈◌}
-use Rattle.law.specs.Demand3.{Machine, HeldSetOn, RoomLawOn, SignatureStoredOn, judged, runOn}
+use Rattle.law.specs.Demand3.{Machine, HeldSetOn, RoomLawOn, SignatureStoredOn, judged, run_on}
 use Rattle.law.proofs.WrongRelays.{OfRegular}
 use Rattle.law.proofs.WrongRelays as wrong
 use Rattle.table.specs.Layout.{table_size, capacity_of, count_of}
 use Rattle.table.specs.Events.{SignedEvent, Signature, table_events, class_of_text, view}
-use Rattle.table.specs.Offer.{Offering, asParts, is_stored, judge, answer, next}
+use Rattle.table.specs.Offer.{Offering, as_parts, is_stored, judge, answer, next}
 use Rattle.table.specs.Format.{format_row, formatted}
 use Rattle.table.specs.Demand3.{Fresh, verdict_of, relay_with, relay}
 use Rattle.table.specs.declared.Offered.{Offered}
@@ -49,7 +49,7 @@ offer_of : (t : ℕ) → Suits (noted t) → (o : Offering) × (v : OfRegular ta
 unfolding all
 offer_of t s =
     let (c, p, j) = offerable (noted t) (signature 1) s.fit (omega (arith, s.size)) refl refl in
-    (asParts c p, record { signature = signature 1; valid = j; kind = is_regular t s }, refl)
+    (as_parts c p, record { signature = signature 1; valid = j; kind = is_regular t s }, refl)
 
 -- ---- a fresh table of two slots
 two_fit : (b : List ℕ) → length b ≡ table_size 2 → format_row 2 b ≡ 0
@@ -76,8 +76,8 @@ module _ (answer' : List ℕ → Offering → Offered) (next' : List ℕ → Off
   abbrev pub another : Machine table_events Signature
   another = relay_with answer' next'
 
-  of-regular : {o : Offering} {e : law.Event} → OfRegular table_events Signature relay o e → OfRegular table_events Signature another o e
-  of-regular r = record { signature = r.signature; valid = r.valid; kind = r.kind }
+  of_regular : {o : Offering} {e : law.Event} → OfRegular table_events Signature relay o e → OfRegular table_events Signature another o e
+  of_regular r = record { signature = r.signature; valid = r.valid; kind = r.kind }
 
   module _ (held : HeldSetOn table_events Signature another) (room : RoomLawOn table_events Signature another) where
     -- "a relay that refuses everything or stores nothing (shut out by the table of numbers and by the held set of
@@ -85,7 +85,7 @@ module _ (answer' : List ℕ → Offering → Offered) (next' : List ℕ → Off
     pub stores_nothing : ((b : List ℕ) (o : Offering) → view (next' b o) ≡ view b) → ⊥
     stores_nothing idle =
         let (o, v, _) = offer_of 0 suits₀ in
-        wrong.stores_nothing table_events Signature another held room table table_fresh o (named (noted 0)) (of-regular v)
+        wrong.stores_nothing table_events Signature another held room table table_fresh o (named (noted 0)) (of_regular v)
         (omega (arith, table_two)) idle
 
     -- one that refuses everything, if it keeps "every lent buffer stays as found"
@@ -98,38 +98,38 @@ module _ (answer' : List ℕ → Offering → Offered) (next' : List ℕ → Off
         let (o, v, _) = offer_of 0 suits₀ in
         let (p, w, _) = offer_of 1 suits₁ in
         wrong.stores_first_only table_events Signature another held room table table_fresh o p (named (noted 0)) (named (noted 1))
-        (of-regular v) (of-regular w) ids_differ (omega (arith, table_two)) idle
+        (of_regular v) (of_regular w) ids_differ (omega (arith, table_two)) idle
 
     -- "a made-up held count .. (the header ..)": one that no offer changes, and any other than the slots needed
     pub constant_count : ((b : List ℕ) (o : Offering) → count_of (next' b o) ≡ count_of b) → ⊥
     constant_count idle =
         let (o, v, _) = offer_of 0 suits₀ in
-        wrong.constant_count table_events Signature another held room table table_fresh event_laws o (named (noted 0)) (of-regular v)
+        wrong.constant_count table_events Signature another held room table table_fresh event_laws o (named (noted 0)) (of_regular v)
         (omega (arith, table_two)) (λ b o. length_view (next' b o) ∙ idle b o ∙ sym (length_view b))
 
     pub made_up_count : (b : List ℕ) → Fresh b → (os : List Offering) → IdPremise table_events (judged table_events Signature another os)
-        → slotsNeeded table_events (judged table_events Signature another os) ≤ capacity_of b
-        → (n : ℕ) → n ≢ slotsNeeded table_events (judged table_events Signature another os) → count_of (runOn table_events Signature another b os) ≢ n
+        → slots_needed table_events (judged table_events Signature another os) ≤ capacity_of b
+        → (n : ℕ) → n ≢ slots_needed table_events (judged table_events Signature another os) → count_of (run_on table_events Signature another b os) ≢ n
     made_up_count b f os ids le n ne q =
         wrong.made_up_count table_events Signature another held room b f event_laws os ids le n ne
-        (length_view (runOn table_events Signature another b os) ∙ q)
+        (length_view (run_on table_events Signature another b os) ∙ q)
 
     -- one that stores another signature than the offer's, and so one that stores 64 zero bytes for every signature
     pub other_signature : SignatureStoredOn table_events Signature another
         → ((b : List ℕ) (o : Offering) (s : SignedEvent) → judge o ≡ some s → s ∈ view (next' b o) → ⊥) → ⊥
     other_signature sigs other =
         let (o, v, _) = offer_of 0 suits₀ in
-        wrong.other_signature table_events Signature another held room table table_fresh sigs o (named (noted 0)) (of-regular v)
+        wrong.other_signature table_events Signature another held room table table_fresh sigs o (named (noted 0)) (of_regular v)
         (omega (arith, table_two)) other
 
     pub zero_signature : SignatureStoredOn table_events Signature another
         → ((b : List ℕ) (o : Offering) (s : SignedEvent) → s ∈ view (next' b o) → s.1 ≡ signature 0) → ⊥
-    unfolding of-regular
+    unfolding of_regular
     zero_signature sigs zero =
         let (o, v, q) = offer_of 0 suits₀ in
         let s : SignedEvent = (named (noted 0), v.signature) in
         let zeros : s ∈ view (next' table o) → signature 1 ≡ signature 0 = λ m. sym q ∙ zero table o s m in
-        wrong.held_signature table_events Signature another held room table table_fresh sigs o (named (noted 0)) (of-regular v)
+        wrong.held_signature table_events Signature another held room table table_fresh sigs o (named (noted 0)) (of_regular v)
         (omega (arith, table_two)) (λ m. omega (arith, ap (λ (l : List ℕ). get_or l 0 0) (zeros m)))
 
 -- ---- this relay meets the claims, and so is none of these

@@ -21,14 +21,14 @@ use Rattle.event.specs.Lent.{said, text_of}
 use Rattle.event.specs.Answer.{hex_of, offered_row}
 use Rattle.law.specs.Lists.{◌∈◌}
 use Rattle.law.specs.Table.{ephemeral, regular, keyed, verdict}
-use Rattle.law.specs.Demand3.{runOn, ExchangesOn}
+use Rattle.law.specs.Demand3.{run_on, ExchangesOn}
 use Rattle.table.specs.Layout.{Held, Fits, slot_size, table_size, slot_place, count_place, capacity_of, count_of}
 use Rattle.table.specs.Layout.{slot_size_of, first_slot_of, slot_at, is_byte, id_in, time_in, kind_in, length_in, d_in}
 use Rattle.table.specs.Layout.{text_place, text_in, no_span, d_place, slot_bytes}
 use Rattle.table.specs.Events.{SignedEvent, Signature, class_of_text, time_of_text, table_events, signed_events, in_slot}
 use Rattle.table.specs.Events.{of_held, view}
 use Rattle.table.specs.Sound.{slot_sound, sound_up_to, sound}
-use Rattle.table.specs.Offer.{Offering, asMessage, asParts, is_event, message_offer_row, offering_row}
+use Rattle.table.specs.Offer.{Offering, as_message, as_parts, is_event, message_offer_row, offering_row}
 use Rattle.table.specs.Offer.{offering_refusal, is_valid, is_stored, judge, offered_by, answer_if, answer, offered_of}
 use Rattle.table.specs.Offer.{slot_for, next}
 use Rattle.table.specs.Format.{format_row, formatted, shown_row_if, shown_row, shown}
@@ -80,8 +80,8 @@ pub record EventRows (m : List ℕ) (p : EventParts) : Type 0 where
       message_offer_row m ≡ 10
   pub none : length (text_of m p.body) ≤ most_text → said m p.id ≡ hex_of (digest (text_of m p.body)) →
       message_offer_row m ≡ 0
-  pub as_parts : message_offer_row m ≡ offered_row m p
-  pub same_event : judge (asMessage m) ≡ judge (asParts m p)
+  pub as_parts_lem : message_offer_row m ≡ offered_row m p
+  pub same_event : judge (as_message m) ≡ judge (as_parts m p)
 
 abbrev pub RowsInOrder : Type 0
 RowsInOrder =
@@ -235,14 +235,14 @@ ShownNeverRead =
 -- what a relay holds after a list of offers can be told: parts of it exist
 abbrev pub Tellable : Type 0
 Tellable =
-    (b : List ℕ) (os : List Offering) (s : SignedEvent) → Fresh b → s ∈ view (runOn table_events Signature relay b os) →
+    (b : List ℕ) (os : List Offering) (s : SignedEvent) → Fresh b → s ∈ view (run_on table_events Signature relay b os) →
     (o : Offering) × AsParts o s
 
 -- and parts that are judged to be what is held are just those that tell it
 abbrev pub ToldExactly : Type 0
 ToldExactly =
-    (b : List ℕ) (os : List Offering) (s : SignedEvent) → Fresh b → s ∈ view (runOn table_events Signature relay b os) →
-    (c : List ℕ) (p : EventParts) → Tells c p s ↔ (judge (asParts c p) ≡ some s)
+    (b : List ℕ) (os : List Offering) (s : SignedEvent) → Fresh b → s ∈ view (run_on table_events Signature relay b os) →
+    (c : List ℕ) (p : EventParts) → Tells c p s ↔ (judge (as_parts c p) ≡ some s)
 
 -- "Then each list goes on with offers, as parts, of what the other relay holds": whatever the histories, such offers
 -- exist
@@ -256,4 +256,4 @@ Offerable =
     (e : Event) (sig : List ℕ) → is_fit e ≡ true → length (serialise e) ≤ most_text → length sig ≡ 64 →
     all is_byte sig ≡ true →
     (c : List ℕ) × (p : EventParts) ×
-    (judge (asParts c p) ≡ some (of_held (record { id = digest (serialise e); sig = sig; event = e })))
+    (judge (as_parts c p) ≡ some (of_held (record { id = digest (serialise e); sig = sig; event = e })))

@@ -10,11 +10,11 @@ use Rattle.message.specs.declared.EventParts.{EventParts}
 use Rattle.message.specs.Lent.{span_bytes, is_inside, is_tags_shape, value2, value5}
 use Rattle.event.specs.Lent.{said, lent_tags_at}
 use Rattle.event.specs.Answer.{hex_of}
-use Rattle.law.specs.Table.{Verdict, refused, wasEphemeral, duplicate, older, stored, noRoom}
+use Rattle.law.specs.Table.{Verdict, refused, was_ephemeral, duplicate, older, stored, no_room}
 use Rattle.law.specs.Demand3.{Machine, Demand3On}
 use Rattle.table.specs.Layout.{capacity_of}
 use Rattle.table.specs.Events.{SignedEvent, Signature, table_events, view}
-use Rattle.table.specs.Offer.{Offering, asMessage, asParts, judge, answer, next}
+use Rattle.table.specs.Offer.{Offering, as_message, as_parts, judge, answer, next}
 use Rattle.table.specs.Format.{format_row, formatted}
 use Rattle.table.specs.declared.Offered.{Offered}
 use Rattle.table.specs.declared.Offered.TheVariants.{Ephemeral, Duplicate, Older, Stored, Refused}
@@ -46,8 +46,8 @@ pub record Tells (b : List ℕ) (p : EventParts) (s : SignedEvent) : Type 0 wher
   pub sig : Spells b p.sig (hex_of s.1)
 
 abbrev pub AsParts : Offering → SignedEvent → Type 0
-AsParts (asMessage m) s = ⊥
-AsParts (asParts b p) s = Tells b p s
+AsParts (as_message m) s = ⊥
+AsParts (as_parts b p) s = Tells b p s
 
 -- ---- the relay
 -- "A fresh table is one just formatted, with any capacity and buffer that rows 13 and 14 let pass"
@@ -59,11 +59,11 @@ pub record Fresh (b : List ℕ) : Type 0 where
 
 -- "An offer lacks room when its answer is 12."
 abbrev pub verdict_of : Offered → Verdict
-verdict_of Ephemeral = wasEphemeral
+verdict_of Ephemeral = was_ephemeral
 verdict_of Duplicate = duplicate
 verdict_of Older = older
 verdict_of Stored = stored
-verdict_of (Refused r) = cond (eqb r.row 12) noRoom refused
+verdict_of (Refused r) = cond (eqb r.row 12) no_room refused
 
 -- a relay over such tables and offers, by what it answers and the table that an offer leaves
 abbrev pub relay_with : (List ℕ → Offering → Offered) → (List ℕ → Offering → List ℕ) → Machine table_events Signature

@@ -2,14 +2,13 @@
 -- time are those of the event that the text is a serialisation of.
 use Rattle.std.specs.Prelude.{List, map, ℕ, ℤ, pos}
 use Rattle.text.specs.Event.{Event, serialise}
-use Rattle.text.specs.Read.{Read, tooLarge, wrongShape, read, read_text}
+use Rattle.text.specs.Read.{Read, too_large, wrong_shape, read, read_text}
 use Rattle.text.specs.Kinds.{Key, same_key, key_of, class_of}
 use Rattle.text.specs.declared.Class as kinds
 use Rattle.text.specs.declared.Class.TheVariants.{Regular, Replaceable, Ephemeral, Addressable}
 use Rattle.law.specs.Table.{Class, ephemeral, regular, keyed, Events}
 use Rattle.law.specs.Event.{events}
-use Rattle.law.specs.Event as law
-use Rattle.law.specs.Signature.{Slot, withSignature}
+use Rattle.law.specs.Signature.{Slot, with_signature}
 use Rattle.table.specs.Layout.{Held, id_in, sig_in, text_in, held_slots}
 use Rattle.wire.specs.Bytes.{Bytes}
 
@@ -25,13 +24,13 @@ class_of_event e = class_for (class_of e.kind) (key_of e)
 
 -- a text that is no serialisation is in no sound table
 abbrev pub class_in : Read → Class Key
-class_in tooLarge = regular
-class_in wrongShape = regular
+class_in too_large = regular
+class_in wrong_shape = regular
 class_in (read e) = class_of_event e
 
 abbrev pub read_time : Read → ℤ
-read_time tooLarge = pos 0
-read_time wrongShape = pos 0
+read_time too_large = pos 0
+read_time wrong_shape = pos 0
 read_time (read e) = e.time
 
 unfoldable pub class_of_text : Bytes → Class Key
@@ -51,7 +50,7 @@ abbrev pub SignedEvent : Type 0
 SignedEvent = Slot table_events Signature
 
 abbrev pub signed_events : Events
-signed_events = withSignature table_events Signature
+signed_events = with_signature table_events Signature
 
 -- what the bytes of a slot hold; what an event with its id and signature is, held
 abbrev pub in_slot : Bytes → SignedEvent

@@ -1,5 +1,5 @@
 -- 01, "The table": formatting a buffer, and showing a slot.
-use Rattle.std.specs.Prelude.{Bool, cond, List, [], ◌++◌, ℕ, ◌*◌, eqb, ltb, length, drop, replicate}
+use Rattle.std.specs.Prelude.{Bool, cond, [], ◌++◌, ℕ, ◌*◌, eqb, ltb, length, drop, replicate}
 use Rattle.wire.specs.Limits.{most_slots}
 use Rattle.table.specs.Layout.{slot_size, table_size, count_of, header_bytes, slot_at, text_in}
 use Rattle.table.specs.Sound.{is_capacity, sound}

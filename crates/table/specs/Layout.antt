@@ -1,5 +1,5 @@
 -- 01, "The table": where its numbers and its events stand in its bytes, "Little-endian."
-use Rattle.std.specs.Prelude.{◌≡◌, Bool, true, List, [], ◌∷◌, ◌++◌, ℕ, ◌+◌, ◌-◌, ◌*◌, ◌≤◌, ltb, length, drop, replicate}
+use Rattle.std.specs.Prelude.{◌≡◌, Bool, true, List, ◌++◌, ℕ, ◌+◌, ◌-◌, ◌*◌, ◌≤◌, ltb, length, drop, replicate}
 use Rattle.wire.specs.Limits.{most_text}
 use Rattle.wire.specs.Field.{le_bytes, field_at, unsigned}
 use Rattle.rows.specs.Strings.{part}

@@ -1,5 +1,5 @@
 -- The table: its bytes (Cells, Layout), its events, soundness, offers, formatting and showing, and demand 3 at its
--- bytes (Demand3). Claims has what else is claimed, Examples a full table at work.
+-- bytes (Demand3). Claims has what else is claimed.
 pub mod Cells
 pub mod Layout
 pub mod Events
@@ -8,4 +8,3 @@ pub mod Offer
 pub mod Format
 pub mod Demand3
 pub mod Claims
-pub mod Examples

@@ -1,7 +1,7 @@
 -- 01, "The table": what an offer is answered, and the table's bytes afterwards. "Valid is judged from what is offered,
 -- whatever the table holds."
 use Rattle.std.specs.Prelude.{Bool, true, false, cond, not, ◌&&◌, List, ℕ, ◌+◌, eqb, ltb, pos}
-use Rattle.std.proofs.Math.Option.{Option, none, some}
+use Rattle.std.proofs.Math.Option.{none, some}
 use Rattle.wire.specs.Put.{put}
 use Rattle.wire.specs.Field.{le_bytes}
 use Rattle.rows.specs.Rows.{text_row}
@@ -19,9 +19,9 @@ use Rattle.message.specs.declared.Message.TheVariants as message
 use Rattle.event.specs.Lent.{said, event_of}
 use Rattle.event.specs.Answer.{or_else, offered_row}
 use Rattle.law.specs.Lists.{find}
-use Rattle.law.specs.Table.{Verdict, refused, wasEphemeral, duplicate, older, stored, noRoom, Offer, has_key, verdict}
+use Rattle.law.specs.Table.{Verdict, refused, was_ephemeral, duplicate, older, stored, no_room, Offer, has_key, verdict}
 use Rattle.table.specs.Layout.{Held, capacity_of, count_of, count_place, slot_place, slot_bytes}
-use Rattle.table.specs.Events.{SignedEvent, signed_events, of_held, view}
+use Rattle.table.specs.Events.{signed_events, of_held, view}
 use Rattle.table.specs.Sound.{sound}
 use Rattle.table.specs.declared.Offered.{Offered}
 use Rattle.table.specs.declared.Offered.TheVariants.{Ephemeral, Duplicate, Older, Stored, Refused}
@@ -29,8 +29,8 @@ use Rattle.wire.specs.Bytes.{Bytes, Row}
 
 -- "Offers of any bytes as a message and of any parts", which lie in a buffer
 pub data Offering : Type 0 where
-  asMessage : List ℕ → Offering
-  asParts : List ℕ → EventParts → Offering
+  as_message : List ℕ → Offering
+  as_parts : List ℕ → EventParts → Offering
 
 -- ---- rows 1 to 10
 -- the parts of an EVENT message; of no other is anything offered
@@ -55,13 +55,13 @@ unfoldable pub message_offer_row : Bytes → Row
 message_offer_row m = or_else (text_row m) (cond (is_event m) (or_else (message_row m) (offered_row m (parts_of m))) 5)
 
 abbrev pub offering_row : Offering → ℕ
-offering_row (asMessage m) = message_offer_row m
-offering_row (asParts b p) = offered_row b p
+offering_row (as_message m) = message_offer_row m
+offering_row (as_parts b p) = offered_row b p
 
 -- what refuses an offer: of a message with the offset of rows 6 and 7 (02, Wish 9)
 abbrev pub offering_refusal : Offering → Refusal
-offering_refusal (asMessage m) = refusal_for m (message_offer_row m)
-offering_refusal (asParts b p) = plain_refusal (offered_row b p)
+offering_refusal (as_message m) = refusal_for m (message_offer_row m)
+offering_refusal (as_parts b p) = plain_refusal (offered_row b p)
 
 -- "A valid event is one offered, as a message or as parts, that none of rows 1 to 10 refuses."
 abbrev pub is_valid : Offering → Bool
@@ -72,8 +72,8 @@ unfoldable pub held_of : Bytes → EventParts → Held
 held_of b p = record { id = unhex (said b p.id); sig = unhex (said b p.sig); event = event_of b p.body }
 
 abbrev pub offered_of : Offering → Held
-offered_of (asMessage m) = held_of m (parts_of m)
-offered_of (asParts b p) = held_of b p
+offered_of (as_message m) = held_of m (parts_of m)
+offered_of (as_parts b p) = held_of b p
 
 unfoldable pub judge : Offering → Offer signed_events
 judge o = cond (is_valid o) (some (of_held (offered_of o))) none
@@ -82,11 +82,11 @@ judge o = cond (is_valid o) (some (of_held (offered_of o))) none
 -- 01's number of a verdict that has one, and what refused the offer
 abbrev pub offered_by : Refusal → Verdict → Offered
 offered_by r refused = Refused r
-offered_by r wasEphemeral = Ephemeral
+offered_by r was_ephemeral = Ephemeral
 offered_by r duplicate = Duplicate
 offered_by r older = Older
 offered_by r stored = Stored
-offered_by r noRoom = Refused (plain_refusal 12)
+offered_by r no_room = Refused (plain_refusal 12)
 
 -- "Verdicts of an offer after row 11": law/Table, `verdict`
 unfoldable pub verdict_on : Bytes → Offering → Verdict

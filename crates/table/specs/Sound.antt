@@ -7,13 +7,13 @@ use Rattle.std.specs.Prelude.{Bool, true, false, not, ◌&&◌, List, [], ◌∷
 use Rattle.wire.specs.Limits.{most_text, most_slots}
 use Rattle.wire.specs.Field.{unsigned}
 use Rattle.text.specs.Event.{Event, all}
-use Rattle.text.specs.Read.{Read, tooLarge, wrongShape, read, read_text}
+use Rattle.text.specs.Read.{Read, too_large, wrong_shape, read, read_text}
 use Rattle.text.specs.Kinds.{is_ephemeral}
 use Rattle.law.specs.Lists.{any}
 use Rattle.law.specs.Table.{has_id, has_key}
 use Rattle.table.specs.Layout.{header_size, slot_size, capacity_of, count_of, slot_size_of, first_slot_of, table_size}
 use Rattle.table.specs.Layout.{held_slots, later_slots, time_in, kind_in, length_in, d_in, text_in, rest_in, d_place}
-use Rattle.table.specs.Events.{SignedEvent, signed_events, view}
+use Rattle.table.specs.Events.{signed_events, view}
 use Rattle.wire.specs.Bytes.{Bytes}
 
 -- "the buffer has at least 16 bytes"
@@ -42,8 +42,8 @@ others_as_above b = eqb (slot_size_of b) slot_size && eqb (first_slot_of b) head
 -- ---- one slot s
 -- "held texts are serialisations of events ..": and end within the slot
 abbrev pub is_read : Read → Bool
-is_read tooLarge = false
-is_read wrongShape = false
+is_read too_large = false
+is_read wrong_shape = false
 is_read (read e) = true
 
 unfoldable pub text_reads : Bytes → Bool
@@ -56,8 +56,8 @@ agrees_with s e =
     && (eqb (kind_in s) e.kind && (eqb (d_in s).at (d_place e).at && eqb (d_in s).len (d_place e).len))
 
 abbrev pub agrees_in : Bytes → Read → Bool
-agrees_in s tooLarge = false
-agrees_in s wrongShape = false
+agrees_in s too_large = false
+agrees_in s wrong_shape = false
 agrees_in s (read e) = agrees_with s e
 
 unfoldable pub fields_agree : Bytes → Bool

@@ -14,7 +14,12 @@
 //
 // Each line prints its answer, the table's count and a print of the table and the 64 bytes behind it: what a call wrote
 // shows in it. A message that is refused by row 6 or 7 has `@` and the offset behind the row, parts have not.
+#![tactic(auto)]
+
+use lines::{Input, Output};
 use slots::Shown;
+use std::io;
+use std::io::{Read, Write};
 use table::Offered;
 
 // ---- What is written.
@@ -107,28 +112,52 @@ fn looked_at(room: &[u8], n: usize) -> &[u8] {
     wire::piece(room, 0, n + 64)
 }
 
-fn step(line: &[u8], lent: &mut [u8], room: &mut [u8], n: usize) -> usize {
+fn step<W: Write>(
+    output: &mut Output<W>,
+    line: &[u8],
+    lent: &mut [u8],
+    room: &mut [u8],
+    n: usize,
+) -> io::Result<usize> {
     fields::change_lent(line, lent);
     fields::change_room(line, room);
     let len = fields::table_len(line, n);
-    let mut out = io::buffer();
+    let mut out = [0u8; 4096];
     let a = put_call(&mut out, line, lent, room, len);
     let b = fields::put_number(&mut out, a, wire::le_at(room, slots::COUNT_PLACE, 4));
     let c = put_print(&mut out, b, looked_at(room, len));
-    lines::write_line(&mut out, c);
-    len
+    lines::write_line(output, &mut out, c)?;
+    Ok(len)
 }
 
 // Of a line of 65,536 bytes or more it is only said that it is too long.
-fn main() {
-    let mut line = io::large_buffer();
-    let mut chunk = io::large_buffer();
-    let mut lent = io::large_buffer();
-    let mut room = fields::empty_room();
+fn read_all<R: Read, W: Write>(
+    input: &mut Input<R>,
+    output: &mut Output<W>,
+    room: &mut [u8],
+) -> io::Result<()> {
+    let mut line = [0u8; 65536];
+    let mut chunk = [0u8; 65536];
+    let mut lent = [0u8; 65536];
     let mut n: usize = 0;
-    let mut l = lines::next_within(&mut line, &mut chunk, lines::none(), b"too long\n");
+    let mut l = lines::next_within(
+        input,
+        output,
+        &mut line,
+        &mut chunk,
+        lines::none(),
+        b"too long\n",
+    )?;
     while 0 < l.left {
-        n = step(wire::piece(&line, 0, l.n), &mut lent, &mut room, n);
-        l = lines::next_within(&mut line, &mut chunk, l, b"too long\n");
+        n = step(output, wire::piece(&line, 0, l.n), &mut lent, room, n)?;
+        l = lines::next_within(input, output, &mut line, &mut chunk, l, b"too long\n")?;
     }
+    Ok(())
+}
+
+fn main(rt: HostRuntime) -> io::Result<()> {
+    let mut input = lines::from_reader(rt.stdin());
+    let mut output = lines::to_writer(rt.stdout());
+    let mut room = fields::empty_room(rt.alloc())?;
+    read_all(&mut input, &mut output, room.as_mut_slice())
 }

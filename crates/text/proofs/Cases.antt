@@ -14,10 +14,10 @@ use Rattle.numeral.specs.Whole.{is_within}
 use Rattle.utf8.specs.Utf8.{is_utf8, utf8_from, lead_of}
 use Rattle.text.specs.Event.{Tag, Event, quoted, members_text, tag_text, tags_text, serialise, all, is_pubkey, is_time}
 use Rattle.text.specs.Event.{is_string_bytes, is_tag, is_tags, is_fit}
-use Rattle.text.specs.Read.{tooLarge, read, read_text}
+use Rattle.text.specs.Read.{too_large, read, read_text}
 use Rattle.text.specs.Kinds.{class_of, d_of, addressable, key_of}
 use Rattle.text.specs.declared.Class.TheVariants.{Regular, Replaceable, Ephemeral, Addressable}
-use Rattle.text.proofs.RoundTrip.{read_back, too_large, fit_length}
+use Rattle.text.proofs.RoundTrip.{read_back, too_large_lem, fit_length}
 
 -- 64 times a
 abbrev pub A : List ℕ
@@ -64,9 +64,9 @@ unfolding digits_in digits decimal tags_text members_text
 xs_length n = fit_length (xs n) (fit_xs n) ∙ rw (escape_xs n, length-replicate {A = ℕ} n 120)
 
 -- 80 bytes; 4,016 x are taken, 4,017 give 9
-pub xs_cases : (length (serialise (xs 0)) ≡ 80) × (read_text (serialise (xs 4016)) ≡ read (xs 4016)) × (read_text (serialise (xs 4017)) ≡ tooLarge)
+pub xs_cases : (length (serialise (xs 0)) ≡ 80) × (read_text (serialise (xs 4016)) ≡ read (xs 4016)) × (read_text (serialise (xs 4017)) ≡ too_large)
 xs_cases =
-    (xs_length 0, read_back (xs 4016) (fit_xs 4016) (omega (arith, xs_length 4016)), (too_large (serialise (xs 4017))).1 (omega (arith, xs_length 4017)))
+    (xs_length 0, read_back (xs 4016) (fit_xs 4016) (omega (arith, xs_length 4016)), (too_large_lem (serialise (xs 4017))).1 (omega (arith, xs_length 4017)))
 
 -- ---- kinds and keys
 pub kinds : (class_of 44 ≡ Regular) × (class_of 45 ≡ Regular) × (class_of 9999 ≡ Regular) × (class_of 10000 ≡ Replaceable) × (class_of 19999 ≡ Replaceable)

@@ -1,6 +1,6 @@
 -- A way out at a time: numbers up to their comma, the opening with the pubkey, the rest, and the whole text.
 use mathlib.Core.Path.{◌≡◌, refl, sym, ap, ◌∙◌}
-use mathlib.Core.Bool.{Bool, true, false, cond, ◌&&◌, and_false}
+use mathlib.Core.Bool.{Bool, true, false, cond, ◌&&◌, and-false}
 use mathlib.Core.List.{List, [], ◌∷◌}
 use Prim.Native.Nat.{ℕ, suc, ◌+◌, ◌-◌, ◌<◌, ◌≤◌, ◌^◌}
 use native.Mathlib.Omega.{arith}
@@ -12,7 +12,7 @@ use lib.Signed.{mag}
 use mir.Syntax.{w64}
 use mir.Val.{to_z, of_z}
 use mir.ValLaws.{to_z-of_z}
-use borrow.Author.Tests.{le-leb, lt-leb, eq-eqb, ne_eqb, eqb-true, ltb-true, not_false}
+use borrow.Author.Tests.{le-leb, lt-leb, eq-eqb, ne_eqb, eqb-true, ltb-true, not-false}
 use Rattle.wire.specs.Field.{unsigned}
 use Rattle.numeral.specs.Whole.{whole_of, is_within, whole_answer}
 use Rattle.numeral.specs.Whole as numeral
@@ -48,7 +48,7 @@ value_told (numeral.whole y) z e = go (is_time y) refl e
 
 large_kind : (k n : ℕ) → is_time (pos k) ≡ false → cond (is_kind k) (got k n) none ≡ none
 unfolding is_time is_within
-large_kind k n h = let l = ltb-true 9007199254740991 k (not_false (ltb 9007199254740991 k) h) in rw (lt-leb k 65535 (omega arith))
+large_kind k n h = let l = ltb-true 9007199254740991 k (not-false (ltb 9007199254740991 k) h) in rw (lt-leb k 65535 (omega arith))
 
 large_told : (w : numeral.Spelled) (n : ℕ) → whole_answer w ≡ Large → (time_of w n ≡ none) × (kind_of w n ≡ none)
 unfolding whole_answer is_time
@@ -88,13 +88,13 @@ module _ {A : Type 0} (s : List ℕ) (at n : ℕ) (f : ℕ → Got A) where
   unfolding closed_at
   closed_none e = rw e
 
-  closed-got : (x : A) → f at ≡ got x n → stands_at s comma n ≡ true → closed_at s comma f at ≡ got x (n + 1)
+  closed_got : (x : A) → f at ≡ got x n → stands_at s comma n ≡ true → closed_at s comma f at ≡ got x (n + 1)
   unfolding closed_at
-  closed-got x e h = rw (e, h)
+  closed_got x e h = rw (e, h)
 
-  closed-past : (x : A) → f at ≡ got x n → length s ≤ n → closed_at s comma f at ≡ none
+  closed_past : (x : A) → f at ≡ got x n → length s ≤ n → closed_at s comma f at ≡ none
   unfolding closed_at stands_at
-  closed-past x e h = rw (e, get_or-eq_default s 0 h)
+  closed_past x e h = rw (e, get_or-eq_default s 0 h)
 
 -- n is the place of the comma
 module _ (s : List ℕ) (at n : ℕ) (e : n ≡ at + length (run_of (drop at s))) where
@@ -103,21 +103,21 @@ module _ (s : List ℕ) (at n : ℕ) (e : n ≡ at + length (run_of (drop at s))
       let l = run_then (drop at s) (omega (arith, length-drop at s)) in
       stands_byte s n 44 44 (sym l ∙ get_or-drop at s (length (run_of (drop at s))) 0 ∙ rw (← e)) refl
 
-  time-told : time_at s at ≡ time_of (whole_of (run_of (drop at s))) n
+  time_told : time_at s at ≡ time_of (whole_of (run_of (drop at s))) n
   unfolding time_at
-  time-told = ap (time_of (whole_of (run_of (drop at s)))) (sym e)
+  time_told = ap (time_of (whole_of (run_of (drop at s)))) (sym e)
 
-  kind-told : kind_at s at ≡ kind_of (whole_of (run_of (drop at s))) n
+  kind_told : kind_at s at ≡ kind_of (whole_of (run_of (drop at s))) n
   unfolding kind_at
-  kind-told = ap (kind_of (whole_of (run_of (drop at s)))) (sym e)
+  kind_told = ap (kind_of (whole_of (run_of (drop at s)))) (sym e)
 
   -- no comma
   module _ (h : length s ≤ n) where
     pub time_past : time.Not ≡ time_got (closed_at s comma (time_at s) at)
-    time_past = ap time_got (sym (go (whole_of (run_of (drop at s))) time-told))
+    time_past = ap time_got (sym (go (whole_of (run_of (drop at s))) time_told))
       where
         small : (z : ℤ) (t : Bool) → time_at s at ≡ cond t (got z n) none → closed_at s comma (time_at s) at ≡ none
-        small z true q = closed-past s at n (time_at s) z q h
+        small z true q = closed_past s at n (time_at s) z q h
         small z false q = closed_none s at n (time_at s) q
 
         go : (w : numeral.Spelled) → time_at s at ≡ time_of w n → closed_at s comma (time_at s) at ≡ none
@@ -125,10 +125,10 @@ module _ (s : List ℕ) (at n : ℕ) (e : n ≡ at + length (run_of (drop at s))
         go (numeral.whole z) q = small z (is_time z) q
 
     pub kind_past : kind.Not ≡ kind_got (closed_at s comma (kind_at s) at)
-    kind_past = ap kind_got (sym (go (whole_of (run_of (drop at s))) kind-told))
+    kind_past = ap kind_got (sym (go (whole_of (run_of (drop at s))) kind_told))
       where
         small : (k : ℕ) (t : Bool) → kind_at s at ≡ cond t (got k n) none → closed_at s comma (kind_at s) at ≡ none
-        small k true q = closed-past s at n (kind_at s) k q h
+        small k true q = closed_past s at n (kind_at s) k q h
         small k false q = closed_none s at n (kind_at s) q
 
         go : (w : numeral.Spelled) → kind_at s at ≡ kind_of w n → closed_at s comma (kind_at s) at ≡ none
@@ -138,26 +138,26 @@ module _ (s : List ℕ) (at n : ℕ) (e : n ≡ at + length (run_of (drop at s))
 
   -- r is what the bytes up to it spell
   module _ (h : n < length s) (r : Whole) (f : r ≡ whole_answer (whole_of (take (n - at) (drop at s)))) where
-    run-taken : take (n - at) (drop at s) ≡ run_of (drop at s)
-    run-taken =
+    run_taken : take (n - at) (drop at s) ≡ run_of (drop at s)
+    run_taken =
         let l : List ℕ = drop at s in
         let z : length (run_of l) ≡ n - at = omega arith in
         ap (take (n - at)) (run_split l) ∙ take_at (run_of l) (drop (length (run_of l)) l) (n - at) z
 
     read : whole_answer (whole_of (run_of (drop at s))) ≡ r
-    read = sym (f ∙ ap (λ (l : List ℕ). whole_answer (whole_of l)) run-taken)
+    read = sym (f ∙ ap (λ (l : List ℕ). whole_answer (whole_of l)) run_taken)
 
     pub time_large : r ≡ Large → time.Not ≡ time_got (closed_at s comma (time_at s) at)
-    time_large g = ap time_got (sym (closed_none s at n (time_at s) (time-told ∙ (large_told (whole_of (run_of (drop at s))) n (read ∙ g)).0)))
+    time_large g = ap time_got (sym (closed_none s at n (time_at s) (time_told ∙ (large_told (whole_of (run_of (drop at s))) n (read ∙ g)).0)))
 
     pub time_malformed : r ≡ Malformed → time.Not ≡ time_got (closed_at s comma (time_at s) at)
-    time_malformed g = ap time_got (sym (closed_none s at n (time_at s) (time-told ∙ (malformed_told (whole_of (run_of (drop at s))) n (read ∙ g)).0)))
+    time_malformed g = ap time_got (sym (closed_none s at n (time_at s) (time_told ∙ (malformed_told (whole_of (run_of (drop at s))) n (read ∙ g)).0)))
 
     pub kind_large : r ≡ Large → kind.Not ≡ kind_got (closed_at s comma (kind_at s) at)
-    kind_large g = ap kind_got (sym (closed_none s at n (kind_at s) (kind-told ∙ (large_told (whole_of (run_of (drop at s))) n (read ∙ g)).1)))
+    kind_large g = ap kind_got (sym (closed_none s at n (kind_at s) (kind_told ∙ (large_told (whole_of (run_of (drop at s))) n (read ∙ g)).1)))
 
     pub kind_malformed : r ≡ Malformed → kind.Not ≡ kind_got (closed_at s comma (kind_at s) at)
-    kind_malformed g = ap kind_got (sym (closed_none s at n (kind_at s) (kind-told ∙ (malformed_told (whole_of (run_of (drop at s))) n (read ∙ g)).1)))
+    kind_malformed g = ap kind_got (sym (closed_none s at n (kind_at s) (kind_told ∙ (malformed_told (whole_of (run_of (drop at s))) n (read ∙ g)).1)))
 
     module _ (z : ℤ) (g : r ≡ Value z) where
       value : (whole_of (run_of (drop at s)) ≡ numeral.whole z) × (is_time z ≡ true)
@@ -165,8 +165,8 @@ module _ (s : List ℕ) (at n : ℕ) (e : n ≡ at + length (run_of (drop at s))
 
       pub time_is : mag z < 2 ^ 63 → time.Is (to_z w64 (of_z w64 z)) (n + 1) ≡ time_got (closed_at s comma (time_at s) at)
       time_is l =
-          let q : time_at s at ≡ got z n = time-told ∙ rw (value.0, value.1) in
-          rw (to_z-of_z w64 z (record { sfits = l })) (ap time_got (sym (closed-got s at n (time_at s) z q (here h))))
+          let q : time_at s at ≡ got z n = time_told ∙ rw (value.0, value.1) in
+          rw (to_z-of_z w64 z (record { sfits = l })) (ap time_got (sym (closed_got s at n (time_at s) z q (here h))))
 
       -- u is z as a number of 64 bits
       module _ (l : mag z < 2 ^ 63) (u : ℕ) (k : u ≡ unsigned (to_z w64 (of_z w64 z))) where
@@ -175,7 +175,7 @@ module _ (s : List ℕ) (at n : ℕ) (e : n ≡ at + length (run_of (drop at s))
 
         pub kind_over : 65535 < u → kind.Not ≡ kind_got (closed_at s comma (kind_at s) at)
         unfolding unsigned
-        kind_over o = ap kind_got (sym (closed_none s at n (kind_at s) (kind-told ∙ ap (λ (w : numeral.Spelled). kind_of w n) value.0 ∙ go z bits o)))
+        kind_over o = ap kind_got (sym (closed_none s at n (kind_at s) (kind_told ∙ ap (λ (w : numeral.Spelled). kind_of w n) value.0 ∙ go z bits o)))
           where
             go : (z : ℤ) → u ≡ unsigned z → 65535 < u → kind_of (numeral.whole z) n ≡ none
             go (negsuc j) b o = refl
@@ -183,7 +183,7 @@ module _ (s : List ℕ) (at n : ℕ) (e : n ≡ at + length (run_of (drop at s))
 
         pub kind_is : u ≤ 65535 → kind.Is u (n + 1) ≡ kind_got (closed_at s comma (kind_at s) at)
         unfolding unsigned
-        kind_is o = ap kind_got (sym (closed-got s at n (kind_at s) u (kind-told ∙ ap (λ (w : numeral.Spelled). kind_of w n) value.0 ∙ go z l bits o) (here h)))
+        kind_is o = ap kind_got (sym (closed_got s at n (kind_at s) u (kind_told ∙ ap (λ (w : numeral.Spelled). kind_of w n) value.0 ∙ go z l bits o) (here h)))
           where
             go : (z : ℤ) → mag z < 2 ^ 63 → u ≡ unsigned z → u ≤ 65535 → kind_of (numeral.whole z) n ≡ got u n
             go (negsuc j) l b o = absurd (omega arith)
@@ -196,11 +196,11 @@ module _ (t : List ℕ) where
   opens_short h = sym (go (is_pubkey (take 64 (drop 4 t))))
     where
       past : stands_at t closing 68 ≡ false
-      past = let l : length t ≤ 69 = omega arith in rw (get_or-eq_default t 0 {n = 69} l) (and_false (eqb (get_or t 68 0) 34))
+      past = let l : length t ≤ 69 = omega arith in rw (get_or-eq_default t 0 {n = 69} l) (and-false (eqb (get_or t 68 0) 34))
 
       go : (b : Bool) → (stands_at t opening 0 && is_got (bind (cond b (got (take 64 (drop 4 t)) 68) none) λ x n. cond (stands_at t closing n) (got x (n + length closing)) none)) ≡ false
-      go true = rw past (and_false (stands_at t opening 0))
-      go false = and_false (stands_at t opening 0)
+      go true = rw past (and-false (stands_at t opening 0))
+      go false = and-false (stands_at t opening 0)
 
   pub opens_other : stands_at t opening 0 ≡ false → false ≡ opens t
   unfolding opens

@@ -114,9 +114,9 @@ module _ (s : List ℕ) where
   tag_exact = record { same = tag_same; back = tag_back }
 
   -- ---- the tags
-  tags-same : (at : ℕ) (x : List Tag) (n : ℕ) → tags_at s at ≡ got x n → Piece tags_text is_tags s at x n
+  tags_same : (at : ℕ) (x : List Tag) (n : ℕ) → tags_at s at ≡ got x n → Piece tags_text is_tags s at x n
   unfolding tags_at tags_text is_tags members_text all
-  tags-same at x n q = go (eqb (get_or s at 0) 91) (eqb (get_or s (at + 1) 0) 93) refl refl q
+  tags_same at x n q = go (eqb (get_or s at 0) 91) (eqb (get_or s (at + 1) 0) 93) refl refl q
     where
       go : (t u : Bool) → eqb (get_or s at 0) 91 ≡ t → eqb (get_or s (at + 1) 0) 93 ≡ u
           → cond t (cond u (got [] (at + 2)) (text_members_at (tag_at s) s most_tags (at + 1))) none ≡ got x n → Piece tags_text is_tags s at x n
@@ -140,14 +140,14 @@ module _ (s : List ℕ) where
   first t [] at n a = byte_is a
   first t (u ∷ us) at n a = byte_is a
 
-  tags-back : (at : ℕ) (x : List Tag) (n : ℕ) → Piece tags_text is_tags s at x n → tags_at s at ≡ got x n
+  tags_back : (at : ℕ) (x : List Tag) (n : ℕ) → Piece tags_text is_tags s at x n → tags_at s at ≡ got x n
   unfolding tags_at tags_text is_tags members_text
-  tags-back at [] n a = let z : at + 2 ≡ n = omega (arith, a.is.end) in rw (byte_is a.is, byte_is (tail a.is), z)
-  tags-back at (t ∷ ts) n a =
+  tags_back at [] n a = let z : at + 2 ≡ n = omega (arith, a.is.end) in rw (byte_is a.is, byte_is (tail a.is), z)
+  tags_back at (t ∷ ts) n a =
       let h = both (leb (length (t ∷ ts)) most_tags) (all is_tag (t ∷ ts)) a.fine in
       rw (byte_is a.is, first t ts (at + 1) n (tail a.is))
       (members_back tag_text is_tag s (tag_at s) tag_exact most_tags (at + 1) (t ∷ ts) n
       (record { is = tail a.is; fine = h.1; some = omega arith; few = leb-true (length (t ∷ ts)) most_tags h.0 }))
 
   pub tags_exact : Exact tags_text is_tags s (tags_at s)
-  tags_exact = record { same = tags-same; back = tags-back }
+  tags_exact = record { same = tags_same; back = tags_back }

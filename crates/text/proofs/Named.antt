@@ -1,7 +1,7 @@
 -- d: the text is canonical, so a tag is named d exactly where `["d"` stands, and its second string stands six bytes
 -- after its bracket.
 use mathlib.Core.Path.{◌≡◌, refl, sym, ap, ◌∙◌}
-use mathlib.Core.Bool.{Bool, true, false, cond, ◌&&◌, and_true, and_false, false≢true}
+use mathlib.Core.Bool.{Bool, true, false, cond, ◌&&◌, and-true, and-false, false≢true}
 use mathlib.Core.List.{List, [], ◌∷◌, ◌++◌, append_assoc}
 use Prim.Native.Nat.{ℕ, ◌+◌, ◌-◌, ◌<◌, ◌≤◌}
 use native.Mathlib.Omega.{arith}
@@ -59,7 +59,7 @@ spelled x = go x (letter_of x) (seven x)
 
 -- it is d alone
 one_d : (q : List ℕ) (x : ℕ) (w : List ℕ) → Spelled x w → begins (100 ∷ 34 ∷ []) (w ++ (34 ∷ q)) ≡ eqb x 100
-one_d q x w (raw p) = and_true (eqb x 100)
+one_d q x w (raw p) = and-true (eqb x 100)
 one_d q x w (lettered ne) = sym (ne_eqb x 100 ne)
 
 -- it is no quote
@@ -69,7 +69,7 @@ no_quote l y w (lettered ne) = refl
 
 -- no quote comes after it
 two_d : (l : List ℕ) (x : ℕ) (w : List ℕ) → Spelled x w → eqb (get_or l 0 0) 34 ≡ false → begins (100 ∷ 34 ∷ []) (w ++ l) ≡ false
-two_d l x w (raw p) e = rw e (and_false (eqb x 100))
+two_d l x w (raw p) e = rw e (and-false (eqb x 100))
 two_d l x w (lettered ne) e = refl
 
 named : (q : List ℕ) (t : Tag) (v : List ℕ) → begins (100 ∷ 34 ∷ []) (escape v ++ (34 ∷ q)) ≡ is_named_d (v ∷ t)
@@ -107,9 +107,9 @@ data Second (s : List ℕ) (b : ℕ) (t : Tag) : Bool → Type 0 where
   present : (w : List ℕ) → second t ≡ w → body_from false (b + 2) (drop (b + 2) s) ≡ got w (b + 2 + length (escape w) + 1) → Second s b t true
 
 module _ (s : List ℕ) (i n : ℕ) where
-  after-name : (t : Tag) → drop i s ≡ tag_text ((100 ∷ []) ∷ t) ++ drop n s → Second s (i + 4) ((100 ∷ []) ∷ t) (stands_at s (44 ∷ 34 ∷ []) (i + 4))
+  after_name : (t : Tag) → drop i s ≡ tag_text ((100 ∷ []) ∷ t) ++ drop n s → Second s (i + 4) ((100 ∷ []) ∷ t) (stands_at s (44 ∷ 34 ∷ []) (i + 4))
   unfolding tag_text escape esc_one letter_of
-  after-name t e = go t (sym (drop-drop 4 i s) ∙ ap (drop 4) (e ∙ ap (◌∷◌ 91) (members_begin (100 ∷ []) t (drop n s))))
+  after_name t e = go t (sym (drop-drop 4 i s) ∙ ap (drop 4) (e ∙ ap (◌∷◌ 91) (members_begin (100 ∷ []) t (drop n s))))
     where
       go : (t : Tag) → drop (i + 4) s ≡ after t ++ drop n s → Second s (i + 4) ((100 ∷ []) ∷ t) (stands_at s (44 ∷ 34 ∷ []) (i + 4))
       go [] h = rw (stands_begins s (44 ∷ 34 ∷ []) (i + 4) (93 ∷ drop n s) h) (absent refl)
@@ -119,11 +119,11 @@ module _ (s : List ℕ) (i n : ℕ) where
           let b : drop (i + 4 + 2) s ≡ escape w ++ (34 ∷ r) = sym (drop-drop 2 (i + 4) s) ∙ ap (drop 2) l in
           rw (stands_begins s (44 ∷ 34 ∷ []) (i + 4) (44 ∷ 34 ∷ (escape w ++ (34 ∷ r))) l) (present w refl (rw b (body_back w r (i + 4 + 2))))
 
-  second-told : (t : Tag) → tag_at s i ≡ got t n → is_named_d t ≡ true → Second s (i + 4) t (stands_at s (44 ∷ 34 ∷ []) (i + 4))
-  second-told [] e d = absurd (false≢true d)
-  second-told ([] ∷ t) e d = absurd (false≢true d)
-  second-told ((x ∷ y ∷ l) ∷ t) e d = absurd (false≢true d)
-  second-told ((x ∷ []) ∷ t) e d = let z = eqb-true x 100 d in rw z (after-name t ((tag_exact s).same i ((100 ∷ []) ∷ t) n (rw z at e)).is.is)
+  second_told : (t : Tag) → tag_at s i ≡ got t n → is_named_d t ≡ true → Second s (i + 4) t (stands_at s (44 ∷ 34 ∷ []) (i + 4))
+  second_told [] e d = absurd (false≢true d)
+  second_told ([] ∷ t) e d = absurd (false≢true d)
+  second_told ((x ∷ y ∷ l) ∷ t) e d = absurd (false≢true d)
+  second_told ((x ∷ []) ∷ t) e d = let z = eqb-true x 100 d in rw z (after_name t ((tag_exact s).same i ((100 ∷ []) ∷ t) n (rw z at e)).is.is)
 
 -- ---- the ways out of `second_at`
 span_none : (j : ℕ) (l : List ℕ) → length l ≡ 0 → found.At 0 0 ≡ found_of (span_behind j l)
@@ -151,15 +151,15 @@ module _ (s : List ℕ) (i : ℕ) where
   Is r = (t : Tag) (n : ℕ) → tag_at s i ≡ got t n → is_named_d t ≡ true → r ≡ found_of (span_behind (i + 6) (escape (second t)))
 
   pub second_none : stands_at s (44 ∷ 34 ∷ []) (i + 4) ≡ false → Is (found.At 0 0)
-  second_none h t n e d = gone (i + 6) (second-told s i n t e d) h
+  second_none h t n e d = gone (i + 6) (second_told s i n t e d) h
 
   module _ (h : stands_at s (44 ∷ 34 ∷ []) (i + 4) ≡ true) where
     pub second_bad : got_end (body_from false (i + 4 + 2) (drop (i + 4 + 2) s)) ≡ Bad → Is (found.At 0 0)
-    second_bad b t n e d = let z : End _ ≡ Bad = sym (there (second-told s i n t e d) h) ∙ b in absurd (let y : ◌≡◌ {A = ℕ} 0 1 = cc in omega arith)
+    second_bad b t n e d = let z : End _ ≡ Bad = sym (there (second_told s i n t e d) h) ∙ b in absurd (let y : ◌≡◌ {A = ℕ} 0 1 = cc in omega arith)
 
     module _ (m : ℕ) (b : got_end (body_from false (i + 4 + 2) (drop (i + 4 + 2) s)) ≡ End m) where
       size : (t : Tag) (n : ℕ) → tag_at s i ≡ got t n → is_named_d t ≡ true → m - 1 - (i + 4 + 2) ≡ length (escape (second t))
-      size t n e d = let z = ends (sym (there (second-told s i n t e d) h) ∙ b) in omega arith
+      size t n e d = let z = ends (sym (there (second_told s i n t e d) h) ∙ b) in omega arith
 
       pub second_empty : m - 1 - (i + 4 + 2) ≡ 0 → Is (found.At 0 0)
       second_empty q t n e d = span_none (i + 6) (escape (second t)) (sym (size t n e d) ∙ q)

@@ -54,8 +54,8 @@ module _ (s : List ℕ) (at : ℕ) (z : ℤ) (n : ℕ) (a : Spelt s at (decimal 
   run_is : run_of (drop at s) ≡ decimal z
   run_is = ap run_of a.is ∙ run_decimal z (drop n s) (sym (first_of s n (drop n s) refl) ∙ c)
 
-  run-whole : whole_of (run_of (drop at s)) ≡ numeral.whole z
-  run-whole = ap whole_of run_is ∙ whole_decimal z
+  run_whole : whole_of (run_of (drop at s)) ≡ numeral.whole z
+  run_whole = ap whole_of run_is ∙ whole_decimal z
 
   run_end : at + length (run_of (drop at s)) ≡ n
   run_end = omega (arith, a.end, ap length run_is)
@@ -78,7 +78,7 @@ time_same s at z n q = go (whole_of (run_of (drop at s))) refl q
 
 pub time_back : (s : List ℕ) (at : ℕ) (z : ℤ) (n : ℕ) → Piece decimal is_time s at z n → get_or s n 0 ≡ 44 → time_at s at ≡ got z n
 unfolding time_at
-time_back s at z n a c = rw (run-whole s at z n a.is c, run_end s at z n a.is c, a.fine)
+time_back s at z n a c = rw (run_whole s at z n a.is c, run_end s at z n a.is c, a.fine)
 
 -- ---- kinds
 pub kind_same : (s : List ℕ) (at k n : ℕ) → kind_at s at ≡ got k n → Piece digits is_kind s at k n
@@ -99,4 +99,4 @@ kind_same s at k n q = go (whole_of (run_of (drop at s))) refl q
 
 pub kind_back : (s : List ℕ) (at k n : ℕ) → Piece digits is_kind s at k n → get_or s n 0 ≡ 44 → kind_at s at ≡ got k n
 unfolding kind_at decimal
-kind_back s at k n a c = rw (run-whole s at (pos k) n a.is c, run_end s at (pos k) n a.is c, a.fine)
+kind_back s at k n a c = rw (run_whole s at (pos k) n a.is c, run_end s at (pos k) n a.is c, a.fine)

@@ -15,7 +15,7 @@ use Rattle.numeral.specs.Decimal.{digits, decimal}
 use Rattle.wire.specs.Limits.{most_text, hex_length}
 use Rattle.text.specs.Event.{Tag, Event, quoted, members_text, tag_text, tags_text, opening, closing, comma, bracket}
 use Rattle.text.specs.Event.{serialise, all, is_pubkey}
-use Rattle.text.specs.Read.{Read, tooLarge, wrongShape, read, read_text, IsTextOf}
+use Rattle.text.specs.Read.{Read, too_large, wrong_shape, read, read_text, IsTextOf}
 use Rattle.text.specs.Kinds.{is_named_d, second, d_of}
 use Rattle.text.specs.Answer.{Span, span_behind, d_span, tags_place, content_place, text_parts, text_answer_of}
 use Rattle.text.specs.declared.Text.{Text}
@@ -152,16 +152,16 @@ module _ (t : List ℕ) (e : Event) (a : IsTextOf t e) where
   front_length : length (front e) ≡ tags_place e
   front_length = let h = hex in simp length-append (omega arith)
 
-  tags-spelt : Spelt t (tags_place e) (tags_text e.tags) (tags_place e + length (tags_text e.tags))
+  tags_spelt : Spelt t (tags_place e) (tags_text e.tags) (tags_place e + length (tags_text e.tags))
   unfolding serialise
-  tags-spelt =
+  tags_spelt =
       let q : List ℕ = comma ++ (quoted e.content ++ bracket) in
       let z : serialise e ≡ front e ++ (tags_text e.tags ++ q) = simp append_assoc in
       amid t (front e) (tags_text e.tags) q (tags_place e) (sym a.same ∙ z) front_length
 
-  content-spelt : Spelt t (content_place e) (escape e.content) (content_place e + length (escape e.content))
+  content_spelt : Spelt t (content_place e) (escape e.content) (content_place e + length (escape e.content))
   unfolding serialise quoted
-  content-spelt =
+  content_spelt =
       let p : List ℕ = front e ++ (tags_text e.tags ++ closed) in
       let z : serialise e ≡ p ++ (escape e.content ++ (34 ∷ bracket)) = simp append_assoc in
       amid t p (escape e.content) (34 ∷ bracket) (content_place e) (sym a.same ∙ z) (let h = hex in simp length-append (omega arith))
@@ -174,14 +174,14 @@ module _ (t : List ℕ) (e : Event) (a : IsTextOf t e) where
   pubkey_stands = rw hex at (spelt_take (amid t opening e.pubkey _ 4 (sym a.same) refl))
 
   pub tags_stand : take (length (tags_text e.tags)) (drop (text_parts e).tags t) ≡ tags_text e.tags
-  tags_stand = spelt_take tags-spelt
+  tags_stand = spelt_take tags_spelt
 
   pub content_stands : take (text_parts e).content_len (drop (text_parts e).content t) ≡ escape e.content
-  content_stands = spelt_take content-spelt
+  content_stands = spelt_take content_spelt
 
   pub d_stands : take (text_parts e).d_len (drop (text_parts e).d t) ≡ escape (d_of e.tags)
   unfolding tags_text
-  d_stands = named_stands t (tags_place e + 1) e.tags (tags_place e + length (tags_text e.tags)) (tail tags-spelt)
+  d_stands = named_stands t (tags_place e + 1) e.tags (tags_place e + length (tags_text e.tags)) (tail tags_spelt)
 
   -- with their quotes; the pubkey is its own spelling
   pub key_itself : escape e.pubkey ≡ e.pubkey
@@ -222,8 +222,8 @@ module _ (t : List ℕ) (e : Event) (a : IsTextOf t e) where
 
 -- ---- the answer to a text that was read, and that its parts can be taken
 pub read_told : (r : Read) (x : Text) → answer.Read x ≡ text_answer_of r → (e : Event) × (r ≡ read e) × (x ≡ text_parts e)
-read_told tooLarge x q = absurd (let z : ◌≡◌ {A = ℕ} 0 1 = cc in omega arith)
-read_told wrongShape x q = absurd (let z : ◌≡◌ {A = ℕ} 0 1 = cc in omega arith)
+read_told too_large x q = absurd (let z : ◌≡◌ {A = ℕ} 0 1 = cc in omega arith)
+read_told wrong_shape x q = absurd (let z : ◌≡◌ {A = ℕ} 0 1 = cc in omega arith)
 read_told (read e) x q = (e, refl, cc)
 
 pub record Bounds (t : List ℕ) (x : Text) : Type 0 where

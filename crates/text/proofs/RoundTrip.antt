@@ -1,5 +1,5 @@
 -- An event that is written and read back is the same event; a text that is read and written again is the same text. So
--- 01's sentence on a text read back alone holds word for word: `too_large`, `wrong_shape`, `accepted`.
+-- 01's sentence on a text read back alone holds word for word: `too_large_lem`, `wrong_shape_lem`, `accepted`.
 use mathlib.Core.Path.{◌≡◌, refl, sym, ap, ◌∙◌}
 use mathlib.Core.Bool.{Bool, true, false, cond}
 use mathlib.Core.List.{List, ◌++◌, append_assoc}
@@ -15,7 +15,7 @@ use Rattle.numeral.specs.Decimal.{digits, decimal}
 use Rattle.wire.specs.Limits.{most_text}
 use Rattle.text.specs.Event.{Event, quoted, tags_text, opening, serialise, is_fit}
 use Rattle.text.specs.Read.{Got, none, got, stands_at, Fields, fields_at, event_of_fields, opened_text, ending, Read}
-use Rattle.text.specs.Read.{tooLarge, wrongShape, read, read_text, IsTextOf}
+use Rattle.text.specs.Read.{too_large, wrong_shape, read, read_text, IsTextOf}
 use Rattle.text.specs.Answer.{text_answer_of, text_number}
 use Rattle.text.proofs.Pieces.{Spelt, join, left, right, whole, all_of}
 use Rattle.text.proofs.Limits.{limits_of}
@@ -55,7 +55,7 @@ pub read_same : (t : List ℕ) (e : Event) → read_text t ≡ read e → IsText
 unfolding read_text is_fit
 read_same t e q = go (leb (length t) most_text) refl (opened_text t) refl q
   where
-    end : (x : Fields) (n : ℕ) (f : Bool) → leb (length t) most_text ≡ true → opened_text t ≡ got x n → eqb n (length t) ≡ f → cond f (read (event_of_fields x)) wrongShape ≡ read e → IsTextOf t e
+    end : (x : Fields) (n : ℕ) (f : Bool) → leb (length t) most_text ≡ true → opened_text t ≡ got x n → eqb n (length t) ≡ f → cond f (read (event_of_fields x)) wrong_shape ≡ read e → IsTextOf t e
     end x n true ea eo ef r =
         let zx : event_of_fields x ≡ e = cc in
         let a = opened_same t x n eo in
@@ -63,7 +63,7 @@ read_same t e q = go (leb (length t) most_text) refl (opened_text t) refl q
         rw (← zx) (record { same = fields_text_lem x ∙ sym w; fit = a.1; small = leb-true (length t) most_text ea })
     end x n false ea eo ef r = absurd (let z : ◌≡◌ {A = ℕ} 0 1 = cc in omega arith)
 
-    go : (a : Bool) → leb (length t) most_text ≡ a → (g : Got Fields) → opened_text t ≡ g → cond a (ending t g) tooLarge ≡ read e → IsTextOf t e
+    go : (a : Bool) → leb (length t) most_text ≡ a → (g : Got Fields) → opened_text t ≡ g → cond a (ending t g) too_large ≡ read e → IsTextOf t e
     go false ea g eo r = absurd (let z : ◌≡◌ {A = ℕ} 0 1 = cc in omega arith)
     go true ea none eo r = absurd (let z : ◌≡◌ {A = ℕ} 0 1 = cc in omega arith)
     go true ea (got x n) eo r = end x n (eqb n (length t)) ea eo refl r
@@ -74,61 +74,61 @@ pub accepted : (t : List ℕ) (e : Event) → (read_text t ≡ read e) ↔ IsTex
 accepted t e = (read_same t e, λ a. rw (← a.same) (read_back e a.fit (rw a.same a.small)))
 
 -- refused by 9 exactly if over 4,096 bytes
-pub too_large : (t : List ℕ) → (read_text t ≡ tooLarge) ↔ (most_text < length t)
+pub too_large_lem : (t : List ℕ) → (read_text t ≡ too_large) ↔ (most_text < length t)
 unfolding read_text
-too_large t = (go (leb (length t) most_text) refl, λ h. rw (lt-leb (length t) most_text h))
+too_large_lem t = (go (leb (length t) most_text) refl, λ h. rw (lt-leb (length t) most_text h))
   where
-    within : (g : Got Fields) → ending t g ≡ tooLarge → ⊥
+    within : (g : Got Fields) → ending t g ≡ too_large → ⊥
     within none r = let z : ◌≡◌ {A = ℕ} 0 1 = cc in omega arith
     within (got x n) r = end (eqb n (length t)) r
       where
-        end : (f : Bool) → cond f (read (event_of_fields x)) wrongShape ≡ tooLarge → ⊥
+        end : (f : Bool) → cond f (read (event_of_fields x)) wrong_shape ≡ too_large → ⊥
         end true r = let z : ◌≡◌ {A = ℕ} 0 1 = cc in omega arith
         end false r = let z : ◌≡◌ {A = ℕ} 0 1 = cc in omega arith
 
-    go : (a : Bool) → leb (length t) most_text ≡ a → cond a (ending t (opened_text t)) tooLarge ≡ tooLarge → most_text < length t
+    go : (a : Bool) → leb (length t) most_text ≡ a → cond a (ending t (opened_text t)) too_large ≡ too_large → most_text < length t
     go true e r = absurd (within (opened_text t) r)
     go false e r = leb-false (length t) most_text e
 
 -- else refused by 5 exactly if no event within the limits has it
-pub wrong_shape : (t : List ℕ) → (read_text t ≡ wrongShape) ↔ ((length t ≤ most_text) × ((e : Event) → is_fit e ≡ true → serialise e ≡ t → ⊥))
+pub wrong_shape_lem : (t : List ℕ) → (read_text t ≡ wrong_shape) ↔ ((length t ≤ most_text) × ((e : Event) → is_fit e ≡ true → serialise e ≡ t → ⊥))
 unfolding read_text
-wrong_shape t = (λ q. (small q, none_has q), λ h. go (read_text t) refl h.0 h.1)
+wrong_shape_lem t = (λ q. (small q, none_has q), λ h. go (read_text t) refl h.0 h.1)
   where
-    small : read_text t ≡ wrongShape → length t ≤ most_text
+    small : read_text t ≡ wrong_shape → length t ≤ most_text
     small q = le (leb (length t) most_text) refl q
       where
-        le : (a : Bool) → leb (length t) most_text ≡ a → cond a (ending t (opened_text t)) tooLarge ≡ wrongShape → length t ≤ most_text
+        le : (a : Bool) → leb (length t) most_text ≡ a → cond a (ending t (opened_text t)) too_large ≡ wrong_shape → length t ≤ most_text
         le true e r = leb-true (length t) most_text e
         le false e r = absurd (let z : ◌≡◌ {A = ℕ} 0 1 = cc in omega arith)
 
-    none_has : read_text t ≡ wrongShape → (e : Event) → is_fit e ≡ true → serialise e ≡ t → ⊥
+    none_has : read_text t ≡ wrong_shape → (e : Event) → is_fit e ≡ true → serialise e ≡ t → ⊥
     none_has q e h s =
-        let z : wrongShape ≡ read e = sym q ∙ ap read_text (sym s) ∙ read_back e h (rw s (small q)) in
+        let z : wrong_shape ≡ read e = sym q ∙ ap read_text (sym s) ∙ read_back e h (rw s (small q)) in
         let y : ◌≡◌ {A = ℕ} 0 1 = cc in
         omega arith
 
-    go : (r : Read) → read_text t ≡ r → length t ≤ most_text → ((e : Event) → is_fit e ≡ true → serialise e ≡ t → ⊥) → r ≡ wrongShape
-    go wrongShape q l n = refl
-    go tooLarge q l n = absurd (let k = (too_large t).0 q in omega arith)
+    go : (r : Read) → read_text t ≡ r → length t ≤ most_text → ((e : Event) → is_fit e ≡ true → serialise e ≡ t → ⊥) → r ≡ wrong_shape
+    go wrong_shape q l n = refl
+    go too_large q l n = absurd (let k = (too_large_lem t).0 q in omega arith)
     go (read e) q l n = absurd (let a = read_same t e q in n e a.fit a.same)
 
 -- the same by 01's numbers
-nine : (r : Read) → (text_number (text_answer_of r) ≡ 9) ↔ (r ≡ tooLarge)
-nine tooLarge = (λ _. refl, λ _. refl)
-nine wrongShape = (λ q. absurd (omega arith), λ q. absurd (let z : ◌≡◌ {A = ℕ} 0 1 = cc in omega arith))
+nine : (r : Read) → (text_number (text_answer_of r) ≡ 9) ↔ (r ≡ too_large)
+nine too_large = (λ _. refl, λ _. refl)
+nine wrong_shape = (λ q. absurd (omega arith), λ q. absurd (let z : ◌≡◌ {A = ℕ} 0 1 = cc in omega arith))
 nine (read e) = (λ q. absurd (omega arith), λ q. absurd (let z : ◌≡◌ {A = ℕ} 0 1 = cc in omega arith))
 
-five : (r : Read) → (text_number (text_answer_of r) ≡ 5) ↔ (r ≡ wrongShape)
-five tooLarge = (λ q. absurd (omega arith), λ q. absurd (let z : ◌≡◌ {A = ℕ} 0 1 = cc in omega arith))
-five wrongShape = (λ _. refl, λ _. refl)
+five : (r : Read) → (text_number (text_answer_of r) ≡ 5) ↔ (r ≡ wrong_shape)
+five too_large = (λ q. absurd (omega arith), λ q. absurd (let z : ◌≡◌ {A = ℕ} 0 1 = cc in omega arith))
+five wrong_shape = (λ _. refl, λ _. refl)
 five (read e) = (λ q. absurd (omega arith), λ q. absurd (let z : ◌≡◌ {A = ℕ} 0 1 = cc in omega arith))
 
 pub number_9 : (t : List ℕ) → (text_number (text_answer_of (read_text t)) ≡ 9) ↔ (most_text < length t)
-number_9 t = Iff.trans (nine (read_text t)) (too_large t)
+number_9 t = Iff.trans (nine (read_text t)) (too_large_lem t)
 
 pub number_5 : (t : List ℕ) → (text_number (text_answer_of (read_text t)) ≡ 5) ↔ ((length t ≤ most_text) × ((e : Event) → is_fit e ≡ true → serialise e ≡ t → ⊥))
-number_5 t = Iff.trans (five (read_text t)) (wrong_shape t)
+number_5 t = Iff.trans (five (read_text t)) (wrong_shape_lem t)
 
 -- two events within the limits with one text are the same
 pub serialise_once : (e f : Event) → is_fit e ≡ true → is_fit f ≡ true → serialise e ≡ serialise f → e ≡ f

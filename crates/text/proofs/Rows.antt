@@ -53,12 +53,12 @@ pubkey_length k e = eqb-true (length k) hex_length (both (eqb (length k) hex_len
 
 pub pubkey_exact : (s : List ℕ) → Exact itself is_pubkey s (pubkey_at s)
 unfolding pubkey_at
-pubkey_exact s = record { same = λ at k n q. pubkey-same at k n (take hex_length (drop at s)) refl (is_pubkey (take hex_length (drop at s))) refl q; back = pubkey-back }
+pubkey_exact s = record { same = λ at k n q. pubkey_same at k n (take hex_length (drop at s)) refl (is_pubkey (take hex_length (drop at s))) refl q; back = pubkey_back }
   where
-    pubkey-same : (at : ℕ) (k : List ℕ) (n : ℕ) (p : List ℕ) → take hex_length (drop at s) ≡ p → (t : Bool) → is_pubkey p ≡ t
+    pubkey_same : (at : ℕ) (k : List ℕ) (n : ℕ) (p : List ℕ) → take hex_length (drop at s) ≡ p → (t : Bool) → is_pubkey p ≡ t
         → cond t (got p (at + hex_length)) none ≡ got k n → Piece itself is_pubkey s at k n
-    pubkey-same at k n p w false e r = absurd (let z : ◌≡◌ {A = ℕ} 0 1 = cc in omega arith)
-    pubkey-same at k n p w true e r =
+    pubkey_same at k n p w false e r = absurd (let z : ◌≡◌ {A = ℕ} 0 1 = cc in omega arith)
+    pubkey_same at k n p w true e r =
         let zk : p ≡ k = cc in
         let zn : at + hex_length ≡ n = cc in
         let l = pubkey_length p e in
@@ -68,27 +68,27 @@ pubkey_exact s = record { same = λ at k n q. pubkey-same at k n (take hex_lengt
           fine = e;
         })
 
-    pubkey-back : (at : ℕ) (k : List ℕ) (n : ℕ) → Piece itself is_pubkey s at k n → pubkey_at s at ≡ got k n
-    pubkey-back at k n a =
+    pubkey_back : (at : ℕ) (k : List ℕ) (n : ℕ) → Piece itself is_pubkey s at k n → pubkey_at s at ≡ got k n
+    pubkey_back at k n a =
         let l = pubkey_length k a.fine in
         let z : at + hex_length ≡ n = omega (arith, a.is.end) in
         rw (a.is.is, take_at k (drop n s) hex_length l, a.fine, z)
 
 -- ---- in a row
 module _ {A B : Type 0} (p : A → List ℕ) (q : B → List ℕ) (ok : A → Bool) (fine : B → Bool) where
-  abbrev pub twoText : A × B → List ℕ
-  twoText x = p x.0 ++ q x.1
+  abbrev pub two_text : A × B → List ℕ
+  two_text x = p x.0 ++ q x.1
 
-  abbrev pub twoFine : A × B → Bool
-  twoFine x = ok x.0 && fine x.1
+  abbrev pub two_fine : A × B → Bool
+  two_fine x = ok x.0 && fine x.1
 
 pub pair_exact : {A B : Type 0} (p : A → List ℕ) (q : B → List ℕ) (ok : A → Bool) (fine : B → Bool) (s : List ℕ) (f : ℕ → Got A) (g : ℕ → Got B)
-    → Exact p ok s f → Exact q fine s g → Exact (twoText p q ok fine) (twoFine p q ok fine) s (pair_at f g)
+    → Exact p ok s f → Exact q fine s g → Exact (two_text p q ok fine) (two_fine p q ok fine) s (pair_at f g)
 unfolding pair_at
-pair_exact {A} {B} p q ok fine s f g ef eg = record { same = λ at z m r. one at (f at) z m refl r; back = pair-back }
+pair_exact {A} {B} p q ok fine s f g ef eg = record { same = λ at z m r. one at (f at) z m refl r; back = pair_back }
   where
     two : (at : ℕ) (x : A) (n : ℕ) (h : Got B) (z : A × B) (m : ℕ) → f at ≡ got x n → g n ≡ h → (bind h λ y m. got (x, y) m) ≡ got z m
-        → Piece (twoText p q ok fine) (twoFine p q ok fine) s at z m
+        → Piece (two_text p q ok fine) (two_fine p q ok fine) s at z m
     two at x n none z m e1 e2 r = absurd (let z : ◌≡◌ {A = ℕ} 0 1 = cc in omega arith)
     two at x n (got y k) z m e1 e2 r =
         let zz : (x, y) ≡ z = cc in
@@ -98,12 +98,12 @@ pair_exact {A} {B} p q ok fine s f g ef eg = record { same = λ at z m r. one at
         rw (← zz, ← zm) (record { is = join a.is b.is; fine = and_true (ok x) (fine y) a.fine b.fine })
 
     one : (at : ℕ) (h : Got A) (z : A × B) (m : ℕ) → f at ≡ h → (bind h λ x n. bind (g n) λ y m. got (x, y) m) ≡ got z m
-        → Piece (twoText p q ok fine) (twoFine p q ok fine) s at z m
+        → Piece (two_text p q ok fine) (two_fine p q ok fine) s at z m
     one at none z m e r = absurd (let z : ◌≡◌ {A = ℕ} 0 1 = cc in omega arith)
     one at (got x n) z m e r = two at x n (g n) z m e refl r
 
-    pair-back : (at : ℕ) (z : A × B) (m : ℕ) → Piece (twoText p q ok fine) (twoFine p q ok fine) s at z m → pair_at f g at ≡ got z m
-    pair-back at z m a =
+    pair_back : (at : ℕ) (z : A × B) (m : ℕ) → Piece (two_text p q ok fine) (two_fine p q ok fine) s at z m → pair_at f g at ≡ got z m
+    pair_back at z m a =
         let h = both (ok z.0) (fine z.1) a.fine in
         let n = at + length (p z.0) in
         rw (
@@ -117,7 +117,7 @@ pub closed_exact : {A : Type 0} (p : A → List ℕ) (ok : A → Bool) (s w : Li
     → ((at : ℕ) (x : A) (n : ℕ) → Piece p ok s at x n → Spelt s n w (n + length w) → f at ≡ got x n)
     → Exact (λ (x : A). p x ++ w) ok s (closed_at s w f)
 unfolding closed_at
-closed_exact {A} p ok s w f nz fsame fback = record { same = λ at x m r. one at (f at) x m refl r; back = closed-back }
+closed_exact {A} p ok s w f nz fsame fback = record { same = λ at x m r. one at (f at) x m refl r; back = closed_back }
   where
     one : (at : ℕ) (h : Got A) (x : A) (m : ℕ) → f at ≡ h → (bind h λ x n. cond (stands_at s w n) (got x (n + length w)) none) ≡ got x m → Piece (λ (x : A). p x ++ w) ok s at x m
     one at none x m e r = absurd (let z : ◌≡◌ {A = ℕ} 0 1 = cc in omega arith)
@@ -131,8 +131,8 @@ closed_exact {A} p ok s w f nz fsame fback = record { same = λ at x m r. one at
             rw (← zx, ← zm) (record { is = join a.is (stands_same s w n nz u); fine = a.fine })
         go false u r = absurd (let z : ◌≡◌ {A = ℕ} 0 1 = cc in omega arith)
 
-    closed-back : (at : ℕ) (x : A) (m : ℕ) → Piece (λ (x : A). p x ++ w) ok s at x m → closed_at s w f at ≡ got x m
-    closed-back at x m a =
+    closed_back : (at : ℕ) (x : A) (m : ℕ) → Piece (λ (x : A). p x ++ w) ok s at x m → closed_at s w f at ≡ got x m
+    closed_back at x m a =
         let n = at + length (p x) in
         let r = right (p x) w a.is in
         let r' : Spelt s n w (n + length w) = rw (← r.end) r in

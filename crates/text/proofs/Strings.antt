@@ -10,7 +10,7 @@ use lib.ListN.{length, get_or, take, drop, length-append, take-append-drop}
 use borrow.Author.Tests.{eq-eqb, ne_eqb, eqb-true, eqb-false}
 use Rattle.utf8.specs.Utf8.{is_utf8, utf8_from, next_want}
 use Rattle.utf8.specs.declared.Want.{Want}
-use Rattle.utf8.proofs.States.{Reached, lead-reached, next_reached, low_next, low_stuck, utf8_cut}
+use Rattle.utf8.proofs.States.{Reached, lead_reached, next_reached, low_next, low_stuck, utf8_cut}
 use Rattle.wire.specs.Escape.{letter_of, esc_one, escape}
 use Rattle.text.specs.Event.{quoted, is_string_bytes}
 use Rattle.text.specs.declared.Move.TheVariants.{Go, Stop, Refuse}
@@ -80,17 +80,17 @@ module _ (i : ℕ) (l : List ℕ) where
   two : (b : ℕ) → push_bytes [] (push_bytes (b ∷ []) (body_from false (i + 1 + 1) l)) ≡ push_bytes (b ∷ []) (body_from false (i + 2) l)
   two b = let e : i + 1 + 1 ≡ i + 2 = omega arith in push_nil (push_bytes (b ∷ []) (body_from false (i + 1 + 1) l)) ∙ rw e
 
-  one-back : (b k : ℕ) → Seven b k → k ≡ letter_of b
+  one_back : (b k : ℕ) → Seven b k → k ≡ letter_of b
       → body_from false i (cond (eqb k 0) (b ∷ []) (92 ∷ k ∷ []) ++ l) ≡ push_bytes (b ∷ []) (body_from false (i + length (cond (eqb k 0) (b ∷ []) (92 ∷ k ∷ []))) l)
   unfolding body_from escaped_byte is_raw
-  one-back b k bs z = two 8
-  one-back b k tab z = two 9
-  one-back b k lf z = two 10
-  one-back b k ff z = two 12
-  one-back b k cr z = two 13
-  one-back b k quote z = two 34
-  one-back b k slash z = two 92
-  one-back b k (other p q) z = rw (body_from, ne_eqb b 34 p, ne_eqb b 92 q, ← z, ne_eqb b 92 q)
+  one_back b k bs z = two 8
+  one_back b k tab z = two 9
+  one_back b k lf z = two 10
+  one_back b k ff z = two 12
+  one_back b k cr z = two 13
+  one_back b k quote z = two 34
+  one_back b k slash z = two 92
+  one_back b k (other p q) z = rw (body_from, ne_eqb b 34 p, ne_eqb b 92 q, ← z, ne_eqb b 92 q)
 
 pub body_back : (v r : List ℕ) (i : ℕ) → body_from false i (escape v ++ (34 ∷ r)) ≡ got v (i + length (escape v) + 1)
 unfolding body_from escape esc_one
@@ -98,7 +98,7 @@ body_back [] r i = ap (got []) (let e : i + 1 ≡ i + 0 + 1 = omega arith in e)
 body_back (b ∷ v) r i =
     let z : i + length (esc_one b) + length (escape v) + 1 ≡ i + length (esc_one b ++ escape v) + 1 = rw length-append (omega arith) in
     rw append_assoc
-    (one-back i (escape v ++ (34 ∷ r)) b (letter_of b) (seven b) refl ∙ ap (push_bytes (b ∷ [])) (body_back v r (i + length (esc_one b))) ∙ ap (got (b ∷ v)) z)
+    (one_back i (escape v ++ (34 ∷ r)) b (letter_of b) (seven b) refl ∙ ap (push_bytes (b ∷ [])) (body_back v r (i + length (esc_one b))) ∙ ap (got (b ∷ v)) z)
 
 pub escape_once : (u v : List ℕ) → escape u ≡ escape v → u ≡ v
 escape_once u v e =
@@ -180,39 +180,39 @@ body_spelt s i v n q =
 
 -- ---- UTF-8: a string is well formed as it is spelt where it is as it is meant
 module _ (l : List ℕ) where
-  esc-utf8 : (b k : ℕ) → b < 128 → k < 128 → (w : Want) → Reached w → utf8_from (next_want (next_want w 92) k) l ≡ utf8_from (next_want w b) l
-  esc-utf8 b k p q Want.Lead h = rw (low_next 92 (omega arith), low_next k q, low_next b p)
-  esc-utf8 b k p q (Want.Tail lo hi m) h = rw (low_stuck {lo = lo} {hi = hi} {n = m} 92 (omega arith) h, low_stuck {lo = lo} {hi = hi} {n = m} b p h)
-  esc-utf8 b k p q Want.Bad h = refl
+  esc_utf8 : (b k : ℕ) → b < 128 → k < 128 → (w : Want) → Reached w → utf8_from (next_want (next_want w 92) k) l ≡ utf8_from (next_want w b) l
+  esc_utf8 b k p q Want.Lead h = rw (low_next 92 (omega arith), low_next k q, low_next b p)
+  esc_utf8 b k p q (Want.Tail lo hi m) h = rw (low_stuck {lo = lo} {hi = hi} {n = m} 92 (omega arith) h, low_stuck {lo = lo} {hi = hi} {n = m} b p h)
+  esc_utf8 b k p q Want.Bad h = refl
 
-  one-utf8 : (b k : ℕ) → Seven b k → (w : Want) → Reached w → utf8_from w (cond (eqb k 0) (b ∷ []) (92 ∷ k ∷ []) ++ l) ≡ utf8_from (next_want w b) l
+  one_utf8 : (b k : ℕ) → Seven b k → (w : Want) → Reached w → utf8_from w (cond (eqb k 0) (b ∷ []) (92 ∷ k ∷ []) ++ l) ≡ utf8_from (next_want w b) l
   unfolding utf8_from
-  one-utf8 b k bs w h = esc-utf8 8 98 (omega arith) (omega arith) w h
-  one-utf8 b k tab w h = esc-utf8 9 116 (omega arith) (omega arith) w h
-  one-utf8 b k lf w h = esc-utf8 10 110 (omega arith) (omega arith) w h
-  one-utf8 b k ff w h = esc-utf8 12 102 (omega arith) (omega arith) w h
-  one-utf8 b k cr w h = esc-utf8 13 114 (omega arith) (omega arith) w h
-  one-utf8 b k quote w h = esc-utf8 34 34 (omega arith) (omega arith) w h
-  one-utf8 b k slash w h = esc-utf8 92 92 (omega arith) (omega arith) w h
-  one-utf8 b k (other p q) w h = refl
+  one_utf8 b k bs w h = esc_utf8 8 98 (omega arith) (omega arith) w h
+  one_utf8 b k tab w h = esc_utf8 9 116 (omega arith) (omega arith) w h
+  one_utf8 b k lf w h = esc_utf8 10 110 (omega arith) (omega arith) w h
+  one_utf8 b k ff w h = esc_utf8 12 102 (omega arith) (omega arith) w h
+  one_utf8 b k cr w h = esc_utf8 13 114 (omega arith) (omega arith) w h
+  one_utf8 b k quote w h = esc_utf8 34 34 (omega arith) (omega arith) w h
+  one_utf8 b k slash w h = esc_utf8 92 92 (omega arith) (omega arith) w h
+  one_utf8 b k (other p q) w h = refl
 
 from_escape : (v : List ℕ) (w : Want) → Reached w → utf8_from w (escape v) ≡ utf8_from w v
 unfolding escape esc_one utf8_from
 from_escape [] w h = refl
-from_escape (b ∷ v) w h = one-utf8 (escape v) b (letter_of b) (seven b) w h ∙ from_escape v (next_want w b) (next_reached w b h)
+from_escape (b ∷ v) w h = one_utf8 (escape v) b (letter_of b) (seven b) w h ∙ from_escape v (next_want w b) (next_reached w b h)
 
 pub utf8_escape : (v : List ℕ) → is_utf8 (escape v) ≡ is_utf8 v
 unfolding is_utf8
-utf8_escape v = from_escape v Want.Lead lead-reached
+utf8_escape v = from_escape v Want.Lead lead_reached
 
 -- ---- in a text that is UTF-8 each string is
 pub body_utf8 : (s : List ℕ) (at : ℕ) (v : List ℕ) (n : ℕ) → is_utf8 s ≡ true → get_or s at 0 ≡ 34 → body_from false (at + 1) (drop (at + 1) s) ≡ got v n → is_utf8 v ≡ true
 unfolding is_utf8
 body_utf8 s at v n u q e =
     let z : take at s ++ (34 ∷ drop (at + 1) s) ≡ s = ap (◌++◌ (take at s)) (sym (byte_at_lem s at 34 (omega arith) q).is) ∙ take-append-drop at s in
-    let a = (utf8_cut (take at s) 34 (drop (at + 1) s) Want.Lead lead-reached (omega arith) (rw z u)).1 in
+    let a = (utf8_cut (take at s) 34 (drop (at + 1) s) Want.Lead lead_reached (omega arith) (rw z u)).1 in
     let b : drop (at + 1) s ≡ escape v ++ (34 ∷ drop n s) = (body_spelt s (at + 1) v n e).is ∙ append_assoc (escape v) (34 ∷ []) (drop n s) in
-    sym (from_escape v Want.Lead lead-reached) ∙ (utf8_cut (escape v) 34 (drop n s) Want.Lead lead-reached (omega arith) (rw b at a)).0
+    sym (from_escape v Want.Lead lead_reached) ∙ (utf8_cut (escape v) 34 (drop n s) Want.Lead lead_reached (omega arith) (rw b at a)).0
 
 -- ---- the whole string, with its quotes
 abbrev String : List ℕ → ℕ → List ℕ → ℕ → Type 0

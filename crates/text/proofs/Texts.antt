@@ -14,7 +14,7 @@ use Rattle.numeral.specs.Decimal.{digits, decimal}
 use Rattle.wire.specs.Limits.{most_text}
 use Rattle.text.specs.Event.{Tag, quoted, tags_text, opening, closing, comma, is_pubkey}
 use Rattle.text.specs.Read.{Got, none, got, bind, stands_at, closed_at, pair_at, string_at, tags_at, time_at, kind_at}
-use Rattle.text.specs.Read.{pubkey_at, fields_at, opened_text, Read, tooLarge, wrongShape, read, read_text}
+use Rattle.text.specs.Read.{pubkey_at, fields_at, opened_text, Read, too_large, wrong_shape, read, read_text}
 use Rattle.text.specs.Answer.{d_span, text_answer_of, text_number, text_read_row}
 use Rattle.text.specs.Inner.Parts.{got_end, time_got, kind_got, is_got, opens, tagged_of, rest_at, rest_of}
 use Rattle.text.specs.declared.Out.TheVariants.{End, Bad}
@@ -33,30 +33,30 @@ use Rattle.text.proofs.Fields.{stands_byte, stands_other}
 
 -- ---- things in a row
 module _ {A B : Type 0} (f : ℕ → Got A) (g : ℕ → Got B) (at : ℕ) where
-  first-none : f at ≡ none → pair_at f g at ≡ none
+  first_none : f at ≡ none → pair_at f g at ≡ none
   unfolding pair_at
-  first-none p = rw p
+  first_none p = rw p
 
   second_none : (x : A) (n : ℕ) → f at ≡ got x n → g n ≡ none → pair_at f g at ≡ none
   unfolding pair_at
   second_none x n p q = rw (p, q)
 
-  both-got : (x : A) (n : ℕ) (y : B) (m : ℕ) → f at ≡ got x n → g n ≡ got y m → pair_at f g at ≡ got (x, y) m
+  both_got : (x : A) (n : ℕ) (y : B) (m : ℕ) → f at ≡ got x n → g n ≡ got y m → pair_at f g at ≡ got (x, y) m
   unfolding pair_at
-  both-got x n y m p q = rw (p, q)
+  both_got x n y m p q = rw (p, q)
 
 module _ {A : Type 0} (s : List ℕ) (b at : ℕ) (f : ℕ → Got A) where
   shut_none : f at ≡ none → closed_at s (b ∷ []) f at ≡ none
   unfolding closed_at
   shut_none p = rw p
 
-  shut-other : (x : A) (n : ℕ) → f at ≡ got x n → stands_at s (b ∷ []) n ≡ false → closed_at s (b ∷ []) f at ≡ none
+  shut_other : (x : A) (n : ℕ) → f at ≡ got x n → stands_at s (b ∷ []) n ≡ false → closed_at s (b ∷ []) f at ≡ none
   unfolding closed_at
-  shut-other x n p q = rw (p, q)
+  shut_other x n p q = rw (p, q)
 
-  shut-got : (x : A) (n : ℕ) → f at ≡ got x n → stands_at s (b ∷ []) n ≡ true → closed_at s (b ∷ []) f at ≡ got x (n + 1)
+  shut_got : (x : A) (n : ℕ) → f at ≡ got x n → stands_at s (b ∷ []) n ≡ true → closed_at s (b ∷ []) f at ≡ got x (n + 1)
   unfolding closed_at
-  shut-got x n p q = rw (p, q)
+  shut_got x n p q = rw (p, q)
 
 -- ---- the rest
 record Tags (g : Got (List Tag)) (at n d l : ℕ) : Type 0 where
@@ -85,12 +85,12 @@ module _ (t : List ℕ) (at : ℕ) where
   abbrev Told : Type 0
   Told = rest.Bad ≡ rest_of (length t) at (rest_at t at)
 
-  no-rest : rest_at t at ≡ none → Told
-  no-rest e = ap (rest_of (length t) at) (sym e)
+  no_rest : rest_at t at ≡ none → Told
+  no_rest e = ap (rest_of (length t) at) (sym e)
 
   pub rest_tags : tagged.Bad ≡ tagged_of found.Not (at + 1) (tags_at t at) → Told
   unfolding rest_at
-  rest_tags e = no-rest (first-none _ _ at (shut_none t 44 at (tags_at t) (tags_none (tags_at t at) at e)))
+  rest_tags e = no_rest (first_none _ _ at (shut_none t 44 at (tags_at t) (tags_none (tags_at t at) at e)))
 
   module _ (m d l : ℕ) (a : tagged.End m d l ≡ tagged_of found.Not (at + 1) (tags_at t at)) (x : ℕ) (e : x ≡ get_or t m 0) where
     ts : Tags (tags_at t at) at m d l
@@ -98,39 +98,39 @@ module _ (t : List ℕ) (at : ℕ) where
 
     pub rest_comma : (x ≡ 44 → ⊥) → Told
     unfolding rest_at
-    rest_comma h = no-rest (first-none _ _ at (shut-other t 44 at (tags_at t) ts.it m ts.is (stands_other t m 44 x e h)))
+    rest_comma h = no_rest (first_none _ _ at (shut_other t 44 at (tags_at t) ts.it m ts.is (stands_other t m 44 x e h)))
 
     module _ (h : x ≡ 44) where
       shut : closed_at t comma (tags_at t) at ≡ got ts.it (m + 1)
-      shut = shut-got t 44 at (tags_at t) ts.it m ts.is (stands_byte t m 44 x e h)
+      shut = shut_got t 44 at (tags_at t) ts.it m ts.is (stands_byte t m 44 x e h)
 
       pub rest_string : Bad ≡ got_end (string_at t (m + 1)) → Told
       unfolding rest_at
-      rest_string b = no-rest (second_none _ _ at ts.it (m + 1) shut (shut_none t 93 (m + 1) (string_at t) (end_bad (string_at t (m + 1)) b)))
+      rest_string b = no_rest (second_none _ _ at ts.it (m + 1) shut (shut_none t 93 (m + 1) (string_at t) (end_bad (string_at t (m + 1)) b)))
 
       module _ (n : ℕ) (b : End n ≡ got_end (string_at t (m + 1))) (y : ℕ) (f : y ≡ get_or t n 0) where
         pub rest_bracket : (y ≡ 93 → ⊥) → Told
         unfolding rest_at
         rest_bracket g =
             let v = end_got (string_at t (m + 1)) n b in
-            no-rest (second_none _ _ at ts.it (m + 1) shut (shut-other t 93 (m + 1) (string_at t) v.it n v.is (stands_other t n 93 y f g)))
+            no_rest (second_none _ _ at ts.it (m + 1) shut (shut_other t 93 (m + 1) (string_at t) v.it n v.is (stands_other t n 93 y f g)))
 
         module _ (g : y ≡ 93) where
-          rest-is : rest_at t at ≡ got (ts.it, (end_got (string_at t (m + 1)) n b).it) (n + 1)
+          rest_is : rest_at t at ≡ got (ts.it, (end_got (string_at t (m + 1)) n b).it) (n + 1)
           unfolding rest_at
-          rest-is =
+          rest_is =
               let v = end_got (string_at t (m + 1)) n b in
-              both-got _ _ at ts.it (m + 1) v.it (n + 1) shut (shut-got t 93 (m + 1) (string_at t) v.it n v.is (stands_byte t n 93 y f g))
+              both_got _ _ at ts.it (m + 1) v.it (n + 1) shut (shut_got t 93 (m + 1) (string_at t) v.it n v.is (stands_byte t n 93 y f g))
 
           pub rest_long : (n + 1 ≡ length t → ⊥) → Told
-          rest_long k = rw (rest-is, ne_eqb (n + 1) (length t) k)
+          rest_long k = rw (rest_is, ne_eqb (n + 1) (length t) k)
 
           pub rest_got : n + 1 ≡ length t → rest.Is (m + 2) (n - m - 3) d l ≡ rest_of (length t) at (rest_at t at)
           rest_got k =
               let z : m ≡ at + length (tags_text ts.it) = ((tags_exact t).same at ts.it m ts.is).is.end in
               let c : length (escape (end_got (string_at t (m + 1)) n b).it) ≡ n - m - 3 =
               omega (arith, quotes t (m + 1) (end_got (string_at t (m + 1)) n b).it n (end_got (string_at t (m + 1)) n b).is) in
-              rw (rest-is, eq-eqb (n + 1) (length t) k, ← z, c, ts.place, ts.size)
+              rw (rest_is, eq-eqb (n + 1) (length t) k, ← z, c, ts.place, ts.size)
 
 -- ---- what the parts say
 time_got_lem : (g : Got ℤ) (z : ℤ) (n : ℕ) → time.Is z n ≡ time_got g → g ≡ got z n
@@ -153,7 +153,7 @@ record Rested (l at : ℕ) (g : Got (List Tag × List ℕ)) (c cl d dl : ℕ) : 
   it : List Tag × List ℕ
   is : g ≡ got it l
   content : at + length (tags_text it.0) + 2 ≡ c
-  content-len : length (escape it.1) ≡ cl
+  content_len_lem : length (escape it.1) ≡ cl
   place : (d_span (at + 1) it.0).at ≡ d
   size : (d_span (at + 1) it.0).len ≡ dl
 
@@ -163,13 +163,13 @@ rest_told l at (got x n) c cl d dl e = go (eqb n l) refl e
   where
     go : (b : Bool) → eqb n l ≡ b → rest.Is c cl d dl ≡ cond b (rest.Is (at + length (tags_text x.0) + 2) (length (escape x.1)) (d_span (at + 1) x.0).at (d_span (at + 1) x.0).len) rest.Bad
         → Rested l at (got x n) c cl d dl
-    go true q e = record { it = x; is = ap (got x) (eqb-true n l q); content = cc; content-len = cc; place = cc; size = cc }
+    go true q e = record { it = x; is = ap (got x) (eqb-true n l q); content = cc; content_len_lem = cc; place = cc; size = cc }
     go false q e = absurd (let z : ◌≡◌ {A = ℕ} 0 1 = cc in omega arith)
 
 -- ---- the whole text: the answer, and its number
 number_is : (r : Read) → text_number (text_answer_of r) ≡ text_read_row r
-number_is tooLarge = refl
-number_is wrongShape = refl
+number_is too_large = refl
+number_is wrong_shape = refl
 number_is (read e) = refl
 
 module _ (t : List ℕ) where
@@ -197,7 +197,7 @@ module _ (t : List ℕ) where
       where
         go : (b : Bool) (g : Got (List ℕ)) → closed_at t closing (pubkey_at t) 4 ≡ g → (b && is_got g) ≡ false → cond b (fields_at t 4) none ≡ none
         go false g q e = refl
-        go true none q e = first-none _ _ 4 q
+        go true none q e = first_none _ _ 4 q
         go true (got k n) q e = absurd (let z : ◌≡◌ {A = ℕ} 0 1 = cc in omega arith)
 
     module _ (o : opens t ≡ true) where
@@ -220,7 +220,7 @@ module _ (t : List ℕ) where
 
       pub text_time : time.Not ≡ time_got (closed_at t comma (time_at t) 70) → Wrong
       unfolding opened_text fields_at
-      text_time a = wrong (rw key.first (second_none _ _ 4 key.it 70 key.is (first-none _ _ 70 (time_none (closed_at t comma (time_at t) 70) a))))
+      text_time a = wrong (rw key.first (second_none _ _ 4 key.it 70 key.is (first_none _ _ 70 (time_none (closed_at t comma (time_at t) 70) a))))
 
       module _ (z : ℤ) (a : ℕ) (ea : time.Is z a ≡ time_got (closed_at t comma (time_at t) 70)) where
         zs : closed_at t comma (time_at t) 70 ≡ got z a
@@ -230,20 +230,20 @@ module _ (t : List ℕ) where
         unfolding opened_text fields_at
         text_kind b =
             wrong (rw key.first
-            (second_none _ _ 4 key.it 70 key.is (second_none _ _ 70 z a zs (first-none _ _ a (kind_none (closed_at t comma (kind_at t) a) b)))))
+            (second_none _ _ 4 key.it 70 key.is (second_none _ _ 70 z a zs (first_none _ _ a (kind_none (closed_at t comma (kind_at t) a) b)))))
 
         module _ (k b : ℕ) (eb : kind.Is k b ≡ kind_got (closed_at t comma (kind_at t) a)) where
           ks : closed_at t comma (kind_at t) a ≡ got k b
           ks = kind_got_lem (closed_at t comma (kind_at t) a) k b eb
 
-          fields-none : rest_at t b ≡ none → opened_text t ≡ none
+          fields_none : rest_at t b ≡ none → opened_text t ≡ none
           unfolding opened_text fields_at rest_at
-          fields-none r = rw key.first (second_none _ _ 4 key.it 70 key.is (second_none _ _ 70 z a zs (second_none _ _ a k b ks r)))
+          fields_none r = rw key.first (second_none _ _ 4 key.it 70 key.is (second_none _ _ 70 z a zs (second_none _ _ a k b ks r)))
 
-          fields-got : (x : List Tag × List ℕ) (n : ℕ) → rest_at t b ≡ got x n → opened_text t ≡ got (key.it, (z, (k, x))) n
+          fields_got : (x : List Tag × List ℕ) (n : ℕ) → rest_at t b ≡ got x n → opened_text t ≡ got (key.it, (z, (k, x))) n
           unfolding opened_text fields_at rest_at
-          fields-got x n r =
-              rw key.first (both-got _ _ 4 key.it 70 (z, (k, x)) n key.is (both-got _ _ 70 z a (k, x) n zs (both-got _ _ a k b x n ks r)))
+          fields_got x n r =
+              rw key.first (both_got _ _ 4 key.it 70 (z, (k, x)) n key.is (both_got _ _ 70 z a (k, x) n zs (both_got _ _ a k b x n ks r)))
 
           pub text_rest : rest.Bad ≡ rest_of (length t) b (rest_at t b) → Wrong
           unfolding read_text
@@ -252,10 +252,10 @@ module _ (t : List ℕ) where
               long : (x : List Tag × List ℕ) (n : ℕ) (f : Bool) → eqb n (length t) ≡ f → rest_at t b ≡ got x n
                   → rest.Bad ≡ cond f (rest.Is (b + length (tags_text x.0) + 2) (length (escape x.1)) (d_span (b + 1) x.0).at (d_span (b + 1) x.0).len) rest.Bad → Wrong
               long x n true ef r q = absurd (let z : ◌≡◌ {A = ℕ} 0 1 = cc in omega arith)
-              long x n false ef r q = let w : answer.WrongShape ≡ text_answer_of (read_text t) = rw (le-leb (length t) most_text h, fields-got x n r, ef) in told w
+              long x n false ef r q = let w : answer.WrongShape ≡ text_answer_of (read_text t) = rw (le-leb (length t) most_text h, fields_got x n r, ef) in told w
 
               go : (g : Got (List Tag × List ℕ)) → rest_at t b ≡ g → rest.Bad ≡ rest_of (length t) b g → Wrong
-              go none r q = wrong (fields-none r)
+              go none r q = wrong (fields_none r)
               go (got x n) r q = long x n (eqb n (length t)) refl r q
 
           pub text_read : (c cl d dl : ℕ) → rest.Is c cl d dl ≡ rest_of (length t) b (rest_at t b)
@@ -267,5 +267,5 @@ module _ (t : List ℕ) where
               let kb = ((kind_closed t).same a k b ks).is.end in
               let p : 72 + length (decimal z) + length (digits k) ≡ b = omega (arith, za, kb, length-append (decimal z) comma, length-append (digits k) comma) in
               let e : answer.Read (record { time = z; kind = k; tags = b; content = c; content_len = cl; d = d; d_len = dl }) ≡ text_answer_of (read_text t) =
-              rw (le-leb (length t) most_text h, fields-got r.it (length t) r.is, eq-eqb (length t) (length t) refl, p, r.content, r.content-len, r.place, r.size) in
+              rw (le-leb (length t) most_text h, fields_got r.it (length t) r.is, eq-eqb (length t) (length t) refl, p, r.content, r.content_len_lem, r.place, r.size) in
               told e

@@ -9,7 +9,7 @@ use native.Mathlib.Omega.{arith}
 use lib.Dec.{eqb, ltb, leb}
 use lib.ListN.{length, get_or, drop, length-append, drop_of_length-le, get_or-eq_default}
 use lib.Seq.{drop-cons}
-use borrow.Author.Tests.{lt-ltb, le-ltb, le-leb, lt-leb, eq-eqb, ne_eqb, ltb-true, not-true, not_false}
+use borrow.Author.Tests.{lt-ltb, le-ltb, le-leb, lt-leb, eq-eqb, ne_eqb, ltb-true, not-true, not-false}
 use Rattle.utf8.specs.Utf8.{is_utf8}
 use Rattle.wire.specs.Escape.{escape}
 use Rattle.wire.specs.Limits.{most_strings}
@@ -34,23 +34,23 @@ module _ (k : ℕ) where
   class_low p q h = rw (ne_eqb k 0 p, ne_eqb k 3 q, lt-leb 10000 k h, lt-leb 20000 k (omega arith), lt-leb 30000 k (omega arith))
 
   module _ (h : 10000 ≤ k) where
-    from-10000 : class_of k ≡ cond (leb k 19999) Replaceable (cond (is_ephemeral k) Ephemeral (cond (is_addressable k) Addressable Regular))
+    from_10000 : class_of k ≡ cond (leb k 19999) Replaceable (cond (is_ephemeral k) Ephemeral (cond (is_addressable k) Addressable Regular))
     unfolding class_of
-    from-10000 = rw (ne_eqb k 0 (λ e. omega arith), ne_eqb k 3 (λ e. omega arith), le-leb 10000 k h)
+    from_10000 = rw (ne_eqb k 0 (λ e. omega arith), ne_eqb k 3 (λ e. omega arith), le-leb 10000 k h)
 
     pub class_replaceable : k ≤ 19999 → Replaceable ≡ class_of k
-    class_replaceable l = sym (from-10000 ∙ rw (le-leb k 19999 l))
+    class_replaceable l = sym (from_10000 ∙ rw (le-leb k 19999 l))
 
     module _ (i : 19999 < k) where
       pub class_ephemeral : k ≤ 29999 → Ephemeral ≡ class_of k
-      class_ephemeral l = sym (from-10000 ∙ rw (lt-leb k 19999 i, le-leb 20000 k i, le-leb k 29999 l))
+      class_ephemeral l = sym (from_10000 ∙ rw (lt-leb k 19999 i, le-leb 20000 k i, le-leb k 29999 l))
 
       module _ (j : 29999 < k) where
         pub class_addressable : k ≤ 39999 → Addressable ≡ class_of k
-        class_addressable l = sym (from-10000 ∙ rw (lt-leb k 19999 i, le-leb 20000 k i, lt-leb k 29999 j, le-leb 30000 k j, le-leb k 39999 l))
+        class_addressable l = sym (from_10000 ∙ rw (lt-leb k 19999 i, le-leb 20000 k i, lt-leb k 29999 j, le-leb 30000 k j, le-leb k 39999 l))
 
         pub class_high : 39999 < k → Regular ≡ class_of k
-        class_high l = sym (from-10000 ∙ rw (lt-leb k 19999 i, le-leb 20000 k i, lt-leb k 29999 j, le-leb 30000 k j, lt-leb k 39999 l))
+        class_high l = sym (from_10000 ∙ rw (lt-leb k 19999 i, le-leb 20000 k i, lt-leb k 29999 j, le-leb 30000 k j, lt-leb k 39999 l))
 
 -- ---- fixed bytes
 module _ (s w : List ℕ) (k i : ℕ) where
@@ -133,7 +133,7 @@ module _ (s : List ℕ) (i : ℕ) (h : i < length s) where
         go : Dec (length s ≤ i + 1) → got_end (body_from false i (drop i s)) ≡ Bad
         go (yes m) = slashed ∙ body_over true s (i + 1) m
         go (no m) =
-            let d = not_false (eqb (escaped_byte (get_or s (i + 1) 0)) 0) (sym (ap is_letter l) ∙ sym k ∙ z) in
+            let d = not-false (eqb (escaped_byte (get_or s (i + 1) 0)) 0) (sym (ap is_letter l) ∙ sym k ∙ z) in
             slashed ∙ body_refuse true s (i + 1) (omega arith) (rw d)
 
   module _ (e : get_or s i 0 ≡ 92 → ⊥) where

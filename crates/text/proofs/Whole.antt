@@ -9,7 +9,7 @@ use lib.Dec.{eqb, leb}
 use lib.IntN.{ℤ, pos, negsuc}
 use lib.ListN.{length}
 use borrow.Author.Tests.{le-leb, leb-true}
-use Rattle.utf8.specs.Utf8.{lead_of, next_want, ends, utf8_from, is_utf8}
+use Rattle.utf8.specs.Utf8.{lead_of, next_want, utf8_from, is_utf8}
 use Rattle.utf8.specs.declared.Want.{Want}
 use Rattle.utf8.specs.declared.Want.TheVariants.{Lead, Tail, Bad}
 use Rattle.wire.specs.Escape.{escape}
@@ -19,13 +19,13 @@ use Rattle.numeral.specs.Decimal.{digits, decimal}
 use Rattle.numeral.proofs.Digits.{digits_one, digits_split, by_digits}
 use Rattle.text.specs.Event.{Tag, Event, quoted, members_text, tag_text, tags_text, opening, closing, comma, bracket}
 use Rattle.text.specs.Event.{serialise, all, is_pubkey, is_string_bytes, is_tag, is_tags, is_fit}
-use Rattle.text.specs.Read.{wrongShape, read_text}
+use Rattle.text.specs.Read.{wrong_shape, read_text}
 use Rattle.text.specs.Answer.{text_answer_of, text_number, text_read_row}
 use Rattle.text.specs.declared.TextAnswer.TheVariants as answer
 use Rattle.text.proofs.Pieces.{both}
 use Rattle.text.proofs.Strings.{utf8_escape}
 use Rattle.text.proofs.Limits.{limits_of}
-use Rattle.text.proofs.RoundTrip.{wrong_shape}
+use Rattle.text.proofs.RoundTrip.{wrong_shape_lem}
 
 -- whole characters
 record Whole (p : List ℕ) : Type 0 where
@@ -128,5 +128,5 @@ serialise_utf8 e h = ap (utf8_from Lead) (sym (append-nil (serialise e))) ∙ (t
 pub text_not : (t : List ℕ) → length t ≤ most_text → is_utf8 t ≡ false →
     (answer.WrongShape ≡ text_answer_of (read_text t)) × (text_number answer.WrongShape ≡ text_read_row (read_text t))
 text_not t h u =
-    let w : read_text t ≡ wrongShape = (wrong_shape t).1 (h, λ e f s. false≢true (sym u ∙ ap is_utf8 (sym s) ∙ serialise_utf8 e f)) in
+    let w : read_text t ≡ wrong_shape = (wrong_shape_lem t).1 (h, λ e f s. false≢true (sym u ∙ ap is_utf8 (sym s) ∙ serialise_utf8 e f)) in
     (ap text_answer_of (sym w), ap text_read_row (sym w))

@@ -67,7 +67,7 @@ wide_f4 = record { is = λ x. upper (ltb x 0x80) (ltb 0xbf x) (ltb 0x8f x) (abov
 data Left : ℕ → ℕ → ℕ → ℕ → Type 0 where
   no_more : {c b a : ℕ} → a < 0xe0 → b < 0xf0 → wants_tail c b a ≡ true → Left 0 c b a
   one_more : {c b a : ℕ} → a < 0xf0 → (leb 0xe0 a || leb 0xf0 b) ≡ true → Left 1 c b a
-  two-more : {c b a : ℕ} → 0xf0 ≤ a → Left 2 c b a
+  two_more : {c b a : ℕ} → 0xf0 ≤ a → Left 2 c b a
 
 -- what is wanted after c, b, a
 data Fits : Want → ℕ → ℕ → ℕ → Type 0 where
@@ -91,7 +91,7 @@ left_wants {n} {c} {b} {a} (one_more p e) = go (leb 0xe0 a) (leb 0xf0 b) refl re
         either true = refl
         either false = refl
     go false false eu ev q = absurd (false≢true q)
-left_wants {n} {c} {b} {a} (two-more p) = rw (le-leb 0xc2 a (omega arith))
+left_wants {n} {c} {b} {a} (two_more p) = rw (le-leb 0xc2 a (omega arith))
 
 -- an octet is wrong, or the octets fit again
 record Told (t : Bool) (w : Want) (c b a : ℕ) : Type 0 where
@@ -119,9 +119,9 @@ led b a x h l u =
     pick (leb x 0xec) (λ e. within (three (leb-false x 0xe0 n4) (leb-true x 0xec e)) (one (omega (arith, leb-false x 0xe0 n4)) (omega (arith, leb-true x 0xec e)))) (λ n5.
     pick (leb x 0xed) (λ e. within (only 0xec n5 e wide_ed) (one (omega (arith, leb-false x 0xec n5)) (omega (arith, leb-true x 0xed e)))) (λ n6.
     pick (leb x 0xef) (λ e. within (late (leb-false x 0xed n6) (leb-true x 0xef e)) (one (omega (arith, leb-false x 0xed n6)) (omega (arith, leb-true x 0xef e)))) (λ n7.
-    pick (leb x 0xf0) (λ e. within (only 0xef n7 e wide_f0) (two-more (leb-false x 0xef n7))) (λ n8.
-    pick (leb x 0xf3) (λ e. within (four (leb-false x 0xf0 n8) (leb-true x 0xf3 e)) (two-more (omega (arith, leb-false x 0xf0 n8)))) (λ n9.
-    pick (leb x 0xf4) (λ e. within (only 0xf3 n9 e wide_f4) (two-more (omega (arith, leb-false x 0xf3 n9)))) (λ n. absurd (omega (arith, leb-false x 0xf4 n))))))))))))
+    pick (leb x 0xf0) (λ e. within (only 0xef n7 e wide_f0) (two_more (leb-false x 0xef n7))) (λ n8.
+    pick (leb x 0xf3) (λ e. within (four (leb-false x 0xf0 n8) (leb-true x 0xf3 e)) (two_more (omega (arith, leb-false x 0xf0 n8)))) (λ n9.
+    pick (leb x 0xf4) (λ e. within (only 0xf3 n9 e wide_f4) (two_more (omega (arith, leb-false x 0xf3 n9)))) (λ n. absurd (omega (arith, leb-false x 0xf4 n))))))))))))
   where
     only : {lo hi : ℕ} (k : ℕ) → leb x k ≡ false → leb x (k + 1) ≡ true → Wide lo hi (k + 1) → Wide lo hi x
     only k n e w = let z : x ≡ k + 1 = omega (arith, leb-false x k n, leb-true x (k + 1) e) in rw z w
@@ -146,9 +146,9 @@ unfolding is_narrow
 not_narrow a x h = rw (ne_eqb a 0xe0 (λ q. omega arith), ne_eqb a 0xed (λ q. omega arith), ne_eqb a 0xf0 (λ q. omega arith), ne_eqb a 0xf4 (λ q. omega arith))
 
 module _ (c b a x : ℕ) where
-  at-lead : a < 0xc2 → b < 0xe0 → c < 0xf0 → Told (is_wrong c b a x) (lead_of x) b a x
+  at_lead : a < 0xc2 → b < 0xe0 → c < 0xf0 → Told (is_wrong c b a x) (lead_of x) b a x
   unfolding is_wrong lead_of
-  at-lead p q r = rw (none_wanted c b a p q r, not_narrow a x p) (go (dec_le x 0x7f) (dec_le x 0xc1) (dec_le x 0xf4))
+  at_lead p q r = rw (none_wanted c b a p q r, not_narrow a x p) (go (dec_le x 0x7f) (dec_le x 0xc1) (dec_le x 0xf4))
     where
       go : Dec (x ≤ 0x7f) → Dec (x ≤ 0xc1) → Dec (x ≤ 0xf4) → Told (((leb 0x80 x && leb x 0xc1) || leb 0xf5 x) || false) (lead_of x) b a x
       go (yes e) f g = rw (lt-leb 0x80 x (omega arith), lt-leb 0xf5 x (omega arith), le-leb x 0x7f e) (is_right (between (omega arith) (omega arith) (omega arith)))
@@ -171,7 +171,7 @@ module _ (c b a x : ℕ) where
       go : {n : ℕ} → Left n c b a → Fits (cond (eqb n 0) Lead (Tail 0x80 0xbf (n - 1))) b a x
       go (no_more p q e) = between {a = x} (omega arith) p q
       go (one_more p e) = within any (no_more {c = b} {b = a} {a = x} (omega arith) p (rw (lt-leb 0xc2 x (omega arith)) e))
-      go (two-more p) = within any (one_more {c = b} {b = a} {a = x} (omega arith) (rw (lt-leb 0xe0 x (omega arith), le-leb 0xf0 a p)))
+      go (two_more p) = within any (one_more {c = b} {b = a} {a = x} (omega arith) (rw (lt-leb 0xe0 x (omega arith), le-leb 0xf0 a p)))
 
   at_tail : {lo hi n : ℕ} → Wide lo hi a → Left n c b a → Told (is_wrong c b a x) (next_want (Tail lo hi n) x) b a x
   unfolding is_wrong
@@ -186,7 +186,7 @@ module _ (c b a x : ℕ) where
           is_right (tailed l (ltb-false x 0x80 p) (ltb-false 0xbf x q))
 
   step : {w : Want} → Fits w c b a → Told (is_wrong c b a x) (next_want w x) b a x
-  step (between p q r) = at-lead p q r
+  step (between p q r) = at_lead p q r
   step (within w l) = at_tail w l
 
 ended : {w : Want} {c b a : ℕ} → Fits w c b a → ends w ≡ not (wants_tail c b a)

@@ -3,7 +3,7 @@ use Rattle.std.specs.Prelude.{cond, List, [], ◌∷◌, ℕ, ◌+◌, length}
 use Rattle.wire.specs.Escape.{escape}
 use Rattle.numeral.specs.Decimal.{digits, decimal}
 use Rattle.text.specs.Event.{Tag, Event, tag_text, tags_text}
-use Rattle.text.specs.Read.{Read, tooLarge, wrongShape, read}
+use Rattle.text.specs.Read.{Read, too_large, wrong_shape, read}
 use Rattle.text.specs.Kinds.{is_named_d, second}
 use Rattle.text.specs.declared.Text.{Text}
 use Rattle.text.specs.declared.TextAnswer.{TextAnswer}
@@ -45,8 +45,8 @@ text_parts e = record {
 }
 
 abbrev pub text_answer_of : Read → TextAnswer
-text_answer_of tooLarge = answer.TooLarge
-text_answer_of wrongShape = answer.WrongShape
+text_answer_of too_large = answer.TooLarge
+text_answer_of wrong_shape = answer.WrongShape
 text_answer_of (read e) = answer.Read (text_parts e)
 
 -- the number of 01
@@ -57,6 +57,6 @@ text_number answer.WrongShape = 5
 
 -- and of what reading gives: "refused by 9 if over 4,096 bytes, else by 5"
 abbrev pub text_read_row : Read → ℕ
-text_read_row tooLarge = 9
-text_read_row wrongShape = 5
+text_read_row too_large = 9
+text_read_row wrong_shape = 5
 text_read_row (read e) = 0

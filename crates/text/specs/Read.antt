@@ -1,7 +1,7 @@
 -- 01, "A text read back alone". A reader `xAt` of the text s at a place: `got x n` if x stands there and the text goes
 -- on at n. Past the end of a text stands 0, which is none of the fixed bytes that are looked for at a place; a string
 -- is read from the bytes that there are. That these readers do what 01's sentence says is proved: proofs/RoundTrip,
--- `accepted`, `too_large`, `wrong_shape`.
+-- `accepted`, `too_large_lem`, `wrong_shape_lem`.
 use Rattle.std.specs.Prelude.{Bool, true, false, cond, ◌&&◌, List, [], ◌∷◌, ◌++◌, ◌≡◌, ℕ, zero, suc, ◌+◌, ◌≤◌, eqb, leb, ℤ, pos, negsuc, length, get_or, take, drop}
 use Rattle.wire.specs.Escape.{letter_of}
 use Rattle.numeral.specs.Whole.{whole_of}
@@ -141,13 +141,13 @@ event_of_fields x =
 
 -- refused by row 9 or row 5, or read
 pub data Read : Type 0 where
-  tooLarge wrongShape : Read
+  too_large wrong_shape : Read
   read : Event → Read
 
 -- the text ends after its event
 abbrev pub ending : Bytes → Got Fields → Read
-ending t none = wrongShape
-ending t (got x n) = cond (eqb n (length t)) (read (event_of_fields x)) wrongShape
+ending t none = wrong_shape
+ending t (got x n) = cond (eqb n (length t)) (read (event_of_fields x)) wrong_shape
 
 unfoldable pub opened_text : Bytes → Got Fields
 opened_text t = cond (stands_at t opening 0) (fields_at t (length opening)) none
@@ -155,7 +155,7 @@ opened_text t = cond (stands_at t opening 0) (fields_at t (length opening)) none
 -- refused by 9 if over 4,096 bytes, else by 5 if it isn't byte for byte the serialisation of an event within these
 -- limits
 unfoldable pub read_text : Bytes → Read
-read_text t = cond (leb (length t) most_text) (ending t (opened_text t)) tooLarge
+read_text t = cond (leb (length t) most_text) (ending t (opened_text t)) too_large
 
 -- t is the serialisation of e, an event within these limits
 pub record IsTextOf (t : List ℕ) (e : Event) : Type 0 where

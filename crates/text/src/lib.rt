@@ -1,4 +1,6 @@
 // The text that is hashed, read back, and the class of a kind.
+#![tactic(auto)]
+
 ghost use Rattle.std.specs.Prelude.{◌≡◌};
 ghost use Rattle.text.specs.Read.{read_text};
 ghost use Rattle.text.specs.Kinds.{class_of};
@@ -9,7 +11,7 @@ mod octets;
 mod parts;
 
 // 01, "Kinds and keys".
-#[derive(Drop)]
+#[derive(Clone, Copy)]
 pub enum Class {
     Regular,
     Replaceable,
@@ -18,7 +20,7 @@ pub enum Class {
 }
 
 // The places of an event's parts in its text. The pubkey is always at 4, 64 bytes long.
-#[derive(Drop)]
+#[derive(Clone, Copy)]
 pub struct Text {
     pub time: i64,
     pub kind: u16,
@@ -33,7 +35,7 @@ pub struct Text {
 }
 
 // 01, "A text read back alone": rows 0, 9 and 5.
-#[derive(Drop)]
+#[derive(Clone, Copy)]
 pub enum TextAnswer {
     Read(Text),
     TooLarge,
@@ -41,7 +43,7 @@ pub enum TextAnswer {
 }
 
 // The place after a part of the text, or that no such part is there.
-#[derive(Drop)]
+#[derive(Clone, Copy)]
 enum Out {
     End(usize),
     Bad,
@@ -49,7 +51,7 @@ enum Out {
 
 // What a byte of a string does: the string goes on, after a backslash or not; it ends; or the byte may not stand there.
 // The definition goes by these; `body_end` takes a backslash and its letter at once.
-#[derive(Drop)]
+#[derive(Clone, Copy)]
 enum Move {
     Go(bool),
     Stop,
@@ -57,34 +59,34 @@ enum Move {
 }
 
 // A number, and the place after the comma that follows it.
-#[derive(Drop)]
+#[derive(Clone, Copy)]
 enum Time {
     Is(i64, usize),
     Not,
 }
 
-#[derive(Drop)]
+#[derive(Clone, Copy)]
 enum Kind {
     Is(u16, usize),
     Not,
 }
 
 // d's place and length, once a tag named d was met.
-#[derive(Drop)]
+#[derive(Clone, Copy)]
 enum Found {
     At(usize, usize),
     Not,
 }
 
 // The place after the tags, and d's place and length.
-#[derive(Drop)]
+#[derive(Clone, Copy)]
 enum Tagged {
     End(usize, usize, usize),
     Bad,
 }
 
 // The content's place and length, and d's.
-#[derive(Drop)]
+#[derive(Clone, Copy)]
 enum Rest {
     Is(usize, usize, usize, usize),
     Bad,

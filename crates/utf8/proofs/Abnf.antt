@@ -11,30 +11,30 @@ use lib.Dec.{leb, ltb, eqb, eqb-suc-zero}
 use Rattle.utf8.specs.declared.Want.{Want}
 use Rattle.utf8.specs.declared.Want.TheVariants.{Lead, Tail, Bad}
 use Rattle.utf8.specs.Utf8.{lead_of, next_want, ends, utf8_from, is_utf8}
-use Rattle.utf8.specs.Abnf.{Range, Octets, none, utf8_1, utf8_2, utf8-3-e0, utf8-3-e1, utf8-3-ed, utf8-3-ee}
-use Rattle.utf8.specs.Abnf.{utf8-4-f0, utf8-4-f1, utf8-4-f4, AsInAbnf}
+use Rattle.utf8.specs.Abnf.{Range, Octets, none, utf8_1, utf8_2, utf8_3_e0, utf8_3_e1, utf8_3_ed, utf8_3_ee}
+use Rattle.utf8.specs.Abnf.{utf8_4_f0, utf8_4_f1, utf8_4_f4, AsInAbnf}
 
 -- what a first octet of each range wants next
 module _ {a : ℕ} where
-  lead-1 : Range 0x00 0x7f a → lead_of a ≡ Lead
+  lead_1 : Range 0x00 0x7f a → lead_of a ≡ Lead
   unfolding lead_of
-  lead-1 r = rw (le-leb a 0x7f r.high)
+  lead_1 r = rw (le-leb a 0x7f r.high)
 
-  lead-2 : Range 0xc2 0xdf a → lead_of a ≡ Tail 0x80 0xbf 0
+  lead_2 : Range 0xc2 0xdf a → lead_of a ≡ Tail 0x80 0xbf 0
   unfolding lead_of
-  lead-2 r = rw (lt-leb a 0x7f (omega arith), lt-leb a 0xc1 (omega arith), le-leb a 0xdf r.high)
+  lead_2 r = rw (lt-leb a 0x7f (omega arith), lt-leb a 0xc1 (omega arith), le-leb a 0xdf r.high)
 
-  lead-e1 : Range 0xe1 0xec a → lead_of a ≡ Tail 0x80 0xbf 1
+  lead_e1 : Range 0xe1 0xec a → lead_of a ≡ Tail 0x80 0xbf 1
   unfolding lead_of
-  lead-e1 r = rw (lt-leb a 0x7f (omega arith), lt-leb a 0xc1 (omega arith), lt-leb a 0xdf (omega arith), lt-leb a 0xe0 (omega arith), le-leb a 0xec r.high)
+  lead_e1 r = rw (lt-leb a 0x7f (omega arith), lt-leb a 0xc1 (omega arith), lt-leb a 0xdf (omega arith), lt-leb a 0xe0 (omega arith), le-leb a 0xec r.high)
 
-  lead-ee : Range 0xee 0xef a → lead_of a ≡ Tail 0x80 0xbf 1
+  lead_ee : Range 0xee 0xef a → lead_of a ≡ Tail 0x80 0xbf 1
   unfolding lead_of
-  lead-ee r = rw (lt-leb a 0x7f (omega arith), lt-leb a 0xc1 (omega arith), lt-leb a 0xdf (omega arith), lt-leb a 0xe0 (omega arith), lt-leb a 0xec (omega arith), lt-leb a 0xed (omega arith), le-leb a 0xef r.high)
+  lead_ee r = rw (lt-leb a 0x7f (omega arith), lt-leb a 0xc1 (omega arith), lt-leb a 0xdf (omega arith), lt-leb a 0xe0 (omega arith), lt-leb a 0xec (omega arith), lt-leb a 0xed (omega arith), le-leb a 0xef r.high)
 
-  lead-f1 : Range 0xf1 0xf3 a → lead_of a ≡ Tail 0x80 0xbf 2
+  lead_f1 : Range 0xf1 0xf3 a → lead_of a ≡ Tail 0x80 0xbf 2
   unfolding lead_of
-  lead-f1 r = rw (lt-leb a 0x7f (omega arith), lt-leb a 0xc1 (omega arith), lt-leb a 0xdf (omega arith), lt-leb a 0xe0 (omega arith), lt-leb a 0xec (omega arith), lt-leb a 0xed (omega arith), lt-leb a 0xef (omega arith), lt-leb a 0xf0 (omega arith), le-leb a 0xf3 r.high)
+  lead_f1 r = rw (lt-leb a 0x7f (omega arith), lt-leb a 0xc1 (omega arith), lt-leb a 0xdf (omega arith), lt-leb a 0xe0 (omega arith), lt-leb a 0xec (omega arith), lt-leb a 0xed (omega arith), lt-leb a 0xef (omega arith), lt-leb a 0xf0 (omega arith), le-leb a 0xf3 r.high)
 
 -- an octet of the range that is wanted, the last one or not
 tail_last : {lo hi x : ℕ} → Range lo hi x → next_want (Tail lo hi 0) x ≡ Lead
@@ -46,15 +46,15 @@ tail_more {lo} {hi} {x} n r = rw (le-ltb x lo r.low, le-ltb hi x r.high, eqb-suc
 accepts : {s : List ℕ} → Octets s → utf8_from Lead s ≡ true
 unfolding utf8_from lead_of
 accepts none = refl
-accepts (utf8_1 a o) = rw (lead-1 a) (accepts o)
-accepts (utf8_2 a b o) = rw (lead-2 a, tail_last b) (accepts o)
-accepts (utf8-3-e0 b c o) = rw (tail_more 0 b, tail_last c) (accepts o)
-accepts (utf8-3-e1 a b c o) = rw (lead-e1 a, tail_more 0 b, tail_last c) (accepts o)
-accepts (utf8-3-ed b c o) = rw (tail_more 0 b, tail_last c) (accepts o)
-accepts (utf8-3-ee a b c o) = rw (lead-ee a, tail_more 0 b, tail_last c) (accepts o)
-accepts (utf8-4-f0 b c d o) = rw (tail_more 1 b, tail_more 0 c, tail_last d) (accepts o)
-accepts (utf8-4-f1 a b c d o) = rw (lead-f1 a, tail_more 1 b, tail_more 0 c, tail_last d) (accepts o)
-accepts (utf8-4-f4 b c d o) = rw (tail_more 1 b, tail_more 0 c, tail_last d) (accepts o)
+accepts (utf8_1 a o) = rw (lead_1 a) (accepts o)
+accepts (utf8_2 a b o) = rw (lead_2 a, tail_last b) (accepts o)
+accepts (utf8_3_e0 b c o) = rw (tail_more 0 b, tail_last c) (accepts o)
+accepts (utf8_3_e1 a b c o) = rw (lead_e1 a, tail_more 0 b, tail_last c) (accepts o)
+accepts (utf8_3_ed b c o) = rw (tail_more 0 b, tail_last c) (accepts o)
+accepts (utf8_3_ee a b c o) = rw (lead_ee a, tail_more 0 b, tail_last c) (accepts o)
+accepts (utf8_4_f0 b c d o) = rw (tail_more 1 b, tail_more 0 c, tail_last d) (accepts o)
+accepts (utf8_4_f1 a b c d o) = rw (lead_f1 a, tail_more 1 b, tail_more 0 c, tail_last d) (accepts o)
+accepts (utf8_4_f4 b c d o) = rw (tail_more 1 b, tail_more 0 c, tail_last d) (accepts o)
 
 -- an octet from lo to hi, n times UTF8-tail, and then UTF8-octets
 data Tails : ℕ → ℕ → ℕ → List ℕ → Type 0 where
@@ -83,26 +83,26 @@ module _ {a : ℕ} where
   two : {s : List ℕ} → Range 0xc2 0xdf a → Tails 0x80 0xbf 0 s → Octets (a ∷ s)
   two r (last b o) = utf8_2 r b o
 
-  three-e0 : {s : List ℕ} → a ≡ 0xe0 → Tails 0xa0 0xbf 1 s → Octets (a ∷ s)
-  three-e0 e (more b (last c o)) = rw e (utf8-3-e0 b c o)
+  three_e0 : {s : List ℕ} → a ≡ 0xe0 → Tails 0xa0 0xbf 1 s → Octets (a ∷ s)
+  three_e0 e (more b (last c o)) = rw e (utf8_3_e0 b c o)
 
-  three-e1 : {s : List ℕ} → Range 0xe1 0xec a → Tails 0x80 0xbf 1 s → Octets (a ∷ s)
-  three-e1 r (more b (last c o)) = utf8-3-e1 r b c o
+  three_e1 : {s : List ℕ} → Range 0xe1 0xec a → Tails 0x80 0xbf 1 s → Octets (a ∷ s)
+  three_e1 r (more b (last c o)) = utf8_3_e1 r b c o
 
-  three-ed : {s : List ℕ} → a ≡ 0xed → Tails 0x80 0x9f 1 s → Octets (a ∷ s)
-  three-ed e (more b (last c o)) = rw e (utf8-3-ed b c o)
+  three_ed : {s : List ℕ} → a ≡ 0xed → Tails 0x80 0x9f 1 s → Octets (a ∷ s)
+  three_ed e (more b (last c o)) = rw e (utf8_3_ed b c o)
 
-  three-ee : {s : List ℕ} → Range 0xee 0xef a → Tails 0x80 0xbf 1 s → Octets (a ∷ s)
-  three-ee r (more b (last c o)) = utf8-3-ee r b c o
+  three_ee : {s : List ℕ} → Range 0xee 0xef a → Tails 0x80 0xbf 1 s → Octets (a ∷ s)
+  three_ee r (more b (last c o)) = utf8_3_ee r b c o
 
-  four-f0 : {s : List ℕ} → a ≡ 0xf0 → Tails 0x90 0xbf 2 s → Octets (a ∷ s)
-  four-f0 e (more b (more c (last d o))) = rw e (utf8-4-f0 b c d o)
+  four_f0 : {s : List ℕ} → a ≡ 0xf0 → Tails 0x90 0xbf 2 s → Octets (a ∷ s)
+  four_f0 e (more b (more c (last d o))) = rw e (utf8_4_f0 b c d o)
 
-  four-f1 : {s : List ℕ} → Range 0xf1 0xf3 a → Tails 0x80 0xbf 2 s → Octets (a ∷ s)
-  four-f1 r (more b (more c (last d o))) = utf8-4-f1 r b c d o
+  four_f1 : {s : List ℕ} → Range 0xf1 0xf3 a → Tails 0x80 0xbf 2 s → Octets (a ∷ s)
+  four_f1 r (more b (more c (last d o))) = utf8_4_f1 r b c d o
 
-  four-f4 : {s : List ℕ} → a ≡ 0xf4 → Tails 0x80 0x8f 2 s → Octets (a ∷ s)
-  four-f4 e (more b (more c (last d o))) = rw e (utf8-4-f4 b c d o)
+  four_f4 : {s : List ℕ} → a ≡ 0xf4 → Tails 0x80 0x8f 2 s → Octets (a ∷ s)
+  four_f4 e (more b (more c (last d o))) = rw e (utf8_4_f4 b c d o)
 
 lead_back : (x : ℕ) (s : List ℕ) → After (lead_of x) s → Octets (x ∷ s)
 unfolding lead_of
@@ -110,13 +110,13 @@ lead_back x s a =
     pick _ _ s (leb x 0x7f) (λ e o. utf8_1 (record { low = omega arith; high = leb-true x 0x7f e }) o) (λ _.
     pick _ _ s (leb x 0xc1) (λ _ z. absurd z) (λ n2.
     pick _ _ s (leb x 0xdf) (λ e t. two (range n2 e) t) (λ n3.
-    pick _ _ s (leb x 0xe0) (λ e t. three-e0 (only n3 e) t) (λ n4.
-    pick _ _ s (leb x 0xec) (λ e t. three-e1 (range n4 e) t) (λ n5.
-    pick _ _ s (leb x 0xed) (λ e t. three-ed (only n5 e) t) (λ n6.
-    pick _ _ s (leb x 0xef) (λ e t. three-ee (range n6 e) t) (λ n7.
-    pick _ _ s (leb x 0xf0) (λ e t. four-f0 (only n7 e) t) (λ n8.
-    pick _ _ s (leb x 0xf3) (λ e t. four-f1 (range n8 e) t) (λ n9.
-    pick _ _ s (leb x 0xf4) (λ e t. four-f4 (only n9 e) t) (λ _ z. absurd z)))))))))) a
+    pick _ _ s (leb x 0xe0) (λ e t. three_e0 (only n3 e) t) (λ n4.
+    pick _ _ s (leb x 0xec) (λ e t. three_e1 (range n4 e) t) (λ n5.
+    pick _ _ s (leb x 0xed) (λ e t. three_ed (only n5 e) t) (λ n6.
+    pick _ _ s (leb x 0xef) (λ e t. three_ee (range n6 e) t) (λ n7.
+    pick _ _ s (leb x 0xf0) (λ e t. four_f0 (only n7 e) t) (λ n8.
+    pick _ _ s (leb x 0xf3) (λ e t. four_f1 (range n8 e) t) (λ n9.
+    pick _ _ s (leb x 0xf4) (λ e t. four_f4 (only n9 e) t) (λ _ z. absurd z)))))))))) a
   where
     range : {lo hi : ℕ} → leb x lo ≡ false → leb x hi ≡ true → Range (suc lo) hi x
     range {lo} {hi} n e = record { low = leb-false x lo n; high = leb-true x hi e }

@@ -15,9 +15,9 @@ use Rattle.utf8.specs.Utf8.{lead_of, utf8_from, next_want, ends}
 use Rattle.utf8.proofs.Laws.{bad}
 
 pub data Reached : Want → Type 0 where
-  lead-reached : Reached Lead
-  tail-reached : {lo hi n : ℕ} → 0x80 ≤ lo → hi ≤ 0xbf → Reached (Tail lo hi n)
-  bad-reached : Reached Bad
+  lead_reached : Reached Lead
+  tail_reached : {lo hi n : ℕ} → 0x80 ≤ lo → hi ≤ 0xbf → Reached (Tail lo hi n)
+  bad_reached : Reached Bad
 
 cond_reached : (t : Bool) {v w : Want} → Reached v → Reached w → Reached (cond t v w)
 cond_reached true p q = p
@@ -25,9 +25,9 @@ cond_reached false p q = q
 
 pub next_reached : (w : Want) (x : ℕ) → Reached w → Reached (next_want w x)
 unfolding lead_of
-next_reached Lead x h = search (cond_reached, lead-reached, tail-reached, bad-reached, lit≤, tt) depth 14
-next_reached (Tail lo hi n) x h = search (cond_reached, lead-reached, tail-reached, bad-reached, lit≤, tt) depth 14
-next_reached Bad x h = bad-reached
+next_reached Lead x h = search (cond_reached, lead_reached, tail_reached, bad_reached, lit≤, tt) depth 14
+next_reached (Tail lo hi n) x h = search (cond_reached, lead_reached, tail_reached, bad_reached, lit≤, tt) depth 14
+next_reached Bad x h = bad_reached
 
 pub never_bad : {A : Type 0} (t : List ℕ) → utf8_from Bad t ≡ true → A
 never_bad t e = let f = bad t in absurd (let z : ◌≡◌ {A = ℕ} 0 1 = cc in omega arith)
@@ -38,7 +38,7 @@ unfolding lead_of
 low_next x h = rw (le-leb x 0x7f (omega arith))
 
 pub low_stuck : {lo hi n : ℕ} (x : ℕ) → x < 0x80 → Reached (Tail lo hi n) → next_want (Tail lo hi n) x ≡ Bad
-low_stuck {lo} x h (tail-reached l k) = rw (lt-ltb x lo (omega arith))
+low_stuck {lo} x h (tail_reached l k) = rw (lt-ltb x lo (omega arith))
 
 pub lead_low : (x : ℕ) (t : List ℕ) → x < 0x80 → utf8_from Lead t ≡ true → utf8_from Lead (x ∷ t) ≡ true
 unfolding utf8_from
@@ -52,9 +52,9 @@ low_lead Bad x t r h e = never_bad t e
 
 -- one that is wanted takes the scan back to the beginning of a character, any other to where nothing will do
 pub low_turn : {w : Want} (x : ℕ) → x < 0x80 → Reached w → ((w ≡ Lead) × (next_want w x ≡ Lead)) ⊎ (next_want w x ≡ Bad)
-low_turn x h lead-reached = inl (refl, low_next x h)
-low_turn x h (tail-reached {n = n} l k) = inr (low_stuck {n = n} x h (tail-reached l k))
-low_turn x h bad-reached = inr refl
+low_turn x h lead_reached = inl (refl, low_next x h)
+low_turn x h (tail_reached {n = n} l k) = inr (low_stuck {n = n} x h (tail_reached l k))
+low_turn x h bad_reached = inr refl
 
 -- no character begins above F4
 pub lead_none : (x : ℕ) → 0xf4 < x → lead_of x ≡ Bad
@@ -77,7 +77,7 @@ lead_none x h =
 pub byte_few : (w : Want) (x : ℕ) (t : List ℕ) → Reached w → utf8_from w (x ∷ t) ≡ true → x < 0x100
 unfolding utf8_from
 byte_few Lead x t r e = elim (dec_lt x 0x100) [ yes h ↦ h | no h ↦ never_bad t (rw (lead_none x (omega arith)) at e) ]
-byte_few (Tail lo hi n) x t (tail-reached l k) e = elim (dec_lt x 0x100) [
+byte_few (Tail lo hi n) x t (tail_reached l k) e = elim (dec_lt x 0x100) [
   | yes h ↦ h
   | no h ↦ elim (dec_lt x lo) [
     | yes j ↦ never_bad t (rw (lt-ltb x lo j) at e)

@@ -21,17 +21,17 @@ pub data Octets : List ℕ → Type 0 where
   none : Octets []
   utf8_1 : {a : ℕ} {s : List ℕ} → Range 0x00 0x7f a → Octets s → Octets (a ∷ s)
   utf8_2 : {a b : ℕ} {s : List ℕ} → Range 0xc2 0xdf a → TailOctet b → Octets s → Octets (a ∷ b ∷ s)
-  utf8-3-e0 : {b c : ℕ} {s : List ℕ} → Range 0xa0 0xbf b → TailOctet c → Octets s → Octets (0xe0 ∷ b ∷ c ∷ s)
-  utf8-3-e1 : {a b c : ℕ} {s : List ℕ} → Range 0xe1 0xec a → TailOctet b → TailOctet c → Octets s →
+  utf8_3_e0 : {b c : ℕ} {s : List ℕ} → Range 0xa0 0xbf b → TailOctet c → Octets s → Octets (0xe0 ∷ b ∷ c ∷ s)
+  utf8_3_e1 : {a b c : ℕ} {s : List ℕ} → Range 0xe1 0xec a → TailOctet b → TailOctet c → Octets s →
       Octets (a ∷ b ∷ c ∷ s)
-  utf8-3-ed : {b c : ℕ} {s : List ℕ} → Range 0x80 0x9f b → TailOctet c → Octets s → Octets (0xed ∷ b ∷ c ∷ s)
-  utf8-3-ee : {a b c : ℕ} {s : List ℕ} → Range 0xee 0xef a → TailOctet b → TailOctet c → Octets s →
+  utf8_3_ed : {b c : ℕ} {s : List ℕ} → Range 0x80 0x9f b → TailOctet c → Octets s → Octets (0xed ∷ b ∷ c ∷ s)
+  utf8_3_ee : {a b c : ℕ} {s : List ℕ} → Range 0xee 0xef a → TailOctet b → TailOctet c → Octets s →
       Octets (a ∷ b ∷ c ∷ s)
-  utf8-4-f0 : {b c d : ℕ} {s : List ℕ} → Range 0x90 0xbf b → TailOctet c → TailOctet d → Octets s →
+  utf8_4_f0 : {b c d : ℕ} {s : List ℕ} → Range 0x90 0xbf b → TailOctet c → TailOctet d → Octets s →
       Octets (0xf0 ∷ b ∷ c ∷ d ∷ s)
-  utf8-4-f1 : {a b c d : ℕ} {s : List ℕ} → Range 0xf1 0xf3 a → TailOctet b → TailOctet c → TailOctet d → Octets s →
+  utf8_4_f1 : {a b c d : ℕ} {s : List ℕ} → Range 0xf1 0xf3 a → TailOctet b → TailOctet c → TailOctet d → Octets s →
       Octets (a ∷ b ∷ c ∷ d ∷ s)
-  utf8-4-f4 : {b c d : ℕ} {s : List ℕ} → Range 0x80 0x8f b → TailOctet c → TailOctet d → Octets s →
+  utf8_4_f4 : {b c d : ℕ} {s : List ℕ} → Range 0x80 0x8f b → TailOctet c → TailOctet d → Octets s →
       Octets (0xf4 ∷ b ∷ c ∷ d ∷ s)
 
 -- the test of Utf8.antt says yes exactly of UTF8-octets: proved in proofs/Abnf.antt

@@ -1,6 +1,6 @@
 -- RFC 3629 section 4, the syntax of UTF-8 byte sequences, by recursion on the bytes with a state: what the next byte
 -- has to be.
-use Rattle.std.specs.Prelude.{Bool, true, false, cond, List, [], ◌∷◌, ℕ, ◌-◌, ltb, leb, eqb}
+use Rattle.std.specs.Prelude.{Bool, true, false, cond, [], ◌∷◌, ℕ, ◌-◌, ltb, leb, eqb}
 use Rattle.utf8.specs.declared.Want.{Want}
 use Rattle.utf8.specs.declared.Want.TheVariants.{Lead, Tail, Bad}
 use Rattle.wire.specs.Bytes.{Bytes}

@@ -1,11 +1,13 @@
 // UTF-8 (RFC 3629), a character at a time, and ASCII at a run.
+#![tactic(auto)]
+
 ghost use Rattle.std.specs.Prelude.{◌≡◌, ◌+◌, ◌≤◌, ◌<◌, length};
 ghost use Rattle.utf8.specs.Inner.{Past, Passed, Small};
 ghost use Rattle.utf8.specs.Utf8.{lead_of, is_utf8};
 
 // What the next byte has to be: the first of a character, one from the first number to the second with so many tails
 // after it, or nothing will do.
-#[derive(Drop)]
+#[derive(Clone, Copy)]
 pub enum Want {
     Lead,
     Tail(u8, u8, u8),

@@ -87,11 +87,11 @@ json_append (x ∷ a) b = ap (json_one x ++◌) (json_append a b) ∙ sym (appen
 
 pub json_one_lem : (b : ℕ) → json_of (b ∷ []) ≡ json_one b
 unfolding json_of
-json_one_lem b = append-empty (json_one b)
+json_one_lem b = append_empty (json_one b)
   where
-    append-empty : (l : List ℕ) → l ++ [] ≡ l
-    append-empty [] = refl
-    append-empty (x ∷ l) = ap (x ∷◌) (append-empty l)
+    append_empty : (l : List ℕ) → l ++ [] ≡ l
+    append_empty [] = refl
+    append_empty (x ∷ l) = ap (x ∷◌) (append_empty l)
 
 pub json_same : (l : List ℕ) → has_control l ≡ false → json_of l ≡ l
 unfolding json_of

@@ -1,11 +1,11 @@
 -- The filters asked so far, each with its bytes, and the whole answer.
-use mathlib.Core.Path.{◌≡◌, refl, sym, ap, ap₂, ◌∙◌}
+use mathlib.Core.Path.{◌≡◌, refl, sym, ap, ◌∙◌}
 use mathlib.Core.Bool.{Bool, true, false, cond}
 use mathlib.Core.Logic.{◌≢◌}
 use mathlib.Core.List.{List, [], ◌∷◌, ◌++◌, map, map-append}
 use Prim.Native.Nat.{ℕ, suc, ◌+◌, ◌≤◌, ◌<◌}
 use native.Mathlib.Omega.{arith}
-use borrow.Author.Tests.{eq-eqb, ne_eqb}
+use borrow.Author.Tests.{ne_eqb}
 use lib.Dec.{eqb, ltb}
 use lib.ListN.{length, get_or, take, length-take, length-map}
 use lib.Seq.{take-suc, get_or-take}
@@ -20,7 +20,6 @@ use Rattle.table.proofs.Lists.{entry_in}
 use Rattle.query.specs.Filter.{Filter, filter_of}
 use Rattle.query.specs.Answer.{among, numbers_from, matches_slot, meant, answer_to, filters_row, listing_row, listed}
 use Rattle.query.specs.Answer.{listed_row, listing_number}
-use Rattle.query.specs.Claims.{AllPass}
 use Rattle.query.specs.declared.Listing.{Listing}
 use Rattle.query.specs.declared.Listing.TheVariants.{Count, Refused}
 use Rattle.query.proofs.Sorting.{from_among}

@@ -4,10 +4,9 @@ use mathlib.Core.Bool.{Bool, true, false, not, false≢true}
 use mathlib.Core.List.{List, [], ◌∷◌, ◌++◌, append_assoc, append-nil}
 use Prim.Native.Nat.{ℕ, zero, suc, ◌+◌, ◌-◌, ◌*◌, ◌≤◌, ◌<◌}
 use native.Mathlib.Omega.{arith}
-use borrow.Author.Tests.{not_false}
+use borrow.Author.Tests.{not-false}
 use lib.IntN.{pos}
-use lib.Dec.{ltb}
-use lib.ListN.{length, set, take, drop, length-take, length-drop, length-set}
+use lib.ListN.{length, set, take, drop, length-drop, length-set}
 use lib.Seq.{take-suc-set, drop-set-add}
 use Rattle.wire.specs.Bytes.{part}
 use Rattle.spell.specs.Spell.{decode}
@@ -20,7 +19,7 @@ use Rattle.message.specs.declared.Listed.TheVariants.{Absent, At}
 use Rattle.message.specs.Lists.{start_element, next_of}
 use Rattle.message.specs.Lent.{value5, on_value, value_at}
 use Rattle.message.proofs.Facts.{and_true, or_not}
-use Rattle.message.proofs.Elements.{group_of, Listing, end, one}
+use Rattle.message.proofs.Elements.{group_of, Listing, one}
 use Rattle.message.proofs.Checked.{ListOf, list_of_lem}
 use Rattle.matching.specs.Inner.Found.{spelled_by, numbers_by}
 use Rattle.matching.specs.Inner.Steps.{placed}
@@ -134,7 +133,7 @@ module _ {X : Type 0} (w : ℕ) (f g : Json → Bool) (means : List ℕ → List
 
       go : (r : Got Json) → tree_at m depth v ≡ r → not (on_value (is_array_of f) r) ≡ false → on_value (on_array (any_item (λ q u. g u))) r ≡ false → on_value wrong_list r ≡ false → Going row at row x 0
       go none tr a c d = absurd (false≢true (sym a))
-      go (got t n) tr a c d = array t n tr (list_of_lem f g t (not_false _ a) c d)
+      go (got t n) tr a c d = array t n tr (list_of_lem f g t (not-false _ a) c d)
 
 -- ---- stores into the row
 pub take_past : {A : Type 0} (n : ℕ) (l : List A) (i : ℕ) (a : A) → n ≤ i → take n (set l i a) ≡ take n l

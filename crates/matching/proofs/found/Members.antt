@@ -1,12 +1,11 @@
 -- The strings and the numbers of an array, written into the row one by one.
-use mathlib.Core.Path.{◌≡◌, refl, sym, ap, ap₂, ◌∙◌}
-use mathlib.Core.Bool.{Bool, true, false, not, ◌&&◌, false≢true}
+use mathlib.Core.Path.{◌≡◌, refl, sym, ap, ◌∙◌}
+use mathlib.Core.Bool.{Bool, true, false, not, false≢true}
 use mathlib.Core.List.{List, [], ◌∷◌, ◌++◌}
-use Prim.Native.Nat.{ℕ, zero, suc, ◌+◌, ◌-◌, ◌*◌, ◌≤◌, ◌<◌}
+use Prim.Native.Nat.{ℕ, suc, ◌+◌, ◌-◌, ◌*◌, ◌≤◌, ◌<◌}
 use native.Mathlib.Omega.{arith}
 use lib.IntN.{ℤ, pos, negsuc}
-use lib.ListN.{length, set, take, drop, length-take, length-drop, length-set}
-use lib.Signed.{lt_z}
+use lib.ListN.{length, set, drop, length-take, length-drop, length-set}
 use mir.Syntax.{w64}
 use mir.Val.{to_z, of_z, SFits}
 use mir.ValLaws.{to_z-of_z}
@@ -14,7 +13,7 @@ use Rattle.wire.specs.Bytes.{part}
 use Rattle.wire.specs.Limits.{most_small}
 use Rattle.spell.specs.Spell.{decode}
 use Rattle.json_tree.specs.Grammar.{scalar_at, start_at}
-use Rattle.json_tree.specs.Tree.{Json, word, num, str, arr, obj, Items, nil, item, Got, none, got, bind, on_leaf, node}
+use Rattle.json_tree.specs.Tree.{Json, word, num, str, arr, obj, Items, nil, item, Got, none, got, on_leaf, node}
 use Rattle.json_tree.specs.Tree.{items_at, group_at, depth, tree_at, on_array}
 use Rattle.json_tree.specs.declared.Kind.{Kind}
 use Rattle.json_tree.specs.declared.Kind.TheVariants.{Str, Num, Word, None}
@@ -33,13 +32,13 @@ use Rattle.message.specs.Lists.{start_element, next_of}
 use Rattle.message.specs.Parts.{whole_value, number_spelled}
 use Rattle.message.specs.Lent.{value5, on_value, value_at, wrong_smalls}
 use Rattle.message.proofs.Walks.{never, bind_got}
-use Rattle.event.specs.Lent.{natural, string_of, strings_of, tag_of}
+use Rattle.event.specs.Lent.{natural, string_of, strings_of}
 use Rattle.event.proofs.Strings.{spelled_says}
 use Rattle.query.specs.Filter.{strings_in, numbers_of, numbers_in}
 use Rattle.matching.specs.Inner.Found.{spelled_by, numbers_by}
 use Rattle.matching.specs.Inner.Steps.{placed}
 use Rattle.matching.specs.Inner.Finds.{Finds, small_from, small_of, small_at}
-use Rattle.matching.proofs.found.Lists.{Going, going_none, going_full, going_there, going_more, going_start}
+use Rattle.matching.proofs.found.Lists.{Going, going_none, going_full, going_more, going_start}
 use Rattle.matching.proofs.found.Lists.{take_past, store_one, store_two, strings_more, numbers_more}
 
 -- ---- strings
@@ -95,9 +94,9 @@ module _ (m : List ℕ) (v : ℕ) where
 
 -- ---- the number at a place
 module _ (s : List ℕ) (d v : ℕ) (t : Json) (k : ℕ) where
-  number-says : tree_at s (suc d) v ≡ got t k → is_number t ≡ true → small_at s v ≡ natural (number_spelled s t)
+  number_says : tree_at s (suc d) v ≡ got t k → is_number t ≡ true → small_at s v ≡ natural (number_spelled s t)
   unfolding small_at
-  number-says e h = on (start_at s v) (sym (tree_open s d v (start_at s v) refl) ∙ e)
+  number_says e h = on (start_at s v) (sym (tree_open s d v (start_at s v) refl) ∙ e)
     where
       same : (u : Json) (j x : ℕ) → got u j ≡ got t k → x ≡ natural (number_spelled s u) → x ≡ natural (number_spelled s t)
       same u j x q r = let z : u ≡ t = cc in r ∙ ap (λ y. natural (number_spelled s y)) z
@@ -127,7 +126,7 @@ within_natural Malformed e = absurd (false≢true (sym e))
 small_says : (s : List ℕ) (v : ℕ) (t : Json) (k : ℕ) → tree_at s 7 v ≡ got t k → is_number t ≡ true → wrong_small s t ≡ false → pos (small_at s v) ≡ number_spelled s t
 unfolding wrong_small
 small_says s v (word a n) k e h w = absurd (false≢true h)
-small_says s v (num a n) k e h w = ap pos (number-says s 6 v (num a n) k e h) ∙ within_natural (whole_answer (whole_of (part s a n))) w
+small_says s v (num a n) k e h w = ap pos (number_says s 6 v (num a n) k e h) ∙ within_natural (whole_answer (whole_of (part s a n))) w
 small_says s v (str a n) k e h w = absurd (false≢true h)
 small_says s v (arr ts) k e h w = absurd (false≢true h)
 small_says s v (obj ts) k e h w = absurd (false≢true h)

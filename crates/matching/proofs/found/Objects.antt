@@ -4,24 +4,21 @@ use mathlib.Core.Bool.{Bool, true, false, cond, not, ◌&&◌, ◌||◌, false�
 use mathlib.Core.List.{List, [], ◌∷◌, ◌++◌, map, append_assoc, append-nil}
 use Prim.Native.Nat.{ℕ, zero, suc, ◌+◌, ◌-◌, ◌*◌, ◌≤◌, ◌<◌}
 use native.Mathlib.Omega.{arith}
-use borrow.Author.Tests.{le-ltb, leb-true, ltb-false, not_false}
+use borrow.Author.Tests.{le-ltb, leb-true, ltb-false, not-false}
 use lib.Dec.{eqb, leb, ltb}
-use lib.ListN.{length, get_or, set, take, drop, length-set}
+use lib.ListN.{length, get_or, set, take, length-set}
 use lib.Seq.{take-suc-set}
 use Rattle.wire.specs.Bytes.{part}
 use Rattle.spell.specs.Spell.{decode}
-use Rattle.json_tree.specs.Grammar.{case, start_at, head_at, next_at}
-use Rattle.json_tree.specs.Tree.{Json, word, num, str, arr, obj, Items, nil, item, Got, none, got, end_of, depth, tree_at}
+use Rattle.json_tree.specs.Grammar.{case, start_at, head_at}
+use Rattle.json_tree.specs.Tree.{Json, word, num, str, arr, obj, Items, nil, item, Got, none, got, depth, tree_at}
 use Rattle.json_tree.specs.Tree.{on_object}
 use Rattle.json_tree.specs.declared.Out.{Out}
-use Rattle.json_tree.specs.declared.Out.TheVariants.{End, Bad}
-use Rattle.json_tree.specs.declared.Start.{Start}
-use Rattle.json_tree.specs.declared.Next.{Next}
-use Rattle.json_tree.specs.declared.Next.TheVariants.{More, Done, Wrong}
+use Rattle.json_tree.specs.declared.Out.TheVariants.{End}
 use Rattle.rows.specs.Strings.{spelled_at}
 use Rattle.shape.specs.Shape.{any_item, all_items, count_items, count, name_at, is_string, is_array_of, is_letter, is_condition}
-use Rattle.shape.specs.Shape.{filter_member, no_name_twice, is_filter}
-use Rattle.shape.specs.Rows.{outside, wrong_list, wrong_filter, filter_counts}
+use Rattle.shape.specs.Shape.{filter_member, is_filter}
+use Rattle.shape.specs.Rows.{wrong_list, wrong_filter, filter_counts}
 use Rattle.message.specs.declared.Listed.{Listed}
 use Rattle.message.specs.declared.Listed.TheVariants.{Absent, At}
 use Rattle.message.specs.Lists.{open_within}
@@ -35,9 +32,8 @@ use Rattle.event.specs.Lent.{tag_of}
 use Rattle.query.specs.Filter.{Condition, strings_in, conditions_of, conditions_in}
 use Rattle.matching.specs.declared.Needed.{Needed}
 use Rattle.matching.specs.Inner.Found.{spelled_by, condition_by}
-use Rattle.matching.specs.Inner.Finds.{Finds, FindsConditions, first_named, more_named, next_named, value_place}
+use Rattle.matching.specs.Inner.Finds.{Finds, FindsConditions, first_named, next_named, value_place}
 use Rattle.matching.specs.Inner.Finds.{condition_letter}
-use Rattle.matching.proofs.found.Lists.{take_past}
 
 -- ---- the place of the first name that is left; each name is followed by its value and then by the next name
 abbrev pub first_name : Items → Listed
@@ -126,7 +122,7 @@ object_of_lem m v a c = go (tree_at m depth v) refl a c
     go (got (num x n) k) e a c = absurd (false≢true (sym a))
     go (got (str x n) k) e a c = absurd (false≢true (sym a))
     go (got (arr ts) k) e a c = absurd (false≢true (sym a))
-    go (got (obj ts) k) e a c = record { items = ts; end = k; tree = e; members = (and_true (all_items (filter_member m) ts) _ (not_false _ a)).0; counts = c }
+    go (got (obj ts) k) e a c = record { items = ts; end = k; tree = e; members = (and_true (all_items (filter_member m) ts) _ (not-false _ a)).0; counts = c }
 
 -- a letter is not 0
 letter_some : (w : List ℕ) → is_condition w ≡ true → 65 ≤ get_or w 1 0

@@ -1,17 +1,16 @@
 -- The ways out of the functions on names, places and lists, and the whole filter.
-use mathlib.Core.Path.{◌≡◌, refl, sym, ap, ap₂, ◌∙◌}
-use mathlib.Core.Bool.{Bool, true, false, cond, not, ◌&&◌, ◌||◌, false≢true}
-use mathlib.Core.Option.{Option, none, some}
-use mathlib.Core.List.{List, [], ◌∷◌, ◌++◌, map, append-nil}
-use Prim.Native.Nat.{ℕ, zero, suc, ◌+◌, ◌-◌, ◌*◌, ◌≤◌, ◌<◌}
+use mathlib.Core.Path.{◌≡◌, refl, sym, ap, ◌∙◌}
+use mathlib.Core.Bool.{Bool, true, false, ◌&&◌, ◌||◌}
+use mathlib.Core.Option.{Option, some}
+use mathlib.Core.List.{List, ◌++◌, append-nil}
+use Prim.Native.Nat.{ℕ, ◌+◌, ◌-◌, ◌≤◌, ◌<◌}
 use native.Mathlib.Omega.{arith}
 use borrow.Author.Tests.{le-leb, lt-leb, ne_eqb}
-use lib.Dec.{eqb, leb}
+use lib.Dec.{leb}
 use native.Mathlib.Decide.{dec_le}
-use lib.ListN.{length, get_or, take, drop, drop_of_length-le}
+use lib.ListN.{length, get_or, take, drop_of_length-le}
 use Rattle.wire.specs.Put.{Puts}
 use Rattle.wire.proofs.Laws.{puts_whole}
-use Rattle.spell.specs.Spell.{decode}
 use Rattle.json_tree.specs.Grammar.{case, start_at, head_at, next_at}
 use Rattle.json_tree.specs.Tree.{end_of, depth, tree_at, on_object}
 use Rattle.json_tree.specs.declared.Out.{Out}
@@ -31,7 +30,7 @@ use Rattle.matching.specs.declared.Members.{Members}
 use Rattle.matching.specs.declared.Members.TheVariants as members
 use Rattle.matching.specs.declared.Needed.{Needed}
 use Rattle.matching.specs.declared.Known.{Known}
-use Rattle.matching.specs.Inner.Found.{given, spelled_by, numbers_by, condition_by, filter_by}
+use Rattle.matching.specs.Inner.Found.{given, spelled_by, numbers_by, filter_by}
 use Rattle.matching.specs.Inner.Finds.{Finds, FindsMembers, FindsConditions, reach, first_named, more_named}
 use Rattle.matching.specs.Inner.Finds.{next_named, value_place, condition_letter}
 use Rattle.matching.proofs.found.Objects.{part_same, take_shorter}

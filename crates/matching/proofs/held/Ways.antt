@@ -7,13 +7,13 @@ use native.Mathlib.Numerals.{add-one}
 use native.Mathlib.Omega.{arith}
 use borrow.Author.Tests.{lt-ltb}
 use lib.IntN.{ℤ}
-use lib.ListN.{length, get_or, set, take, drop, length-set, length-take}
+use lib.ListN.{length, get_or, set, take, length-set, length-take}
 use lib.Seq.{take-suc, take-suc-set, take_all}
 use mir.Syntax.{w8, w64}
 use mir.Val.{to_z, of_z, Fits, SFits}
 use mir.Facts.{to_z-of_z}
 use Rattle.wire.specs.Bytes.{part}
-use Rattle.wire.specs.Field.{field_at, signed, Field}
+use Rattle.wire.specs.Field.{field_at, signed}
 use Rattle.numeral.specs.Decimal.{digits, decimal}
 use Rattle.numeral.proofs.Digits.{digits_20}
 use Rattle.numeral.proofs.Wholes.{decimal_20}
@@ -28,14 +28,13 @@ use Rattle.message.specs.Lent.{is_tags_shape, value5}
 use Rattle.event.specs.Lent.{lent_tags_at}
 use Rattle.event.specs.Answer.{hex_of}
 use Rattle.wire.specs.Bytes.{hex_digit}
-use Rattle.table.specs.Layout.{is_byte, slot_size, count_of, slot_at, id_in, text_in, time_in, kind_in, length_in}
+use Rattle.table.specs.Layout.{is_byte, count_of, slot_at, id_in, text_in, kind_in, length_in}
 use Rattle.table.specs.Sound.{sound}
 use Rattle.table.specs.Demand3.{SpellsTags}
 use Rattle.table.proofs.Slots.{sound_signed, sound_kind}
 use Rattle.table.proofs.Shown.{slot_sound_at, slot_size_lem}
 use Rattle.table.proofs.Hex.{hex_is}
 use Rattle.table.proofs.Tellable.{pubkey_said, tags_said}
-use Rattle.query.specs.Filter.{Filter}
 use Rattle.query.specs.Match.{is_listed, condition_holds, matches}
 use Rattle.query.specs.Answer.{matches_slot}
 use Rattle.query.proofs.Tables.{slot_matches}
@@ -100,10 +99,10 @@ module _ (t : List ℕ) (time : ℤ) (kind : ℕ) (m row : List ℕ) (f : Known)
   abbrev place_of : ℕ
   place_of = 72 + length (decimal time) + length (digits kind)
 
-  abbrev allHold : Bool
-  allHold = all (condition_holds (lent_tags_at t place_of)) (map (condition_by m row) (take f.n f.conditions))
+  abbrev all_hold : Bool
+  all_hold = all (condition_holds (lent_tags_at t place_of)) (map (condition_by m row) (take f.n f.conditions))
 
-  pub no_conditions : f.n ≡ 0 → true ≡ allHold
+  pub no_conditions : f.n ≡ 0 → true ≡ all_hold
   unfolding all
   no_conditions e = sym (ap (λ n. all (condition_holds (lent_tags_at t place_of)) (map (condition_by m row) (take n f.conditions))) e)
 
@@ -117,7 +116,7 @@ module _ (t : List ℕ) (time : ℤ) (kind : ℕ) (m row : List ℕ) (f : Known)
     pub array_there : value5 is_tags_shape t place_of ≡ false → value5 is_tags_shape t (72 + d + n) ≡ false
     array_there h = ap (value5 is_tags_shape t) place_is ∙ h
 
-    pub conditions_hold : {r : Bool} → r ≡ all (condition_holds (lent_tags_at t (72 + d + n))) (map (condition_by m row) (take f.n f.conditions)) → r ≡ allHold
+    pub conditions_hold : {r : Bool} → r ≡ all (condition_holds (lent_tags_at t (72 + d + n))) (map (condition_by m row) (take f.n f.conditions)) → r ≡ all_hold
     conditions_hold e = e ∙ ap (λ x. all (condition_holds (lent_tags_at t x)) (map (condition_by m row) (take f.n f.conditions))) place_is
 
 pub kind_few : (y : ℕ) → y < 2 ^ 64 → {n : ℕ} → n ≡ length (digits y) → n ≤ 20
@@ -134,8 +133,8 @@ module _ (b : List ℕ) (ok : sound b ≡ true) (k : ℕ) (h : k < count_of b) (
   reads : read_text (text_in (slot_at b k)) ≡ read event
   reads = (slot_matches b ok k h).1
 
-  matched-is : Answer ≡ matches (filter_by m row f) (hex_of (id_in (slot_at b k))) event
-  matched-is = (slot_matches b ok k h).2 (filter_by m row f)
+  matched_is : Answer ≡ matches (filter_by m row f) (hex_of (id_in (slot_at b k))) event
+  matched_is = (slot_matches b ok k h).2 (filter_by m row f)
 
   module _ {s : List ℕ} (es : s ≡ slot_at b k) where
     pub id_there : 32 ≤ length s
@@ -147,13 +146,13 @@ module _ (b : List ℕ) (ok : sound b ≡ true) (k : ℕ) (h : k < count_of b) (
       id_test = e₁ ∙ ap (λ x. is_listed (given (spelled_by m) row f.ids) (hex_of (id_in x))) es
 
       pub id_no : not r₁ ≡ true → false ≡ Answer
-      id_no n = ids_no (filter_by m row f) _ event id_test n ∙ sym matched-is
+      id_no n = ids_no (filter_by m row f) _ event id_test n ∙ sym matched_is
 
     module _ {x y z : ℕ} {time : ℤ} {t : List ℕ} (ft : SFits w64 time) (fx : x ≡ field_at s 96 8) (et : time ≡ signed x) (fy : y ≡ field_at s 104 2)
         (fz : z ≡ field_at s 106 2) (text : t ≡ part s 112 z) where
-      text-is : t ≡ text_in (slot_at b k)
+      text_is : t ≡ text_in (slot_at b k)
       unfolding text_in length_in
-      text-is = text ∙ ap (part s 112) fz ∙ ap (λ w. part w 112 (field_at w 106 2)) es
+      text_is = text ∙ ap (part s 112) fz ∙ ap (λ w. part w 112 (field_at w 106 2)) es
 
       time_is : to_z w64 (of_z w64 time) ≡ event.time
       time_is = to_z-of_z ft ∙ et ∙ ap signed (fx ∙ ap (λ w. field_at w 96 8) es) ∙ sound_signed (slot_at b k) (slot_sound_at b ok k h) event reads
@@ -162,27 +161,27 @@ module _ (b : List ℕ) (ok : sound b ≡ true) (k : ℕ) (h : k < count_of b) (
       unfolding kind_in
       kind_is = fy ∙ ap (λ w. field_at w 104 2) es ∙ sound_kind (slot_at b k) (slot_sound_at b ok k h) event reads
 
-      place-there : 72 + length (decimal (to_z w64 (of_z w64 time))) + length (digits y) ≡ tags_place event
-      place-there = ap₂ (λ u v. 72 + length (decimal u) + length (digits v)) time_is kind_is
+      place_there : 72 + length (decimal (to_z w64 (of_z w64 time))) + length (digits y) ≡ tags_place event
+      place_there = ap₂ (λ u v. 72 + length (decimal u) + length (digits v)) time_is kind_is
 
-      tags-are : SpellsTags (text_in (slot_at b k)) (tags_place event) event.tags
-      tags-are = tags_said (text_in (slot_at b k)) event (read_same (text_in (slot_at b k)) event reads)
+      tags_are : SpellsTags (text_in (slot_at b k)) (tags_place event) event.tags
+      tags_are = tags_said (text_in (slot_at b k)) event (read_same (text_in (slot_at b k)) event reads)
 
       pub tags_there : value5 is_tags_shape t (72 + length (decimal (to_z w64 (of_z w64 time))) + length (digits y)) ≡ false
-      tags_there = ap₂ (value5 is_tags_shape) text-is place-there ∙ tags-are.array
+      tags_there = ap₂ (value5 is_tags_shape) text_is place_there ∙ tags_are.array
 
       module _ {r₁ : Bool} (e₁ : r₁ ≡ is_listed (given (spelled_by m) row f.ids) (hex_of (id_in s))) (n₁ : not r₁ ≡ false)
           {p : List ℕ} (ep : p ≡ part t 4 64) {r₂ : Bool} (e₂ : r₂ ≡ fields_hold (filter_by m row f) (decode p) (to_z w64 (of_z w64 time)) y) where
-        key-is : decode p ≡ event.pubkey
-        key-is =
-            ap decode (ep ∙ ap (λ w. part w 4 64) text-is)
+        key_is : decode p ≡ event.pubkey
+        key_is =
+            ap decode (ep ∙ ap (λ w. part w 4 64) text_is)
             ∙ (pubkey_said (text_in (slot_at b k)) event (read_same (text_in (slot_at b k)) event reads)).says
 
         fields_test : r₂ ≡ fields_hold (filter_by m row f) event.pubkey event.time event.kind
-        fields_test = e₂ ∙ ap₂ (λ u v. fields_hold (filter_by m row f) u v y) key-is time_is ∙ ap (fields_hold (filter_by m row f) event.pubkey event.time) kind_is
+        fields_test = e₂ ∙ ap₂ (λ u v. fields_hold (filter_by m row f) u v y) key_is time_is ∙ ap (fields_hold (filter_by m row f) event.pubkey event.time) kind_is
 
         pub fields_differ : not r₂ ≡ true → false ≡ Answer
-        fields_differ n = fields_no (filter_by m row f) _ event (id_test e₁) n₁ fields_test n ∙ sym matched-is
+        fields_differ n = fields_no (filter_by m row f) _ event (id_test e₁) n₁ fields_test n ∙ sym matched_is
 
         pub tags_decide : not r₂ ≡ false → {r : Bool}
             → r ≡ all (condition_holds (lent_tags_at t (72 + length (decimal (to_z w64 (of_z w64 time))) + length (digits y)))) (map (condition_by m row) (take f.n f.conditions))
@@ -190,5 +189,5 @@ module _ (b : List ℕ) (ok : sound b ≡ true) (k : ℕ) (h : k < count_of b) (
         unfolding filter_by
         tags_decide n e =
             all_are (filter_by m row f) _ event (id_test e₁) n₁ fields_test n
-            (e ∙ ap (λ v. all (condition_holds v) (map (condition_by m row) (take f.n f.conditions))) (ap₂ lent_tags_at text-is place-there ∙ tags-are.says))
-            ∙ sym matched-is
+            (e ∙ ap (λ v. all (condition_holds v) (map (condition_by m row) (take f.n f.conditions))) (ap₂ lent_tags_at text_is place_there ∙ tags_are.says))
+            ∙ sym matched_is

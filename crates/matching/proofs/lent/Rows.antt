@@ -1,8 +1,8 @@
 -- The row of lent filters from the last down: of those from j on, the lowest.
-use mathlib.Core.Path.{◌≡◌, refl, sym, ap, ap₂, ◌∙◌}
-use mathlib.Core.Bool.{true, false, cond}
-use mathlib.Core.List.{List, [], ◌∷◌, map}
-use Prim.Native.Nat.{ℕ, suc, ◌+◌, ◌-◌, ◌≤◌, ◌<◌}
+use mathlib.Core.Path.{◌≡◌, sym, ap, ap₂, ◌∙◌}
+use mathlib.Core.Bool.{cond}
+use mathlib.Core.List.{List, ◌∷◌, map}
+use Prim.Native.Nat.{ℕ, suc, ◌-◌, ◌≤◌, ◌<◌}
 use native.Mathlib.Omega.{arith}
 use borrow.Author.Tests.{lt-ltb, le-ltb}
 use lib.ListN.{length, take, drop, get_or, length-take, drop_of_length-le}
@@ -30,21 +30,21 @@ module _ (n : ℕ) where
 
 -- ---- each
 module _ (m : List ℕ) (fs : List FilterParts) (n : ℕ) where
-  abbrev pub lowestFrom : ℕ → ℕ
-  lowestFrom j = lowest_of (map (filter_row m) (drop j (take n fs)))
+  abbrev pub lowest_from : ℕ → ℕ
+  lowest_from j = lowest_of (map (filter_row m) (drop j (take n fs)))
 
-  none : (j : ℕ) → length (take n fs) ≤ j → lowestFrom j ≡ 0
+  none : (j : ℕ) → length (take n fs) ≤ j → lowest_from j ≡ 0
   unfolding lowest_of
   none j h = rw (drop_of_length-le (take n fs) h)
 
-  pub rows_none : (j : ℕ) → length fs ≤ j → 0 ≡ lowestFrom j
+  pub rows_none : (j : ℕ) → length fs ≤ j → 0 ≡ lowest_from j
   rows_none j h = sym (none j (omega (arith, length-take n fs)))
 
-  pub rows_skip : (j r : ℕ) → 0 < j → n ≤ j - 1 → r ≡ lowestFrom j → r ≡ lowestFrom (j - 1)
+  pub rows_skip : (j r : ℕ) → 0 < j → n ≤ j - 1 → r ≡ lowest_from j → r ≡ lowest_from (j - 1)
   rows_skip j r p h e = e ∙ none j (omega (arith, length-take n fs)) ∙ sym (none (j - 1) (omega (arith, length-take n fs)))
 
-  pub rows_more : (j r s t : ℕ) (z : FilterParts) → 0 < j → j ≤ length fs → j - 1 < n → r ≡ lowestFrom j → s ≡ filter_row m (get_or fs (j - 1) z) → t ≡ lower_row s r
-      → t ≡ lowestFrom (j - 1)
+  pub rows_more : (j r s t : ℕ) (z : FilterParts) → 0 < j → j ≤ length fs → j - 1 < n → r ≡ lowest_from j → s ≡ filter_row m (get_or fs (j - 1) z) → t ≡ lower_row s r
+      → t ≡ lowest_from (j - 1)
   unfolding lowest_of
   rows_more j r s t z p l h e f g =
       let q : suc (j - 1) ≡ j = omega arith in
@@ -53,6 +53,6 @@ module _ (m : List ℕ) (fs : List FilterParts) (n : ℕ) where
       drop-cons (take n fs) (j - 1) z i ∙ ap₂ (λ x k. x ∷ drop k (take n fs)) (get_or-take n fs (j - 1) z h) q in
       g ∙ ap₂ lower_row f e ∙ sym (ap (λ l. lowest_of (map (filter_row m) l)) d)
 
-  pub rows_all : (j r s t : ℕ) → j ≤ 0 → r ≡ lowestFrom j → s ≡ counted n → t ≡ lower_row r s → t ≡ filters_row m fs n
+  pub rows_all : (j r s t : ℕ) → j ≤ 0 → r ≡ lowest_from j → s ≡ counted n → t ≡ lower_row r s → t ≡ filters_row m fs n
   unfolding filters_row
-  rows_all j r s t h e f g = let q : j ≡ 0 = omega arith in g ∙ ap₂ lower_row (e ∙ ap lowestFrom q) f
+  rows_all j r s t h e f g = let q : j ≡ 0 = omega arith in g ∙ ap₂ lower_row (e ∙ ap lowest_from q) f

@@ -1,10 +1,10 @@
 -- The elements of an array that are left while they are passed one by one.
-use mathlib.Core.Path.{◌≡◌, refl, ap, ◌∙◌}
+use mathlib.Core.Path.{◌≡◌, ap}
 use mathlib.Core.Bool.{false}
 use Prim.Native.Nat.{ℕ}
 use mathlib.Core.List.{List}
 use Rattle.json_tree.specs.Grammar.{start_at}
-use Rattle.json_tree.specs.Tree.{Items, nil, item}
+use Rattle.json_tree.specs.Tree.{Items}
 use Rattle.message.specs.declared.Listed.{Listed}
 use Rattle.message.specs.Lists.{start_element}
 use Rattle.message.proofs.Elements.{Group, first_place, Listing, array_listing}

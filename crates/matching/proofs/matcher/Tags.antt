@@ -3,7 +3,7 @@
 use mathlib.Core.Path.{◌≡◌, refl, sym, ap, ◌∙◌}
 use mathlib.Core.Bool.{Bool, true, false, cond, not, ◌&&◌, ◌||◌}
 use mathlib.Core.List.{List, [], ◌∷◌}
-use Prim.Native.Nat.{ℕ, zero, suc, ◌+◌, ◌-◌, ◌≤◌}
+use Prim.Native.Nat.{ℕ, ◌+◌, ◌-◌, ◌≤◌}
 use native.Mathlib.Omega.{arith}
 use lib.ListN.{length}
 use Rattle.wire.specs.Bytes.{part, same_bytes}
@@ -13,15 +13,15 @@ use Rattle.json_tree.specs.Tree.{Json, word, num, str, arr, obj, Items, nil, ite
 use Rattle.json_tree.specs.declared.Out.{Out}
 use Rattle.json_tree.specs.declared.Out.TheVariants.{End, Bad}
 use Rattle.rows.specs.Strings.{spelled_at}
-use Rattle.shape.specs.Shape.{count_items, count, is_array_of, is_string}
+use Rattle.shape.specs.Shape.{count_items, count}
 use Rattle.message.specs.declared.Listed.{Listed}
 use Rattle.message.specs.declared.Listed.TheVariants.{Absent, At}
 use Rattle.message.specs.Lists.{start_element, next_of}
 use Rattle.message.specs.Lent.{is_tags_shape, on_value, value5}
 use Rattle.message.proofs.Walks.{deeper}
-use Rattle.message.proofs.Elements.{group_of, first_place, first_in, first_in_lem, items_few, Listing, end, one}
+use Rattle.message.proofs.Elements.{group_of, first_in, first_in_lem, items_few, Listing, one}
 use Rattle.message.proofs.Elements.{array_listing}
-use Rattle.event.specs.Lent.{string_of, strings_of, tag_of, tags_of, tags_in, lent_tags_at}
+use Rattle.event.specs.Lent.{string_of, strings_of, tag_of, tags_of, lent_tags_at}
 use Rattle.event.proofs.Strings.{spelled_says}
 use Rattle.law.specs.Lists.{any}
 use Rattle.query.specs.Filter.{Condition}
@@ -33,9 +33,9 @@ use Rattle.matching.proofs.matcher.Places.{first_left, all_left}
 
 -- ---- the second string
 module _ (b : List ℕ) (v : ℕ) (t : Json) (m : ℕ) (w : tree_at b 7 v ≡ got t m) where
-  span-says : (ms : List (List ℕ)) → fits_by b ms (second_span b (At v)) ≡ is_member ms (string_of b t)
+  span_says : (ms : List (List ℕ)) → fits_by b ms (second_span b (At v)) ≡ is_member ms (string_of b t)
   unfolding spelled_at decode chars_from chars_bytes
-  span-says ms = go (string_at b v) refl ∙ ap (is_member ms) (spelled_says b v t m w)
+  span_says ms = go (string_at b v) refl ∙ ap (is_member ms) (spelled_says b v t m w)
     where
       go : (o : Out) → string_at b v ≡ o → fits_by b ms (case o (λ n. Is (v + 1) (n - v - 2)) (Is 0 0)) ≡ is_member ms (decode (spelled_at b v))
       go (End n) e = rw e refl
@@ -51,12 +51,12 @@ and_cond true c s d ms e = sym e
 and_cond false c s d ms e = refl
 
 module _ (b : List ℕ) (x : ℕ) (ms : List (List ℕ)) where
-  listed-fits : (ts : Items) → Listing b ts → tag_fits (asked x ms) (strings_of b ts) ≡ fits_by b ms (second_from b x (first_left ts))
+  listed_fits : (ts : Items) → Listing b ts → tag_fits (asked x ms) (strings_of b ts) ≡ fits_by b ms (second_from b x (first_left ts))
   unfolding strings_of
-  listed-fits nil l = refl
-  listed-fits (item p i u nil) (one w n l) = rw (n, cond_same (same_bytes (decode (spelled_at b i)) (x ∷ [])) Not) refl
-  listed-fits (item p i u (item q j v ts)) (one w n (one w₂ n₂ l)) =
-      rw (n, spelled_says b i u _ w) (and_cond (same_bytes (string_of b u) (x ∷ [])) (is_member ms (string_of b v)) (second_span b (At j)) b ms (span-says b j v _ w₂ ms))
+  listed_fits nil l = refl
+  listed_fits (item p i u nil) (one w n l) = rw (n, cond_same (same_bytes (decode (spelled_at b i)) (x ∷ [])) Not) refl
+  listed_fits (item p i u (item q j v ts)) (one w n (one w₂ n₂ l)) =
+      rw (n, spelled_says b i u _ w) (and_cond (same_bytes (string_of b u) (x ∷ [])) (is_member ms (string_of b v)) (second_span b (At j)) b ms (span_says b j v _ w₂ ms))
 
   pub second_fits : (v : ℕ) (t : Json) (m : ℕ) → tree_at b 7 v ≡ got t m → tag_fits (asked x ms) (tag_of b t) ≡ fits_by b ms (second_of b v x)
   unfolding second_of
@@ -66,7 +66,7 @@ module _ (b : List ℕ) (x : ℕ) (ms : List (List ℕ)) where
       go (word a n) w = refl
       go (num a n) w = refl
       go (str a n) w = refl
-      go (arr ts) w = listed-fits ts (array_listing (group_of b v false ts m (deeper b 7 v (arr ts) m w))).1
+      go (arr ts) w = listed_fits ts (array_listing (group_of b v false ts m (deeper b 7 v (arr ts) m w))).1
       go (obj ts) w = refl
 
 -- ---- the ways out of the function on a tag

@@ -1,11 +1,10 @@
 -- The rest of a filter: kinds, bounds, the conditions one by one, and all of them together.
 use mathlib.Core.Path.{◌≡◌, refl, sym, ap, ap₂, ◌∙◌}
 use mathlib.Core.Bool.{Bool, true, false, not, ◌&&◌, ◌||◌}
-use mathlib.Core.List.{List, [], ◌∷◌, map}
-use Prim.Native.Nat.{ℕ, zero, suc, ◌+◌, ◌-◌, ◌≤◌, ◌<◌}
+use mathlib.Core.List.{List, ◌∷◌, map}
+use Prim.Native.Nat.{ℕ, suc, ◌+◌, ◌-◌, ◌≤◌, ◌<◌}
 use native.Mathlib.Omega.{arith}
 use borrow.Author.Tests.{le-ltb, lt-ltb}
-use lib.Dec.{ltb}
 use lib.IntN.{ℤ, pos}
 use lib.ListN.{length, get_or, take, drop, drop_of_length-le}
 use lib.Seq.{drop-cons, take-nil}
@@ -160,19 +159,19 @@ module _ (f : Filter) (i : List ℕ) (e : Event) {r₁ : Bool} (e₁ : r₁ ≡ 
   ids_no n = and_no _ e₁ n
 
   module _ (n₁ : not r₁ ≡ false) {r₂ : Bool} (e₂ : r₂ ≡ fields_hold f e.pubkey e.time e.kind) where
-    rest-is : (fields_hold f e.pubkey e.time e.kind && all (condition_holds e.tags) f.conditions) ≡ (is_listed f.authors e.pubkey
+    rest_is : (fields_hold f e.pubkey e.time e.kind && all (condition_holds e.tags) f.conditions) ≡ (is_listed f.authors e.pubkey
         && (kind_listed f.kinds e.kind
         && (since_holds f.since e.time && (until_holds f.until e.time && all (condition_holds e.tags) f.conditions))))
     unfolding fields_hold
-    rest-is = and_four (is_listed f.authors e.pubkey) (kind_listed f.kinds e.kind) (since_holds f.since e.time) (until_holds f.until e.time) _
+    rest_is = and_four (is_listed f.authors e.pubkey) (kind_listed f.kinds e.kind) (since_holds f.since e.time) (until_holds f.until e.time) _
 
     pub fields_no : not r₂ ≡ true → false ≡ matches f i e
     unfolding matches
-    fields_no n = and_yes e₁ n₁ (and_no _ e₂ n ∙ rest-is)
+    fields_no n = and_yes e₁ n₁ (and_no _ e₂ n ∙ rest_is)
 
     pub all_are : not r₂ ≡ false → {r : Bool} → r ≡ all (condition_holds e.tags) f.conditions → r ≡ matches f i e
     unfolding matches
-    all_are n e₃ = and_yes e₁ n₁ (and_yes e₂ n e₃ ∙ rest-is)
+    all_are n e₃ = and_yes e₁ n₁ (and_yes e₂ n e₃ ∙ rest_is)
 
 -- over the parts of an event
 module _ (m row b : List ℕ) (f : Known) (p : EventParts) where

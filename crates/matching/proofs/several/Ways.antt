@@ -1,11 +1,11 @@
 -- Filters asked one by one; and the ways out of the public call.
 use mathlib.Core.Path.{◌≡◌, refl, sym, ap, ap₂, ◌∙◌}
 use mathlib.Core.Bool.{Bool, true, false, cond, ◌||◌}
-use mathlib.Core.List.{List, [], ◌∷◌, map}
-use Prim.Native.Nat.{ℕ, zero, suc, ◌+◌, ◌-◌, min, ◌≤◌, ◌<◌}
+use mathlib.Core.List.{List, ◌∷◌, map}
+use Prim.Native.Nat.{ℕ, suc, ◌+◌, ◌-◌, min, ◌≤◌, ◌<◌}
 use native.Mathlib.Omega.{arith}
 use borrow.Author.Tests.{eqb-true, eqb-false, ne_eqb, lt-ltb, le-ltb}
-use lib.Dec.{eqb, ltb}
+use lib.Dec.{eqb}
 use lib.ListN.{length, get_or, take, drop, drop_of_length-le}
 use lib.Seq.{drop-cons, take-nil}
 use Rattle.wire.specs.Limits.{most_text}
@@ -15,11 +15,11 @@ use Rattle.message.specs.declared.FilterParts.{FilterParts}
 use Rattle.message.specs.Lent.{event_row}
 use Rattle.wire.specs.Lowest.{lower_row}
 use Rattle.event.specs.Lent.{said, event_of, text_of}
-use Rattle.event.specs.Lent.{most_length, length_of}
+use Rattle.event.specs.Lent.{length_of}
 use Rattle.event.specs.Answer.{or_else, is_large}
 use Rattle.law.specs.Lists.{any}
 use Rattle.query.specs.Match.{matches, matches_some}
-use Rattle.query.specs.Filter.{Filter, filter_of}
+use Rattle.query.specs.Filter.{Filter}
 use Rattle.query.specs.Answer.{meant, filters_row, matched_row, matched, match_number}
 use Rattle.query.proofs.Listings.{matched_means}
 use Rattle.query.specs.declared.Matched.{Matched}

@@ -1,5 +1,5 @@
 -- What finding the members of a list hands on.
-use Rattle.std.specs.Prelude.{◌≡◌, Bool, true, false, cond, List, map, ℕ, ◌+◌, ◌-◌, ◌*◌, ◌≤◌, length, get_or, take, drop}
+use Rattle.std.specs.Prelude.{◌≡◌, true, false, cond, List, map, ℕ, ◌+◌, ◌-◌, ◌*◌, ◌≤◌, length, get_or, take}
 use Rattle.std.proofs.Math.Option.{Option}
 use Rattle.wire.specs.Limits.{most_members, most_conditions}
 use Rattle.wire.specs.Bytes.{Bytes, Place, part}

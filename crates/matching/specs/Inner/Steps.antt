@@ -1,5 +1,5 @@
 -- What the private functions of the matcher hand on.
-use Rattle.std.specs.Prelude.{Bool, true, false, cond, ◌&&◌, List, [], ◌∷◌, ℕ, ◌+◌, ◌-◌, ℤ}
+use Rattle.std.specs.Prelude.{Bool, false, cond, ◌&&◌, List, [], ◌∷◌, ℕ, ◌+◌, ◌-◌, ℤ}
 use Rattle.wire.specs.Bytes.{Bytes, part, same_bytes}
 use Rattle.spell.specs.Spell.{decode}
 use Rattle.json_tree.specs.Grammar.{case, string_at, start_at}

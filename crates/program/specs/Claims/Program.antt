@@ -29,12 +29,12 @@ use Rattle.law.specs.Lists.{◌∈◌}
 use Rattle.table.specs.Layout.{is_byte, table_size, capacity_of, count_of, slot_at, id_in, sig_in, text_in}
 use Rattle.law.specs.Table.{Offer, IdPremise, Settled}
 use Rattle.law.specs.Signature as signature
-use Rattle.law.specs.Demand3.{judged, runOn, NoneLacksOn}
+use Rattle.law.specs.Demand3.{judged, run_on, NoneLacksOn}
 use Rattle.table.specs.Events.{Signature, table_events, of_held, view}
 use Rattle.table.specs.Sound.{sound_up_to, sound}
 use Rattle.table.specs.Demand3.{relay}
 use Rattle.table.specs.Offer as offers
-use Rattle.table.specs.Offer.{Offering, asMessage, asParts, answer, next}
+use Rattle.table.specs.Offer.{Offering, as_message, as_parts, answer, next}
 use Rattle.table.specs.declared.Offered.TheVariants.{Stored, Refused}
 use Rattle.query.specs.Filter.{Filter}
 use Rattle.query.specs.Answer.{answer_list, filters_meant}
@@ -114,16 +114,16 @@ NamesSubscription =
 -- an EVENT that was read is refused, if at all, by one of rows 9 to 12, which carry no offset
 abbrev pub LastRows : Type 0
 LastRows =
-    (b m : List ℕ) (p : EventParts) (r : Refusal) → read_of m ≡ message.Event p → answer b (asMessage m) ≡ Refused r →
+    (b m : List ℕ) (p : EventParts) (r : Refusal) → read_of m ≡ message.Event p → answer b (as_message m) ≡ Refused r →
     (9 ≤ r.row) × (r.row ≤ 12) × (r.offset ≡ Absent)
 
 -- one OK that names its id: true with a verdict, false on a refusal; "Replies: ephemeral and stored `true,""`;
 -- duplicate .. older .."
 abbrev pub ReadEvent : Type 0
 ReadEvent = (b m : List ℕ) (p : EventParts) → read_of m ≡ message.Event p →
-    (replies_to b m ≡ ok (said m p.id) (is_accepted (answer b (asMessage m))) (verdict_reason (answer b (asMessage m)))
+    (replies_to b m ≡ ok (said m p.id) (is_accepted (answer b (as_message m))) (verdict_reason (answer b (as_message m)))
     ∷ [])
-    × (table_after b m ≡ next b (asMessage m))
+    × (table_after b m ≡ next b (as_message m))
 
 -- "CLOSE gives nothing."
 abbrev pub ReadClose : Type 0
@@ -158,7 +158,7 @@ BadTable = (b m : List ℕ) (r : ReqParts) → read_of m ≡ message.Req r → s
 abbrev pub OnlyStored : Type 0
 OnlyStored =
     (b m : List ℕ) → (table_after b m ≡ b) ⊎
-    ((p : EventParts) × (read_of m ≡ message.Event p) × (answer b (asMessage m) ≡ Stored))
+    ((p : EventParts) × (read_of m ≡ message.Event p) × (answer b (as_message m) ≡ Stored))
 
 -- ---- messages that are valid
 -- "EVENT: two elements, the second an object with id, pubkey, created_at, kind, tags, content, sig": the object spelled
@@ -174,7 +174,7 @@ Sendable =
     (e : Event) (sig : List ℕ) → is_fit e ≡ true → length (serialise e) ≤ most_text → length sig ≡ 64 →
     all is_byte sig ≡ true →
     length (event_message (hex_of (digest (serialise e))) e (hex_of sig)) ≤ most_message →
-    offers.judge (asMessage (event_message (hex_of (digest (serialise e))) e (hex_of sig))) ≡ some
+    offers.judge (as_message (event_message (hex_of (digest (serialise e))) e (hex_of sig))) ≡ some
     (of_held (record { id = digest (serialise e); sig = sig; event = e }))
 
 -- ---- lines
@@ -229,7 +229,7 @@ replies_from b (m ∷ ms) = replies_to b m ++ replies_from (table_after b m) ms
 
 -- the table is the one that offering every line as a message leaves: demand 3 speaks of the program too
 abbrev pub AllOffered : Type 0
-AllOffered = (b : List ℕ) (ms : List (List ℕ)) → table_from b ms ≡ runOn table_events Signature relay b (map asMessage ms)
+AllOffered = (b : List ℕ) (ms : List (List ℕ)) → table_from b ms ≡ run_on table_events Signature relay b (map as_message ms)
 
 -- what comes after a line's end is answered as if it came alone, to the table that was left
 abbrev pub GoesOn : Type 0
@@ -257,19 +257,19 @@ StaysSound = (ms : List (List ℕ)) → sound (table_from fresh_table ms) ≡ tr
 
 -- what it holds is what demand 3 gives for the lines as offers, if no line lacks room and the id premise holds
 abbrev pub offers_in : List (List ℕ) → List (Offer table_events)
-offers_in ms = judged table_events Signature relay (map asMessage ms)
+offers_in ms = judged table_events Signature relay (map as_message ms)
 
 abbrev pub ProgramSettles : Type 0
 ProgramSettles =
     (ms : List (List ℕ)) → IdPremise table_events (offers_in ms) → NoneLacksOn table_events Signature relay fresh_table
-    (map asMessage ms) →
+    (map as_message ms) →
     Settled table_events (map (signature.event table_events Signature) (view (table_from fresh_table ms))) (offers_in ms)
 
 -- ---- "A refusal carries its number and no other value", as 02, Wish 9, amends it: of an offer, the row of a refusal,
 -- with the offset that goes with this row of a message, and with none of parts; and 0 for a verdict
 abbrev pub offset_at : Offering → ℕ → Offset
-offset_at (asMessage m) row = offset_for m row
-offset_at (asParts b p) row = Absent
+offset_at (as_message m) row = offset_for m row
+offset_at (as_parts b p) row = Absent
 
 abbrev pub OfferedNumber : Type 0
 OfferedNumber = (b : List ℕ) (o : Offering) →

@@ -67,7 +67,7 @@ SlotTextIs = (b sub : List ℕ) (k : ℕ) → sound b ≡ true → k < count_of 
 -- the rows of the subscription id are those of an EOSE that names it; 11, "table not sound"; 13, "lent output .. too
 -- short"; 14, "slot not held". "Where several hold, the lowest number is given"
 pub data SlotEventHolds (b : List ℕ) (k : ℕ) (m : List ℕ) (s : Span) (out : List ℕ) : ℕ → Type 0 where
-  of-subscription : {r : ℕ} → PartsHold m (parts.Eose s) r → SlotEventHolds b k m s out r
+  of_subscription : {r : ℕ} → PartsHold m (parts.Eose s) r → SlotEventHolds b k m s out r
   not_sound : sound b ≡ false → SlotEventHolds b k m s out 11
   too_short : k < count_of b → length out < length (slot_text b (said m s) k) → SlotEventHolds b k m s out 13
   not_held : count_of b ≤ k → SlotEventHolds b k m s out 14
@@ -93,11 +93,11 @@ abbrev pub Batches : Type 0
 Batches = (room : ℕ) (ls : List (List ℕ)) → Batch room ls
 
 pub data EventsHold (b ks m : List ℕ) (s : Span) (out : List ℕ) : ℕ → Type 0 where
-  of-label : {r : ℕ} → PartsHold m (parts.Eose s) r → EventsHold b ks m s out r
+  of_label : {r : ℕ} → PartsHold m (parts.Eose s) r → EventsHold b ks m s out r
   bad_table : sound b ≡ false → EventsHold b ks m s out 11
-  none-fits : {k : ℕ} {js : List ℕ} → ks ≡ k ∷ js → k < count_of b → length out < length (slot_line b (said m s) k) →
+  none_fits_lem : {k : ℕ} {js : List ℕ} → ks ≡ k ∷ js → k < count_of b → length out < length (slot_line b (said m s) k) →
       EventsHold b ks m s out 13
-  some-not-held : {k : ℕ} → k ∈ ks → count_of b ≤ k → EventsHold b ks m s out 14
+  some_not_held : {k : ℕ} → k ∈ ks → count_of b ≤ k → EventsHold b ks m s out 14
 
 abbrev pub EventsRowIs : Type 0
 EventsRowIs = (b ks m : List ℕ) (s : Span) (out : List ℕ) → Lowest (EventsHold b ks m s out) (events_row b ks m s out)

@@ -1,0 +1,10 @@
+-- `respond` promises the answer and the buffers; `told` makes a row and a length of the answer.
+use mathlib.Core.Path.{◌∙◌}
+use Rattle.capi_relay.proofs.Laws.{length_as}
+use Rattle.capi_relay.proofs.plavdrosa_respond.Goals as goal
+
+pub returns : goal.returns
+returns c =
+    let t = c.told.ensures in
+    let x = c.respond-x.ensures in
+    record { value = t.value ∙ x.result_value; table_after = x.table_after; out_after = x.out_after; written_after = length_as _ t.written_after x.value }

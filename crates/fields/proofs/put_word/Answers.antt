@@ -1,0 +1,6 @@
+-- The gap, then the field.
+use Rattle.wire.proofs.Laws.{puts_then}
+use Rattle.fields.proofs.put_word.Goals as goal
+
+pub returns : goal.returns
+returns c = puts_then c.put_gap-a.ensures c.put.ensures

@@ -1,0 +1,12 @@
+-- The invariant: what is left to put gives the whole.
+use mathlib.Core.Path.{◌≡◌}
+use Prim.Native.Nat.{◌+◌, ◌-◌, ◌≤◌}
+use lib.ListN.{length, drop}
+use Rattle.wire.specs.Put.{put}
+use Rattle.numbers.proofs.put.Given as goal
+
+abbrev pub invariant-loop-i : goal.invariant-loop-i
+invariant-loop-i l = (l.i ≤ length l.part) × (l.at + l.i ≤ length l.initial.out) × (length l.out ≡ length l.initial.out) × (put l.out (l.at + l.i) (drop l.i l.part) ≡ put l.initial.out l.at l.part)
+
+abbrev pub decreases-loop-i : goal.decreases-loop-i
+decreases-loop-i l = length l.part - l.i

@@ -1,0 +1,60 @@
+-- A turn for each octet: one that is not wanted ends the scan, and the last one that is wanted leaves it where a
+-- character may begin.
+use mathlib.Core.Path.{◌∙◌}
+use Prim.Native.Nat.{◌+◌, ◌-◌}
+use native.Mathlib.Omega.{arith}
+use Rattle.utf8.proofs.Laws.{some, low, high, last, more, stops, goes}
+use Rattle.utf8.proofs.past_tails.Goals as goal
+
+pub returns-then-more-eq0 : goal.returns-then-more-eq0
+returns-then-more-eq0 c =
+    let s = c.args.s.now in let i = c.args.i in let n = c.args.more in
+    let l = some s (i + 1) _ c.byte-a.ensures (omega arith) in
+    goes c.requires.i_in_bounds (omega arith) (omega arith) (last s c.args.lo c.args.hi n (i + 1) _ c.byte-a.ensures c.requires.small.0 c.if-a-lo.false c.if-hi-a.false (i + 2) (omega arith) c.if-more-eq0.true)
+
+pub returns-then-b-lt128 : goal.returns-then-b-lt128
+returns-then-b-lt128 c =
+    let s = c.args.s.now in let i = c.args.i in let n = c.args.more in
+    stops c.requires.i_in_bounds (more s c.args.lo c.args.hi n (i + 1) _ c.byte-a.ensures c.requires.small.0 c.if-a-lo.false c.if-hi-a.false (i + 2) (omega arith) (omega arith)
+    ∙ low s 0x80 0xbf (n - 1) (i + 2) _ c.byte-b.ensures c.if-b-lt128.true)
+
+pub returns-then-b-gt191 : goal.returns-then-b-gt191
+returns-then-b-gt191 c =
+    let s = c.args.s.now in let i = c.args.i in let n = c.args.more in
+    stops c.requires.i_in_bounds (more s c.args.lo c.args.hi n (i + 1) _ c.byte-a.ensures c.requires.small.0 c.if-a-lo.false c.if-hi-a.false (i + 2) (omega arith) (omega arith)
+    ∙ high s 0x80 0xbf (n - 1) (i + 2) _ c.byte-b.ensures c.if-b-lt128.false c.if-b-gt191.true)
+
+pub returns-then-more-eq1 : goal.returns-then-more-eq1
+returns-then-more-eq1 c =
+    let s = c.args.s.now in let i = c.args.i in let n = c.args.more in
+    let l = some s (i + 2) _ c.byte-b.ensures (omega arith) in
+    goes c.requires.i_in_bounds (omega arith) (omega arith) (more s c.args.lo c.args.hi n (i + 1) _ c.byte-a.ensures c.requires.small.0 c.if-a-lo.false c.if-hi-a.false (i + 2) (omega arith) (omega arith)
+    ∙ last s 0x80 0xbf (n - 1) (i + 2) _ c.byte-b.ensures (omega arith) c.if-b-lt128.false c.if-b-gt191.false (i + 3) (omega arith) (omega arith))
+
+pub returns-then-d-lt128 : goal.returns-then-d-lt128
+returns-then-d-lt128 c =
+    let s = c.args.s.now in let i = c.args.i in let n = c.args.more in
+    stops c.requires.i_in_bounds (more s c.args.lo c.args.hi n (i + 1) _ c.byte-a.ensures c.requires.small.0 c.if-a-lo.false c.if-hi-a.false (i + 2) (omega arith) (omega arith)
+    ∙ more s 0x80 0xbf (n - 1) (i + 2) _ c.byte-b.ensures (omega arith) c.if-b-lt128.false c.if-b-gt191.false (i + 3) (omega arith) (omega arith)
+    ∙ low s 0x80 0xbf (n - 1 - 1) (i + 3) _ c.byte-d.ensures c.if-d-lt128.true)
+
+pub returns-then-d-gt191 : goal.returns-then-d-gt191
+returns-then-d-gt191 c =
+    let s = c.args.s.now in let i = c.args.i in let n = c.args.more in
+    stops c.requires.i_in_bounds (more s c.args.lo c.args.hi n (i + 1) _ c.byte-a.ensures c.requires.small.0 c.if-a-lo.false c.if-hi-a.false (i + 2) (omega arith) (omega arith)
+    ∙ more s 0x80 0xbf (n - 1) (i + 2) _ c.byte-b.ensures (omega arith) c.if-b-lt128.false c.if-b-gt191.false (i + 3) (omega arith) (omega arith)
+    ∙ high s 0x80 0xbf (n - 1 - 1) (i + 3) _ c.byte-d.ensures c.if-d-lt128.false c.if-d-gt191.true)
+
+pub returns : goal.returns
+returns c =
+    let s = c.args.s.now in let i = c.args.i in let n = c.args.more in
+    let l = some s (i + 3) _ c.byte-d.ensures (omega arith) in
+    goes c.requires.i_in_bounds (omega arith) (omega arith) (more s c.args.lo c.args.hi n (i + 1) _ c.byte-a.ensures c.requires.small.0 c.if-a-lo.false c.if-hi-a.false (i + 2) (omega arith) (omega arith)
+    ∙ more s 0x80 0xbf (n - 1) (i + 2) _ c.byte-b.ensures (omega arith) c.if-b-lt128.false c.if-b-gt191.false (i + 3) (omega arith) (omega arith)
+    ∙ last s 0x80 0xbf (n - 1 - 1) (i + 3) _ c.byte-d.ensures (omega arith) c.if-d-lt128.false c.if-d-gt191.false (i + 4) (omega arith) (omega arith))
+
+pub returns-then-a-lo : goal.returns-then-a-lo
+returns-then-a-lo c = stops c.requires.i_in_bounds (low c.args.s.now _ _ _ (c.args.i + 1) _ c.byte-a.ensures c.if-a-lo.true)
+
+pub returns-then-hi-a : goal.returns-then-hi-a
+returns-then-hi-a c = stops c.requires.i_in_bounds (high c.args.s.now _ _ _ (c.args.i + 1) _ c.byte-a.ensures c.if-a-lo.false c.if-hi-a.true)
