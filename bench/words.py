@@ -1,7 +1,7 @@
 #!/usr/bin/env python3
 """How many words of the SHA-256 message schedule the compiled code holds at a time.
 
-Runs the machine code of digest's block function (target/staticlib/libcapi.a, made by `rt staticlib capi`) on a random block in a small simulator that notes
+Runs the machine code of digest's block function (target/staticlib/libcapi.a, a copy of what `rt lib` makes in crates/capi_c) on a random block in a small simulator that notes
 every read and write of a register or of the stack. A place holds word t from the moment that its value is written there to the last read before the next
 write. Blocks are random, so two words or a word and another value agree by chance once in millions. Needs objdump and ar. Exits with 1 where more than
 sixteen are held (02, Wish 4): no contract can say it, so examples/check runs this in the gate. The library may stand in the folder PLAVDROSA_LIB.
@@ -21,7 +21,7 @@ LIBRARY = Path(os.environ.get("PLAVDROSA_LIB") or ROOT / "target/staticlib").res
 FUNCTION = "digest::block::block_at"
 MOST = 16
 MASK = 0xFFFFFFFF
-HASH, BLOCK, SLICE, STACK = 0x10000, 0x20000, 0x30000, 0x7FFF0000
+HASH, BLOCK, STACK = 0x10000, 0x20000, 0x7FFF0000
 
 WIDTH = {}
 for name in "ax bx cx dx si di bp sp".split():
@@ -82,9 +82,8 @@ class Machine:
             self.store(HASH + 4 * i, 4, h[i])
         for i in range(64):
             self.memory[BLOCK + i] = block[i]
-        self.store(SLICE, 8, BLOCK)
-        self.store(SLICE + 8, 8, 64)
-        self.regs.update(rsp=STACK, rdi=HASH, rsi=SLICE, rdx=0)
+        # the hash value, the bytes, and where in them the block begins
+        self.regs.update(rsp=STACK, rdi=HASH, rsi=BLOCK, rdx=0)
 
     def load(self, at, size):
         return sum(self.memory.get(at + i, 0) << 8 * i for i in range(size))
@@ -134,7 +133,7 @@ class Machine:
     def step(self, op, args):
         self.time += 1
         size = next((WIDTH[a[1:]][1] for a in reversed(args) if a[0] == "%"), 8 if op.endswith("q") else 4)
-        plain = op[:-1] if op[:-1] in ("mov", "add", "xor", "and", "or", "sub", "rol", "shr", "shl", "not") else op
+        plain = op[:-1] if op != "shld" and op[:-1] in ("mov", "add", "xor", "and", "or", "sub", "rol", "shr", "shl", "not") else op
         two = {"add": int.__add__, "xor": int.__xor__, "and": int.__and__, "or": int.__or__, "sub": int.__sub__}
         if plain in ("mov", "movdqu", "movdqa"):
             self.put(args[1], size, self.get(args[0], size))
@@ -145,6 +144,13 @@ class Machine:
             n = int(args[0][1:], 16) if len(args) == 2 else 1
             x = self.get(args[-1], size)
             self.put(args[-1], size, {"rol": x << n | x >> 8 * size - n, "shr": x >> n, "shl": x << n}[plain])
+        elif plain == "shld":
+            n = int(args[0][1:], 16)
+            x, y = self.get(args[1], size), self.get(args[2], size)
+            self.put(args[2], size, y << n | x >> 8 * size - n)
+        elif plain == "pinsrd":
+            lane, x, y = 32 * int(args[0][1:], 16), self.get(args[1], 4), self.get(args[2], 16)
+            self.put(args[2], 16, y & ~(MASK << lane) | x << lane)
         elif plain == "not":
             self.put(args[0], size, ~self.get(args[0], size))
         elif plain == "bswap":

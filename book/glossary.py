@@ -1,6 +1,6 @@
 """The glossary: names that the kit's libraries and the language define, each with a line on what it means."""
 
-CONSTRUCTORS = {"[]", "_∷_", "∷", "zero", "suc", "true", "false", "none", "some", "pos", "negsuc", "tt", "inl", "inr", "refl"}
+CONSTRUCTORS = {"[]", "◌∷◌", "∷", "zero", "suc", "true", "false", "none", "some", "pos", "negsuc", "tt", "inl", "inr", "refl"}
 
 
 class Glossary:
@@ -15,7 +15,7 @@ class Glossary:
                 names = names.split(", ")
                 self.entries.append((anchor, names, meaning))
                 self.anchors.update({name: anchor for name in names})
-        self.builtin = {"×", "→", "⊥", "Unit", "tt", "Type", "λ", "record", "elim", "↦", "now", "⌜", "⌝", "ensures", "requires", "wrapping_add_u32"}
+        self.builtin = {"×", "→", "⊥", "Unit", "tt", "Type", "λ", "record", "elim", "↦", "ensures", "requires", "wrapping_add_u32"}
 
     def anchor(self, name):
         return self.anchors.get(name)

@@ -56,7 +56,7 @@ class Linker:
         scope.update(names.opened(item, scope))
         known = known if known is not None else names.locals_of(item, scope)
         stack = [Group()]
-        tokens = [t for line in lines for t in [m[0] for m in TOKEN.finditer(line)] + ["\n"]]
+        tokens = [t for line in lines for t in [s for m in TOKEN.finditer(line) for s in names.split(scope, m[0])] + ["\n"]]
         for at, token in enumerate(tokens):
             if token == "\n":
                 yield token, None, "line"
@@ -110,7 +110,7 @@ class Linker:
         if name.isdigit():
             group.type = None
             return token, None, "plain"
-        if item.kind == "fn" and token in (".entry", ".exit"):
+        if item.kind == "fn" and token in (".now", ".old", ".new"):
             return token, Library(token), "name"
         owner = self.names.field(scope, group.type, name)
         kind = dict(owner.parts).get(name.strip("«»"), "") if owner else ""
@@ -126,7 +126,7 @@ class Linker:
                 group.seen, group.type = False, None
             return token, None, "local"
         target = self.names.lookup(scope, bare)
-        if bare in OPERATORS or (target is not None and "_" + bare + "_" in scope):
+        if bare in OPERATORS or (target is not None and "◌" + bare + "◌" in scope):
             group.seen, group.type = False, None
         elif not group.seen:
             group.seen, group.type = True, self.names.result_of(target)
@@ -232,9 +232,10 @@ class Linker:
     def contract(self, item):
         """Walked tokens of the ensures lines."""
         known = self.parameters(item)
-        known["r"] = self.result(item) or ""
-        known.update({"«" + n + "»": k for n, k in known.items() if "_" in n})
+        known["result"] = self.result(item) or ""
         text = " ".join(item.ensures)
+        # a clause's own name
+        known.update({name: "" for name in re.findall(r"\b(?:ensures|requires) (\w+) \{", text) if name not in known})
         for match in re.finditer(r"[({]\s*((?:[^\s(){}:;,=]+\s+)+):\s+([^\s(){}]+)", text):
             known.update({n: match[2] for n in match[1].split()})
         for match in re.finditer(r"λ ((?:[^\s.(){}]+ )*[^\s.(){}]+)\.", text):

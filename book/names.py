@@ -1,11 +1,12 @@
 """Which definition a name in a definition means: imports, constructors, fields, and what is bound on the spot."""
 import re
 
-TOKEN = re.compile(r'"(?:\\.|[^"\\])*"|--.*|\s+|[(){};,⌜⌝]|[^\s(){};,⌜⌝"]+')
-PATH = re.compile(r"^Rattle·(?P<crate>\w+?)(?:·\w+)?\.(?P<area>specs|proofs)\.(?P<rest>.+)$")
-LIBRARIES = ("mathlib.", "Prim.", "lib.", "mir.", "native.", "borrow.")
+TOKEN = re.compile(r'"(?:\\.|[^"\\])*"|--.*|\s+|[(){};,]|[^\s(){};,"]+')
+PROJECTIONS = re.compile(r"^([^\s.]+)((?:\.[^\s.]+)+)(\.?)$")
+PATH = re.compile(r"^Rattle\.(?!std\.)(?P<crate>\w+)\.(?P<area>specs|proofs)\.(?P<rest>.+)$")
+LIBRARIES = ("Rattle.std.", "mathlib.", "Prim.", "lib.", "mir.", "native.", "borrow.", "contract.", "denote.", "base.")
 # where one of these stands, what follows is a new application
-OPERATORS = set("≡ ≢ ++ ∷ && || → × ↔ ⊎ ≤ < + - * / % ^ = : , ; ( { ⌜ ⌝ λ in let ⨾ ∣ ∈ ∙ ensures requires".split())
+OPERATORS = set("≡ ≢ ++ ∷ && || → × ↔ ⊎ ≤ < + - * / % ^ = == : , ; ( { λ in let ⨾ ∣ ∈ ∙ ensures requires".split())
 BINDER = re.compile(r"[({]\s*((?:[^\s(){}:;,=]+\s+)+):\s")
 LAMBDA = re.compile(r"λ ((?:[^\s.(){}]+ )*[^\s.(){}]+)\.")
 NUMERAL = re.compile(r"^-?(0x[0-9a-fA-F]+|\d[\d_]*)$")
@@ -77,6 +78,15 @@ class Names:
             elif name in there:
                 out[new] = there[name]
 
+    def split(self, scope, token):
+        """`e.f.g` as e, .f and .g, where e is no other module's name."""
+        match = PROJECTIONS.match(token)
+        if not match or token.startswith(("--", '"')) or match[1] + "." in scope or token.startswith(LIBRARIES) or PATH.match(token.rpartition(".")[0]):
+            return [token]
+        fields = ["." + name for name in match[2][1:].split(".")]
+        fields[-1] += match[3]
+        return [match[1], *fields]
+
     def members(self, path):
         match = PATH.match(path)
         if not match:
@@ -86,20 +96,20 @@ class Names:
             item = self.types.get((match["crate"], rest[1]))
             if not item:
                 return {}
-            return {name: item for name, _ in item.parts} if rest[2:] == ["the-variants"] else {item.name: item}
+            return {name: item for name, _ in item.parts} if rest[2:] == ["TheVariants"] else {item.name: item}
         module = self.repo.modules.get((match["crate"], match["area"], "/".join(rest)))
         return self.exports(module) if module else {}
 
     def lookup(self, scope, word):
         """The definition that a word means, or None."""
-        for name in (word, f"_{word}_", f"_{word}", f"{word}_"):
+        for name in (word, f"◌{word}◌", f"◌{word}", f"{word}◌"):
             if name in scope:
                 return scope[name]
         if "." in word.strip("."):
             front, _, last = word.rpartition(".")
             if front + "." in scope:
                 return scope[front + "."].get(last)
-            if front.startswith("Rattle·"):
+            if PATH.match(front):
                 return self.members(front).get(last)
             if front.startswith(LIBRARIES):
                 return Library(last)

@@ -112,8 +112,8 @@ class Map(unittest.TestCase):
             self.assertEqual(reader.rules[0].edits, [edit])
 
     def test_range_and_section(self):
-        reader = self.read("| **The table** | | | | |", "| fields | table/Layout: `idIn` .. `kindIn` | | | |")
-        self.assertEqual([i.name for i in reader.rules[0].definitions], ["idIn", "sigIn", "timeIn", "kindIn"])
+        reader = self.read("| **The table** | | | | |", "| fields | table/Layout: `id_in` .. `kind_in` | | | |")
+        self.assertEqual([i.name for i in reader.rules[0].definitions], ["id_in", "sig_in", "time_in", "kind_in"])
         self.assertEqual(reader.rules[0].section, "The table")
 
 

@@ -1,5 +1,5 @@
 #!/usr/bin/env python3
-"""Tells whether plavdrosa.h and the exported calls of crates capi and capi_relay agree: names, and the width and the kind of each argument;
+"""Tells whether plavdrosa.h and the exported calls of crates capi_c and capi_relay_c agree: names, and the width and the kind of each argument;
 and whether the limits of the header are those of crate wire.
 
 Prints what differs and exits 1, or prints how many calls and limits agree and exits 0.
@@ -10,7 +10,7 @@ import sys
 
 ROOT = pathlib.Path(__file__).resolve().parent.parent
 HEADER = ROOT / "include" / "plavdrosa.h"
-CRATES = ("capi", "capi_relay")
+CRATES = ("capi_c", "capi_relay_c")
 WIRE = ROOT / "crates" / "wire" / "src" / "lib.rt"
 
 # a number of Rattle, and that of C
@@ -33,7 +33,7 @@ LIMITS = {
     "PLAVDROSA_MAX_CAPACITY": "MOST_SLOTS",
 }
 
-EXPORT = re.compile(r'#\[no_mangle\]\s*pub extern "C" fn (\w+)\s*\((.*?)\)\s*(?:->\s*([^{}]*?))?\s*(?=requires\b|ensures\b|\{)', re.S)
+EXPORT = re.compile(r'#\[unsafe\(no_mangle\)\]\s*pub extern "C" fn (\w+)\s*\((.*?)\)\s*(?:->\s*([^{}]*?))?\s*(?=requires\b|ensures\b|\{)', re.S)
 PROTOTYPE = re.compile(r"^(\w[\w ]*?)\s+(\w+)\s*\(([^()]*)\)\s*;", re.M)
 DEFINE = re.compile(r"^#define (\w+) (\d+)$", re.M)
 CONSTANT = re.compile(r"^pub const (\w+): usize = (\d+);$", re.M)
@@ -67,7 +67,7 @@ def exports(text):
             n, _, kind = argument.partition(":")
             row += lowered(n.strip(), kind.strip())
         found[name] = (number(answer.strip()) if answer else "void", row)
-    marked = len(re.findall(r"#\[no_mangle\]", text))
+    marked = len(re.findall(r"#\[unsafe\(no_mangle\)\]", text))
     if marked != len(found):
         raise ValueError(f"{marked} calls are marked, {len(found)} were understood")
     return found

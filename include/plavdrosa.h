@@ -1,7 +1,7 @@
 /* Plavdrosa: the core of a Nostr relay, each call proved to do what is said of it.
  *
- * The calls stand in two static libraries, libcapi_relay.a and libcapi.a (`rt staticlib capi_relay`, `rt staticlib capi`), which link beside each
- * other and need memcpy and memset only.
+ * The calls stand in two static libraries, libcapi_relay.a and libcapi.a (made by `rt lib` in crates/capi_relay_c and crates/capi_c, and copied under
+ * these names), which link beside each other and need memcpy and memset only.
  *
  * Every buffer is the caller's: no call allocates, keeps a pointer, or has a state of its own. A slice is a pointer and a length, in this order;
  * the length counts members, not bytes. A pointer is never NULL, also where its length is 0, and lies as its type wants.
