@@ -303,8 +303,17 @@ pub fn letter(line: &[u8]) -> u8
 // As many bytes as a table of the most slots has, and 256 more.
 pub const ROOM: usize = 16 + wire::MOST_SLOTS * 4208 + 256;
 
-// The room before the first line: zeros. An error comes only where there is no memory for it.
-pub fn empty_room(alloc: Global) -> Result<Vec<u8>, AllocError>
+// The room before the first line: zeros.
+pub fn empty_room() -> [u8; ROOM]
+    ensures value { result ≡ empty_room }
+    ensures room_length_value { room_length ≡ length result }
+{
+    [0; ROOM]
+}
+
+// The same on the heap, where a program keeps it: by value it is more than a stack holds. The error is the allocator's;
+// no clause says when it comes.
+pub fn allocated_room(alloc: Global) -> Result<Vec<u8>, AllocError>
     ensures value { IfOk result (λ room. room.items ≡ empty_room) }
     ensures room_length_value { IfOk result (λ room. room_length ≡ vec_len room) }
 {

@@ -60,7 +60,8 @@ fn read<R: Read>(input: &mut Input<R>, chunk: &mut [u8]) -> io::Result<usize>
     }
 }
 
-// These bytes to the output, before it returns. An error comes where a write failed, and only there.
+// These bytes to the output. Of what is written no clause says anything. `failed` tells afterwards whether this or an
+// earlier call answered with an error; that the error is the writer's is read off the code, no clause says it.
 pub fn write<W: Write>(output: &mut Output<W>, bytes: &[u8]) -> io::Result<()>
     ensures { output.new.failed ≡ (output.old.failed || is_err result) }
 {
@@ -161,8 +162,8 @@ fn left_after(some: bool, left: u64) -> u64
     left - 1
 }
 
-// The line of the input after the line `r`, into `line`; `chunk` holds what was read. An error comes where a read failed,
-// and only there; it leaves the buffers' lengths as they were.
+// The line of the input after the line `r`, into `line`; `chunk` holds what was read. An error is one
+// of reading (`failed`, as at `write`); it leaves the buffers' lengths as they were.
 pub fn next<R: Read>(
     input: &mut Input<R>,
     line: &mut [u8],
@@ -210,7 +211,7 @@ pub fn next<R: Read>(
 }
 
 // The same, but of a line that fills the buffer only the refusal is written to the output, and the line after it is
-// taken. An error comes where a read or a write failed, and only there.
+// taken. An error is one of reading or writing (`failed`, as at `write`); the buffers keep their lengths.
 pub fn next_within<R: Read, W: Write>(
     input: &mut Input<R>,
     output: &mut Output<W>,
@@ -236,8 +237,8 @@ pub fn next_within<R: Read, W: Write>(
     Ok(l)
 }
 
-// The first n bytes of `out` and 0A to the output. The 0A is stored there, if it fits. An error comes where a write
-// failed, and only there.
+// The first n bytes of `out` and 0A to the output, of which nothing is said. The 0A is stored there, if it fits, after
+// an error too, which is one of writing (`failed`, as at `write`).
 pub fn write_line<W: Write>(output: &mut Output<W>, out: &mut [u8], n: usize) -> io::Result<()>
     ensures out_after { out.new ≡ put out.old n (10 ∷ []) }
     ensures failed { output.new.failed ≡ (output.old.failed || is_err result) }

@@ -158,6 +158,6 @@ fn read_all<R: Read, W: Write>(
 fn main(rt: HostRuntime) -> io::Result<()> {
     let mut input = lines::from_reader(rt.stdin());
     let mut output = lines::to_writer(rt.stdout());
-    let mut room = fields::empty_room(rt.alloc())?;
+    let mut room = fields::allocated_room(rt.alloc())?;
     read_all(&mut input, &mut output, room.as_mut_slice())
 }
