@@ -1,4 +1,5 @@
 -- A law for each way out of a call that writes into a lent row; the numbers of a REQ.
+use Rattle.std.specs.Prelude.{Result}
 use mathlib.Core.Path.{◌≡◌, refl, sym, ap, ◌∙◌}
 use mathlib.Core.List.{List, [], ◌++◌}
 use Prim.Native.Nat.{ℕ, ◌≤◌, ◌<◌}
@@ -22,7 +23,6 @@ use Rattle.message.specs.Parts.{filters_at}
 use Rattle.message.specs.Read.{read_of, read_number}
 use Rattle.message.proofs.Reading.{row_read}
 use Rattle.event.specs.Answer.{written_number, serialised, serialised_out}
-use Rattle.event.specs.declared.Written.{Written}
 use Rattle.event.proofs.Sent.{some_row, refused_own}
 use Rattle.numbers.specs.Numbers.{parts_numbers, message_numbers}
 use Rattle.numbers.specs.Parts.{event_from}
@@ -65,15 +65,15 @@ lent_on r k l m out z e a b = rw (z, sym e) (a, b)
 pub body_of_lem : (e : List ℕ) {p : EventParts} → p ≡ event_from e → p.body ≡ (event_from e).body
 body_of_lem e h = ap (λ (y : EventParts). y.body) h
 
-module _ (b : List ℕ) (p : Body) (out : List ℕ) {x : Body} {w : Written} {o : List ℕ} (g : x ≡ p) (e : w ≡ serialised b x out) (f : o ≡ serialised_out b x out) where
-  written_as : {v : Written} → w ≡ v → v ≡ serialised b p out
+module _ (b : List ℕ) (p : Body) (out : List ℕ) {x : Body} {w : Result ℕ ℕ} {o : List ℕ} (g : x ≡ p) (e : w ≡ serialised b x out) (f : o ≡ serialised_out b x out) where
+  written_as : {v : Result ℕ ℕ} → w ≡ v → v ≡ serialised b p out
   written_as h = sym h ∙ e ∙ ap (λ (y : Body). serialised b y out) g
 
   bytes_as : o ≡ serialised_out b p out
   bytes_as = f ∙ ap (λ (y : Body). serialised_out b y out) g
 
   -- what is answered and left, with m in the lent number
-  pub said_length : {v : Written} (m : ℕ) → w ≡ v →
+  pub said_length : {v : Result ℕ ℕ} (m : ℕ) → w ≡ v →
       (written_number v ≡ written_number (serialised b p out)) × ((o ≡ serialised_out b p out) × (length_or v m ≡ length_or (serialised b p out) m))
   said_length m h = (ap written_number (written_as h), (bytes_as, ap (λ z. length_or z m) (written_as h)))
 

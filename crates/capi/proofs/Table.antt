@@ -1,4 +1,5 @@
 -- Laws of the calls on a table: an answer of the call below says what the numbers are.
+use Rattle.std.specs.Prelude.{Result}
 use mathlib.Core.Path.{◌≡◌, refl, sym, ap, ◌∙◌}
 use mathlib.Core.Bool.{Bool, true, false}
 use mathlib.Core.List.{List}
@@ -11,7 +12,6 @@ use Rattle.table.specs.Offer.{as_parts, answer, next}
 use Rattle.table.specs.declared.Offered.{Offered}
 use Rattle.table.specs.declared.Offered.TheVariants as offered
 use Rattle.slots.specs.Shown.{shown_at, shown_number}
-use Rattle.slots.specs.declared.Shown.{Shown}
 use Rattle.capi.specs.Calls.{offset_or}
 use Rattle.capi.specs.Table.{sound_row, offered_number, offered_offset, shown_place, shown_length}
 
@@ -36,7 +36,7 @@ pub offered_told : (k : ℕ) {x y : Offered} {r o : ℕ} → x ≡ y → r ≡ o
 offered_told k e f g = (f ∙ ap offered_number e, g ∙ ap (λ (z : Offered). offered_offset z k) e)
 
 -- what is answered and left, with m and n in the lent numbers
-pub said_place : (t : List ℕ) (k : ℕ) {x v : Shown} (m n : ℕ) → x ≡ shown_at t k → shown_number x ≡ shown_row t k → x ≡ v →
+pub said_place : (t : List ℕ) (k : ℕ) {x v : Result (ℕ × ℕ) ℕ} (m n : ℕ) → x ≡ shown_at t k → shown_number x ≡ shown_row t k → x ≡ v →
     (shown_number v ≡ shown_row t k) × ((shown_place v m ≡ shown_place (shown_at t k) m) × (shown_length v n ≡ shown_length (shown_at t k) n))
 said_place t k m n e f h =
-    (sym (ap shown_number h) ∙ f, (ap (λ (z : Shown). shown_place z m) (sym h ∙ e), ap (λ (z : Shown). shown_length z n) (sym h ∙ e)))
+    (sym (ap shown_number h) ∙ f, (ap (λ (z : Result (ℕ × ℕ) ℕ). shown_place z m) (sym h ∙ e), ap (λ (z : Result (ℕ × ℕ) ℕ). shown_length z n) (sym h ∙ e)))

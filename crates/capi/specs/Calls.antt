@@ -1,16 +1,12 @@
 -- Calls for Rust and C: the answer is 01's number, and the output is written from its start, or stays as it was.
-use Rattle.std.specs.Prelude.{ℕ, List, cond, eqb, leb, length}
+use Rattle.std.specs.Prelude.{ℕ, List, cond, eqb, leb, length, Option, Some, None, Result, Ok, Err}
 use Rattle.wire.specs.Put.{put}
 use Rattle.message.specs.Read.{read_of, read_number}
 use Rattle.text.specs.Read.{read_text}
 use Rattle.text.specs.Answer.{text_answer_of, text_number}
 use Rattle.event.specs.Answer.{identified, serialised, serialised_out}
 use Rattle.event.specs.Answer as written
-use Rattle.shape.specs.declared.Offset.{Offset}
-use Rattle.shape.specs.declared.Offset.TheVariants.{Absent, At}
 use Rattle.shape.specs.declared.Refusal.{Refusal}
-use Rattle.event.specs.declared.Written.{Written}
-use Rattle.event.specs.declared.Written.TheVariants.{Wrote, Refused}
 use Rattle.numbers.specs.Numbers.{message_numbers, answer_numbers}
 use Rattle.numbers.specs.Parts.{event_from}
 use Rattle.wire.specs.Bytes.{Row}
@@ -23,9 +19,9 @@ unfoldable pub lent_out : (r k : ℕ) (l out : List ℕ) → List ℕ
 lent_out r k l out = cond (eqb r 0) (cond (leb k (length out)) (put out 0 l) out) out
 
 -- ---- the offset that a refusal carries, to a lent number, which stays where there is none
-abbrev pub offset_in : Offset → ℕ → ℕ
-offset_in Absent k = k
-offset_in (At p) k = p
+abbrev pub offset_in : Option ℕ → ℕ → ℕ
+offset_in None k = k
+offset_in (Some p) k = p
 
 abbrev pub offset_or : Refusal → ℕ → ℕ
 offset_or r k = offset_in r.offset k
@@ -52,9 +48,9 @@ serialise_row b e out = written.written_number (serialised b (event_from e).body
 abbrev pub serialise_out : (b e out : List ℕ) → List ℕ
 serialise_out b e out = serialised_out b (event_from e).body out
 
-abbrev pub length_or : Written → ℕ → ℕ
-length_or (Wrote n) m = n
-length_or (Refused r) m = m
+abbrev pub length_or : Result ℕ ℕ → ℕ → ℕ
+length_or (Ok n) m = n
+length_or (Err r) m = m
 
 abbrev pub serialise_length : (b e out : List ℕ) (m : ℕ) → ℕ
 serialise_length b e out m = length_or (serialised b (event_from e).body out) m

@@ -1,10 +1,8 @@
 -- Calls on a table for Rust and C: what they answer as numbers.
-use Rattle.std.specs.Prelude.{ℕ, cond}
+use Rattle.std.specs.Prelude.{ℕ, cond, Result, Ok, Err}
 use Rattle.table.specs.Sound.{sound}
 use Rattle.table.specs.declared.Offered.{Offered}
 use Rattle.table.specs.declared.Offered.TheVariants as offered
-use Rattle.slots.specs.declared.Shown.{Shown}
-use Rattle.slots.specs.declared.Shown.TheVariants as shown
 use Rattle.wire.specs.Bytes.{Bytes, Row}
 use Rattle.capi.specs.Calls.{offset_or}
 
@@ -29,10 +27,10 @@ offered_offset offered.Older k = k
 offered_offset (offered.Refused r) k = offset_or r k
 
 -- where a shown text stands and how long it is; on a refusal the lent numbers stay
-abbrev pub shown_place : Shown → ℕ → ℕ
-shown_place (shown.At v n) m = v
-shown_place (shown.Refused r) m = m
+abbrev pub shown_place : Result (ℕ × ℕ) ℕ → ℕ → ℕ
+shown_place (Ok (v, n)) m = v
+shown_place (Err r) m = m
 
-abbrev pub shown_length : Shown → ℕ → ℕ
-shown_length (shown.At v n) m = n
-shown_length (shown.Refused r) m = m
+abbrev pub shown_length : Result (ℕ × ℕ) ℕ → ℕ → ℕ
+shown_length (Ok (v, n)) m = n
+shown_length (Err r) m = m

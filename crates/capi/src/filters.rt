@@ -13,9 +13,9 @@ pub fn plavdrosa_match(bytes: &[u8], event: &[u64], message: &[u8], request: &[u
     let fs = numbers::filters_from(request);
     let n = numbers::number_in(request, 3) as usize;
     match matching::matched(bytes, p, message, fs, n) {
-        query::Matched::Matches => 0,
-        query::Matched::Differs => 103,
-        query::Matched::Refused(r) => r,
+        Ok(true) => 0,
+        Ok(false) => 103,
+        Err(r) => r,
     }
 }
 
@@ -38,10 +38,10 @@ pub fn plavdrosa_list(
     let fs = numbers::filters_from(request);
     let n = numbers::number_in(request, 3) as usize;
     match matching::answer(table, message, fs, n, row) {
-        query::Listing::Count(k) => {
+        Ok(k) => {
             *count = k;
             0
         }
-        query::Listing::Refused(r) => r,
+        Err(r) => r,
     }
 }

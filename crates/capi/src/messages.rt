@@ -7,7 +7,7 @@ ghost use Rattle.numbers.specs.Numbers.{request_numbers};
 ghost use Rattle.capi.specs.Calls.{lent_row, lent_out, offset_or, read_row, read_out};
 
 use message::{Message, ReqParts};
-use shape::{Offset, Refusal};
+use shape::Refusal;
 
 // The lowest of rows 1 to 4 that holds of a text, or 0.
 pub fn plavdrosa_text_row(bytes: &[u8]) -> u8
@@ -20,12 +20,8 @@ pub fn plavdrosa_text_row(bytes: &[u8]) -> u8
 pub(crate) fn put_offset(offset: &mut usize, x: Refusal)
     ensures { offset.new ≡ offset_or x offset.old }
 {
-    let o = x.offset;
-    match o {
-        Offset::Absent => {}
-        Offset::At(p) => {
-            *offset = p;
-        }
+    if let Some(p) = x.offset {
+        *offset = p;
     }
 }
 

@@ -95,11 +95,11 @@ pub fn plavdrosa_show(table: &[u8], slot: usize, place: &mut usize, len: &mut us
     ensures len_after { len.new ≡ shown_length (shown_at table.now slot) len.old }
 {
     match slots::shown_at(table, slot) {
-        slots::Shown::At(at, n) => {
+        Ok((at, n)) => {
             *place = at;
             *len = n;
             0
         }
-        slots::Shown::Refused(r) => r,
+        Err(r) => r,
     }
 }

@@ -4,7 +4,7 @@ ghost use Rattle.capi.specs.Calls.{read_text_row, read_text_out, serialise_row, 
 ghost use Rattle.capi.specs.Calls.{id_out};
 
 use crate::digests;
-use text::TextAnswer;
+use text::Unread;
 
 // The numbers of a text that is read back.
 const TEXT_NUMBERS: usize = 7;
@@ -16,9 +16,9 @@ pub fn plavdrosa_read_text(bytes: &[u8], out: &mut [u64]) -> u8
     ensures out_after { out.new ≡ read_text_out bytes.now out.old }
 {
     match text::read_text(bytes) {
-        TextAnswer::TooLarge => 9,
-        TextAnswer::WrongShape => 5,
-        TextAnswer::Read(x) => {
+        Err(Unread::TooLarge) => 9,
+        Err(Unread::WrongShape) => 5,
+        Ok(x) => {
             if out.len() < TEXT_NUMBERS {
                 return 13;
             }
@@ -40,11 +40,11 @@ pub fn plavdrosa_serialise(bytes: &[u8], event: &[u64], out: &mut [u8], len: &mu
     let p = numbers::event_from(event);
     let body = p.body;
     match event::serialise(bytes, body, out) {
-        event::Written::Wrote(n) => {
+        Ok(n) => {
             *len = n;
             0
         }
-        event::Written::Refused(r) => r,
+        Err(r) => r,
     }
 }
 

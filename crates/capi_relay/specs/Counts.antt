@@ -1,10 +1,8 @@
 -- The values of an answer as lent numbers, which stay on a refusal: `length_or` of capi/specs/Calls for one count of
 -- bytes, and these for more.
-use Rattle.std.specs.Prelude.{ℕ}
+use Rattle.std.specs.Prelude.{ℕ, Result, Ok, Err}
 use Rattle.text.specs.declared.Class.{Class}
 use Rattle.text.specs.declared.Class.TheVariants as class
-use Rattle.program.specs.declared.Sent.{Sent}
-use Rattle.program.specs.declared.Sent.TheVariants as sending
 use Rattle.program.specs.declared.Turned.{Turned}
 use Rattle.program.specs.declared.Turned.TheVariants as turning
 
@@ -22,13 +20,13 @@ written_or (turning.Fed u k n) m = n
 written_or (turning.Refused r) m = m
 
 -- ---- the EVENTs of some slots: how many bytes, and of how many slots
-abbrev pub bytes_or : Sent → ℕ → ℕ
-bytes_or (sending.Wrote n k) m = n
-bytes_or (sending.Refused r) m = m
+abbrev pub bytes_or : Result (ℕ × ℕ) ℕ → ℕ → ℕ
+bytes_or (Ok (n, k)) m = n
+bytes_or (Err r) m = m
 
-abbrev pub slots_or : Sent → ℕ → ℕ
-slots_or (sending.Wrote n k) m = k
-slots_or (sending.Refused r) m = m
+abbrev pub slots_or : Result (ℕ × ℕ) ℕ → ℕ → ℕ
+slots_or (Ok (n, k)) m = k
+slots_or (Err r) m = m
 
 -- ---- the class of a kind
 abbrev pub class_number : Class → ℕ

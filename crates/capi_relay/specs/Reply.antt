@@ -2,10 +2,8 @@
 -- the place and length of its id, of its subscription id, or of the reason of a NOTICE. Then come those of the reason,
 -- and for an OK a number that is 0 for false; or the twelve numbers of an EVENT (numbers/specs/Numbers,
 -- `event_numbers`). A number past the end of the row is 0.
-use Rattle.std.specs.Prelude.{ℕ, Bool, true, false, cond, List, eqb, leb}
+use Rattle.std.specs.Prelude.{ℕ, Bool, true, false, cond, List, eqb, leb, Result, Err}
 use Rattle.message.specs.declared.Span.{Span}
-use Rattle.event.specs.declared.Written.{Written}
-use Rattle.event.specs.declared.Written.TheVariants as sent
 use Rattle.reply.specs.Lent.{replied, replied_out}
 use Rattle.reply.specs.declared.ReplyParts.{ReplyParts}
 use Rattle.reply.specs.declared.ReplyParts.TheVariants as parts
@@ -39,8 +37,8 @@ reply_from f l =
     (cond (eqb f 4) (parts.Closed (name_from l) (reason_from l)) (parts.Notice (name_from l)))))
 
 -- the reply written; a row of no form is refused by 5, "wrong shape", before all else
-unfoldable pub written_reply : (b l out : List ℕ) → Written
-written_reply b l out = cond (is_form (reply_form l)) (replied b (reply_from (reply_form l) l) out) (sent.Refused 5)
+unfoldable pub written_reply : (b l out : List ℕ) → Result ℕ ℕ
+written_reply b l out = cond (is_form (reply_form l)) (replied b (reply_from (reply_form l) l) out) (Err 5)
 
 unfoldable pub written_reply_out : (b l out : List ℕ) → List ℕ
 written_reply_out b l out = cond (is_form (reply_form l)) (replied_out b (reply_from (reply_form l) l) out) out

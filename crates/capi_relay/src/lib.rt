@@ -17,22 +17,21 @@ ghost use Rattle.capi_relay.specs.Reply.{span_of_numbers, written_reply, written
 
 mod given;
 
-use event::Written;
 use message::Span;
-use program::{Sent, Turned};
+use program::Turned;
 use text::Class;
 
 // The number of what was answered; how many bytes were written goes to `written`.
-fn told(x: Written, written: &mut usize) -> u8
+fn told(x: Result<usize, u8>, written: &mut usize) -> u8
     ensures value { result ≡ written_number x }
     ensures written_after { written.new ≡ length_or x written.old }
 {
     match x {
-        Written::Wrote(n) => {
+        Ok(n) => {
             *written = n;
             0
         }
-        Written::Refused(r) => r,
+        Err(r) => r,
     }
 }
 
@@ -176,12 +175,12 @@ pub fn plavdrosa_events(
         len: subscription_len,
     };
     match slot_replies::events(table, slots, message, sub, out) {
-        Sent::Wrote(n, k) => {
+        Ok((n, k)) => {
             *written = n;
             *sent = k;
             0
         }
-        Sent::Refused(r) => r,
+        Err(r) => r,
     }
 }
 

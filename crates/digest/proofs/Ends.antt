@@ -1,15 +1,15 @@
 -- A message's first block, and its last ones: what `take_in` hashes before the rest, and what `close` hashes behind it.
 -- So the whole of `digest_of`. Assumes nothing.
-use Rattle.std.proofs.Common.{◌≡◌, ℕ, zero, suc, ◌+◌, ◌-◌, ◌*◌, ◌%◌, ◌<◌, ◌≤◌, List, [], ◌∷◌, ◌++◌, length, take, drop, replicate, sym, refl, ◌∙◌, append_assoc, append-nil, add-one, arith, length-append, length-drop, take-append-drop, drop_of_length-le, length-take-le, take_all, drop-drop}
+use Rattle.std.proofs.Common.{◌≡◌, ℕ, ◌+◌, ◌-◌, ◌*◌, ◌%◌, ◌<◌, ◌≤◌, List, [], ◌∷◌, ◌++◌, length, take, drop, replicate, sym, refl, ◌∙◌, append_assoc, arith, length-append, length-drop, take-append-drop, drop_of_length-le, length-take-le, take_all, drop-drop}
 use lib.ListN.{length-replicate}
-use lib.ListN.{replicate-append-replicate, get_or-eq_default}
+use lib.ListN.{replicate-append-replicate}
 use Rattle.digest.specs.Block.{H0, compress}
 use Rattle.digest.specs.Digest.{zeros, big_endian, padding, padded, blocks, hash_after, hashed, rest}
 use Rattle.digest.specs.Digest.{digest_bytes, digest}
 use Rattle.digest.specs.State.{first_bytes}
 use Rattle.digest.specs.Parts.{length_first, take_first, waits, hashed_more, rest_more}
 use Rattle.digest.specs.Back.{length_bytes}
-use Rattle.digest.proofs.Laws.{first_all}
+use Rattle.digest.proofs.Laws.{first_zeros, first_all}
 
 -- fewer bytes than a block, and one block
 pub few_hashed : (h l : List ℕ) → length l < 64 → h ≡ hashed h l
@@ -63,21 +63,6 @@ module _ (h b d : List ℕ) (n : ℕ) (k : n < 64) (long : length b ≡ 64) (fit
         e₃ ∙ rw (to_end d (64 - n), e₂, e₁, first_all first 64 full, ← parts) (block_hashed h first q full),
         e₄ ∙ rw (to_end d end, r, ← parts, block_rest h first q full),
       )
-
--- zeros past the end
-first_zeros : (l : List ℕ) (k n : ℕ) → n ≡ length l + k → first_bytes l n ≡ l ++ replicate k 0
-unfolding first_bytes
-first_zeros l zero n e = first_all l n (omega arith) ∙ rw append-nil
-first_zeros l (suc k) n e =
-    let m : n ≡ suc (length l + k) = omega arith in
-    rw (
-      m,
-      first_zeros l k (length l + k) refl,
-      get_or-eq_default {A = ℕ} l 0 {n = length l + k} (omega arith),
-      append_assoc,
-      replicate-append-replicate {A = ℕ} k 1 0,
-      add-one,
-    )
 
 -- what `close` does: the bytes that wait and the padding are one block, or two
 module _ (h b : List ℕ) (t : ℕ) (long : length b ≡ 64) where

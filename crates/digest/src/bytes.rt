@@ -1,5 +1,5 @@
 // A state as 104 bytes, and back: for callers that can lend nothing else.
-ghost use Rattle.std.specs.Prelude.{◌≡◌, ◌+◌, ◌^◌, ◌<◌, ◌≤◌, ◌++◌, length, take, drop, slice_index};
+ghost use Rattle.std.specs.Prelude.{◌≡◌, ◌+◌, ◌≤◌, ◌++◌, length, take, drop};
 ghost use Rattle.digest.specs.Block.{words};
 ghost use Rattle.digest.specs.Digest.{big_endian, digest_bytes};
 ghost use Rattle.digest.specs.State.{most, first_bytes};
@@ -10,36 +10,14 @@ use crate::{Sha256, block};
 // How many bytes a state has.
 const STATE_SIZE: usize = 104;
 
-// Byte i of a state: of the bytes of its hash value, of its block, or of its count.
-fn state_byte(h: &[u32; 8], block: &[u8; 64], total: u64, i: usize) -> u8
-    requires { (length block.now ≡ 64) × (i < 104) }
-    ensures { result ≡ slice_index (digest_bytes h.now 32 ++ (block.now ++ big_endian total 8)) i }
-{
-    if i < 32 {
-        return ((h[i / 4] >> (8 * (3 - i % 4))) % 256) as u8;
-    }
-    if i < 96 {
-        return block[i - 32];
-    }
-    ((total >> (8 * (103 - i))) % 256) as u8
-}
-
 // The bytes of a state into the first 104 of `out`.
 fn write_state(out: &mut [u8], h: &[u32; 8], block: &[u8; 64], total: u64)
     requires { (length block.now ≡ 64) × (104 ≤ length out.old) }
     ensures { out.new ≡ (digest_bytes h.now 32 ++ (block.now ++ big_endian total 8)) ++ drop 104 out.old }
 {
-    let mut i: usize = 0;
-    while i < STATE_SIZE {
-        out[i] = state_byte(h, block, total, i);
-        i += 1;
-    }
-}
-
-fn wider(x: u32) -> u64
-    ensures { (result ≡ x) × (result < 2 ^ 32) }
-{
-    x as u64
+    crate::write_words(out, *h);
+    out[32..96].copy_from_slice(block);
+    out[96..STATE_SIZE].copy_from_slice(&total.to_be_bytes());
 }
 
 // The hash value in the first 32 bytes.
@@ -48,10 +26,8 @@ fn words_in(bytes: &[u8]) -> [u32; 8]
     ensures { result ≡ words bytes.now 8 }
 {
     let mut w = [0u32; 8];
-    let mut i: usize = 0;
-    while i < 8 {
-        w[i] = block::word_at(bytes, 4 * i);
-        i += 1;
+    for (i, word) in w.iter_mut().enumerate() {
+        *word = block::word_at(bytes, 4 * i);
     }
     w
 }
@@ -62,7 +38,7 @@ fn block_in(bytes: &[u8]) -> [u8; 64]
     ensures { result ≡ first_bytes (drop 32 bytes.now) 64 }
 {
     let mut b = [0u8; 64];
-    crate::lay(&mut b, 0, &bytes[32..96]);
+    b.copy_from_slice(&bytes[32..96]);
     b
 }
 
@@ -71,7 +47,7 @@ fn total_in(bytes: &[u8]) -> u64
     requires { 104 ≤ length bytes.now }
     ensures { result ≡ total_in bytes.now }
 {
-    wider(block::word_at(bytes, 96)) * 0x1_0000_0000 + wider(block::word_at(bytes, 100))
+    u64::from(block::word_at(bytes, 96)) * 0x1_0000_0000 + u64::from(block::word_at(bytes, 100))
 }
 
 // `bytes` more to the state in the first 104 bytes, whose count is `total`, in place.

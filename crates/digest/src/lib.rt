@@ -3,7 +3,7 @@
 // of the whole, and Examples, the standard's.
 #![tactic(auto)]
 
-ghost use Rattle.std.specs.Prelude.{◌≡◌, ◌+◌, ◌*◌, ◌%◌, ◌<◌, ◌≤◌, [], ◌++◌, length, take};
+ghost use Rattle.std.specs.Prelude.{◌≡◌, ◌+◌, ◌*◌, ◌%◌, ◌<◌, ◌≤◌, [], ◌++◌, length, take, drop};
 ghost use Rattle.digest.specs.Block.{H0};
 ghost use Rattle.digest.specs.Digest.{big_endian, padding, hashed, rest, digest_bytes};
 ghost use Rattle.digest.specs.State.{answer_number, most, count_row, first_bytes, state_of, updated, finished};
@@ -20,25 +20,17 @@ fn blank(b: &mut [u8], n: usize)
     requires { (length b.old ≡ 64) × (n ≤ 64) }
     ensures { b.new ≡ first_bytes (take n b.old) 64 }
 {
-    let mut i = n;
-    while i < 64 {
-        b[i] = 0;
-        i += 1;
-    }
+    b[n..].fill(0);
 }
 
 // `bytes` in the block behind its first n, and zeros behind them.
-pub(crate) fn lay(b: &mut [u8], n: usize, bytes: &[u8])
+fn lay(b: &mut [u8], n: usize, bytes: &[u8])
     requires { (length b.old ≡ 64) × (n + length bytes.now ≤ 64) }
     ensures { b.new ≡ first_bytes (take n b.old ++ bytes.now) 64 }
 {
-    let m = bytes.len();
-    let mut i: usize = 0;
-    while i < m {
-        b[n + i] = bytes[i];
-        i += 1;
-    }
-    blank(b, n + m);
+    let end = n + bytes.len();
+    b[n..end].copy_from_slice(bytes);
+    blank(b, end);
 }
 
 // The hash value h after the whole blocks of `bytes`, in place. (How long an array behind a reference is, is known where
@@ -47,11 +39,8 @@ fn absorb(h: &mut [u32; 8], bytes: &[u8])
     requires { length h.old ≡ 8 }
     ensures { h.new ≡ hashed h.old bytes.now }
 {
-    let n = bytes.len() / 64;
-    let mut i: usize = 0;
-    while i < n {
-        block::block_at(h, bytes, 64 * i);
-        i += 1;
+    for chunk in bytes.chunks_exact(64) {
+        block::block_at(h, chunk);
     }
 }
 
@@ -69,7 +58,7 @@ pub(crate) fn take_in(h: &mut [u32; 8], b: &mut [u8; 64], fill: usize, bytes: &[
         return;
     }
     lay(b, fill, &bytes[..room]);
-    block::block_at(h, b, 0);
+    block::block_at(h, b);
     absorb(h, &bytes[room..]);
     let end = n - (n - room) % 64;
     lay(b, 0, &bytes[end..]);
@@ -81,11 +70,7 @@ fn write_length(b: &mut [u8], total: u64)
     ensures { b.new ≡ take 56 b.old ++ big_endian (total * 8) 8 }
 {
     let bits = total * 8;
-    let mut i: usize = 0;
-    while i < 8 {
-        b[56 + i] = ((bits >> (8 * (7 - i))) % 256) as u8;
-        i += 1;
-    }
+    b[56..].copy_from_slice(&bits.to_be_bytes());
 }
 
 // The hash value h after the end of a message of `total` bytes: those that wait in the block, and the padding, which is
@@ -97,11 +82,11 @@ fn close(h: &mut [u32; 8], b: &mut [u8; 64], total: u64)
     let fill = (total % 64) as usize;
     lay(b, fill, b"\x80");
     if 56 <= fill {
-        block::block_at(h, b, 0);
+        block::block_at(h, b);
         blank(b, 0);
     }
     write_length(b, total);
-    block::block_at(h, b, 0);
+    block::block_at(h, b);
 }
 
 // The initial hash value (FIPS 180-4, 5.3.3).
@@ -152,16 +137,24 @@ pub struct Digest {
     pub bytes: [u8; 32],
 }
 
+// The bytes of a hash value into the first 32 bytes of `out`.
+pub(crate) fn write_words(out: &mut [u8], h: [u32; 8])
+    requires { 32 ≤ length out.old }
+    ensures { out.new ≡ digest_bytes h 32 ++ drop 32 out.old }
+{
+    for (i, word) in h.iter().enumerate() {
+        let at = 4 * i;
+        let end = at + 4;
+        out[at..end].copy_from_slice(&word.to_be_bytes());
+    }
+}
+
 // The bytes of a hash value.
 fn split(h: [u32; 8]) -> [u8; 32]
     ensures { result ≡ digest_bytes h 32 }
 {
     let mut out = [0u8; 32];
-    let mut i: usize = 0;
-    while i < 32 {
-        out[i] = ((h[i / 4] >> (8 * (3 - i % 4))) % 256) as u8;
-        i += 1;
-    }
+    write_words(&mut out, h);
     out
 }
 

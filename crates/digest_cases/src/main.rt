@@ -3,84 +3,50 @@
 // last piece. The answer is the digest in hex, or `bad line`.
 #![tactic(auto)]
 
-ghost use Rattle.std.specs.Prelude.{◌≤◌, length};
+ghost use Rattle.std.specs.Prelude.{◌≤◌, ◌<◌, length, IfSome};
 
 use digest::Sha256;
 use lines::Output;
 use std::io;
 use std::io::Write;
 
-// The number of a hex digit, 16 for any other byte.
-fn nibble(b: u8) -> u8
-    ensures { result ≤ 16 }
+// The number of a hex digit.
+fn nibble(b: u8) -> Option<u8>
+    ensures { IfSome result (λ d. d < 16) }
 {
-    if b < b'0' {
-        return 16;
+    match b {
+        b'0'..=b'9' => Some(b - b'0'),
+        b'a'..=b'f' => Some(b - b'a' + 10),
+        _ => None,
     }
-    if b <= b'9' {
-        return b - b'0';
-    }
-    if b < b'a' {
-        return 16;
-    }
-    if b <= b'f' {
-        return b - b'a' + 10;
-    }
-    16
 }
 
-// How many bytes were read, where all was well.
-#[derive(Clone, Copy)]
-struct Count {
-    ok: bool,
-    n: usize,
-}
-
-fn bad() -> Count
-    ensures { result.n ≤ 0 }
-{
-    Count { ok: false, n: 0 }
-}
-
-// The bytes that `hex` spells, into `out`.
-fn unhex(hex: &[u8], out: &mut [u8]) -> Count
-    ensures { result.n ≤ length out.old }
+// The bytes that `hex` spells, into `out`; how many they are, if it spells any.
+fn unhex(hex: &[u8], out: &mut [u8]) -> Option<usize>
+    ensures { IfSome result (λ n. n ≤ length out.old) }
 {
     let n = hex.len() / 2;
-    if hex.len() % 2 != 0 {
-        return bad();
+    if hex.len() % 2 != 0 || out.len() < n {
+        return None;
     }
-    if out.len() < n {
-        return bad();
-    }
-    let mut i = 0;
-    while i < n {
-        let a = nibble(hex[2 * i]);
-        let b = nibble(hex[2 * i + 1]);
-        if 15 < a {
-            return bad();
-        }
-        if 15 < b {
-            return bad();
-        }
+    for i in 0..n {
+        let a = nibble(hex[2 * i])?;
+        let b = nibble(hex[2 * i + 1])?;
         out[i] = a * 16 + b;
-        i += 1;
     }
-    Count { ok: true, n }
+    Some(n)
 }
 
-// The message before the first space.
-fn message(line: &[u8], end: usize, out: &mut [u8]) -> Count
+// The message before the first space, into `out`; how many bytes it has.
+fn message(line: &[u8], end: usize, out: &mut [u8]) -> Option<usize>
     requires { end ≤ length line.now }
-    ensures { result.n ≤ length out.old }
+    ensures { IfSome result (λ n. n ≤ length out.old) }
 {
     if end == 0 {
-        return bad();
+        return None;
     }
-    if end == 1 {
-        if line[0] == b'-' {
-            return Count { ok: true, n: 0 };
-        }
+    if end == 1 && line[0] == b'-' {
+        return Some(0);
     }
     unhex(&line[..end], out)
 }
@@ -90,117 +56,83 @@ fn find(line: &[u8], at: usize, b: u8) -> usize
     requires { at ≤ length line.now }
     ensures { (at ≤ result) × (result ≤ length line.now) }
 {
-    let mut i = at;
-    while i < line.len() {
+    for i in at..line.len() {
         if line[i] == b {
             return i;
         }
-        i += 1;
     }
-    i
+    line.len()
 }
 
-// A length of one to four digits with no needless leading zero, 10,000 for anything else.
-fn number(p: &[u8]) -> usize {
+// A length of one to four digits with no needless leading zero.
+fn number(p: &[u8]) -> Option<usize> {
     let n = p.len();
-    if n == 0 {
-        return 10000;
+    if n == 0 || 4 < n {
+        return None;
     }
-    if 4 < n {
-        return 10000;
-    }
-    if 1 < n {
-        if p[0] == b'0' {
-            return 10000;
-        }
+    if 1 < n && p[0] == b'0' {
+        return None;
     }
     let mut v: usize = 0;
-    let mut i = 0;
-    while i < n {
-        let d = p[i];
-        if d < b'0' {
-            return 10000;
+    for d in p {
+        if !(b'0'..=b'9').contains(d) {
+            return None;
         }
-        if b'9' < d {
-            return 10000;
-        }
-        v = v * 10 % 10000 + (d - b'0') as usize;
-        i += 1;
+        v = v * 10 % 10000 + (*d - b'0') as usize;
     }
-    v
+    Some(v)
 }
 
+// How far a message is fed, and the state then.
 #[derive(Clone, Copy)]
 struct Fed {
-    ok: bool,
     at: usize,
     state: Sha256,
 }
 
 // The piece of the message from `at` on that is as long as `p` says.
-fn piece(state: Sha256, m: &[u8], at: usize, p: &[u8]) -> Fed
+fn piece(state: Sha256, m: &[u8], at: usize, p: &[u8]) -> Option<Fed>
     requires { at ≤ length m.now }
-    ensures { result.at ≤ length m.now }
+    ensures { IfSome result (λ f. f.at ≤ length m.now) }
 {
-    let n = number(p);
+    let n = number(p)?;
     if m.len() - at < n {
-        return Fed {
-            ok: false,
-            at,
-            state,
-        };
+        return None;
     }
     let end = at + n;
     let u = state.update(&m[at..end]);
-    let next = u.state;
-    Fed {
-        ok: true,
+    Some(Fed {
         at: end,
-        state: next,
-    }
+        state: u.state,
+    })
 }
 
 // What is left of the message from `at` on.
-fn last(state: Sha256, m: &[u8], at: usize) -> Fed
+fn last(state: Sha256, m: &[u8], at: usize) -> Sha256
     requires { at ≤ length m.now }
 {
     let u = state.update(&m[at..]);
-    let next = u.state;
-    Fed {
-        ok: true,
-        at,
-        state: next,
-    }
+    u.state
 }
 
 // The pieces whose lengths stand in `line` from `from` on, and what is left over.
-fn pieces(m: &[u8], line: &[u8], from: usize) -> Fed
+fn pieces(m: &[u8], line: &[u8], from: usize) -> Option<Sha256>
     requires { from ≤ length line.now }
 {
-    let mut at: usize = 0;
-    let mut st = Sha256::new();
+    let mut f = Fed {
+        at: 0,
+        state: Sha256::new(),
+    };
     let mut i = from;
-    let mut k: usize = 0;
-    while k < line.len() {
+    for _ in 0..line.len() {
         let e = find(line, i, b',');
-        let f = piece(st, m, at, &line[i..e]);
-        at = f.at;
-        let next = f.state;
-        st = next;
-        if !f.ok {
-            return Fed {
-                ok: false,
-                at,
-                state: st,
-            };
-        }
+        f = piece(f.state, m, f.at, &line[i..e])?;
         if line.len() <= e {
-            return last(st, m, at);
+            break;
         }
         i = e + 1;
-        k += 1;
     }
-    last(st, m, at)
+    Some(last(f.state, m, f.at))
 }
 
 // The hex digit of a number below 16.
@@ -216,11 +148,9 @@ fn show<W: Write>(output: &mut Output<W>, state: Sha256) -> io::Result<()> {
     let f = state.finish();
     let d = f.bytes;
     let mut out = [b'\n'; 65];
-    let mut i: usize = 0;
-    while i < 32 {
+    for i in 0..32 {
         out[2 * i] = digit(d[i] / 16);
         out[2 * i + 1] = digit(d[i] % 16);
-        i += 1;
     }
     lines::write(output, &out)
 }
@@ -233,22 +163,16 @@ fn refuse<W: Write>(output: &mut Output<W>) -> io::Result<()> {
 fn respond<W: Write>(output: &mut Output<W>, line: &[u8]) -> io::Result<()> {
     let end = find(line, 0, b' ');
     let mut buf = [0u8; 8192];
-    let m = message(line, end, &mut buf);
-    let n = m.n;
-    if !m.ok {
+    let Some(n) = message(line, end, &mut buf) else {
         return refuse(output);
-    }
+    };
     if end == line.len() {
         let u = Sha256::new().update(&buf[..n]);
-        let s = u.state;
-        return show(output, s);
+        return show(output, u.state);
     }
-    let f = pieces(&buf[..n], line, end + 1);
-    let s = f.state;
-    if f.ok {
-        show(output, s)
-    } else {
-        refuse(output)
+    match pieces(&buf[..n], line, end + 1) {
+        Some(s) => show(output, s),
+        None => refuse(output),
     }
 }
 

@@ -1,4 +1,5 @@
 -- The text in a buffer of its own, its hash, and hex; a law for each way out of what is answered.
+use Rattle.std.specs.Prelude.{Result, Ok, Err}
 use mathlib.Core.Path.{◌≡◌, refl, sym, ap, ◌∙◌}
 use mathlib.Core.Bool.{Bool, true, false, cond}
 use mathlib.Core.List.{List, [], ◌∷◌, ◌++◌, append-nil}
@@ -23,8 +24,6 @@ use Rattle.text.proofs.Places.{escape_none}
 use Rattle.message.specs.declared.Body.{Body}
 use Rattle.message.specs.declared.EventParts.{EventParts}
 use Rattle.message.specs.Lent.{body_row, event_row}
-use Rattle.event.specs.declared.Written.{Written}
-use Rattle.event.specs.declared.Written.TheVariants.{Wrote, Refused}
 use Rattle.event.specs.declared.Identified.{Identified}
 use Rattle.event.specs.Lent.{said, text_of}
 use Rattle.event.specs.Answer.{or_else, is_large, body_text_row, short_row, serialised_row, answered, serialised}
@@ -117,7 +116,7 @@ pub id-spelled : {t : Bool} {q o k h : List ℕ} → q ≡ k → o ≡ h → t �
 id-spelled e f g = rw (e, f) at g
 
 -- ---- an answer and an output by a row and a text
-abbrev pub Outcome : ℕ → List ℕ → List ℕ → Written → List ℕ → Type 0
+abbrev pub Outcome : ℕ → List ℕ → List ℕ → Result ℕ ℕ → List ℕ → Type 0
 Outcome r t out w o = (w ≡ answered r (length t)) × ((written_number w ≡ r) × (o ≡ output_after r t out))
 
 pub number_is : (r n : ℕ) → written_number (answered r n) ≡ r
@@ -125,50 +124,50 @@ number_is zero n = refl
 number_is (suc r) n = rw (ne_eqb (suc r) 0 (λ q. omega arith))
 
 module _ (t out : List ℕ) where
-  pub outcome : {r : ℕ} {w : Written} {o : List ℕ} → w ≡ answered r (length t) → o ≡ output_after r t out → Outcome r t out w o
+  pub outcome : {r : ℕ} {w : Result ℕ ℕ} {o : List ℕ} → w ≡ answered r (length t) → o ≡ output_after r t out → Outcome r t out w o
   outcome {r} e f = (e, (ap written_number e ∙ number_is r (length t), f))
 
   -- a row that holds refuses, one that does not lets the next decide
-  pub refused : (r s : ℕ) {x : ℕ} → x ≡ r → (x ≡ 0 → ⊥) → Outcome (or_else r s) t out (Refused x) out
+  pub refused : (r s : ℕ) {x : ℕ} → x ≡ r → (x ≡ 0 → ⊥) → Outcome (or_else r s) t out (Err x) out
   refused r s {x} e n = let h = ne_eqb r 0 (λ q. n (e ∙ q)) in outcome (simp (h, e)) (simp h)
 
-  pub passed : (r s : ℕ) → r ≡ 0 → {w : Written} {o : List ℕ} → w ≡ answered s (length t) → o ≡ output_after s t out → Outcome (or_else r s) t out w o
+  pub passed : (r s : ℕ) → r ≡ 0 → {w : Result ℕ ℕ} {o : List ℕ} → w ≡ answered s (length t) → o ≡ output_after s t out → Outcome (or_else r s) t out w o
   passed r s z e f = let h = eq-eqb r 0 z in outcome (e ∙ rw h) (f ∙ rw h)
 
   -- row 13, or the text from the output's start
-  pub too_short : length out < length t → (Refused 13 ≡ answered (short_row t out) (length t)) × (out ≡ output_after (short_row t out) t out)
+  pub too_short : length out < length t → (Err 13 ≡ answered (short_row t out) (length t)) × (out ≡ output_after (short_row t out) t out)
   too_short h = let q = lt-ltb (length out) (length t) h in (rw q, rw q)
 
-  pub room_for : length t ≤ length out → {m : ℕ} {o : List ℕ} → Puts out 0 t m o → (Wrote m ≡ answered (short_row t out) (length t)) × (o ≡ output_after (short_row t out) t out)
+  pub room_for : length t ≤ length out → {m : ℕ} {o : List ℕ} → Puts out 0 t m o → (Ok m ≡ answered (short_row t out) (length t)) × (o ≡ output_after (short_row t out) t out)
   room_for h x =
       let q = le-ltb (length out) (length t) h in
       let (y, w) = puts_whole h x in
       (rw (q, y), rw (q, w))
 
 -- the row and the length of an answer
-pub wrote-is : (r n : ℕ) {x : ℕ} → Wrote x ≡ answered r n → (r ≡ 0) × (x ≡ n)
+pub wrote-is : (r n : ℕ) {x : ℕ} → Ok x ≡ answered r n → (r ≡ 0) × (x ≡ n)
 wrote-is zero n e = (refl, cc)
 wrote-is (suc r) n {x} e =
-    absurd (let q : Wrote x ≡ Refused (suc r) = e ∙ rw (ne_eqb (suc r) 0 (λ q. omega arith)) in let z : ◌≡◌ {A = ℕ} 0 1 = cc in omega arith)
+    absurd (let q : Ok x ≡ Err (suc r) = e ∙ rw (ne_eqb (suc r) 0 (λ q. omega arith)) in let z : ◌≡◌ {A = ℕ} 0 1 = cc in omega arith)
 
-pub refused_is : (r n : ℕ) {x : ℕ} → Refused x ≡ answered r n → (x ≡ r) × (x ≡ 0 → ⊥)
+pub refused_is : (r n : ℕ) {x : ℕ} → Err x ≡ answered r n → (x ≡ r) × (x ≡ 0 → ⊥)
 refused_is zero n e = absurd (let z : ◌≡◌ {A = ℕ} 0 1 = cc in omega arith)
 refused_is (suc r) n {x} e =
-    let q : Refused x ≡ Refused (suc r) = e ∙ rw (ne_eqb (suc r) 0 (λ q. omega arith)) in
+    let q : Err x ≡ Err (suc r) = e ∙ rw (ne_eqb (suc r) 0 (λ q. omega arith)) in
     let y : x ≡ suc r = cc in
     (y, λ z. omega arith)
 
 -- ---- the ways out of serialising
-abbrev pub AsSerialised : List ℕ → Body → List ℕ → Written → List ℕ → Type 0
+abbrev pub AsSerialised : List ℕ → Body → List ℕ → Result ℕ ℕ → List ℕ → Type 0
 AsSerialised b p out w o = (w ≡ serialised b p out) × ((written_number w ≡ serialised_row b p out) × (o ≡ serialised_out b p out))
 
 module _ (b : List ℕ) (p : Body) (out : List ℕ) {r : ℕ} (e : r ≡ body_row b p) where
-  pub body_refused : (r ≡ 0 → ⊥) → AsSerialised b p out (Refused r) out
+  pub body_refused : (r ≡ 0 → ⊥) → AsSerialised b p out (Err r) out
   unfolding serialised serialised_out serialised_row body_text_row
   body_refused n = refused (text_of b p) out (body_text_row b p) (short_row (text_of b p) out) (e ∙ rw (ne_eqb (body_row b p) 0 (λ q. n (e ∙ q)))) n
 
   module _ (z : r ≡ 0) {d t : List ℕ} {n : ℕ} (room : length t ≡ 4097) (l : Puts d 0 (text_of b p) n t) where
-    pub large-refused : 4096 < n → AsSerialised b p out (Refused 9) out
+    pub large-refused : 4096 < n → AsSerialised b p out (Err 9) out
     unfolding serialised serialised_out serialised_row body_text_row is_large
     large-refused h =
         let s = same room l in
@@ -176,7 +175,7 @@ module _ (b : List ℕ) (p : Body) (out : List ℕ) {r : ℕ} (e : r ≡ body_ro
         let k = lt-ltb 4096 (length (text_of b p)) (omega (arith, l.next)) in
         refused (text_of b p) out (body_text_row b p) (short_row (text_of b p) out) (rw (q, k)) (λ q. omega arith)
 
-    pub text-given : n ≤ 4096 → {w : Written} {o : List ℕ} → w ≡ answered (short_row (take n t) out) (length (take n t)) → o ≡ output_after (short_row (take n t) out) (take n t) out
+    pub text-given : n ≤ 4096 → {w : Result ℕ ℕ} {o : List ℕ} → w ≡ answered (short_row (take n t) out) (length (take n t)) → o ≡ output_after (short_row (take n t) out) (take n t) out
         → AsSerialised b p out w o
     unfolding serialised serialised_out serialised_row body_text_row is_large
     text-given h f g =
@@ -195,7 +194,7 @@ module _ (b : List ℕ) (p : Body) {r : ℕ} (e : r ≡ body_row b p) where
   id_hashed z room l f = prefix-hashed room l f ∙ rw (eq-eqb (body_row b p) 0 (sym e ∙ z))
 
 -- ---- the rows of an offer
-rows-refused : (b : List ℕ) (p : EventParts) (t : List ℕ) {x : ℕ} → x ≡ offered_row b p → (x ≡ 0 → ⊥) → Tested b p (Refused x) t
+rows-refused : (b : List ℕ) (p : EventParts) (t : List ℕ) {x : ℕ} → x ≡ offered_row b p → (x ≡ 0 → ⊥) → Tested b p (Err x) t
 rows-refused b p t e n = record { says = simp (ne_eqb (offered_row b p) 0 (λ q. n (e ∙ q)), e); there = λ z. absurd (n (e ∙ z)) }
 
 module _ (b : List ℕ) (p : EventParts) (z : event_row b p ≡ 0) where
@@ -204,7 +203,7 @@ module _ (b : List ℕ) (p : EventParts) (z : event_row b p ≡ 0) where
     unfolding hashed_of is_large
     row_is = ap (λ (y : Identified). y.row) (prefix-hashed room l f)
 
-    pub large-offered : (x.row ≡ 0 → ⊥) → Tested b p (Refused x.row) t
+    pub large-offered : (x.row ≡ 0 → ⊥) → Tested b p (Err x.row) t
     unfolding offered_row
     large-offered n = rows-refused b p t (rw (eq-eqb (event_row b p) 0 z) (go (is_large b p.body) row_is)) n
       where
@@ -228,10 +227,10 @@ module _ (b : List ℕ) (p : EventParts) (z : event_row b p ≡ 0) where
       unfolding offered_row has_id
       row-offered q = rw (eq-eqb (event_row b p) 0 z, not_large, q, id-is)
 
-      pub other_id : false ≡ same_bytes (said b p.id) (hex_of x.id) → Tested b p (Refused 10) t
+      pub other_id : false ≡ same_bytes (said b p.id) (hex_of x.id) → Tested b p (Err 10) t
       other_id q = rows-refused b p t (row-offered q) (λ q. omega arith)
 
-      pub own_id : true ≡ same_bytes (said b p.id) (hex_of x.id) → Tested b p (Wrote n) t
+      pub own_id : true ≡ same_bytes (said b p.id) (hex_of x.id) → Tested b p (Ok n) t
       unfolding is_large
       own_id q =
           let h : length (text_of b p.body) ≤ 4096 = ltb-false 4096 (length (text_of b p.body)) not_large in
@@ -240,7 +239,7 @@ module _ (b : List ℕ) (p : EventParts) (z : event_row b p ≡ 0) where
           record { says = rw (eq-eqb (offered_row b p) 0 (sym (row-offered q)), m); there = λ z. rw (← m) (prefix-is room l (omega arith)) }
 
 -- ---- an event offered: its row, and its text
-abbrev pub AsOffered : List ℕ → EventParts → List ℕ → Written → List ℕ → Type 0
+abbrev pub AsOffered : List ℕ → EventParts → List ℕ → Result ℕ ℕ → List ℕ → Type 0
 AsOffered b p out w o = (w ≡ offered b p out) × ((written_number w ≡ offered_text_row b p out) × (o ≡ offered_out b p out))
 
 module _ (b : List ℕ) (p : EventParts) {r : ℕ} (e : r ≡ event_row b p) (n : r ≡ 0 → ⊥) where
@@ -248,23 +247,23 @@ module _ (b : List ℕ) (p : EventParts) {r : ℕ} (e : r ≡ event_row b p) (n 
   unfolding offered_row
   early_row = e ∙ rw (ne_eqb (event_row b p) 0 (λ q. n (e ∙ q)))
 
-  pub early-refused : (out : List ℕ) → AsOffered b p out (Refused r) out
+  pub early-refused : (out : List ℕ) → AsOffered b p out (Err r) out
   unfolding offered offered_out offered_text_row
   early-refused out = refused (text_of b p.body) out (offered_row b p) (short_row (text_of b p.body) out) early_row n
 
-module _ (b : List ℕ) (p : EventParts) {w : Written} {t : List ℕ} (k : Tested b p w t) {x : ℕ} where
-  module _ (e : w ≡ Refused x) where
+module _ (b : List ℕ) (p : EventParts) {w : Result ℕ ℕ} {t : List ℕ} (k : Tested b p w t) {x : ℕ} where
+  module _ (e : w ≡ Err x) where
     refusal : (x ≡ offered_row b p) × (x ≡ 0 → ⊥)
     refusal = refused_is (offered_row b p) (length (text_of b p.body)) (sym e ∙ k.says)
 
     pub row_of : x ≡ offered_row b p
     row_of = refusal.0
 
-    pub rows_first : (out : List ℕ) → AsOffered b p out (Refused x) out
+    pub rows_first : (out : List ℕ) → AsOffered b p out (Err x) out
     unfolding offered offered_out offered_text_row
     rows_first out = refused (text_of b p.body) out (offered_row b p) (short_row (text_of b p.body) out) refusal.0 refusal.1
 
-  module _ (e : w ≡ Wrote x) where
+  module _ (e : w ≡ Ok x) where
     length_is : x ≡ length (text_of b p.body)
     length_is = (wrote-is (offered_row b p) (length (text_of b p.body)) (sym e ∙ k.says)).1
 
@@ -280,7 +279,7 @@ module _ (b : List ℕ) (p : EventParts) {w : Written} {t : List ℕ} (k : Teste
     pub text-inside : x ≤ length t
     text-inside = omega (arith, text_length, length-take x t)
 
-    pub then-given : (out : List ℕ) {v : Written} {o : List ℕ} → v ≡ answered (short_row (take x t) out) (length (take x t)) → o ≡ output_after (short_row (take x t) out) (take x t) out
+    pub then-given : (out : List ℕ) {v : Result ℕ ℕ} {o : List ℕ} → v ≡ answered (short_row (take x t) out) (length (take x t)) → o ≡ output_after (short_row (take x t) out) (take x t) out
         → AsOffered b p out v o
     unfolding offered offered_out offered_text_row
     then-given out f g =

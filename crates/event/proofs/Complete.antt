@@ -1,4 +1,5 @@
 -- Parts that pass the rows have an array of tags that stands to its end.
+use Rattle.std.specs.Prelude.{None}
 use mathlib.Core.Path.{◌≡◌, refl, sym, ◌∙◌}
 use mathlib.Core.Bool.{Bool, true, false, not}
 use mathlib.Core.List.{List}
@@ -6,7 +7,6 @@ use Prim.Native.Nat.{ℕ}
 use native.Mathlib.Omega.{arith}
 use Rattle.json_tree.specs.Grammar.{case, start_at}
 use Rattle.json_tree.specs.Tree.{Json, Got, none, got, end_of, tree_at, depth}
-use Rattle.json_tree.specs.declared.Out.TheVariants.{Bad}
 use Rattle.message.specs.declared.Body.{Body}
 use Rattle.message.specs.declared.EventParts.{EventParts}
 use Rattle.message.specs.Lent.{on_value, is_tags_shape, string5, value5, body2, body4, body5, body6, body7, body8, body_row}
@@ -26,7 +26,7 @@ stands : (b : List ℕ) (at : ℕ) → value5 is_tags_shape b at ≡ false → f
 unfolding value5 first_tag
 stands b at e = go (tree_at b depth at) e
   where
-    go : (g : Got Json) → not (on_value is_tags_shape g) ≡ false → first_out (start_at b at) ≡ case (end_of g) (λ n. first_out (start_at b at)) Bad
+    go : (g : Got Json) → not (on_value is_tags_shape g) ≡ false → first_out (start_at b at) ≡ case (end_of g) (λ n. first_out (start_at b at)) None
     go none q = absurd (let z : ◌≡◌ {A = ℕ} 0 1 = cc in omega arith)
     go (got t n) q = refl
 

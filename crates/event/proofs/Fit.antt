@@ -1,4 +1,5 @@
 -- Parts that rows 2 and 4 to 8 let pass spell an event within the limits, so its text is read back.
+use Rattle.std.specs.Prelude.{Option, Some, None}
 use mathlib.Core.Bool.{Bool, true, false, not, ◌&&◌}
 use mathlib.Core.Path.{◌≡◌, refl, sym, ap, ◌∙◌}
 use mathlib.Core.List.{List, [], ◌∷◌, ◌++◌}
@@ -16,10 +17,8 @@ use Rattle.utf8.proofs.States.{lead_reached, utf8_cut}
 use Rattle.json_tree.specs.Grammar.{case, past, chars_at, token_at, opened_at, string_at, scalar_at, start_at, next_at, ws_at}
 use Rattle.json_tree.specs.Grammar.{is_spelling}
 use Rattle.json_tree.specs.Tree.{Json, str, arr, Items, nil, item, Got, none, got, on_leaf, items_at, group_at, tree_at, depth}
-use Rattle.json_tree.specs.declared.Out.{Out}
-use Rattle.json_tree.specs.declared.Out.TheVariants.{End, Bad}
 use Rattle.json_tree.specs.declared.Kind.{Kind}
-use Rattle.json_tree.specs.declared.Kind.TheVariants.{Str, Num, Word, None}
+use Rattle.json_tree.specs.declared.Kind.TheVariants.{Str, Num, Word}
 use Rattle.json_tree.specs.declared.Start.{Start}
 use Rattle.json_tree.specs.declared.Start.TheVariants.{Leaf, Empty, Many}
 use Rattle.json_tree.specs.declared.Next.TheVariants.{More, Done, Wrong}
@@ -71,13 +70,13 @@ module _ (s : List ℕ) where
   apart : (at n m : ℕ) → at + n < length s → take (n + suc m) (drop at s) ≡ take n (drop at s) ++ (get_or s (at + n) 0 ∷ take m (drop (at + n + 1) s))
   apart at n m h = take-add n (suc m) (drop at s) ∙ ap (λ (l : List ℕ). take n (drop at s) ++ take (suc m) l) (drop-drop n at s ∙ here (at + n) h)
 
-  quotes : (v e : ℕ) → string_at s v ≡ End e → (get_or s v 0 ≡ 34) × (get_or s (e - 1) 0 ≡ 34) × (v + 2 ≤ e) × (e ≤ length s)
+  quotes : (v e : ℕ) → string_at s v ≡ Some e → (get_or s v 0 ≡ 34) × (get_or s (e - 1) 0 ≡ 34) × (v + 2 ≤ e) × (e ≤ length s)
   quotes v e q =
       let p = string_parts s v e q in
       let z : e - 1 ≡ chars_at s (v + 1) = omega (arith, p.1) in
       (byte_is s 34 v p.0, rw z (byte_is s 34 (chars_at s (v + 1)) p.2), p.3, p.4)
 
-  pub inner : (lo hi v e : ℕ) → is_utf8 (part s lo (hi - lo)) ≡ true → lo ≤ v → e ≤ hi → string_at s v ≡ End e → is_utf8 (part s (v + 1) (e - v - 2)) ≡ true
+  pub inner : (lo hi v e : ℕ) → is_utf8 (part s lo (hi - lo)) ≡ true → lo ≤ v → e ≤ hi → string_at s v ≡ Some e → is_utf8 (part s (v + 1) (e - v - 2)) ≡ true
   unfolding is_utf8
   inner lo hi v e u a b q =
       let (p, r, l, h) = quotes v e q in
@@ -98,87 +97,87 @@ module _ (s : List ℕ) where
   unfolding past
   ws_after at = omega arith
 
-  token_after : (b at n : ℕ) → token_at s b at ≡ End n → at ≤ n
+  token_after : (b at n : ℕ) → token_at s b at ≡ Some n → at ≤ n
   unfolding token_at
   token_after b at n e =
       let (m, p, q) = then_end _ _ e in
       let z = byte_is s b at p in
       spaced m (one_is s _ at p).1 q
     where
-      spaced : (m : ℕ) → at + 1 ≡ m → End (ws_at s m) ≡ End n → at ≤ n
+      spaced : (m : ℕ) → at + 1 ≡ m → Some (ws_at s m) ≡ Some n → at ≤ n
       spaced m h q = let z : ws_at s m ≡ n = cc in omega (arith, ws_after m)
 
   pub more_after : (m j : ℕ) → next_at s m false ≡ More j → m ≤ j
   more_after m j e = go (token_at s 0x2C m) refl (token_at s 0x5D m) e
     where
-      go : (o : Out) → token_at s 0x2C m ≡ o → (p : Out) → case o More (case p Done Wrong) ≡ More j → m ≤ j
-      go (End a) q p e = let z : a ≡ j = cc in token_after 0x2C m j (rw z at q)
-      go Bad q (End a) e = absurd (let z : ◌≡◌ {A = ℕ} 0 1 = cc in omega arith)
-      go Bad q Bad e = absurd (let z : ◌≡◌ {A = ℕ} 0 1 = cc in omega arith)
+      go : (o : Option ℕ) → token_at s 0x2C m ≡ o → (p : Option ℕ) → case o More (case p Done Wrong) ≡ More j → m ≤ j
+      go (Some a) q p e = let z : a ≡ j = cc in token_after 0x2C m j (rw z at q)
+      go None q (Some a) e = absurd (let z : ◌≡◌ {A = ℕ} 0 1 = cc in omega arith)
+      go None q None e = absurd (let z : ◌≡◌ {A = ℕ} 0 1 = cc in omega arith)
 
   pub done_after : (m n : ℕ) → next_at s m false ≡ Done n → m ≤ n
   done_after m n e = go (token_at s 0x2C m) (token_at s 0x5D m) refl e
     where
-      go : (o p : Out) → token_at s 0x5D m ≡ p → case o More (case p Done Wrong) ≡ Done n → m ≤ n
-      go (End a) p q e = absurd (let z : ◌≡◌ {A = ℕ} 0 1 = cc in omega arith)
-      go Bad (End a) q e = let z : a ≡ n = cc in token_after 0x5D m n (rw z at q)
-      go Bad Bad q e = absurd (let z : ◌≡◌ {A = ℕ} 0 1 = cc in omega arith)
+      go : (o p : Option ℕ) → token_at s 0x5D m ≡ p → case o More (case p Done Wrong) ≡ Done n → m ≤ n
+      go (Some a) p q e = absurd (let z : ◌≡◌ {A = ℕ} 0 1 = cc in omega arith)
+      go None (Some a) q e = let z : a ≡ n = cc in token_after 0x5D m n (rw z at q)
+      go None None q e = absurd (let z : ◌≡◌ {A = ℕ} 0 1 = cc in omega arith)
 
   -- an array that is empty, and one that holds items
   empty_after : (at m : ℕ) → start_at s at ≡ Empty m false → at ≤ m
   empty_after at m e = one (token_at s 0x5B at) refl e
     where
-      closed : (n : ℕ) (o : Out) → token_at s 0x5D n ≡ o → case o (λ k. Empty k false) (Many n false) ≡ Empty m false → n ≤ m
-      closed n (End a) q e = let z : a ≡ m = cc in token_after 0x5D n m (rw z at q)
-      closed n Bad q e = absurd (let z : ◌≡◌ {A = ℕ} 0 1 = cc in omega arith)
+      closed : (n : ℕ) (o : Option ℕ) → token_at s 0x5D n ≡ o → case o (λ k. Empty k false) (Many n false) ≡ Empty m false → n ≤ m
+      closed n (Some a) q e = let z : a ≡ m = cc in token_after 0x5D n m (rw z at q)
+      closed n None q e = absurd (let z : ◌≡◌ {A = ℕ} 0 1 = cc in omega arith)
 
-      object : {A : Type 0} (n : ℕ) (o : Out) → case o (λ k. Empty k true) (Many n true) ≡ Empty m false → A
-      object n (End a) e = absurd (let z : ◌≡◌ {A = ℕ} 0 1 = cc in omega arith)
-      object n Bad e = absurd (let z : ◌≡◌ {A = ℕ} 0 1 = cc in omega arith)
+      object : {A : Type 0} (n : ℕ) (o : Option ℕ) → case o (λ k. Empty k true) (Many n true) ≡ Empty m false → A
+      object n (Some a) e = absurd (let z : ◌≡◌ {A = ℕ} 0 1 = cc in omega arith)
+      object n None e = absurd (let z : ◌≡◌ {A = ℕ} 0 1 = cc in omega arith)
 
-      two : {A : Type 0} (o : Out) → case o (λ n. opened_at s n true) Leaf ≡ Empty m false → A
-      two (End n) e = object n (token_at s 0x7D n) e
-      two Bad e = absurd (let z : ◌≡◌ {A = ℕ} 0 1 = cc in omega arith)
+      two : {A : Type 0} (o : Option ℕ) → case o (λ n. opened_at s n true) Leaf ≡ Empty m false → A
+      two (Some n) e = object n (token_at s 0x7D n) e
+      two None e = absurd (let z : ◌≡◌ {A = ℕ} 0 1 = cc in omega arith)
 
-      one : (o : Out) → token_at s 0x5B at ≡ o → case o (λ n. opened_at s n false) (case (token_at s 0x7B at) (λ n. opened_at s n true) Leaf) ≡ Empty m false → at ≤ m
-      one (End n) q e = let h = closed n (token_at s 0x5D n) refl e in omega (arith, token_after 0x5B at n q)
-      one Bad q e = two (token_at s 0x7B at) e
+      one : (o : Option ℕ) → token_at s 0x5B at ≡ o → case o (λ n. opened_at s n false) (case (token_at s 0x7B at) (λ n. opened_at s n true) Leaf) ≡ Empty m false → at ≤ m
+      one (Some n) q e = let h = closed n (token_at s 0x5D n) refl e in omega (arith, token_after 0x5B at n q)
+      one None q e = two (token_at s 0x7B at) e
 
   many_after : (at i : ℕ) → start_at s at ≡ Many i false → at ≤ i
   many_after at i e = one (token_at s 0x5B at) refl e
     where
-      open_at : (n : ℕ) (o : Out) → case o (λ k. Empty k false) (Many n false) ≡ Many i false → n ≡ i
-      open_at n (End a) e = absurd (let z : ◌≡◌ {A = ℕ} 0 1 = cc in omega arith)
-      open_at n Bad e = cc
+      open_at : (n : ℕ) (o : Option ℕ) → case o (λ k. Empty k false) (Many n false) ≡ Many i false → n ≡ i
+      open_at n (Some a) e = absurd (let z : ◌≡◌ {A = ℕ} 0 1 = cc in omega arith)
+      open_at n None e = cc
 
-      object : {A : Type 0} (n : ℕ) (o : Out) → case o (λ k. Empty k true) (Many n true) ≡ Many i false → A
-      object n (End a) e = absurd (let z : ◌≡◌ {A = ℕ} 0 1 = cc in omega arith)
-      object n Bad e = absurd (let z : ◌≡◌ {A = ℕ} 0 1 = cc in omega arith)
+      object : {A : Type 0} (n : ℕ) (o : Option ℕ) → case o (λ k. Empty k true) (Many n true) ≡ Many i false → A
+      object n (Some a) e = absurd (let z : ◌≡◌ {A = ℕ} 0 1 = cc in omega arith)
+      object n None e = absurd (let z : ◌≡◌ {A = ℕ} 0 1 = cc in omega arith)
 
-      two : {A : Type 0} (o : Out) → case o (λ n. opened_at s n true) Leaf ≡ Many i false → A
-      two (End n) e = object n (token_at s 0x7D n) e
-      two Bad e = absurd (let z : ◌≡◌ {A = ℕ} 0 1 = cc in omega arith)
+      two : {A : Type 0} (o : Option ℕ) → case o (λ n. opened_at s n true) Leaf ≡ Many i false → A
+      two (Some n) e = object n (token_at s 0x7D n) e
+      two None e = absurd (let z : ◌≡◌ {A = ℕ} 0 1 = cc in omega arith)
 
-      one : (o : Out) → token_at s 0x5B at ≡ o → case o (λ n. opened_at s n false) (case (token_at s 0x7B at) (λ n. opened_at s n true) Leaf) ≡ Many i false → at ≤ i
-      one (End n) q e = omega (arith, token_after 0x5B at n q, open_at n (token_at s 0x5D n) e)
-      one Bad q e = two (token_at s 0x7B at) e
+      one : (o : Option ℕ) → token_at s 0x5B at ≡ o → case o (λ n. opened_at s n false) (case (token_at s 0x7B at) (λ n. opened_at s n true) Leaf) ≡ Many i false → at ≤ i
+      one (Some n) q e = omega (arith, token_after 0x5B at n q, open_at n (token_at s 0x5D n) e)
+      one None q e = two (token_at s 0x7B at) e
 
   -- ---- strings and arrays as they stand in the text
   pub record Quoted (v : ℕ) (t : Json) (m : ℕ) : Type 0 where
     pub end : ℕ
-    pub string : string_at s v ≡ End end
+    pub string : string_at s v ≡ Some end
     pub is : t ≡ str (v + 1) (end - v - 2)
     pub after : m ≡ ws_at s end
 
   pub quoted : (d v : ℕ) (t : Json) (m : ℕ) → tree_at s (suc d) v ≡ got t m → shape.is_string t ≡ true → Quoted v t m
   quoted d v t m w e = go (string_at s v) refl
     where
-      made : (k : ℕ) → string_at s v ≡ End k → got (str (v + 1) (k - v - 2)) (ws_at s k) ≡ got t m → Quoted v t m
+      made : (k : ℕ) → string_at s v ≡ Some k → got (str (v + 1) (k - v - 2)) (ws_at s k) ≡ got t m → Quoted v t m
       made k q z = record { end = k; string = q; is = cc; after = cc }
 
-      go : (o : Out) → string_at s v ≡ o → Quoted v t m
-      go (End k) q = made k q (sym (string_tree s v d k q) ∙ w)
-      go Bad q =
+      go : (o : Option ℕ) → string_at s v ≡ o → Quoted v t m
+      go (Some k) q = made k q (sym (string_tree s v d k q) ∙ w)
+      go None q =
           let z = string_out s v (λ t. shape.is_string t ≡ false) (λ a n. refl) (λ a n. refl) (λ ts. refl) (λ ts. refl) t m d q w in
           absurd (let y : ◌≡◌ {A = ℕ} 0 1 = cc in omega arith)
 
@@ -192,10 +191,10 @@ module _ (s : List ℕ) where
       other : {A : Type 0} (u : Json) (k : ℕ) → got u k ≡ got t m → is_array_of f u ≡ false → A
       other u k q z = let y : u ≡ t = cc in let x = rw y at z in absurd (let w : ◌≡◌ {A = ℕ} 0 1 = cc in omega arith)
 
-      leaf : {A : Type 0} (k : Kind) → on_leaf s v k ≡ got t m → A
-      leaf (Str n) q = other _ _ q refl
-      leaf (Num n) q = other _ _ q refl
-      leaf (Word n) q = other _ _ q refl
+      leaf : {A : Type 0} (k : Option Kind) → on_leaf s v k ≡ got t m → A
+      leaf (Some (Str n)) q = other _ _ q refl
+      leaf (Some (Num n)) q = other _ _ q refl
+      leaf (Some (Word n)) q = other _ _ q refl
       leaf None q = never q
 
       is : (u : Json) (k : ℕ) → got u k ≡ got t m → Array d v u k → Array d v t m

@@ -1,6 +1,6 @@
 -- Counts that stop at the most that a number holds.
 use mathlib.Core.Bool.{Bool}
-use mathlib.Core.Path.{◌≡◌, refl, sym, ap, ◌∙◌}
+use mathlib.Core.Path.{◌≡◌, sym, ap, ◌∙◌}
 use mathlib.Core.List.{List, [], ◌∷◌}
 use Prim.Native.Nat.{ℕ, ◌+◌, ◌*◌, ◌^◌, ◌<◌, min}
 use native.Mathlib.Omega.{arith}
@@ -22,10 +22,10 @@ use Rattle.event.proofs.Forms.{form_quoted, form_serialise}
 use Rattle.event.specs.Lent.{most_length, length_of}
 
 -- five bytes more for each control character
-pub json_count : {n c k m : ℕ} (l : List ℕ) → n ≡ length l → c ≡ control_count l → k ≡ min (5 * c) most_length → m ≡ min (n + k) most_length → m ≡ length_of (json_of l)
+pub json_count : {n c k m : ℕ} (l : List ℕ) → n ≡ length l → c ≡ control_count l → k ≡ min (c * 5) most_length → m ≡ min (n + k) most_length → m ≡ length_of (json_of l)
 json_count l e f g h = omega (arith, json_length l)
 
-pub escape_count : {n c k m : ℕ} (l : List ℕ) → n ≡ length (escape l) → c ≡ control_count l → k ≡ min (5 * c) most_length → m ≡ min (n + k) most_length → m ≡ length_of (json_of (escape l))
+pub escape_count : {n c k m : ℕ} (l : List ℕ) → n ≡ length (escape l) → c ≡ control_count l → k ≡ min (c * 5) most_length → m ≡ min (n + k) most_length → m ≡ length_of (json_of (escape l))
 escape_count l e f g h = json_count (escape l) e (f ∙ sym (count_escape l)) g h
 
 -- a number of 64 bits is not cut off
@@ -54,7 +54,7 @@ cut_both x y k a c e f g = omega arith
 
 module _ (json : Bool) (b : List ℕ) (p : Body) {key text : List ℕ} {a c d e k₁ k₂ k₃ k₄ k₅ n r : ℕ} where
   pub text_count : mag p.created_at < 2 ^ 63 → mag p.kind < 2 ^ 63 → key ≡ part b p.pubkey.start p.pubkey.len → text ≡ part b p.content.start p.content.len
-      → k₁ ≡ length_of (in_form json (decode key)) → a ≡ min (12 + k₁) most_length → k₂ ≡ length (decimal (to_z w64 (of_z w64 p.created_at))) → c ≡ min (a + k₂) most_length
+      → k₁ ≡ length_of (in_form json (decode key)) → a ≡ min (k₁ + 12) most_length → k₂ ≡ length (decimal (to_z w64 (of_z w64 p.created_at))) → c ≡ min (a + k₂) most_length
       → n ≡ natural (to_z w64 (of_z w64 p.kind)) → k₃ ≡ length (digits n) → d ≡ min (c + k₃) most_length → k₄ ≡ length_of (in_form json (tags_text (lent_tags_at b p.tags))) → e ≡ min (d + k₄) most_length
       → k₅ ≡ length_of (in_form json (escape (decode text))) → r ≡ min (e + k₅) most_length → r ≡ length_of (in_form json (text_of b p))
   unfolding text_of event_of
@@ -66,7 +66,7 @@ module _ (json : Bool) (b : List ℕ) (p : Body) {key text : List ℕ} {a c d e 
       let x₂ : k₂ ≡ length (decimal p.created_at) = l₂ ∙ rw (back p.created_at ft) in
       let x₃ : k₃ ≡ length (digits (natural p.kind)) = l₃ ∙ rw (en, back p.kind fk) in
       let x₅ : k₅ ≡ length_of text' = l₅ ∙ rw eq₁ in
-      let y₁ = cut_both 12 (length key') k₁ 12 a refl x₁ m₁ in
+      let y₁ : a ≡ min (12 + length key') most_length = omega arith in
       let y₂ = cut (12 + length key') k₂ a c y₁ m₂ in
       let y₃ = cut (12 + length key' + k₂) k₃ c d y₂ m₃ in
       let y₄ = cut_both (12 + length key' + k₂ + k₃) (length tags) k₄ d e y₃ l₄ m₄ in

@@ -1,4 +1,5 @@
 -- An event offered as a message, by what the reader answers.
+use Rattle.std.specs.Prelude.{None, Result, Ok, Err}
 use mathlib.Core.Path.{◌≡◌, refl, sym, ap, ◌∙◌}
 use mathlib.Core.Bool.{Bool, true, false, cond, ◌||◌}
 use mathlib.Core.List.{List}
@@ -12,7 +13,6 @@ use Rattle.shape.specs.Shape.{Word, event, req, close, other, opened}
 use Rattle.shape.specs.Rows.{message_row}
 use Rattle.shape.specs.Offsets.{plain_refusal, refusal_of, offset_for, refusal_for}
 use Rattle.shape.specs.declared.Refusal.{Refusal}
-use Rattle.shape.specs.declared.Offset.TheVariants.{Absent}
 use Rattle.shape.proofs.Offsets.{refusal_own, offset_other, offset_plain}
 use Rattle.message.specs.Lent.{event_row}
 use Rattle.message.specs.Read.{is_event, message_parts, in_root, read_of, read_number}
@@ -27,29 +27,25 @@ use Rattle.event.specs.Lent.{text_of}
 use Rattle.event.specs.Answer.{offered_text_row, offered, offered_out}
 use Rattle.event.specs.Sent.{unread_refusal, sent_row_of, sent_as, sent_text_of, sent_out_of, sent_row, sent_text, sent_out}
 use Rattle.event.specs.Sent.{sent_text_number}
-use Rattle.event.specs.declared.Written.{Written}
-use Rattle.event.specs.declared.Written.TheVariants as written
-use Rattle.event.specs.declared.SentText.{SentText}
-use Rattle.event.specs.declared.SentText.TheVariants as sent
 use Rattle.event.proofs.Answers.{AsOffered, wrote-is, refused_is}
 
 -- what is promised where the reader answers x, and of the message m
-abbrev pub AsRead : List ℕ → List ℕ → Message → SentText → List ℕ → Type 0
+abbrev pub AsRead : List ℕ → List ℕ → Message → Result (EventParts × ℕ) Refusal → List ℕ → Type 0
 AsRead m out x s o = (s ≡ sent_text_of m out x) × ((sent_text_number s ≡ sent_row_of m out x) × (o ≡ sent_out_of m out x))
 
-abbrev pub AsSent : List ℕ → List ℕ → SentText → List ℕ → Type 0
+abbrev pub AsSent : List ℕ → List ℕ → Result (EventParts × ℕ) Refusal → List ℕ → Type 0
 AsSent m out s o = (s ≡ sent_text m out) × ((sent_text_number s ≡ sent_row m out) × (o ≡ sent_out m out))
 
 -- ---- an EVENT, whose text was asked for
-module _ (m out : List ℕ) (p : EventParts) {w : Written} {o : List ℕ} (k : AsOffered m p out w o) where
-  pub event_wrote : {n : ℕ} → w ≡ written.Wrote n → AsRead m out (message.Event p) (sent.Wrote p n) o
+module _ (m out : List ℕ) (p : EventParts) {w : Result ℕ ℕ} {o : List ℕ} (k : AsOffered m p out w o) where
+  pub event_wrote : {n : ℕ} → w ≡ Ok n → AsRead m out (message.Event p) (Ok (p, n)) o
   unfolding offered
   event_wrote e =
       let r = offered_text_row m p out in
       let (z, l) = wrote-is r (length (text_of m p.body)) (sym e ∙ k.0) in
       (rw (eq-eqb r 0 z, l), (sym z, k.1.1))
 
-  pub event_refused : {x : ℕ} {z : Refusal} → w ≡ written.Refused x → z ≡ plain_refusal x → AsRead m out (message.Event p) (sent.Refused z) o
+  pub event_refused : {x : ℕ} {z : Refusal} → w ≡ Err x → z ≡ plain_refusal x → AsRead m out (message.Event p) (Err z) o
   unfolding offered
   event_refused e f =
       let r = offered_text_row m p out in
@@ -62,35 +58,37 @@ pub passes : (m : List ℕ) {x : Message} {p : EventParts} → x ≡ read_of m �
 passes m {p = p} a e = event_passes m p (sym a ∙ e)
 
 module _ (m out : List ℕ) {x : Message} (a : x ≡ read_of m) where
-  as_sent : {y : Message} {s : SentText} {o : List ℕ} → x ≡ y → AsRead m out y s o → AsSent m out s o
+  as_sent : {y : Message} {s : Result (EventParts × ℕ) Refusal} {o : List ℕ} → x ≡ y → AsRead m out y s o → AsSent m out s o
   unfolding sent_text sent_row sent_out
   as_sent {y} e k =
       let z : y ≡ read_of m = sym e ∙ a in
       (k.0 ∙ ap (sent_text_of m out) z, (k.1.0 ∙ ap (sent_row_of m out) z, k.1.1 ∙ ap (sent_out_of m out) z))
 
-  pub from_event : {p : EventParts} {s : SentText} {o : List ℕ} → x ≡ message.Event p → AsRead m out (message.Event p) s o → AsSent m out s o
+  pub from_event : {p : EventParts} {s : Result (EventParts × ℕ) Refusal} {o : List ℕ} → x ≡ message.Event p → AsRead m out (message.Event p) s o → AsSent m out s o
   from_event e k = as_sent e k
 
-  pub from_req : {p : ReqParts} {z : Refusal} → x ≡ message.Req p → z ≡ plain_refusal 5 → AsSent m out (sent.Refused z) out
-  from_req e f = as_sent e (ap sent.Refused f, (ap (λ z. z.row) f, refl))
+  pub from_req : {p : ReqParts} {z : Refusal} → x ≡ message.Req p → z ≡ plain_refusal 5 → AsSent m out (Err z) out
+  from_req e f = as_sent e (ap Err f, (ap (λ z. z.row) f, refl))
 
-  pub from_close : {p : Span} {z : Refusal} → x ≡ message.Close p → z ≡ plain_refusal 5 → AsSent m out (sent.Refused z) out
-  from_close e f = as_sent e (ap sent.Refused f, (ap (λ z. z.row) f, refl))
+  pub from_close : {p : Span} {z : Refusal} → x ≡ message.Close p → z ≡ plain_refusal 5 → AsSent m out (Err z) out
+  from_close e f = as_sent e (ap Err f, (ap (λ z. z.row) f, refl))
 
-  pub from_refused : {r z : Refusal} → x ≡ message.Refused r → z ≡ unread_refusal m r → AsSent m out (sent.Refused z) out
-  from_refused e f = as_sent e (ap sent.Refused f, (ap (λ z. z.row) f, refl))
+  pub from_refused : {r z : Refusal} → x ≡ message.Refused r → z ≡ unread_refusal m r → AsSent m out (Err z) out
+  from_refused e f = as_sent e (ap Err f, (ap (λ z. z.row) f, refl))
 
 -- ---- what an answer says of the message
 module _ (q : EventParts) (l : ℕ) where
-  as_wrote : (r : ℕ) {p : EventParts} {n : ℕ} → sent_as r q l ≡ sent.Wrote p n → (r ≡ 0) × ((q ≡ p) × (l ≡ n))
-  as_wrote zero e = (refl, (cc, cc))
+  as_wrote : (r : ℕ) {p : EventParts} {n : ℕ} → sent_as r q l ≡ Ok (p, n) → (r ≡ 0) × ((q ≡ p) × (l ≡ n))
+  as_wrote zero {p} {n} e =
+      let f : ◌≡◌ {A = EventParts × ℕ} (q, l) (p, n) = cc in
+      (refl, (ap (λ (x : EventParts × ℕ). x.0) f, ap (λ (x : EventParts × ℕ). x.1) f))
   as_wrote (suc r) {p} {n} e =
-      absurd (let f : sent.Refused (plain_refusal (suc r)) ≡ sent.Wrote p n = sym (rw (ne_eqb (suc r) 0 (λ q. omega arith))) ∙ e in let z : ◌≡◌ {A = ℕ} 0 1 = cc in omega arith)
+      absurd (let f : Err (plain_refusal (suc r)) ≡ Ok (p, n) = sym (rw (ne_eqb (suc r) 0 (λ q. omega arith))) ∙ e in let z : ◌≡◌ {A = ℕ} 0 1 = cc in omega arith)
 
-  as_refused : (r : ℕ) {x : Refusal} → sent_as r q l ≡ sent.Refused x → (plain_refusal r ≡ x) × (r ≡ 0 → ⊥)
+  as_refused : (r : ℕ) {x : Refusal} → sent_as r q l ≡ Err x → (plain_refusal r ≡ x) × (r ≡ 0 → ⊥)
   as_refused zero e = absurd (let y : ◌≡◌ {A = ℕ} 0 1 = cc in omega arith)
   as_refused (suc r) {x} e =
-      let f : sent.Refused (plain_refusal (suc r)) ≡ sent.Refused x = sym (rw (ne_eqb (suc r) 0 (λ q. omega arith))) ∙ e in
+      let f : Err (plain_refusal (suc r)) ≡ Err x = sym (rw (ne_eqb (suc r) 0 (λ q. omega arith))) ∙ e in
       (cc, λ z. omega arith)
 
 -- a refusal has a row, and the offset that goes with it
@@ -128,32 +126,32 @@ module _ (m : List ℕ) where
 
   module _ (out : List ℕ) where
     -- an event is written: it was read, and its text was asked for
-    pub sent_wrote : {p : EventParts} {n : ℕ} → sent_text m out ≡ sent.Wrote p n → (read_of m ≡ message.Event p) × AsOffered m p out (written.Wrote n) (sent_out m out)
+    pub sent_wrote : {p : EventParts} {n : ℕ} → sent_text m out ≡ Ok (p, n) → (read_of m ≡ message.Event p) × AsOffered m p out (Ok n) (sent_out m out)
     unfolding sent_text sent_out offered
     sent_wrote {p} {n} = go (read_of m) refl
       where
-        moved : {q : EventParts} {o : List ℕ} → q ≡ p → AsOffered m q out (written.Wrote n) o → AsOffered m p out (written.Wrote n) o
+        moved : {q : EventParts} {o : List ℕ} → q ≡ p → AsOffered m q out (Ok n) o → AsOffered m p out (Ok n) o
         moved h k = rw h at k
 
-        go : (x : Message) → read_of m ≡ x → sent_text_of m out x ≡ sent.Wrote p n
-            → (x ≡ message.Event p) × AsOffered m p out (written.Wrote n) (sent_out_of m out x)
+        go : (x : Message) → read_of m ≡ x → sent_text_of m out x ≡ Ok (p, n)
+            → (x ≡ message.Event p) × AsOffered m p out (Ok n) (sent_out_of m out x)
         go (message.Event q) e f =
             let r = offered_text_row m q out in
             let (z, (h, l)) = as_wrote q (length (text_of m q.body)) r f in
-            let k : AsOffered m q out (written.Wrote n) (offered_out m q out) = (rw (eq-eqb r 0 z, l), (sym z, refl)) in
+            let k : AsOffered m q out (Ok n) (offered_out m q out) = (rw (eq-eqb r 0 z, l), (sym z, refl)) in
             (ap message.Event h, moved h k)
         go (message.Req q) e f = absurd (let y : ◌≡◌ {A = ℕ} 0 1 = cc in omega arith)
         go (message.Close q) e f = absurd (let y : ◌≡◌ {A = ℕ} 0 1 = cc in omega arith)
         go (message.Refused r) e f = absurd (let y : ◌≡◌ {A = ℕ} 0 1 = cc in omega arith)
 
-    pub sent_refused : {r : Refusal} → sent_text m out ≡ sent.Refused r → Refuses m r
+    pub sent_refused : {r : Refusal} → sent_text m out ≡ Err r → Refuses m r
     unfolding sent_text
     sent_refused {r} f = go (read_of m) refl f
       where
         moved : {x : Refusal} → Refuses m x → x ≡ r → Refuses m r
         moved k e = rw e at k
 
-        without : (n : ℕ) → offset_for m n ≡ Absent → (n ≡ 0 → ⊥) → Refuses m (plain_refusal n)
+        without : (n : ℕ) → offset_for m n ≡ None → (n ≡ 0 → ⊥) → Refuses m (plain_refusal n)
         without n a z = (sym (ap (λ o. record { row = n; offset = o }) a), z)
 
         five : Refuses m (plain_refusal 5)
@@ -163,7 +161,7 @@ module _ (m : List ℕ) where
         unread e true = (sym (refused_own e) ∙ sym (refusal_own m) ∙ ap (λ y. refusal_for m y.row) (refused_own e), some_row e)
         unread e false = five
 
-        go : (x : Message) → read_of m ≡ x → sent_text_of m out x ≡ sent.Refused r → Refuses m r
+        go : (x : Message) → read_of m ≡ x → sent_text_of m out x ≡ Err r → Refuses m r
         go (message.Event q) e f =
             let n = offered_text_row m q out in
             let (y, z) = as_refused q (length (text_of m q.body)) n f in

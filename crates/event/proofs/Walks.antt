@@ -13,7 +13,7 @@ use Rattle.json_tree.specs.Tree.{Json, Items, nil, item, Got, got, follow, items
 use Rattle.json_tree.specs.declared.Next.{Next}
 use Rattle.json_tree.specs.declared.Next.TheVariants.{More, Done, Wrong}
 use Rattle.message.proofs.Walks.{never, bind_got}
-use Rattle.event.specs.Inner.{in_form, PutsOf, Counts, Does}
+use Rattle.event.specs.Inner.{in_form, PutsOf, Counts, Does, Printer}
 use Rattle.event.proofs.Forms.{form_append}
 
 -- an array's items from i on, of at most f, up to n
@@ -42,11 +42,6 @@ module _ (value : ℕ → Got Json) (s : List ℕ) where
           walk_same e₃ (more w q (ih j us k r))
       on t m w (Done k) q e ih = walk_same e (last w q)
       on t m w Wrong q e ih = never e
-
--- ---- a printer of items made of one for each, commas between, and the closing bracket
-pub record Printer (one : Json → List ℕ) (all : Items → List ℕ) : Type 0 where
-  pub last_is : (p v : ℕ) (t : Json) → all (item p v t nil) ≡ one t ++ (93 ∷ [])
-  pub more_is : (p v : ℕ) (t : Json) (q w : ℕ) (u : Json) (us : Items) → all (item p v t (item q w u us)) ≡ one t ++ (44 ∷ all (item q w u us))
 
 -- what is done in a row
 pub record Chains {S : Type 0} (does : S → List ℕ → S → Type 0) : Type 0 where

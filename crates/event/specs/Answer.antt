@@ -1,6 +1,6 @@
 -- 01, "Numbers the relay answers with", of an event given as parts p over the buffer b: what serialising, identifying
 -- and offering it answer.
-use Rattle.std.specs.Prelude.{ℕ, ◌/◌, ◌%◌, Bool, cond, [], ◌∷◌, eqb, ltb, length, replicate}
+use Rattle.std.specs.Prelude.{ℕ, ◌/◌, ◌%◌, Bool, cond, [], ◌∷◌, eqb, ltb, length, replicate, Result, Ok, Err}
 use Rattle.wire.specs.Limits.{most_text}
 use Rattle.wire.specs.Bytes.{Bytes, Row, same_bytes, hex_digit}
 pub use Rattle.wire.specs.Put.{short_row, output_after}
@@ -9,8 +9,6 @@ use Rattle.message.specs.declared.Body.{Body}
 use Rattle.message.specs.declared.EventParts.{EventParts}
 use Rattle.message.specs.Lent.{body_row, event_row}
 use Rattle.event.specs.Lent.{said, text_of}
-use Rattle.event.specs.declared.Written.{Written}
-use Rattle.event.specs.declared.Written.TheVariants.{Wrote, Refused}
 use Rattle.event.specs.declared.Identified.{Identified}
 
 -- row 9: "serialised text over 4,096 bytes"
@@ -28,23 +26,23 @@ body_text_row b p = or_else (body_row b p) (cond (is_large b p) 9 0)
 unfoldable pub serialised_row : (b : Bytes) (p : Body) (out : Bytes) → Row
 serialised_row b p out = or_else (body_text_row b p) (short_row (text_of b p) out)
 
-abbrev pub answered : ℕ → ℕ → Written
-answered r n = cond (eqb r 0) (Wrote n) (Refused r)
+abbrev pub answered : ℕ → ℕ → Result ℕ ℕ
+answered r n = cond (eqb r 0) (Ok n) (Err r)
 
-unfoldable pub serialised : (b : Bytes) (p : Body) (out : Bytes) → Written
+unfoldable pub serialised : (b : Bytes) (p : Body) (out : Bytes) → Result ℕ ℕ
 serialised b p out = answered (serialised_row b p out) (length (text_of b p))
 
 unfoldable pub serialised_out : (b : Bytes) (p : Body) (out : Bytes) → Bytes
 serialised_out b p out = output_after (serialised_row b p out) (text_of b p) out
 
 -- the number of 01, and the value
-abbrev pub written_number : Written → ℕ
-written_number (Wrote n) = 0
-written_number (Refused r) = r
+abbrev pub written_number : Result ℕ ℕ → ℕ
+written_number (Ok n) = 0
+written_number (Err r) = r
 
-abbrev pub written_length : Written → ℕ
-written_length (Wrote n) = n
-written_length (Refused r) = 0
+abbrev pub written_length : Result ℕ ℕ → ℕ
+written_length (Ok n) = n
+written_length (Err r) = 0
 
 -- ---- the id: SHA-256 of the text; zeros on a refusal
 abbrev pub identified_by : ℕ → Bytes → Identified
@@ -73,7 +71,7 @@ offered_row b p = or_else (event_row b p) (cond (is_large b p.body) 9 (cond (has
 unfoldable pub offered_text_row : (b : Bytes) (p : EventParts) (out : Bytes) → Row
 offered_text_row b p out = or_else (offered_row b p) (short_row (text_of b p.body) out)
 
-unfoldable pub offered : (b : Bytes) (p : EventParts) (out : Bytes) → Written
+unfoldable pub offered : (b : Bytes) (p : EventParts) (out : Bytes) → Result ℕ ℕ
 offered b p out = answered (offered_text_row b p out) (length (text_of b p.body))
 
 unfoldable pub offered_out : (b : Bytes) (p : EventParts) (out : Bytes) → Bytes

@@ -1,5 +1,5 @@
 -- Worked cases of the order, of hex, of the borders of rows 9 and 13, and of lent tags.
-use Rattle.std.specs.Prelude.{ℕ, true, false, ◌≡◌, refl, List, [], ◌∷◌, pos, negsuc, length}
+use Rattle.std.specs.Prelude.{ℕ, true, false, ◌≡◌, refl, List, [], ◌∷◌, pos, negsuc, length, Ok, Err}
 use Rattle.json_tree.specs.Grammar.{in_class, run, past, one_at, token_at, word_at, literal_at, digits_at, int_at, frac_at, exp_at}
 use Rattle.json_tree.specs.Grammar.{number_at, hex_at}
 use Rattle.json_tree.specs.Grammar.{escaped_at, char_at, chars_up_to, chars_at, string_at, scalar_at}
@@ -10,7 +10,6 @@ use Rattle.message.specs.declared.Body.{Body}
 use Rattle.message.specs.declared.EventParts.{EventParts}
 use Rattle.message.specs.Lent.{event_row}
 use Rattle.event.specs.Lent.{strings_of, tags_of, lent_tags_at, text_of}
-use Rattle.event.specs.declared.Written.TheVariants.{Wrote, Refused}
 use Rattle.event.specs.Order.{is_lower, is_newer}
 use Rattle.event.specs.Answer.{hex_of, or_else, is_large, offered_row, answered, hashed_of}
 
@@ -48,7 +47,7 @@ nine_first b p e l = rw (e, l)
 lowest : (or_else 9 13 ≡ 9) × (or_else 0 13 ≡ 13)
 lowest = (refl, refl)
 
-answers : (answered 0 2 ≡ Wrote 2) × (answered 9 2 ≡ Refused 9)
+answers : (answered 0 2 ≡ Ok 2) × (answered 9 2 ≡ Err 9)
 answers = (refl, refl)
 
 -- [ ["\u0064","\/"],[]]: what the strings say, not how they are spelled. [1,[7]]: what is no tag, and no string of a

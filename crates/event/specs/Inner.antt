@@ -1,10 +1,8 @@
 -- What the private functions promise each other as they walk over the tags, be it to write them or to count their
 -- bytes.
-use Rattle.std.specs.Prelude.{ℕ, ◌+◌, min, Bool, true, false, ◌≡◌, List, ◌++◌, length, take}
+use Rattle.std.specs.Prelude.{ℕ, ◌+◌, min, Bool, true, false, ◌≡◌, List, [], ◌∷◌, ◌++◌, length, take, Option, Some, None, Result}
 use Rattle.json_tree.specs.Grammar.{case, start_at}
-use Rattle.json_tree.specs.Tree.{Json, Items, Got, got, end_of}
-use Rattle.json_tree.specs.declared.Out.{Out}
-use Rattle.json_tree.specs.declared.Out.TheVariants.{End, Bad}
+use Rattle.json_tree.specs.Tree.{Json, Items, nil, item, Got, got, end_of}
 use Rattle.json_tree.specs.declared.Start.{Start}
 use Rattle.json_tree.specs.declared.Start.TheVariants.{Leaf, Empty, Many}
 use Rattle.wire.specs.Put.{Puts}
@@ -14,7 +12,6 @@ use Rattle.text.specs.Event.{opening, closing, comma, bracket, quoted, members_t
 use Rattle.message.specs.declared.Body.{Body}
 use Rattle.message.specs.declared.EventParts.{EventParts}
 use Rattle.message.specs.Lent.{value_at}
-use Rattle.event.specs.declared.Written.{Written}
 use Rattle.event.specs.Lent.{said, natural, string_of, strings_of, tag_of, tags_of, lent_tags_at, text_of}
 use Rattle.event.specs.Answer.{answered, offered_row}
 use Rattle.wire.specs.Bytes.{Bytes, Place}
@@ -46,6 +43,11 @@ pub record Does {A S : Type 0} (does : S → List ℕ → S → Type 0) (g : Got
   pub done : (a : A) (n : ℕ) → g ≡ got a n → does x (p a) y
   pub ends : (a : A) (n : ℕ) → g ≡ got a n → next ≡ n
 
+-- a printer of items made of one for each, commas between, and the closing bracket
+pub record Printer (one : Json → Bytes) (all : Items → Bytes) : Type 0 where
+  pub last_is : (p v : ℕ) (t : Json) → all (item p v t nil) ≡ one t ++ (93 ∷ [])
+  pub more_is : (p v : ℕ) (t : Json) (q w : ℕ) (u : Json) (us : Items) → all (item p v t (item q w u us)) ≡ one t ++ (44 ∷ all (item q w u us))
+
 -- a string of a tag, the strings to the closing bracket; a tag, the tags to the closing bracket
 unfoldable pub string_text : Bytes → Json → Bytes
 string_text b t = quoted (string_of b t)
@@ -60,17 +62,17 @@ unfoldable pub all_tags_text : Bytes → Items → Bytes
 all_tags_text b ts = members_text tag_text (tags_of b ts)
 
 -- the first item of the array at a place that holds some, if the whole of it stands there
-abbrev pub first_out : Start → Out
-first_out Leaf = Bad
-first_out (Empty n named) = Bad
-first_out (Many first true) = Bad
-first_out (Many first false) = End first
+abbrev pub first_out : Start → Option ℕ
+first_out Leaf = None
+first_out (Empty n named) = None
+first_out (Many first true) = None
+first_out (Many first false) = Some first
 
-unfoldable pub first_tag : Bytes → Place → Out
-first_tag b at = case (end_of (value_at b at)) (λ n. first_out (start_at b at)) Bad
+unfoldable pub first_tag : Bytes → Place → Option ℕ
+first_tag b at = case (end_of (value_at b at)) (λ n. first_out (start_at b at)) None
 
 -- the rows of an offer are tested: what that answers, and where none holds, the text at the start of a buffer
-pub record Tested (b : List ℕ) (p : EventParts) (r : Written) (t : List ℕ) : Type 0 where
+pub record Tested (b : List ℕ) (p : EventParts) (r : Result ℕ ℕ) (t : List ℕ) : Type 0 where
   pub says : r ≡ answered (offered_row b p) (length (text_of b p.body))
   pub there : offered_row b p ≡ 0 → take (length (text_of b p.body)) t ≡ text_of b p.body
 

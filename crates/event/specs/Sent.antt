@@ -1,6 +1,6 @@
 -- 01, "Numbers the relay answers with", of an event that is offered as a client message m: what testing it answers, and
 -- its text in a lent output.
-use Rattle.std.specs.Prelude.{ℕ, cond, ◌||◌, eqb, leb, length}
+use Rattle.std.specs.Prelude.{ℕ, cond, ◌||◌, eqb, leb, length, Result, Ok, Err}
 use Rattle.shape.specs.Offsets.{plain_refusal}
 use Rattle.shape.specs.declared.Refusal.{Refusal}
 use Rattle.message.specs.Read.{is_event, read_of}
@@ -9,8 +9,6 @@ use Rattle.message.specs.declared.Message.{Message}
 use Rattle.message.specs.declared.Message.TheVariants as message
 use Rattle.event.specs.Lent.{text_of}
 use Rattle.event.specs.Answer.{offered_text_row, offered_out}
-use Rattle.event.specs.declared.SentText.{SentText}
-use Rattle.event.specs.declared.SentText.TheVariants.{Wrote, Refused}
 use Rattle.wire.specs.Bytes.{Bytes, Row}
 
 -- "Reading a message tests rows 1 to 8", "offering one .. gives 5 also if it isn't an EVENT": where the reader refused
@@ -31,16 +29,16 @@ sent_row m out = sent_row_of m out (read_of m)
 
 -- "A refusal carries its number and no other value", but for the offset of rows 6 and 7 (02, Wish 9); else the parts of
 -- the event, and how many bytes its text has
-abbrev pub sent_as : (r : ℕ) (p : EventParts) (n : ℕ) → SentText
-sent_as r p n = cond (eqb r 0) (Wrote p n) (Refused (plain_refusal r))
+abbrev pub sent_as : (r : ℕ) (p : EventParts) (n : ℕ) → Result (EventParts × ℕ) Refusal
+sent_as r p n = cond (eqb r 0) (Ok (p, n)) (Err (plain_refusal r))
 
-abbrev pub sent_text_of : (m out : Bytes) (x : Message) → SentText
+abbrev pub sent_text_of : (m out : Bytes) (x : Message) → Result (EventParts × ℕ) Refusal
 sent_text_of m out (message.Event p) = sent_as (offered_text_row m p out) p (length (text_of m p.body))
-sent_text_of m out (message.Req p) = Refused (plain_refusal 5)
-sent_text_of m out (message.Close p) = Refused (plain_refusal 5)
-sent_text_of m out (message.Refused r) = Refused (unread_refusal m r)
+sent_text_of m out (message.Req p) = Err (plain_refusal 5)
+sent_text_of m out (message.Close p) = Err (plain_refusal 5)
+sent_text_of m out (message.Refused r) = Err (unread_refusal m r)
 
-unfoldable pub sent_text : Bytes → Bytes → SentText
+unfoldable pub sent_text : Bytes → Bytes → Result (EventParts × ℕ) Refusal
 sent_text m out = sent_text_of m out (read_of m)
 
 -- "Output is written from its start, and its rest stays"; on a refusal "every lent buffer stays as found"
@@ -54,6 +52,6 @@ unfoldable pub sent_out : Bytes → Bytes → Bytes
 sent_out m out = sent_out_of m out (read_of m)
 
 -- the number of 01
-abbrev pub sent_text_number : SentText → ℕ
-sent_text_number (Wrote p n) = 0
-sent_text_number (Refused r) = r.row
+abbrev pub sent_text_number : Result (EventParts × ℕ) Refusal → ℕ
+sent_text_number (Ok (p, n)) = 0
+sent_text_number (Err r) = r.row

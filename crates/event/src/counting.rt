@@ -1,39 +1,17 @@
 // How long the text of the event that parts spell is, or what it takes in a reply, up to the most that a number holds.
-ghost use Rattle.std.specs.Prelude.{◌≡◌, false, ◌+◌, ◌*◌, min, length};
-ghost use Rattle.json_tree.specs.Tree.{tree_at, items_at};
+ghost use Rattle.std.specs.Prelude.{◌≡◌, false, length, Bool, ℕ, List};
+ghost use Rattle.json_tree.specs.Tree.{Got, Json, Items, tree_at, items_at};
 ghost use Rattle.wire.specs.Escape.{escape};
 ghost use Rattle.spell.specs.Spell.{decode};
 ghost use Rattle.text.specs.Event.{tags_text};
 ghost use Rattle.event.specs.Lent.{lent_tags_at};
-ghost use Rattle.event.specs.Inner.{tag_depth, string_depth, in_form, Counts, Does, string_text, strings_text};
-ghost use Rattle.event.specs.Inner.{one_tag_text, all_tags_text};
-ghost use Rattle.event.specs.Lent.{most_length, length_of, text_of};
+ghost use Rattle.event.specs.Inner.{tag_depth, string_depth, in_form, Counts, Does, Printer, string_text};
+ghost use Rattle.event.specs.Inner.{one_tag_text};
+ghost use Rattle.event.specs.declared.Reached.{Reached};
+ghost use Rattle.event.specs.Lent.{length_of, text_of};
 
 use crate::{Reached, writing};
 use message::Body;
-
-// The most that a length can be.
-pub(crate) const MOST_LENGTH: usize = 18446744073709551615;
-
-// k more, and no more than a number holds.
-pub(crate) fn more(n: usize, k: usize) -> usize
-    ensures { result ≡ min (n + k) most_length }
-{
-    if MOST_LENGTH - n < k {
-        return MOST_LENGTH;
-    }
-    n + k
-}
-
-// Five bytes for each of c characters, and no more than a number holds.
-pub(crate) fn five_each(c: usize) -> usize
-    ensures { result ≡ min (5 * c) most_length }
-{
-    if MOST_LENGTH / 5 < c {
-        return MOST_LENGTH;
-    }
-    5 * c
-}
 
 // How long a string is between its quotes, as in a reply or as in the text.
 pub(crate) fn string_len(p: &[u8], json: bool) -> usize
@@ -41,7 +19,7 @@ pub(crate) fn string_len(p: &[u8], json: bool) -> usize
 {
     let n = spell::escaped_len(p);
     if json {
-        return more(n, five_each(spell::control_count(p)));
+        return n.saturating_add(spell::control_count(p).saturating_mul(5));
     }
     n
 }
@@ -52,7 +30,7 @@ pub(crate) fn decoded_len(p: &[u8], json: bool) -> usize
 {
     let n = spell::decoded_len(p);
     if json {
-        return more(n, five_each(spell::control_count(p)));
+        return n.saturating_add(spell::control_count(p).saturating_mul(5));
     }
     n
 }
@@ -63,46 +41,49 @@ pub(crate) fn count_string(n: usize, b: &[u8], v: usize, json: bool) -> Reached
         result.next }
 {
     match json_tree::string(b, v) {
-        json_tree::Out::End(e) => {
+        Some(e) => {
             let k = string_len(wire::piece(b, v + 1, e - v - 2), json);
             Reached {
-                at: more(more(n, k), 2),
+                at: n.saturating_add(k).saturating_add(2),
                 next: json_tree::space(b, e),
             }
         }
-        json_tree::Out::Bad => Reached {
-            at: more(n, 2),
+        None => Reached {
+            at: n.saturating_add(2),
             next: writing::past(b, v, writing::STRING_DEPTH),
         },
     }
 }
 
-// The count after the strings of a tag and the closing bracket.
-pub(crate) fn count_strings(n: usize, b: &[u8], first: usize, json: bool) -> Reached
-    ensures { Does (Counts json) (items_at (tree_at b.now string_depth) b.now false
-        (length b.now) first) (strings_text b.now) n result.at result.next }
+// The count after an array's items, each counted by `one`, and the closing bracket; the first stands at `first`.
+pub(crate) fn count_items<F: Fn(usize, usize) -> Reached>(
+    n: usize,
+    b: &[u8],
+    first: usize,
+    one: F,
+) -> Reached
+    requires { F.IsAlwaysCallable one }
+    ensures { (json : Bool) (value : ℕ → Got Json) (p : Json → List ℕ) (all : Items → List ℕ) → Printer p all →
+        ((o v : ℕ) (w : Reached) → F.post one o v w → Does (Counts json) (value v) p o w.at w.next) →
+        Does (Counts json) (items_at value b.now false (length b.now) first) all n result.at result.next }
 {
     let mut o = n;
     let mut i = first;
-    let mut k: usize = 0;
-    while k < b.len() {
-        let w = count_string(o, b, i, json);
+    for _ in 0..b.len() {
+        let w = one(o, i);
         match json_tree::after(b, w.next, false) {
             json_tree::Next::More(j) => {
-                o = more(w.at, 1);
+                o = w.at.saturating_add(1);
                 i = j;
             }
-            json_tree::Next::Done(e) => {
+            json_tree::Next::Done(next) => {
                 return Reached {
-                    at: more(w.at, 1),
-                    next: e,
+                    at: w.at.saturating_add(1),
+                    next,
                 };
             }
-            json_tree::Next::Wrong => {
-                return w;
-            }
+            json_tree::Next::Wrong => return w,
         }
-        k += 1;
     }
     Reached { at: o, next: i }
 }
@@ -112,55 +93,15 @@ pub(crate) fn count_tag(n: usize, b: &[u8], v: usize, json: bool) -> Reached
     ensures { Does (Counts json) (tree_at b.now tag_depth v) (one_tag_text b.now) n result.at
         result.next }
 {
-    match json_tree::begin(b, v) {
-        json_tree::Start::Many(first, named) => {
-            if named {
-                return Reached {
-                    at: more(n, 2),
-                    next: writing::past(b, v, writing::TAG_DEPTH),
-                };
-            }
-            count_strings(more(n, 1), b, first, json)
-        }
-        json_tree::Start::Empty(e, _) => Reached {
-            at: more(n, 2),
-            next: e,
-        },
-        json_tree::Start::Leaf => Reached {
-            at: more(n, 2),
+    match writing::begun(b, v) {
+        Some(first) => count_items(n.saturating_add(1), b, first, |o, i| {
+            count_string(o, b, i, json)
+        }),
+        None => Reached {
+            at: n.saturating_add(2),
             next: writing::past(b, v, writing::TAG_DEPTH),
         },
     }
-}
-
-// The count after the tags and the closing bracket.
-pub(crate) fn count_all(n: usize, b: &[u8], first: usize, json: bool) -> Reached
-    ensures { Does (Counts json) (items_at (tree_at b.now tag_depth) b.now false
-        (length b.now) first) (all_tags_text b.now) n result.at result.next }
-{
-    let mut o = n;
-    let mut i = first;
-    let mut k: usize = 0;
-    while k < b.len() {
-        let w = count_tag(o, b, i, json);
-        match json_tree::after(b, w.next, false) {
-            json_tree::Next::More(j) => {
-                o = more(w.at, 1);
-                i = j;
-            }
-            json_tree::Next::Done(e) => {
-                return Reached {
-                    at: more(w.at, 1),
-                    next: e,
-                };
-            }
-            json_tree::Next::Wrong => {
-                return w;
-            }
-        }
-        k += 1;
-    }
-    Reached { at: o, next: i }
 }
 
 // How long the text of the tags is, up to the most that a number holds.
@@ -168,11 +109,8 @@ pub(crate) fn tags_len(b: &[u8], tags: usize, json: bool) -> usize
     ensures { result ≡ length_of (in_form json (tags_text (lent_tags_at b.now tags))) }
 {
     match writing::first_tag(b, tags) {
-        json_tree::Out::End(first) => {
-            let w = count_all(1, b, first, json);
-            w.at
-        }
-        json_tree::Out::Bad => 2,
+        Some(first) => count_items(1, b, first, |o, i| count_tag(o, b, i, json)).at,
+        None => 2,
     }
 }
 
@@ -182,15 +120,11 @@ pub(crate) fn length_in(b: &[u8], p: Body, json: bool) -> usize
 {
     let pubkey = p.pubkey;
     let content = p.content;
-    let a = more(
-        12,
-        decoded_len(wire::piece(b, pubkey.start, pubkey.len), json),
-    );
-    let c = more(a, numeral::decimal_len(p.created_at));
-    let d = more(c, numeral::natural_len(crate::kind_of(p.kind)));
-    let e = more(d, tags_len(b, p.tags, json));
-    more(
-        e,
-        string_len(wire::piece(b, content.start, content.len), json),
-    )
+    let key = decoded_len(wire::piece(b, pubkey.start, pubkey.len), json);
+    let text = string_len(wire::piece(b, content.start, content.len), json);
+    key.saturating_add(12)
+        .saturating_add(numeral::decimal_len(p.created_at))
+        .saturating_add(numeral::natural_len(crate::kind_of(p.kind)))
+        .saturating_add(tags_len(b, p.tags, json))
+        .saturating_add(text)
 }

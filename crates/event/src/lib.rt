@@ -24,20 +24,6 @@ struct Reached {
     next: usize,
 }
 
-// What serialising answers: how many bytes it wrote, or the row that refuses the parts.
-#[derive(Clone, Copy)]
-pub enum Written {
-    Wrote(usize),
-    Refused(u8),
-}
-
-// The event of a message: its parts, and how many bytes its text has; or what refuses the message.
-#[derive(Clone, Copy)]
-pub enum SentText {
-    Wrote(message::EventParts, usize),
-    Refused(shape::Refusal),
-}
-
 // A row, or 0, and beside it the id; zeros where a row refuses the parts.
 #[derive(Clone, Copy)]
 pub struct Identified {
@@ -97,10 +83,7 @@ pub fn put_tags(out: &mut [u8], at: usize, b: &[u8], tags: usize) -> usize
 pub fn kind_of(kind: i64) -> u64
     ensures { result ≡ natural kind }
 {
-    if kind < 0 {
-        return 0;
-    }
-    wire::to_unsigned(kind)
+    u64::try_from(kind).unwrap_or(0)
 }
 
 // 01, "The text that is hashed", of the event that the parts spell, into `out` from `at` on; the index after it.
@@ -133,11 +116,9 @@ pub fn put_hex(out: &mut [u8], at: usize, s: &[u8]) -> usize
         return out.len();
     }
     let mut o = at;
-    let mut i = 0;
-    while i < s.len() {
-        o = wire::put_byte(out, o, writing::hex_digit(s[i] / 16));
-        o = wire::put_byte(out, o, writing::hex_digit(s[i] % 16));
-        i += 1;
+    for b in s {
+        o = wire::put_byte(out, o, writing::hex_digit(*b / 16));
+        o = wire::put_byte(out, o, writing::hex_digit(*b % 16));
     }
     o
 }
@@ -159,20 +140,20 @@ pub fn id_of(b: &[u8], p: message::Body) -> Identified
 
 // The text of the event that the parts spell, from the start of `out`. It is put together in a buffer of its own, so
 // that nothing is written to `out` before every row is tested.
-pub fn serialise(b: &[u8], p: message::Body, out: &mut [u8]) -> Written
+pub fn serialise(b: &[u8], p: message::Body, out: &mut [u8]) -> Result<usize, u8>
     ensures value { result ≡ serialised b.now p out.old }
     ensures result_value { written_number result ≡ serialised_row b.now p out.old }
     ensures out_after { out.new ≡ serialised_out b.now p out.old }
 {
     let row = message::body_row(b, p);
     if row != 0 {
-        return Written::Refused(row);
+        return Err(row);
     }
     let mut t = [0u8; 4097];
     let known = writing::begun(b, p.tags);
     let n = writing::put_whole(&mut t, 0, b, p, known);
     if wire::MOST_TEXT < n {
-        return Written::Refused(9);
+        return Err(9);
     }
     tested::give(&t[..n], out)
 }
@@ -187,36 +168,35 @@ pub fn offered_row(b: &[u8], p: message::EventParts) -> u8
     }
     let mut t = [0u8; 4097];
     match tested::rest(b, p, &mut t) {
-        Written::Wrote(_) => 0,
-        Written::Refused(row) => row,
+        Ok(_) => 0,
+        Err(row) => row,
     }
 }
 
 // Rows 2 and 4 to 10 of an event that is offered as parts, then 13; where none holds, its text from the start of `out`.
-pub fn offered_text(b: &[u8], p: message::EventParts, out: &mut [u8]) -> Written
+pub fn offered_text(b: &[u8], p: message::EventParts, out: &mut [u8]) -> Result<usize, u8>
     ensures value { result ≡ offered b.now p out.old }
     ensures result_value { written_number result ≡ offered_text_row b.now p out.old }
     ensures out_after { out.new ≡ offered_out b.now p out.old }
 {
     let row = message::event_row(b, p);
     if row != 0 {
-        return Written::Refused(row);
+        return Err(row);
     }
     tested::rest_text(b, p, out)
 }
 
 // Rows 1 to 10 of an event that is offered as a message, then 13; where none holds, its parts, and its text from the
 // start of `out`. Rows 2 and 4 to 8 are tested once: the parts of a message that the reader took pass them.
-pub fn sent_text(m: &[u8], out: &mut [u8]) -> SentText
+pub fn sent_text(m: &[u8], out: &mut [u8]) -> Result<(message::EventParts, usize), shape::Refusal>
     ensures value { result ≡ sent_text m.now out.old }
     ensures result_value { sent_text_number result ≡ sent_row m.now out.old }
     ensures out_after { out.new ≡ sent_out m.now out.old }
 {
     match message::read(m) {
         message::Message::Event(p) => tested::sent_event(m, p, out),
-        message::Message::Req(_) => SentText::Refused(shape::plain_refusal(5)),
-        message::Message::Close(_) => SentText::Refused(shape::plain_refusal(5)),
-        message::Message::Refused(r) => SentText::Refused(tested::unread(m, r)),
+        message::Message::Req(_) | message::Message::Close(_) => Err(shape::plain_refusal(5)),
+        message::Message::Refused(r) => Err(tested::unread(m, r)),
     }
 }
 
@@ -224,31 +204,12 @@ pub fn sent_text(m: &[u8], out: &mut [u8]) -> SentText
 fn is_lower(p: &[u8], q: &[u8]) -> bool
     ensures { result ≡ is_lower p.now q.now }
 {
-    let mut i = 0;
-    while i < p.len() {
-        if q.len() <= i {
-            return false;
-        }
-        if p[i] < q[i] {
-            return true;
-        }
-        if q[i] < p[i] {
-            return false;
-        }
-        i += 1;
-    }
-    i < q.len()
+    p < q
 }
 
 // 01, "Kinds and keys": whether event a is newer than event b.
 pub fn newer(time_a: i64, id_a: &[u8], time_b: i64, id_b: &[u8]) -> bool
     ensures { result ≡ is_newer time_a id_a.now time_b id_b.now }
 {
-    if time_b < time_a {
-        return true;
-    }
-    if time_a < time_b {
-        return false;
-    }
-    is_lower(id_a, id_b)
+    time_b < time_a || (time_b == time_a && is_lower(id_a, id_b))
 }

@@ -1,17 +1,17 @@
 // The text of the event that parts spell, written piece by piece.
-ghost use Rattle.std.specs.Prelude.{◌≡◌, false, ◌<◌, length};
+ghost use Rattle.std.specs.Prelude.{◌≡◌, false, ◌<◌, length, Bool, ℕ, List};
 ghost use Rattle.wire.specs.Put.{Puts};
 ghost use Rattle.json_tree.specs.Grammar.{case, start_at};
-ghost use Rattle.json_tree.specs.Tree.{end_of, tree_at, items_at};
+ghost use Rattle.json_tree.specs.Tree.{Got, Json, Items, end_of, tree_at, items_at};
 ghost use Rattle.spell.specs.Spell.{decode};
 ghost use Rattle.text.specs.Event.{quoted, tags_text};
 ghost use Rattle.event.specs.Lent.{lent_tags_at, text_of};
-ghost use Rattle.event.specs.Inner.{tag_depth, string_depth, in_form, PutsOf, Does, first_out, first_tag, front_text};
-ghost use Rattle.event.specs.Inner.{back_text, string_text, strings_text, one_tag_text, all_tags_text};
+ghost use Rattle.event.specs.Inner.{tag_depth, string_depth, in_form, PutsOf, Does, Printer, first_out, first_tag, front_text};
+ghost use Rattle.event.specs.Inner.{back_text, string_text, one_tag_text};
+ghost use Rattle.event.specs.declared.Reached.{Reached};
 ghost use Rattle.wire.specs.Bytes.{hex_digit};
 
 use crate::Reached;
-use json_tree::Out;
 use message::Body;
 
 // The most brackets and braces open at once in the tags' array, in a tag and in what a tag holds.
@@ -25,10 +25,7 @@ pub(crate) const STRING_DEPTH: usize = TAG_DEPTH - 1;
 pub(crate) fn past(b: &[u8], v: usize, d: usize) -> usize
     ensures { result ≡ case (end_of (tree_at b.now d v)) (λ n. n) v }
 {
-    match json_tree::value(b, v, d) {
-        Out::End(n) => n,
-        Out::Bad => v,
-    }
+    json_tree::value(b, v, d).unwrap_or(v)
 }
 
 // A string as spelled, decoded and escaped between quotes, as in a reply or as in the text.
@@ -36,9 +33,10 @@ pub(crate) fn put_in(out: &mut [u8], at: usize, p: &[u8], json: bool) -> usize
     ensures { Puts out.old at (in_form json (quoted (decode p.now))) result out.new }
 {
     if json {
-        return crate::put_json(out, at, p);
+        crate::put_json(out, at, p)
+    } else {
+        crate::put_quoted(out, at, p)
     }
-    crate::put_quoted(out, at, p)
 }
 
 // One string of a tag; "" for what is no string.
@@ -49,48 +47,45 @@ pub(crate) fn put_string(out: &mut [u8], at: usize, b: &[u8], v: usize, json: bo
     ) (out.new, result.at) result.next }
 {
     match json_tree::string(b, v) {
-        Out::End(n) => {
-            let o = put_in(out, at, wire::piece(b, v + 1, n - v - 2), json);
-            Reached {
-                at: o,
-                next: json_tree::space(b, n),
-            }
-        }
-        Out::Bad => {
-            let o = wire::put(out, at, b"\"\"");
-            Reached {
-                at: o,
-                next: past(b, v, STRING_DEPTH),
-            }
-        }
+        Some(n) => Reached {
+            at: put_in(out, at, wire::piece(b, v + 1, n - v - 2), json),
+            next: json_tree::space(b, n),
+        },
+        None => Reached {
+            at: wire::put(out, at, b"\"\""),
+            next: past(b, v, STRING_DEPTH),
+        },
     }
 }
 
-// The strings of a tag, commas between them, and the closing bracket; the first stands at `first`.
-pub(crate) fn put_strings(out: &mut [u8], at: usize, b: &[u8], first: usize, json: bool) -> Reached
-    ensures { Does (PutsOf json) (items_at (tree_at b.now string_depth) b.now false
-        (length b.now) first) (strings_text b.now) (out.old, at) (out.new, result.at)
-        result.next }
+// An array's items, each written by `one`, commas between them, and the closing bracket; the first stands at `first`.
+pub(crate) fn put_items<F: Fn(&mut [u8], usize, usize) -> Reached>(
+    out: &mut [u8],
+    at: usize,
+    b: &[u8],
+    first: usize,
+    one: F,
+) -> Reached
+    requires { F.IsAlwaysCallable one }
+    ensures { (json : Bool) (value : ℕ → Got Json) (p : Json → List ℕ) (all : Items → List ℕ) → Printer p all →
+        ((x : _) (o v : ℕ) (w : Reached) (y : _) → F.post one x o v w y → Does (PutsOf json) (value v) p (x.now, o) (y.now, w.at) w.next) →
+        Does (PutsOf json) (items_at value b.now false (length b.now) first) all (out.old, at) (out.new, result.at) result.next }
 {
     let mut o = at;
     let mut i = first;
-    let mut k: usize = 0;
-    while k < b.len() {
-        let w = put_string(out, o, b, i, json);
+    for _ in 0..b.len() {
+        let w = one(out, o, i);
         match json_tree::after(b, w.next, false) {
             json_tree::Next::More(j) => {
                 o = wire::put(out, w.at, b",");
                 i = j;
             }
-            json_tree::Next::Done(n) => {
-                let e = wire::put(out, w.at, b"]");
-                return Reached { at: e, next: n };
+            json_tree::Next::Done(next) => {
+                let at = wire::put(out, w.at, b"]");
+                return Reached { at, next };
             }
-            json_tree::Next::Wrong => {
-                return w;
-            }
+            json_tree::Next::Wrong => return w,
         }
-        k += 1;
     }
     Reached { at: o, next: i }
 }
@@ -102,85 +97,41 @@ pub(crate) fn put_tag(out: &mut [u8], at: usize, b: &[u8], v: usize, json: bool)
       at,
     ) (out.new, result.at) result.next }
 {
-    match json_tree::begin(b, v) {
-        json_tree::Start::Many(first, named) => {
-            if named {
-                let o = wire::put(out, at, b"[]");
-                return Reached {
-                    at: o,
-                    next: past(b, v, TAG_DEPTH),
-                };
-            }
+    match begun(b, v) {
+        Some(first) => {
             let o = wire::put(out, at, b"[");
-            put_strings(out, o, b, first, json)
+            put_items(
+                out,
+                o,
+                b,
+                first,
+                |out, at, i| put_string(out, at, b, i, json),
+            )
         }
-        json_tree::Start::Empty(n, _) => {
-            let o = wire::put(out, at, b"[]");
-            Reached { at: o, next: n }
-        }
-        json_tree::Start::Leaf => {
-            let o = wire::put(out, at, b"[]");
-            Reached {
-                at: o,
-                next: past(b, v, TAG_DEPTH),
-            }
-        }
+        None => Reached {
+            at: wire::put(out, at, b"[]"),
+            next: past(b, v, TAG_DEPTH),
+        },
     }
-}
-
-// The tags, commas between them, and the closing bracket; the first stands at `first`.
-pub(crate) fn put_all(out: &mut [u8], at: usize, b: &[u8], first: usize, json: bool) -> Reached
-    ensures { Does (PutsOf json) (items_at (tree_at b.now tag_depth) b.now false
-        (length b.now) first) (all_tags_text b.now) (out.old, at) (out.new, result.at)
-        result.next }
-{
-    let mut o = at;
-    let mut i = first;
-    let mut k: usize = 0;
-    while k < b.len() {
-        let w = put_tag(out, o, b, i, json);
-        match json_tree::after(b, w.next, false) {
-            json_tree::Next::More(j) => {
-                o = wire::put(out, w.at, b",");
-                i = j;
-            }
-            json_tree::Next::Done(n) => {
-                let e = wire::put(out, w.at, b"]");
-                return Reached { at: e, next: n };
-            }
-            json_tree::Next::Wrong => {
-                return w;
-            }
-        }
-        k += 1;
-    }
-    Reached { at: o, next: i }
 }
 
 // The first item of an array that holds some, by what begins there.
-pub(crate) fn begun(b: &[u8], tags: usize) -> Out
+pub(crate) fn begun(b: &[u8], tags: usize) -> Option<usize>
     ensures { result ≡ first_out (start_at b.now tags) }
 {
     match json_tree::begin(b, tags) {
-        json_tree::Start::Many(first, named) => {
-            if named {
-                return Out::Bad;
-            }
-            Out::End(first)
-        }
-        json_tree::Start::Empty(_, _) => Out::Bad,
-        json_tree::Start::Leaf => Out::Bad,
+        json_tree::Start::Many(first, false) => Some(first),
+        json_tree::Start::Many(_, true) | json_tree::Start::Empty(_, _) | json_tree::Start::Leaf =>
+            None,
     }
 }
 
 // The same, or that no such array stands there to its end.
-pub(crate) fn first_tag(b: &[u8], tags: usize) -> Out
+pub(crate) fn first_tag(b: &[u8], tags: usize) -> Option<usize>
     ensures { result ≡ first_tag b.now tags }
 {
-    match json_tree::value(b, tags, TAGS_DEPTH) {
-        Out::End(_) => begun(b, tags),
-        Out::Bad => Out::Bad,
-    }
+    json_tree::value(b, tags, TAGS_DEPTH)?;
+    begun(b, tags)
 }
 
 // The tags of the array at `tags`, the first of which is known; [] where there is none.
@@ -189,7 +140,7 @@ pub(crate) fn put_tags_from(
     at: usize,
     b: &[u8],
     tags: usize,
-    known: Out,
+    known: Option<usize>,
     json: bool,
 ) -> usize
     requires { known ≡ first_tag b.now tags }
@@ -197,12 +148,11 @@ pub(crate) fn put_tags_from(
         out.new }
 {
     match known {
-        Out::End(first) => {
+        Some(first) => {
             let o = wire::put(out, at, b"[");
-            let w = put_all(out, o, b, first, json);
-            w.at
+            put_items(out, o, b, first, |out, at, i| put_tag(out, at, b, i, json)).at
         }
-        Out::Bad => wire::put(out, at, b"[]"),
+        None => wire::put(out, at, b"[]"),
     }
 }
 
@@ -221,7 +171,7 @@ pub(crate) fn put_front(out: &mut [u8], at: usize, b: &[u8], p: Body) -> usize
 }
 
 // TAGS,"CONTENT"]
-pub(crate) fn put_back(out: &mut [u8], at: usize, b: &[u8], p: Body, known: Out) -> usize
+pub(crate) fn put_back(out: &mut [u8], at: usize, b: &[u8], p: Body, known: Option<usize>) -> usize
     requires { known ≡ first_tag b.now p.tags }
     ensures { Puts out.old at (back_text b.now p) result out.new }
 {
@@ -232,7 +182,7 @@ pub(crate) fn put_back(out: &mut [u8], at: usize, b: &[u8], p: Body, known: Out)
     wire::put(out, d, b"]")
 }
 
-pub(crate) fn put_whole(out: &mut [u8], at: usize, b: &[u8], p: Body, known: Out) -> usize
+pub(crate) fn put_whole(out: &mut [u8], at: usize, b: &[u8], p: Body, known: Option<usize>) -> usize
     requires { known ≡ first_tag b.now p.tags }
     ensures { Puts out.old at (text_of b.now p) result out.new }
 {

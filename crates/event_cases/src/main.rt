@@ -4,17 +4,16 @@
 // gives.
 #![tactic(auto)]
 
-use event::Written;
-use json_tree::{Out, Start};
+use json_tree::Start;
 use message::{Body, EventParts, Message, Span};
 use shape::Refusal;
 use std::io;
-use text::{Text, TextAnswer};
+use text::{Text, Unread};
 
 // Whether the string that begins at a place is the word EVENT.
 fn is_word(s: &[u8], at: usize) -> bool {
     match json_tree::string(s, at) {
-        Out::End(n) => {
+        Some(n) => {
             if s.len() < n {
                 return false;
             }
@@ -28,7 +27,7 @@ fn is_word(s: &[u8], at: usize) -> bool {
             let start = at + 1;
             spell::spells(&s[start..end], b"EVENT")
         }
-        Out::Bad => false,
+        None => false,
     }
 }
 
@@ -49,14 +48,14 @@ fn put_row(out: &mut [u8], at: usize, row: u8) -> usize {
 fn put_text(out: &mut [u8], at: usize, s: &[u8], b: Body) -> usize {
     let mut buffer = [0u8; 4096];
     match event::serialise(s, b, &mut buffer) {
-        Written::Wrote(n) => {
+        Ok(n) => {
             if n <= 4096 {
                 let a = wire::put(out, at, b" ");
                 return wire::put(out, a, &buffer[..n]);
             }
             at
         }
-        Written::Refused(_) => at,
+        Err(_) => at,
     }
 }
 
@@ -120,9 +119,9 @@ fn put_again(out: &mut [u8], s: &[u8], x: Text) -> usize {
 
 fn put_read(out: &mut [u8], s: &[u8]) -> usize {
     match text::read_text(s) {
-        TextAnswer::Read(x) => put_again(out, s, x),
-        TextAnswer::TooLarge => put_row(out, 0, 9),
-        TextAnswer::WrongShape => put_row(out, 0, 5),
+        Ok(x) => put_again(out, s, x),
+        Err(Unread::TooLarge) => put_row(out, 0, 9),
+        Err(Unread::WrongShape) => put_row(out, 0, 5),
     }
 }
 

@@ -1,6 +1,6 @@
 -- Where a line ends in a piece, what is kept of a line in its buffer, and the state after a piece.
 use mathlib.Core.Path.{◌≡◌, refl, sym, ap, ◌∙◌}
-use mathlib.Core.Bool.{Bool, true, false, cond, not, ◌&&◌, false≢true}
+use mathlib.Core.Bool.{Bool, true, false, cond, false≢true}
 use mathlib.Core.List.{List, [], ◌∷◌, ◌++◌, append_assoc, append-nil}
 use Prim.Native.Nat.{ℕ, zero, suc, ◌+◌, ◌-◌, ◌≤◌, ◌<◌, min}
 use native.Mathlib.Numerals.{add-one}
@@ -9,8 +9,11 @@ use native.Mathlib.Omega.{arith}
 use native.Mathlib.Decide.{dec_le}
 use borrow.Author.Tests.{eq-eqb, ne_eqb, eqb-true, eqb-false}
 use lib.Dec.{eqb}
-use lib.ListN.{length, take, drop, get_or, length-append, length-take, drop_of_length-le}
+use lib.ListN.{length, take, drop, get_or, length-append, length-take, length-drop, drop_of_length-le}
 use lib.Seq.{drop-cons, take_all, take-length, take-append-add, take-take}
+use Rattle.std.proofs.Common.{Option, None, Some}
+use Rattle.std.proofs.lemmas.List.{get_or-take, get_or-drop}
+use Rattle.std.specs.Option.{MatchOption, unwrap_or}
 use Rattle.wire.specs.Bytes.{part}
 use Rattle.wire.specs.Put.{Puts}
 use Rattle.law.specs.Lists.{any}
@@ -40,23 +43,19 @@ module _ (p : List ℕ) (x i : ℕ) where
       let z : before (drop i p) ≡ [] = rw (drop_of_length-le p {i = i} h) refl in
       omega (arith, e, ap length z)
 
+-- the first byte that ends a line, or none
+pub end_behind : (p : List ℕ) (n : ℕ) → n ≤ length p → ((j : ℕ) → j < n → get_or p j 0 ≡ 0x0a → ⊥) → length (before p) ≡ n + length (before (drop n p))
+end_behind p zero h f = omega arith
+end_behind p (suc n) h f =
+    rw (sym (add-one n)) (end_turn p (length (before p)) n (omega arith) (f n (omega arith)) (end_behind p n (omega arith) (λ j g. f j (omega arith))))
+
+pub end_first : (p : List ℕ) (r : Option ℕ)
+    → MatchOption r ((j : ℕ) → j < length p → get_or p j 0 ≡ 0x0a → ⊥) (λ e. (e < length p) × (get_or p e 0 ≡ 0x0a) × ((j : ℕ) → j < e → get_or p j 0 ≡ 0x0a → ⊥))
+    → unwrap_or r (length p) ≡ length (before p)
+end_first p None h = end_none p (length (before p)) (length p) (omega arith) (end_behind p (length p) (omega arith) h)
+end_first p (Some e) h = end_found p (length (before p)) e h.0 h.1 (end_behind p e (omega arith) h.2)
+
 -- ---- a block of bytes that end no line
--- one byte more
-pub none_first : (p : List ℕ) (i : ℕ) → NoEndFrom p i 0
-none_first p i j h e = omega arith
-
-both : (a b : Bool) → (a && b) ≡ true → (a ≡ true) × (b ≡ true)
-both true b r = (refl, r)
-both false b r = absurd (false≢true r)
-
-pub none_turn : (p : List ℕ) (i k : ℕ) (t : Bool) → (t ≡ true → NoEndFrom p i k)
-    → (t && not (eqb (get_or p (i + k) 0) 0x0a)) ≡ true → NoEndFrom p i (k + 1)
-none_turn p i k t f e j h q = go (dec_le k j) (both t (not (eqb (get_or p (i + k) 0) 0x0a)) e)
-  where
-    go : Dec (k ≤ j) → (t ≡ true) × (not (eqb (get_or p (i + k) 0) 0x0a) ≡ true) → ⊥
-    go (yes g) z = let w : j ≡ k = omega arith in false≢true (sym (ap not (eq-eqb (get_or p (i + k) 0) 0x0a (rw w at q))) ∙ z.1)
-    go (no g) z = f z.0 j (omega arith) q
-
 -- the search goes on behind the block
 pub end_block : (p : List ℕ) (x i n : ℕ) → i + n ≤ length p → NoEndFrom p i n → x ≡ i + length (before (drop i p)) → x ≡ i + n + length (before (drop (i + n) p))
 end_block p x i zero h f e = rw (add-zero i) e
@@ -64,9 +63,22 @@ end_block p x i (suc n) h f e =
     rw (add-suc i n, sym (add-one (i + n)))
     (end_turn p x (i + n) (omega arith) (f n (omega arith)) (end_block p x i n (omega arith) (λ j g. f j (omega arith)) e))
 
-pub block_passed : (p : List ℕ) (i : ℕ) (t : Bool) → EndFrom p i → 32 ≤ length p - i → (t ≡ true → NoEndFrom p i 32) → not t ≡ false → EndFrom p (i + 32)
-block_passed p i true f h g e = record { inside = omega arith; rest = end_block p (length (before p)) i 32 (omega arith) (g refl) f.rest }
-block_passed p i false f h g e = absurd (false≢true (sym e))
+pub block_passed : (p : List ℕ) (i : ℕ) (t : Bool) → EndFrom p i → 32 ≤ length p - i
+    → (t ≡ true → NoEndFrom (take (i + 32 - i) (drop i p)) 0 (length (take (i + 32 - i) (drop i p)))) → t ≡ true → EndFrom p (i + 32)
+block_passed p i t f h g e = record { inside = omega arith; rest = end_block p (length (before p)) i 32 (omega arith) none f.rest }
+  where
+    none : NoEndFrom p i 32
+    none j less q =
+        let z : i + 32 - i ≡ 32 = omega arith in
+        let y : 0 + j ≡ j = omega arith in
+        let l : j < length (take (i + 32 - i) (drop i p)) = omega (arith, length-take (i + 32 - i) (drop i p), length-drop i p) in
+        g e j l (rw (y, z) (get_or-take 32 (drop i p) j 0 less ∙ get_or-drop i p j 0 ∙ q))
+
+-- the end of the rest is the piece's
+pub end_rest : (p : List ℕ) (i : ℕ) {e : ℕ} → EndFrom p i → e ≡ length (before (take (length p - i) (drop i p))) → i + e ≡ length (before p)
+end_rest p i f z =
+    let w : take (length p - i) (drop i p) ≡ drop i p = take_all (length p - i) (drop i p) (omega (arith, length-drop i p)) in
+    ap (i +◌) (z ∙ ap (λ l. length (before l)) w) ∙ sym f.rest
 
 -- ---- a piece with a line's end, and one without
 pub record Ended (p : List ℕ) : Type 0 where

@@ -1,4 +1,5 @@
 -- The ways out of `answer_line`, `turn` and `finish`.
+use Rattle.std.specs.Prelude.{Result, Ok, Err}
 use mathlib.Core.Path.{◌≡◌, refl, sym, ap, ◌∙◌}
 use mathlib.Core.Bool.{cond}
 use mathlib.Core.Logic.{◌≢◌}
@@ -11,8 +12,6 @@ use Rattle.wire.specs.Bytes.{part}
 use Rattle.wire.specs.Put.{put}
 use Rattle.law.specs.Lists.{any}
 use Rattle.event.specs.Answer.{written_number, written_length}
-use Rattle.event.specs.declared.Written.{Written}
-use Rattle.event.specs.declared.Written.TheVariants as sent
 use Rattle.program.specs.Program.{table_after}
 use Rattle.program.specs.Respond.{response, respond_row, responded, responded_out, responded_table}
 use Rattle.program.specs.Feed.{State, most_line, kept, is_end, last_line, said_last, before, used_of, turn_text, turn_state}
@@ -27,28 +26,28 @@ use Rattle.feed.proofs.Lines.{within, whole, state_unended, state_ended}
 
 -- ---- one message answered
 -- four promises in a row, as `respond` gives them
-abbrev Responds : (b m out : List ℕ) → Written → (b' o : List ℕ) → Type 0
+abbrev Responds : (b m out : List ℕ) → Result ℕ ℕ → (b' o : List ℕ) → Type 0
 Responds b m out r b' o =
     (r ≡ responded b m out) × ((written_number r ≡ respond_row b m out) × ((o ≡ responded_out b m out) × (b' ≡ responded_table b m out)))
 
 -- what is kept of a message is answered as the message is
-pub answers_kept : (m l : List ℕ) {b out : List ℕ} {r : Written} {b' o : List ℕ} → l ≡ kept m → Responds b m out r b' o → Answers b l out r b' o
+pub answers_kept : (m l : List ℕ) {b out : List ℕ} {r : Result ℕ ℕ} {b' o : List ℕ} → l ≡ kept m → Responds b m out r b' o → Answers b l out r b' o
 unfolding responded responded_out responded_table respond_row response
 answers_kept m l {b} {out} e (p, (q, (s, t))) =
     let (x, y) = kept_same b m in
     record { answer = rw (e, x) p; table = rw (e, x, y) t; output = rw (e, x) s }
 
-pub answers_line : (m l : List ℕ) {b out : List ℕ} {r : Written} {b' o : List ℕ} → m ≡ l → Responds b m out r b' o → Answers b l out r b' o
+pub answers_line : (m l : List ℕ) {b out : List ℕ} {r : Result ℕ ℕ} {b' o : List ℕ} → m ≡ l → Responds b m out r b' o → Answers b l out r b' o
 answers_line m l e (p, (q, (s, t))) = record { answer = rw e at p; table = rw e at t; output = rw e at s }
 
 module _ (b m out : List ℕ) where
   number : written_number (responded b m out) ≡ respond_row b m out
   number = (responded_means b m out).0.number
 
-  wrote_row : {w : ℕ} → sent.Wrote w ≡ responded b m out → (respond_row b m out ≡ 0) × (w ≡ length (response b m))
+  wrote_row : {w : ℕ} → Ok w ≡ responded b m out → (respond_row b m out ≡ 0) × (w ≡ length (response b m))
   wrote_row e = let z = sym number ∙ sym (ap written_number e) in (z, ap written_length e ∙ (responded_means b m out).0.value z)
 
-  refused_row_lem : {k : ℕ} → sent.Refused k ≡ responded b m out → (respond_row b m out ≢ 0) × (k ≡ respond_row b m out)
+  refused_row_lem : {k : ℕ} → Err k ≡ responded b m out → (respond_row b m out ≢ 0) × (k ≡ respond_row b m out)
   refused_row_lem {k} e = (λ z. let w = e ∙ (responded_means b m out).0.wrote z in let y : ◌≡◌ {A = ℕ} 0 1 = cc in omega arith, ap written_number e ∙ number)
 
   out_written : respond_row b m out ≡ 0 → responded_out b m out ≡ response b m ++ drop (length (response b m)) out
@@ -127,7 +126,7 @@ module _ (b line : List ℕ) (n : ℕ) (piece out : List ℕ) where
       text_is : text ≡ response b message
       text_is = says ∙ rw ((within piece (omega arith)).ends, part_is)
 
-      pub ended : {r : Written} {w j : ℕ} {b' o line' : List ℕ} → Answers b message out r b' o → r ≡ sent.Wrote w → Keeps line n (take e piece) j line'
+      pub ended : {r : Result ℕ ℕ} {w j : ℕ} {b' o line' : List ℕ} → Answers b message out r b' o → r ≡ Ok w → Keeps line n (take e piece) j line'
           → Turning (turning.Fed (e + 1) 0 w) b' line' o
       ended a x s =
           let u = within piece (omega arith) in
@@ -138,7 +137,7 @@ module _ (b line : List ℕ) (n : ℕ) (piece out : List ℕ) where
           (a.table ∙ (responded_means b message out).1 z ∙ ap (λ v. table_after b (grown line n v)) part_is ∙ sym (ap (λ v. v.table) y))
           (s.bytes ∙ ap line_after part_is) (a.output ∙ out_written b message out z ∙ sym (ap (λ t. t ++ drop (length t) out) text_is))
 
-      pub ended_refused : {r : Written} {k : ℕ} {b' o : List ℕ} → Answers b message out r b' o → r ≡ sent.Refused k → Turning (turning.Refused k) b' line o
+      pub ended_refused : {r : Result ℕ ℕ} {k : ℕ} {b' o : List ℕ} → Answers b message out r b' o → r ≡ Err k → Turning (turning.Refused k) b' line o
       unfolding turn_row respond_row
       ended_refused {r} {k} a x =
           let (ne, i) = refused_row_lem b message out (sym x ∙ a.answer) in
@@ -149,7 +148,7 @@ module _ (b line : List ℕ) (n : ℕ) (piece out : List ℕ) where
 
 -- ---- the end of the input
 module _ (b line : List ℕ) (n : ℕ) (out : List ℕ) where
-  abbrev Finishes : Written → (b' o : List ℕ) → Type 0
+  abbrev Finishes : Result ℕ ℕ → (b' o : List ℕ) → Type 0
   Finishes r b' o =
       (r ≡ feed_finished b line n out)
       × ((written_number r ≡ finish_row b line n out) × ((b' ≡ finish_table b line n out) × (o ≡ finish_out b line n out)))
@@ -161,7 +160,7 @@ module _ (b line : List ℕ) (n : ℕ) (out : List ℕ) where
     line_is : m ≡ line_so_far
     line_is = i ∙ ap (λ v. take v line) e ∙ sym (so_far n line)
 
-    pub no_line_lem : length m ≡ 0 → Finishes (sent.Wrote 0) b out
+    pub no_line_lem : length m ≡ 0 → Finishes (Ok 0) b out
     unfolding feed_finished finish_row finish_table finish_out finish_text said_last
     no_line_lem z =
         let y : line_so_far ≡ [] = sym line_is ∙ none m z in
@@ -172,7 +171,7 @@ module _ (b line : List ℕ) (n : ℕ) (out : List ℕ) where
         none [] h = refl
         none (x ∷ l) h = absurd (omega arith)
 
-    pub last_line_lem : {r : Written} {b' o : List ℕ} → (length m ≡ 0 → ⊥) → Responds b m out r b' o → Finishes r b' o
+    pub last_line_lem : {r : Result ℕ ℕ} {b' o : List ℕ} → (length m ≡ 0 → ⊥) → Responds b m out r b' o → Finishes r b' o
     unfolding feed_finished finish_row finish_table finish_out finish_text said_last responded respond_row responded_out responded_table
     last_line_lem ne (p, (q, (s, t))) =
         let (x, y) = some line_so_far (λ z. ne (ap length line_is ∙ z)) in

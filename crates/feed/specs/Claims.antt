@@ -1,7 +1,6 @@
 -- What the end of the input gives, outputs that are never too short, and what a run of calls writes, however the input
 -- is cut. Proved in proofs/Run and Room, each under its own name in small letters.
-use Rattle.std.specs.Prelude.{◌≡◌, ◌↔◌, ◌≢◌, List, [], ◌++◌, ℕ, ◌≤◌, ◌<◌, length, take}
-use Rattle.event.specs.declared.Written.TheVariants as sent
+use Rattle.std.specs.Prelude.{◌≡◌, ◌↔◌, ◌≢◌, List, [], ◌++◌, ℕ, ◌≤◌, ◌<◌, length, take, Ok}
 use Rattle.table.specs.Layout.{capacity_of}
 use Rattle.program.specs.declared.Turned.TheVariants as turning
 use Rattle.reply.specs.Claims.{WritesOr}
@@ -58,5 +57,5 @@ UsesSome = (b line : List ℕ) (n : ℕ) (piece out : List ℕ) (u k w : ℕ) �
 -- program reads messages from standard input, one a line, over a fresh table of 8 slots"
 abbrev pub WritesOutput : Type 0
 WritesOutput = (line input said b line' : List ℕ) (n : ℕ) → Turns fresh_table line 0 input said b line' n
-    → (out : List ℕ) (w : ℕ) → feed_finished b line' n out ≡ sent.Wrote w
+    → (out : List ℕ) (w : ℕ) → feed_finished b line' n out ≡ Ok w
     → said ++ take w (finish_out b line' n out) ≡ output input

@@ -1,8 +1,7 @@
 -- The end of the input, over lent buffers. 01: "a last line without it counts if not empty". The first n bytes of the
 -- lent line buffer are the line so far, as in program/specs/Feed.
-use Rattle.std.specs.Prelude.{cond, List, [], ◌∷◌, ℕ, eqb, length}
+use Rattle.std.specs.Prelude.{cond, List, [], ◌∷◌, ℕ, eqb, length, Result}
 use Rattle.event.specs.Answer.{answered}
-use Rattle.event.specs.declared.Written.{Written}
 use Rattle.reply.specs.Lent.{short_row, output_after}
 use Rattle.program.specs.Program.{table_after}
 use Rattle.program.specs.Feed.{said_last, feed_state}
@@ -15,7 +14,7 @@ finish_text b line n = said_last (feed_state b line n)
 unfoldable pub finish_row : (b line : Bytes) (n : ℕ) (out : Bytes) → Row
 finish_row b line n out = short_row (finish_text b line n) out
 
-unfoldable pub feed_finished : (b line : Bytes) (n : ℕ) (out : Bytes) → Written
+unfoldable pub feed_finished : (b line : Bytes) (n : ℕ) (out : Bytes) → Result ℕ ℕ
 feed_finished b line n out = answered (finish_row b line n out) (length (finish_text b line n))
 
 unfoldable pub finish_out : (b line : Bytes) (n : ℕ) (out : Bytes) → Bytes

@@ -1,7 +1,6 @@
 -- What private functions hand on.
-use Rattle.std.specs.Prelude.{◌≡◌, true, List, ◌++◌, ℕ, ◌+◌, ◌-◌, ◌≤◌, ◌<◌, min, length, take, drop, get_or}
+use Rattle.std.specs.Prelude.{◌≡◌, true, List, ◌++◌, ℕ, ◌+◌, ◌-◌, ◌≤◌, ◌<◌, min, length, take, drop, get_or, Result}
 use Rattle.wire.specs.Put.{put}
-use Rattle.event.specs.declared.Written.{Written}
 use Rattle.program.specs.Respond.{responded, responded_out, responded_table}
 use Rattle.law.specs.Lists.{any}
 use Rattle.program.specs.Feed.{most_line, kept, is_end, before}
@@ -32,7 +31,7 @@ abbrev pub InOnePlace : ℕ → Bytes → Type 0
 InOnePlace n p = (n ≡ 0 → ⊥) → any is_end p ≡ true → length (before p) ≡ 0
 
 -- the message m was answered
-pub record Answers (b m out : List ℕ) (r : Written) (b' o : List ℕ) : Type 0 where
+pub record Answers (b m out : List ℕ) (r : Result ℕ ℕ) (b' o : List ℕ) : Type 0 where
   pub answer : r ≡ responded b m out
   pub table : b' ≡ responded_table b m out
   pub output : o ≡ responded_out b m out

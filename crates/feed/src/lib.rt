@@ -9,23 +9,19 @@ ghost use Rattle.feed.specs.Finish.{feed_finished, finish_row, finish_table, fin
 ghost use Rattle.feed.specs.Turn.{looked_at};
 ghost use Rattle.feed.specs.Inner.{NoEndFrom, EndFrom, grown, Keeps, InOnePlace, Answers};
 
-use event::Written;
 use program::Turned;
 
 // A byte more than a message may have tells that the line is too long.
 pub const MOST_LINE: usize = wire::MOST_MESSAGE + 1;
 
-// Whether none of the 32 bytes at i ends a line. All are looked at, with no way out of the loop, so that it is compiled
-// to vector code.
-fn none_ends(piece: &[u8], i: usize) -> bool
-    requires { i + 32 ≤ length piece.now }
-    ensures { result ≡ true → NoEndFrom piece.now i 32 }
+// Whether none of the bytes of a block ends a line. All are looked at, with no way out of the loop, so that it is
+// compiled to vector code.
+fn none_ends(block: &[u8]) -> bool
+    ensures { result ≡ true → NoEndFrom block.now 0 (length block.now) }
 {
     let mut none = true;
-    let mut k = 0;
-    while k < 32 {
-        none = none & (piece[i + k] != b'\n');
-        k += 1;
+    for b in block {
+        none &= *b != b'\n';
     }
     none
 }
@@ -36,7 +32,7 @@ fn past_blocks(piece: &[u8]) -> usize
 {
     let mut i = 0;
     while 32 <= piece.len() - i {
-        if !none_ends(piece, i) {
+        if !none_ends(&piece[i..i + 32]) {
             return i;
         }
         i += 32;
@@ -44,25 +40,26 @@ fn past_blocks(piece: &[u8]) -> usize
     i
 }
 
+// The place of a text's first line's end, or the text's own, byte after byte.
+fn end_in(text: &[u8]) -> usize
+    ensures { result ≡ length (before text.now) }
+{
+    text.iter().position(|b| *b == b'\n').unwrap_or(text.len())
+}
+
 // The place of the piece's first line's end, or the piece's own.
 fn end_at(piece: &[u8]) -> usize
     ensures { result ≡ length (before piece.now) }
 {
-    let mut i = past_blocks(piece);
-    while i < piece.len() {
-        if piece[i] == b'\n' {
-            return i;
-        }
-        i += 1;
-    }
-    i
+    let i = past_blocks(piece);
+    i + end_in(&piece[i..])
 }
 
 // How many bytes the line so far has.
 fn so_far(n: usize) -> usize
     ensures { result ≡ min n most_line }
 {
-    if n < MOST_LINE { n } else { MOST_LINE }
+    n.min(MOST_LINE)
 }
 
 // What is kept of `part`, behind the n bytes of the line so far; how many bytes the line has then.
@@ -90,7 +87,13 @@ fn looked_at(piece: &[u8], n: usize) -> &[u8]
 }
 
 // The line of which `part` is the end is answered where it stands: in `part`, or in the line buffer.
-fn answer_line(table: &mut [u8], line: &[u8], n: usize, part: &[u8], out: &mut [u8]) -> Written
+fn answer_line(
+    table: &mut [u8],
+    line: &[u8],
+    n: usize,
+    part: &[u8],
+    out: &mut [u8],
+) -> Result<usize, u8>
     requires most_line_in_bounds { most_line ≤ length line.now }
     requires part_len { (n ≡ 0 → ⊥) → length part.now ≡ 0 }
     ensures { Answers table.old (grown line.now n part.now) out.old result
@@ -125,11 +128,11 @@ fn turn_over(table: &mut [u8], line: &mut [u8], n: usize, piece: &[u8], out: &mu
         return Turned::Fed(e, k, 0);
     }
     match answer_line(table, line, n, &piece[..e], out) {
-        Written::Wrote(w) => {
+        Ok(w) => {
             keep(line, n, &piece[..e]);
             Turned::Fed(e + 1, 0, w)
         }
-        Written::Refused(row) => Turned::Refused(row),
+        Err(row) => Turned::Refused(row),
     }
 }
 
@@ -153,7 +156,7 @@ pub fn turn(table: &mut [u8], line: &mut [u8], n: usize, piece: &[u8], out: &mut
 
 // The end of the input: a last line without 0A is answered if it is not empty. Row 13 for an output too short; table
 // and output then stay as found.
-pub fn finish(table: &mut [u8], line: &[u8], n: usize, out: &mut [u8]) -> Written
+pub fn finish(table: &mut [u8], line: &[u8], n: usize, out: &mut [u8]) -> Result<usize, u8>
     ensures value { result ≡ feed_finished table.old line.now n out.old }
     ensures result_value { written_number result ≡ finish_row table.old line.now n out.old }
     ensures table_after { table.new ≡ finish_table table.old line.now n out.old }
@@ -161,8 +164,8 @@ pub fn finish(table: &mut [u8], line: &[u8], n: usize, out: &mut [u8]) -> Writte
 {
     let many = so_far(n);
     let m = wire::piece(line, 0, many);
-    if m.len() == 0 {
-        return Written::Wrote(0);
+    if m.is_empty() {
+        return Ok(0);
     }
     responses::respond(table, m, out)
 }

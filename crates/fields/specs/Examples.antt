@@ -1,9 +1,8 @@
 -- Worked values.
-use Rattle.std.specs.Prelude.{◌≡◌, refl, true, false, [], ◌∷◌, pos, negsuc}
+use Rattle.std.specs.Prelude.{◌≡◌, refl, true, false, [], ◌∷◌, pos, negsuc, Some, None}
 use Rattle.wire.specs.Field.{signed}
 use Rattle.numeral.specs.Decimal.{digits, digits_in}
 use Rattle.numeral.specs.Whole.{is_digit}
-use Rattle.shape.specs.declared.Offset.TheVariants.{Absent, At}
 use Rattle.fields.specs.Line.{space_in, rest_of_line, fields_from, field_of}
 use Rattle.fields.specs.Number.{grown_by, natural_field, complement_of, integer_of, is_absent}
 use Rattle.fields.specs.Refusal.{refusal_field}
@@ -30,7 +29,7 @@ unfolding is_absent
 absent = (refl, refl, refl)
 
 -- "6@57", and "10", which has no offset
-refusals : (refusal_field (record { row = 6; offset = At 57 }) ≡ 54 ∷ 64 ∷ 53 ∷ 55 ∷ []) ×
-    (refusal_field (record { row = 10; offset = Absent }) ≡ 49 ∷ 48 ∷ [])
+refusals : (refusal_field (record { row = 6; offset = Some 57 }) ≡ 54 ∷ 64 ∷ 53 ∷ 55 ∷ []) ×
+    (refusal_field (record { row = 10; offset = None }) ≡ 49 ∷ 48 ∷ [])
 unfolding digits digits_in
 refusals = (refl, refl)

@@ -1,12 +1,8 @@
 -- The parts of an event and of a filter, as the fields of a line from the first on give them.
-use Rattle.std.specs.Prelude.{cond, List, ℕ}
+use Rattle.std.specs.Prelude.{cond, List, ℕ, Option, ℤ, Some, None}
 use Rattle.message.specs.declared.Span.{Span}
 use Rattle.message.specs.declared.Body.{Body}
 use Rattle.message.specs.declared.EventParts.{EventParts}
-use Rattle.message.specs.declared.Bound.{Bound}
-use Rattle.message.specs.declared.Bound.TheVariants as bound
-use Rattle.message.specs.declared.Listed.{Listed}
-use Rattle.message.specs.declared.Listed.TheVariants as listed
 use Rattle.message.specs.declared.FilterParts.{FilterParts}
 use Rattle.fields.specs.Line.{fields_from, field_of}
 use Rattle.fields.specs.Number.{natural_field, integer_of, is_absent, count_field}
@@ -28,11 +24,11 @@ body_fields l = record {
 unfoldable pub event_fields : List ℕ → EventParts
 event_fields l = record { id = span_fields l; body = body_fields (fields_from 2 l); sig = span_fields (fields_from 9 l) }
 
-unfoldable pub listed_of : List ℕ → Listed
-listed_of p = cond (is_absent p) listed.Absent (listed.At (natural_field 0 p))
+unfoldable pub listed_of : List ℕ → Option ℕ
+listed_of p = cond (is_absent p) None (Some (natural_field 0 p))
 
-unfoldable pub bound_of : List ℕ → Bound
-bound_of p = cond (is_absent p) bound.Absent (bound.Number (integer_of p))
+unfoldable pub bound_of : List ℕ → Option ℤ
+bound_of p = cond (is_absent p) None (Some (integer_of p))
 
 -- ids authors kinds since until limit conditions
 unfoldable pub filter_fields : List ℕ → FilterParts

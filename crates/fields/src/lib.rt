@@ -3,90 +3,77 @@
 // number has a number all the same.
 #![tactic(auto)]
 
-ghost use Rattle.std.specs.Prelude.{◌≡◌, ◌++◌, ◌+◌, ◌%◌, ◌≤◌, length, drop, replicate, IfOk, vec_len};
+ghost use Rattle.std.specs.Prelude.{◌≡◌, ◌++◌, ◌%◌, ◌≤◌, eqb, length, position, replicate, IfOk, vec_len};
 ghost use Rattle.wire.specs.Put.{Puts};
 ghost use Rattle.numeral.specs.Decimal.{digits, decimal};
 ghost use Rattle.fields.specs.Line.{space_in, rest_of_line, fields_from, field_of, gap_of};
-ghost use Rattle.fields.specs.Number.{grown_by, natural_field, complement_of, integer_of, is_absent, count_field};
+ghost use Rattle.fields.specs.Number.{grown_by, natural_field, integer_of, is_absent, count_field};
 ghost use Rattle.fields.specs.Room.{filled, first_byte, room_length, empty_room, turned_over, length_after};
 ghost use Rattle.fields.specs.Room.{lent_after, room_after};
 ghost use Rattle.fields.specs.Parts.{span_fields, body_fields, event_fields, listed_of, bound_of, filter_fields};
 ghost use Rattle.fields.specs.Refusal.{offset_field, refusal_field};
 
-use message::{Body, Bound, EventParts, FilterParts, Listed, Span};
-use shape::{Offset, Refusal};
+use message::{Body, EventParts, FilterParts, Span};
+use shape::Refusal;
 use std::alloc::{AllocError, Global};
 
 // ---- The fields of a line.
-// Where the first space stands from `at` on, or the end.
-fn space(line: &[u8], at: usize) -> usize
-    requires { at ≤ length line.now }
-    ensures { (result ≡ at + space_in (drop at line.now)) × (result ≤ length line.now) }
+// Where the first space stands.
+fn first_space(line: &[u8]) -> Option<usize>
+    ensures { result ≡ position (λ b. eqb b 32) line.now }
 {
-    let mut i = at;
-    while i < line.len() {
-        if line[i] == b' ' {
-            return i;
-        }
-        i += 1;
-    }
-    i
+    line.iter().position(|b| *b == b' ')
 }
 
-// The index behind that space.
-fn after(line: &[u8], at: usize) -> usize
-    requires { at ≤ length line.now }
-    ensures { (drop result line.now ≡ rest_of_line (drop at line.now)) ×
-        (result ≤ length line.now) }
+// Where the first space stands, or the end.
+fn space(line: &[u8]) -> usize
+    ensures value { result ≡ space_in line.now }
+    ensures within { result ≤ length line.now }
 {
-    let e = space(line, at);
-    if e < line.len() {
-        return e + 1;
-    }
-    e
+    first_space(line).unwrap_or(line.len())
+}
+
+// The line behind that space.
+#[tactic(auto, unfolding(crate::specs::Line::rest_of_line))]
+fn after(line: &[u8]) -> &[u8]
+    ensures { result.now ≡ rest_of_line line.now }
+{
+    &line[(space(line) + 1).min(line.len())..]
 }
 
 // The line from field number k on.
 pub fn from(line: &[u8], k: usize) -> &[u8]
     ensures { result.now ≡ fields_from k line.now }
 {
-    let mut at: usize = 0;
-    let mut left = k;
-    while 0 < left {
-        at = after(line, at);
-        left -= 1;
+    let mut rest = line;
+    for _k in 0..k {
+        rest = after(rest);
     }
-    &line[at..]
+    rest
 }
 
 // Field number k.
+#[tactic(auto, unfolding(crate::specs::Line::field_of))]
 pub fn field(line: &[u8], k: usize) -> &[u8]
     ensures { result.now ≡ field_of line.now k }
 {
     let rest = from(line, k);
-    let e = space(rest, 0);
-    &rest[..e]
+    &rest[..space(rest)]
 }
 
 // ---- Numbers.
 // A digit more of a number below 2^64.
+#[tactic(auto, unfolding(crate::specs::Number::grown_by, numeral::specs::Whole::is_digit))]
 fn grown(v: u64, b: u8) -> u64
     ensures { result ≡ grown_by v b }
 {
-    if b < b'0' {
-        return 0;
-    }
-    if b'9' < b {
-        return 0;
-    }
-    if 1844674407370955161 < v {
+    if !b.is_ascii_digit() {
         return 0;
     }
     let d = (b - b'0') as u64;
-    if 0xffff_ffff_ffff_ffff - v * 10 < d {
-        return 0;
-    }
-    v * 10 + d
+    v.checked_mul(10)
+        .and_then(|w| w.checked_add(d))
+        .unwrap_or(0)
 }
 
 // The number that digits spell.
@@ -94,48 +81,33 @@ pub fn natural(p: &[u8]) -> u64
     ensures { result ≡ natural_field 0 p.now }
 {
     let mut v: u64 = 0;
-    let mut i = 0;
-    while i < p.len() {
-        v = grown(v, p[i]);
-        i += 1;
+    for b in p {
+        v = grown(v, *b);
     }
     v
 }
 
-// 2^64 less a number.
-fn complement(v: u64) -> u64
-    ensures { result ≡ complement_of v }
-{
-    if v == 0 {
-        return 0;
-    }
-    0xffff_ffff_ffff_ffff - v + 1
-}
-
 // The same with a minus before it, or without.
+#[tactic(auto, unfolding(crate::specs::Number::integer_of, crate::specs::Number::complement_of))]
 pub fn integer(p: &[u8]) -> i64
     ensures { result ≡ integer_of p.now }
 {
-    if p.len() == 0 {
-        return wire::to_signed(0);
+    match p {
+        [b'-', digits @ ..] => wire::to_signed(natural(digits).wrapping_neg()),
+        _ => wire::to_signed(natural(p)),
     }
-    if p[0] == b'-' {
-        return wire::to_signed(complement(natural(&p[1..])));
-    }
-    wire::to_signed(natural(p))
 }
 
 // Whether a field is empty or begins with x: what may be absent is.
+#[tactic(auto, unfolding(crate::specs::Number::is_absent))]
 pub fn is_absent(p: &[u8]) -> bool
     ensures { result ≡ is_absent p.now }
 {
-    if p.len() == 0 {
-        return true;
-    }
-    p[0] == b'x'
+    p.first().is_none_or(|b| *b == b'x')
 }
 
 // The number in field k.
+#[tactic(auto, unfolding(crate::specs::Number::count_field))]
 pub fn count(line: &[u8], k: usize) -> usize
     ensures { result ≡ count_field line.now k }
 {
@@ -143,12 +115,14 @@ pub fn count(line: &[u8], k: usize) -> usize
 }
 
 // Its lowest 8 bits, and its lowest 16.
+#[tactic(auto, unfolding(crate::specs::Number::count_field))]
 pub fn byte(line: &[u8], k: usize) -> u8
     ensures { result ≡ count_field line.now k % 256 }
 {
     (natural(field(line, k)) % 256) as u8
 }
 
+#[tactic(auto, unfolding(crate::specs::Number::count_field))]
 pub fn short(line: &[u8], k: usize) -> u16
     ensures { result ≡ count_field line.now k % 65536 }
 {
@@ -156,6 +130,7 @@ pub fn short(line: &[u8], k: usize) -> u16
 }
 
 // ---- The parts of events and filters, from the first field on.
+#[tactic(auto, unfolding(crate::specs::Parts::span_fields))]
 pub fn span(line: &[u8]) -> Span
     ensures { result ≡ span_fields line.now }
 {
@@ -166,6 +141,7 @@ pub fn span(line: &[u8]) -> Span
 }
 
 // pubkey pubkey_len created_at kind tags content content_len
+#[tactic(auto, unfolding(crate::specs::Parts::body_fields))]
 pub fn body(line: &[u8]) -> Body
     ensures { result ≡ body_fields line.now }
 {
@@ -179,6 +155,7 @@ pub fn body(line: &[u8]) -> Body
 }
 
 // id id_len (the seven of a body) sig sig_len
+#[tactic(auto, unfolding(crate::specs::Parts::event_fields))]
 pub fn event(line: &[u8]) -> EventParts
     ensures { result ≡ event_fields line.now }
 {
@@ -189,25 +166,26 @@ pub fn event(line: &[u8]) -> EventParts
     }
 }
 
-fn listed(p: &[u8]) -> Listed
+#[tactic(auto, unfolding(crate::specs::Parts::listed_of))]
+fn listed(p: &[u8]) -> Option<usize>
     ensures { result ≡ listed_of p.now }
 {
     if is_absent(p) {
-        return Listed::Absent;
+        None
+    } else {
+        Some(natural(p) as usize)
     }
-    Listed::At(natural(p) as usize)
 }
 
-fn bound(p: &[u8]) -> Bound
+#[tactic(auto, unfolding(crate::specs::Parts::bound_of))]
+fn bound(p: &[u8]) -> Option<i64>
     ensures { result ≡ bound_of p.now }
 {
-    if is_absent(p) {
-        return Bound::Absent;
-    }
-    Bound::Number(integer(p))
+    if is_absent(p) { None } else { Some(integer(p)) }
 }
 
 // ids authors kinds since until limit conditions
+#[tactic(auto, unfolding(crate::specs::Parts::filter_fields))]
 pub fn filter(line: &[u8]) -> FilterParts
     ensures { result ≡ filter_fields line.now }
 {
@@ -227,9 +205,10 @@ pub fn put_gap(out: &mut [u8], at: usize) -> usize
     ensures { Puts out.old at (gap_of at) result out.new }
 {
     if at == 0 {
-        return 0;
+        0
+    } else {
+        wire::put_byte(out, at, b' ')
     }
-    wire::put_byte(out, at, b' ')
 }
 
 pub fn put_word(out: &mut [u8], at: usize, word: &[u8]) -> usize
@@ -254,12 +233,12 @@ pub fn put_integer(out: &mut [u8], at: usize, z: i64) -> usize
 }
 
 // What stands behind the row of a refusal: an @ and the offset, or nothing.
-fn put_offset(out: &mut [u8], at: usize, x: Offset) -> usize
+fn put_offset(out: &mut [u8], at: usize, x: Option<usize>) -> usize
     ensures { Puts out.old at (offset_field x) result out.new }
 {
     match x {
-        Offset::Absent => wire::put(out, at, b""),
-        Offset::At(n) => {
+        None => wire::put(out, at, b""),
+        Some(n) => {
             let a = wire::put(out, at, b"@");
             numeral::put_natural(out, a, n as u64)
         }
@@ -269,21 +248,15 @@ fn put_offset(out: &mut [u8], at: usize, x: Offset) -> usize
 pub fn put_refusal(out: &mut [u8], at: usize, x: Refusal) -> usize
     ensures { Puts out.old at (gap_of at ++ refusal_field x) result out.new }
 {
-    let offset = x.offset;
     let a = put_number(out, at, x.row as u64);
-    put_offset(out, a, offset)
+    put_offset(out, a, x.offset)
 }
 
 // Every byte of a buffer becomes b.
 pub fn fill(room: &mut [u8], b: u8)
     ensures { room.new ≡ filled room.old b }
 {
-    let n = room.len();
-    let mut i = 0;
-    while i < n {
-        room[i] = b;
-        i += 1;
-    }
+    room.fill(b);
 }
 
 // ---- A room for a table, and lent bytes beside it. Three letters change them:
@@ -291,13 +264,11 @@ pub fn fill(room: &mut [u8], b: u8)
 //   B bytes         these bytes to the start of the lent ones
 //   X at bits       turns these bits of a byte of the room over
 // The first byte of a line, and 0 where it has none.
+#[tactic(auto, unfolding(crate::specs::Room::first_byte))]
 pub fn letter(line: &[u8]) -> u8
     ensures { result ≡ first_byte line.now }
 {
-    if line.len() == 0 {
-        return 0;
-    }
-    line[0]
+    line.first().copied().unwrap_or(0)
 }
 
 // As many bytes as a table of the most slots has, and 256 more.
@@ -321,25 +292,29 @@ pub fn allocated_room(alloc: Global) -> Result<Vec<u8>, AllocError>
 }
 
 // Bits of a byte turned over, where there is one.
+#[tactic(auto, unfolding(crate::specs::Room::turned_over))]
 fn turn_over(room: &mut [u8], at: usize, bits: u8)
     ensures { room.new ≡ turned_over room.old at bits }
 {
     if at < room.len() {
-        room[at] = room[at] ^ bits;
+        room[at] ^= bits;
     }
 }
 
 // The length of the table from this line on; n before it.
+#[tactic(auto, unfolding(crate::specs::Room::length_after))]
 pub fn table_len(line: &[u8], n: usize) -> usize
     ensures { result ≡ length_after line.now n }
 {
     if letter(line) == b'L' {
-        return count(line, 1);
+        count(line, 1)
+    } else {
+        n
     }
-    n
 }
 
 // What the line does with the lent bytes, and with the room.
+#[tactic(auto, unfolding(crate::specs::Room::lent_after))]
 pub fn change_lent(line: &[u8], lent: &mut [u8])
     ensures { lent.new ≡ lent_after line.now lent.old }
 {
@@ -348,15 +323,13 @@ pub fn change_lent(line: &[u8], lent: &mut [u8])
     }
 }
 
+#[tactic(auto, unfolding(crate::specs::Room::room_after))]
 pub fn change_room(line: &[u8], room: &mut [u8])
     ensures { room.new ≡ room_after line.now room.old }
 {
-    let b = letter(line);
-    if b == b'L' {
-        fill(room, byte(line, 2));
-        return;
-    }
-    if b == b'X' {
-        turn_over(room, count(line, 1), byte(line, 2));
+    match letter(line) {
+        b'L' => fill(room, byte(line, 2)),
+        b'X' => turn_over(room, count(line, 1), byte(line, 2)),
+        _ => {}
     }
 }

@@ -1,4 +1,5 @@
 -- What is a value by the rules is taken by json_tree's definition, from and up to the white space at its two ends.
+use Rattle.std.specs.Prelude.{Option, Some, None}
 use mathlib.Core.Path.{◌≡◌, refl, sym, ap, ◌∙◌}
 use mathlib.Core.Logic.{inr}
 use mathlib.Core.List.{List}
@@ -11,8 +12,6 @@ use borrow.Author.Tests.{eq-eqb}
 use Rattle.json_tree.specs.Grammar.{in_class, ws_at, one_at, token_at, close_of, opened_at, start_at, head_at, next_at}
 use Rattle.json_tree.specs.Tree.{depth, end_of, node, items_at, tree_at, is_text}
 use Rattle.json_tree.specs.declared.Class.TheVariants.{Space, Byte}
-use Rattle.json_tree.specs.declared.Out.{Out}
-use Rattle.json_tree.specs.declared.Out.TheVariants.{End, Bad}
 use Rattle.json_tree.specs.declared.Start.TheVariants.{Leaf, Empty, Many}
 use Rattle.json_tree.specs.declared.Next.TheVariants.{More, Done}
 use Rattle.json_tree.proofs.Bytes.{past_none}
@@ -47,19 +46,19 @@ module _ (s : List ℕ) where
   token_stops : (b at n : ℕ) → Quiet b → token s b at n → Stops s at
   token_stops b at n q t = ws_quiet s at t.0 t.1 (rw (token_byte s b at n t) q)
 
-  token_is : (b at n : ℕ) → token_at s b at ≡ End n → get_or s at 0 ≡ b
+  token_is : (b at n : ℕ) → token_at s b at ≡ Some n → get_or s at 0 ≡ b
   unfolding token_at
   token_is b at n e = byte_is s b at (then_end (one_at s (Byte b) at) _ e).1
 
-  token_bad : (b at : ℕ) → (get_or s at 0 ≡ b → ⊥) → token_at s b at ≡ Bad
+  token_bad : (b at : ℕ) → (get_or s at 0 ≡ b → ⊥) → token_at s b at ≡ None
   token_bad b at h = go (token_at s b at) refl
     where
-      go : (o : Out) → token_at s b at ≡ o → o ≡ Bad
-      go (End n) e = absurd (h (token_is b at n e))
-      go Bad e = refl
+      go : (o : Option ℕ) → token_at s b at ≡ o → o ≡ None
+      go (Some n) e = absurd (h (token_is b at n e))
+      go None e = refl
 
   -- ---- what begins at a place
-  start_open : (named : Bool) (at a : ℕ) → token_at s (open_of named) at ≡ End a → start_at s at ≡ opened_at s a named
+  start_open : (named : Bool) (at a : ℕ) → token_at s (open_of named) at ≡ Some a → start_at s at ≡ opened_at s a named
   start_open false at a e = rw e
   start_open true at a e = let r = token_is 0x7B at a e in rw (token_bad 0x5B at (λ q. omega arith), e)
 
@@ -70,7 +69,7 @@ module _ (s : List ℕ) where
       let r = token_bad 0x7B at (λ q. lead s at n e (rw q (refl, refl, refl, refl, refl, refl, refl))) in
       rw (p, r)
 
-  leaf_taken : (d at n : ℕ) → Stops s n → (literal s ∣ number s ∣ string s) at n → end_of (tree_at s d (ws_at s at)) ≡ End (ws_at s n)
+  leaf_taken : (d at n : ℕ) → Stops s n → (literal s ∣ number s ∣ string s) at n → end_of (tree_at s d (ws_at s at)) ≡ Some (ws_at s n)
   unfolding tree_at
   leaf_taken zero at n t e = let (k, p, q) = plain_taken s at n t e in rw (plain_place s at n e, p) q
   leaf_taken (suc d) at n t e =
@@ -89,7 +88,7 @@ module _ (s : List ℕ) where
   item_first d named at n (value (group {a = a} inner t is r)) q = open_first inner at a t q
   item_first d named at n (member {a = a} e t v) q = lead s at a (inr (inr e)) (rw (sym (plain_place s at a (inr (inr e))), q) (refl, refl, refl, refl, refl, refl, refl))
 
-  items_first : (d : ℕ) (named : Bool) (at n : ℕ) → Items s d named at n → token_at s (close_of named) (ws_at s at) ≡ Bad
+  items_first : (d : ℕ) (named : Bool) (at n : ℕ) → Items s d named at n → token_at s (close_of named) (ws_at s at) ≡ None
   items_first d named at n (last i) = token_bad (close_of named) (ws_at s at) (item_first d named at n i)
   items_first d named at n (more {a = a} i t is) = token_bad (close_of named) (ws_at s at) (item_first d named at a i)
 
@@ -108,7 +107,7 @@ module _ (s : List ℕ) where
   unfolding in_class
   next named at n t = rw (token_taken s 0x2C at n refl t)
 
-  name_taken : (at a v : ℕ) → string s at a → token s 0x3A a v → head_at s (ws_at s at) true ≡ End (ws_at s v)
+  name_taken : (at a v : ℕ) → string s at a → token s 0x3A a v → head_at s (ws_at s at) true ≡ Some (ws_at s v)
   unfolding in_class
   name_taken at a v e t = rw (plain_place s at a (inr (inr e)), string_taken s at a e) (token_taken s 0x3A a v refl t)
 
@@ -143,7 +142,7 @@ mutual
 mutual
   unfolding in_class
 
-  pub value_taken : (s : List ℕ) (d at n : ℕ) → Value s d at n → Stops s n → end_of (tree_at s d (ws_at s at)) ≡ End (ws_at s n)
+  pub value_taken : (s : List ℕ) (d at n : ℕ) → Value s d at n → Stops s n → end_of (tree_at s d (ws_at s at)) ≡ Some (ws_at s n)
   value_taken s d at n (plain e) t = leaf_taken s d at n t e
   value_taken s d at n (empty {d = k} {a = a} named o c) t =
       let p = start_open s named (ws_at s at) (ws_at s a) (token_taken s (open_of named) at a (open_solid named) o) in
@@ -158,21 +157,21 @@ mutual
 
   -- k items were read before, so there is fuel for the rest
   items_taken : (s : List ℕ) (d : ℕ) (named : Bool) (at b : ℕ) → Items s d named at b → (n : ℕ) → token s (close_of named) b n
-      → (k : ℕ) → k ≤ at → end_items (items_at (tree_at s d) s named (length s - k) (ws_at s at)) ≡ End (ws_at s n)
+      → (k : ℕ) → k ≤ at → end_items (items_at (tree_at s d) s named (length s - k) (ws_at s at)) ≡ Some (ws_at s n)
   items_taken s d named at b (last i) n c k l =
       let (v, h, e) = item_taken s d named at b i (token_stops s (close_of named) b n (close_quiet named) c) in
       let p = item_from s d named at b i in
       let q = token_from s (close_of named) b n c in
-      fold_next _ _ (λ a m. End m) _ (tree_at s d) s named k (ws_at s at) v (ws_at s b) (Done (ws_at s n)) (tt {0}) (omega arith) h e (done s named b n c) (λ t q. refl)
+      fold_next _ _ (λ a m. Some m) _ (tree_at s d) s named k (ws_at s at) v (ws_at s b) (Done (ws_at s n)) (tt {0}) (omega arith) h e (done s named b n c) (λ t q. refl)
   items_taken s d named at b (more {a = a} {b = j} i t is) n c k l =
       let (v, h, e) = item_taken s d named at a i (token_stops s 0x2C a j (refl, refl, refl) t) in
       let p = item_from s d named at a i in
       let q = token_from s 0x2C a j t in
-      fold_next _ _ (λ a m. End m) _ (tree_at s d) s named k (ws_at s at) v (ws_at s a) (More (ws_at s j)) (tt {0}) (omega arith) h e (next s named a j t) (λ t q. refl)
+      fold_next _ _ (λ a m. Some m) _ (tree_at s d) s named k (ws_at s at) v (ws_at s a) (More (ws_at s j)) (tt {0}) (omega arith) h e (next s named a j t) (λ t q. refl)
       ∙ items_taken s d named j b is n c (k + 1) (omega arith)
 
   item_taken : (s : List ℕ) (d : ℕ) (named : Bool) (at n : ℕ) → Item s d named at n → Stops s n
-      → (v : ℕ) × (head_at s (ws_at s at) named ≡ End v) × (end_of (tree_at s d v) ≡ End (ws_at s n))
+      → (v : ℕ) × (head_at s (ws_at s at) named ≡ Some v) × (end_of (tree_at s d v) ≡ Some (ws_at s n))
   item_taken s d named at n (value v) t = (ws_at s at, refl, value_taken s d at n v t)
   item_taken s d named at n (member {a = a} {b = b} e c v) t = (ws_at s b, name_taken s at a b e c, value_taken s d b n v t)
 

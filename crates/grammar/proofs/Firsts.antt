@@ -1,4 +1,5 @@
 -- A byte tells which rule begins and whether a number can go on, and no rule goes back.
+use Rattle.std.specs.Prelude.{Option, Some, None}
 use mathlib.Core.Path.{◌≡◌, refl, sym, ◌∙◌}
 use mathlib.Core.Logic.{inl, inr}
 use mathlib.Core.List.{List, [], ◌∷◌}
@@ -11,7 +12,6 @@ use Rattle.json_tree.specs.Grammar.{number_at, string_at, scalar_at}
 use Rattle.json_tree.specs.Tree.{end_of, on_leaf}
 use Rattle.json_tree.specs.declared.Class.{Class}
 use Rattle.json_tree.specs.declared.Class.TheVariants.{Space, Digit, Exponent, Sign, Byte}
-use Rattle.json_tree.specs.declared.Out.TheVariants.{End, Bad}
 use Rattle.json_tree.specs.declared.Kind.{Kind}
 use Rattle.json_tree.specs.declared.Kind.TheVariants.{Str, Num, Word}
 use Rattle.json_tree.proofs.Bytes.{past_none}
@@ -68,34 +68,34 @@ module _ (s : List ℕ) where
       go false q = refl
 
   -- ---- which picks the rule
-  no_string : (x at n : ℕ) → in_class (Byte 0x22) x ≡ false → one s (Byte x) at n → string_at s at ≡ Bad
+  no_string : (x at n : ℕ) → in_class (Byte 0x22) x ≡ false → one s (Byte x) at n → string_at s at ≡ None
   unfolding string_at
   no_string x at n z o = rw (byte_not s x (Byte 0x22) at z (one_taken s (Byte x) at n o))
 
-  no_number : (x at n : ℕ) → (in_class (Byte 0x2D) x ≡ false) × (in_class (Byte 0x30) x ≡ false) × (in_class Digit x ≡ false) → one s (Byte x) at n → number_at s at ≡ Bad
+  no_number : (x at n : ℕ) → (in_class (Byte 0x2D) x ≡ false) × (in_class (Byte 0x30) x ≡ false) × (in_class Digit x ≡ false) → one s (Byte x) at n → number_at s at ≡ None
   unfolding number_at int_at digits_at
   no_number x at n z o = let p = one_taken s (Byte x) at n o in simp (byte_not s x (Byte 0x2D) at z.0 p, byte_not s x (Byte 0x30) at z.1 p, byte_not s x Digit at z.2 p)
 
-  no_word : (x y at n : ℕ) (w : List ℕ) → in_class (Byte y) x ≡ false → one s (Byte x) at n → word_at s (y ∷ w) at ≡ Bad
+  no_word : (x y at n : ℕ) (w : List ℕ) → in_class (Byte y) x ≡ false → one s (Byte x) at n → word_at s (y ∷ w) at ≡ None
   unfolding word_at
   no_word x y at n w z o = rw (byte_not s x (Byte y) at z (one_taken s (Byte x) at n o))
 
-  number_no_string : (at n : ℕ) → number s at n → string_at s at ≡ Bad
+  number_no_string : (at n : ℕ) → number s at n → string_at s at ≡ None
   unfolding string_at in_class
   number_no_string at n (a, inr o, r) = rw (byte_not s 0x2D (Byte 0x22) at refl (one_taken s (Byte 0x2D) at a o))
   number_no_string at n (a, inl e, (b, inl o, r)) = rw (byte_not s 0x30 (Byte 0x22) at refl (one_taken s (Byte 0x30) at b (rw e o)))
   number_no_string at n (a, inl e, (b, inr (c, o, q), r)) = rw (not_byte s 0x22 Digit at refl (one_taken s Digit at c (rw e (first_digit s a c o).0)))
 
-  pub plain_taken : (at n : ℕ) → Stops s n → (literal s ∣ number s ∣ string s) at n → (k : Kind) × (scalar_at s at ≡ k) × (end_of (on_leaf s at k) ≡ End (ws_at s n))
+  pub plain_taken : (at n : ℕ) → Stops s n → (literal s ∣ number s ∣ string s) at n → (k : Option Kind) × (scalar_at s at ≡ k) × (end_of (on_leaf s at k) ≡ Some (ws_at s n))
   unfolding scalar_at literal_at in_class
   plain_taken at n t (inl (inl e)) =
-      (Word n, rw (no_string 0x66 at e.0 refl e.1, no_number 0x66 at e.0 (refl, refl, refl) e.1, name_taken s false_name at n e), refl)
+      (Some (Word n), rw (no_string 0x66 at e.0 refl e.1, no_number 0x66 at e.0 (refl, refl, refl) e.1, name_taken s false_name at n e), refl)
   plain_taken at n t (inl (inr (inl e))) =
-      (Word n, rw (no_string 0x6E at e.0 refl e.1, no_number 0x6E at e.0 (refl, refl, refl) e.1, no_word 0x6E 0x66 at e.0 _ refl e.1, name_taken s null_name at n e), refl)
+      (Some (Word n), rw (no_string 0x6E at e.0 refl e.1, no_number 0x6E at e.0 (refl, refl, refl) e.1, no_word 0x6E 0x66 at e.0 _ refl e.1, name_taken s null_name at n e), refl)
   plain_taken at n t (inl (inr (inr e))) =
-      (Word n, rw (no_string 0x74 at e.0 refl e.1, no_number 0x74 at e.0 (refl, refl, refl) e.1, no_word 0x74 0x66 at e.0 _ refl e.1, no_word 0x74 0x6E at e.0 _ refl e.1, name_taken s true_name at n e), refl)
-  plain_taken at n t (inr (inl e)) = (Num n, rw (number_no_string at n e, number_taken s at n t e), refl)
-  plain_taken at n t (inr (inr e)) = (Str n, rw (string_taken s at n e), refl)
+      (Some (Word n), rw (no_string 0x74 at e.0 refl e.1, no_number 0x74 at e.0 (refl, refl, refl) e.1, no_word 0x74 0x66 at e.0 _ refl e.1, no_word 0x74 0x6E at e.0 _ refl e.1, name_taken s true_name at n e), refl)
+  plain_taken at n t (inr (inl e)) = (Some (Num n), rw (number_no_string at n e, number_taken s at n t e), refl)
+  plain_taken at n t (inr (inr e)) = (Some (Str n), rw (string_taken s at n e), refl)
 
   -- ---- no rule goes back
   name_from_lem : (w : List ℕ) (at n : ℕ) → name s w at n → at ≤ n

@@ -1,4 +1,5 @@
 -- Strings: json_tree's characters are the rule's, one for one, where no control character stands.
+use Rattle.std.specs.Prelude.{Some}
 use mathlib.Core.Path.{◌≡◌, refl, sym, ap, ◌∙◌}
 use mathlib.Core.Logic.{inl, inr}
 use mathlib.Core.List.{List}
@@ -8,7 +9,6 @@ use native.Mathlib.Omega.{arith}
 use lib.ListN.{length, get_or}
 use Rattle.json_tree.specs.Grammar.{is_unescaped, in_class, one_at, chars_at, string_at}
 use Rattle.json_tree.specs.declared.Class.TheVariants.{Plain, Hex, Short, Byte}
-use Rattle.json_tree.specs.declared.Out.TheVariants.{End}
 use Rattle.wire.specs.Bytes.{is_control}
 use Rattle.json_tree.proofs.Ends.{one_is, one_of, byte_is, char_quote, chars_none}
 use Rattle.json_tree.proofs.Spelled.{Char, plain, short, code, Chars, stop as last, more, chars_sound, chars_taken}
@@ -52,7 +52,7 @@ module _ (s : List ℕ) (clean : Clean s 0 (length s)) where
   chars_rule at n last = stop
   chars_rule at n (more {m = m} c r) = step (char_rule at m c) (chars_rule m n r)
 
-  pub string_sound : (at n : ℕ) → string_at s at ≡ End n → string s at n
+  pub string_sound : (at n : ℕ) → string_at s at ≡ Some n → string s at n
   unfolding in_class
   string_sound at n e =
       let (p, l, q, h, k) = string_parts s at n e in
@@ -61,10 +61,10 @@ module _ (s : List ℕ) (clean : Clean s 0 (length s)) where
 
 module _ (s : List ℕ) where
   rule_char : (at n : ℕ) → char s at n → Char s at n
-  rule_char at n (inl (h, o, e)) = plain h (one_of s Plain at (unescaped_plain (get_or s at 0) o) ∙ ap End e)
+  rule_char at n (inl (h, o, e)) = plain h (one_of s Plain at (unescaped_plain (get_or s at 0) o) ∙ ap Some e)
   rule_char at n (inr e) = go (one_taken s (Byte 0x5C) at e.0 e.1) e.2
     where
-      go : {a : ℕ} → one_at s (Byte 0x5C) at ≡ End a → (one s Short ∣ one s (Byte 0x75) ⨾ one s Hex ⨾ one s Hex ⨾ one s Hex ⨾ one s Hex) a n → Char s at n
+      go : {a : ℕ} → one_at s (Byte 0x5C) at ≡ Some a → (one s Short ∣ one s (Byte 0x75) ⨾ one s Hex ⨾ one s Hex ⨾ one s Hex ⨾ one s Hex) a n → Char s at n
       go {a} p (inl o) = short p (one_taken s Short a n o)
       go {a} p (inr (b, u, (c, h, (d, i, (f, j, k))))) =
           code p (one_taken s (Byte 0x75) a b u) (one_taken s Hex b c h) (one_taken s Hex c d i) (one_taken s Hex d f j) (one_taken s Hex f n k)
@@ -73,7 +73,7 @@ module _ (s : List ℕ) where
   rule_chars at n stop = last
   rule_chars at n (step {m = m} c r) = more (rule_char at m c) (rule_chars m n r)
 
-  pub string_taken : (at n : ℕ) → string s at n → string_at s at ≡ End n
+  pub string_taken : (at n : ℕ) → string s at n → string_at s at ≡ Some n
   unfolding string_at
   string_taken at n e =
       let a = e.0 in

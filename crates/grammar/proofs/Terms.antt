@@ -1,5 +1,6 @@
 -- One byte, a run of bytes, a structural character and a name: json_tree's functions say what the rules say. White space
 -- is taken whole by a function and piecemeal by a rule, so a place is compared after the white space that stands there.
+use Rattle.std.specs.Prelude.{Some, None}
 use mathlib.Core.Path.{◌≡◌, refl, sym, ap, ◌∙◌}
 use mathlib.Core.List.{List, [], ◌∷◌}
 use mathlib.Core.Bool.{Bool, true, false, cond, ◌||◌}
@@ -11,12 +12,11 @@ use borrow.Author.Tests.{eqb-true, ltb-true}
 use Rattle.json_tree.specs.Grammar.{no_zero, in_class, past, ws_at, one_at, token_at, word_at}
 use Rattle.json_tree.specs.declared.Class.{Class}
 use Rattle.json_tree.specs.declared.Class.TheVariants.{Space, Byte}
-use Rattle.json_tree.specs.declared.Out.TheVariants.{End, Bad}
 use Rattle.json_tree.proofs.Bytes.{both, class_within, past_more, past_none, byte_not_zero}
 use Rattle.json_tree.proofs.Ends.{then_end, one_is, one_of, byte_is}
 use Rattle.grammar.specs.Rfc.{Star, stop, step, one, ws, token, name}
 
-pub same_end : {m n : ℕ} → End m ≡ End n → m ≡ n
+pub same_end : {m n : ℕ} → Some m ≡ Some n → m ≡ n
 same_end e = cc
 
 -- ---- the four bytes of white space
@@ -37,19 +37,19 @@ space_is P a b c d x e = go₁ (eqb x 0x20) refl e
     go₁ false p q = go₂ (eqb x 0x09) refl q
 
 module _ (s : List ℕ) where
-  pub one_sound : (class : Class) (at n : ℕ) → in_class class 0 ≡ false → one_at s class at ≡ End n → one s class at n
+  pub one_sound : (class : Class) (at n : ℕ) → in_class class 0 ≡ false → one_at s class at ≡ Some n → one s class at n
   one_sound class at n z e =
       let (p, q) = one_is s class at e in
       (class_within class s at z p, p, q)
 
-  pub one_taken : (class : Class) (at n : ℕ) → one s class at n → one_at s class at ≡ End n
-  one_taken class at n o = one_of s class at o.1 ∙ ap End o.2
+  pub one_taken : (class : Class) (at n : ℕ) → one s class at n → one_at s class at ≡ Some n
+  one_taken class at n o = one_of s class at o.1 ∙ ap Some o.2
 
-  pub one_bad : (class : Class) (at : ℕ) → one_at s class at ≡ Bad → in_class class (get_or s at 0) ≡ false
+  pub one_bad : (class : Class) (at : ℕ) → one_at s class at ≡ None → in_class class (get_or s at 0) ≡ false
   unfolding one_at
   one_bad class at e = go (in_class class (get_or s at 0)) e
     where
-      go : (b : Bool) → cond b (End (at + 1)) Bad ≡ Bad → b ≡ false
+      go : (b : Bool) → cond b (Some (at + 1)) None ≡ None → b ≡ false
       go true q = cc
       go false q = refl
 
@@ -77,7 +77,7 @@ module _ (s : List ℕ) where
   star_from class at n (step {m = m} o r) = let h = star_from class m n r in let q = o.2 in omega arith
 
   -- ---- structural characters, the ws before which may be known already
-  pub token_sound : (b m at n : ℕ) → 0 < b → ws s m at → token_at s b at ≡ End n → token s b m n
+  pub token_sound : (b m at n : ℕ) → 0 < b → ws s m at → token_at s b at ≡ Some n → token s b m n
   unfolding token_at in_class
   token_sound b m at n h w e =
       let (a, p, q) = then_end (one_at s (Byte b) at) _ e in
@@ -90,14 +90,14 @@ module _ (s : List ℕ) where
   pub token_place : (b at n : ℕ) → in_class Space b ≡ false → (t : token s b at n) → ws_at s at ≡ t.0
   token_place b at n z t = star_past Space at t.0 t.1 ∙ past_none Space s t.0 (ap (in_class Space) (token_byte b at n t) ∙ z)
 
-  pub token_taken : (b at n : ℕ) → in_class Space b ≡ false → token s b at n → token_at s b (ws_at s at) ≡ End (ws_at s n)
+  pub token_taken : (b at n : ℕ) → in_class Space b ≡ false → token s b at n → token_at s b (ws_at s at) ≡ Some (ws_at s n)
   unfolding token_at
   token_taken b at n z t =
       let r = t.2 in
-      rw (token_place b at n z t, one_taken (Byte b) t.0 r.0 r.1) (ap End (star_past Space r.0 n r.2))
+      rw (token_place b at n z t, one_taken (Byte b) t.0 r.0 r.1) (ap Some (star_past Space r.0 n r.2))
 
   -- ---- names
-  pub name_sound : (w : List ℕ) (at n : ℕ) → no_zero w ≡ true → word_at s w at ≡ End n → name s w at n
+  pub name_sound : (w : List ℕ) (at n : ℕ) → no_zero w ≡ true → word_at s w at ≡ Some n → name s w at n
   unfolding word_at
   name_sound [] at n z e = same_end e
   name_sound (b ∷ w) at n z e =
@@ -105,7 +105,7 @@ module _ (s : List ℕ) where
       let (m, o, r) = then_end (one_at s (Byte b) at) _ e in
       (m, one_sound (Byte b) at m (byte_not_zero b (ltb-true 0 b p)) o, name_sound w m n q r)
 
-  pub name_taken : (w : List ℕ) (at n : ℕ) → name s w at n → word_at s w at ≡ End n
+  pub name_taken : (w : List ℕ) (at n : ℕ) → name s w at n → word_at s w at ≡ Some n
   unfolding word_at
-  name_taken [] at n e = ap End e
+  name_taken [] at n e = ap Some e
   name_taken (b ∷ w) at n e = rw (one_taken (Byte b) at e.0 e.1) (name_taken w e.0 n e.2)

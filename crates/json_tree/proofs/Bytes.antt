@@ -1,4 +1,5 @@
 -- Bytes and runs of bytes: a byte of a class lies within the text, and a run goes a byte at a time.
+use Rattle.std.specs.Prelude.{Some, None}
 use mathlib.Core.Path.{◌≡◌, refl, sym, ap, ◌∙◌}
 use mathlib.Core.List.{List, [], ◌∷◌}
 use mathlib.Core.Bool.{Bool, true, false, ◌&&◌, false≢true}
@@ -14,7 +15,6 @@ use borrow.Author.Tests.{lt-ltb, le-ltb, le-leb, lt-leb, eq-eqb, ne_eqb, ltb-tru
 use Rattle.json_tree.specs.Grammar.{case, no_zero, in_class, run, past, one_at, word_at, digits_at}
 use Rattle.json_tree.specs.declared.Class.{Class}
 use Rattle.json_tree.specs.declared.Class.TheVariants.{Digit, Hex, Short, Byte}
-use Rattle.json_tree.specs.declared.Out.TheVariants.{End, Bad}
 
 pub ruleset tests = (lt-ltb, le-ltb, le-leb, lt-leb, eq-eqb, ne_eqb)
 
@@ -59,7 +59,7 @@ pub short_not_zero : in_class Short 0 ≡ false
 unfolding in_class
 short_not_zero = refl
 
-pub digits_are : (s : List ℕ) (at : ℕ) → in_class Digit (get_or s at 0) ≡ true → digits_at s at ≡ End (past Digit s at)
+pub digits_are : (s : List ℕ) (at : ℕ) → in_class Digit (get_or s at 0) ≡ true → digits_at s at ≡ Some (past Digit s at)
 unfolding digits_at one_at
 digits_are s at e =
     let h = class_within Digit s at digit_not_zero e in
@@ -68,11 +68,11 @@ digits_are s at e =
 
 -- ---- the bytes of a word
 module _ (s w : List ℕ) (k i : ℕ) where
-  pub word_out : length w ≤ k → word_at s (drop k w) i ≡ End i
+  pub word_out : length w ≤ k → word_at s (drop k w) i ≡ Some i
   unfolding word_at
   word_out h = rw (drop_of_length-le w h)
 
-  pub word_step : k < length w → word_at s (drop k w) i ≡ case (one_at s (Byte (get_or w k 0)) i) (word_at s (drop (k + 1) w)) Bad
+  pub word_step : k < length w → word_at s (drop k w) i ≡ case (one_at s (Byte (get_or w k 0)) i) (word_at s (drop (k + 1) w)) None
   unfolding word_at
   word_step h = rw (add-one, drop-cons w k 0)
 

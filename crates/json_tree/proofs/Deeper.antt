@@ -1,5 +1,6 @@
 -- A deeper limit reads the same tree: a value that holds none begins with no bracket or brace, and items are read by
 -- the values they hold.
+use Rattle.std.specs.Prelude.{None, Option, Some}
 use mathlib.Core.Path.{◌≡◌, refl, sym, ap, ◌∙◌}
 use mathlib.Core.List.{List}
 use mathlib.Core.Bool.{Bool, false}
@@ -12,9 +13,6 @@ use Rattle.json_tree.specs.Grammar.{string_at, scalar_at, start_at, head_at, nex
 use Rattle.json_tree.specs.Tree.{Json, Items, item, Got, none, got, bind, on_leaf, follow, node, items_at, group_at}
 use Rattle.json_tree.specs.Tree.{tree_at}
 use Rattle.json_tree.specs.declared.Class.TheVariants.{Digit, Byte}
-use Rattle.json_tree.specs.declared.Out.{Out}
-use Rattle.json_tree.specs.declared.Out.TheVariants.{End, Bad}
-use Rattle.json_tree.specs.declared.Kind.TheVariants.{None}
 use Rattle.json_tree.specs.declared.Start.{Start}
 use Rattle.json_tree.specs.declared.Start.TheVariants.{Leaf, Empty, Many}
 use Rattle.json_tree.specs.declared.Next.{Next}
@@ -29,7 +27,7 @@ abbrev pub Lacks : ℕ → Type 0
 Lacks b = (in_class (Byte 0x22) b ≡ false) × (in_class (Byte 0x2D) b ≡ false) × (in_class (Byte 0x30) b ≡ false) × (in_class Digit b ≡ false) × (in_class (Byte 0x66) b ≡ false) × (in_class (Byte 0x6E) b ≡ false) × (in_class (Byte 0x74) b ≡ false)
 
 module _ (s : List ℕ) where
-  no_scalar : (b at : ℕ) {m : ℕ} → one_at s (Byte b) at ≡ End m → Lacks b → scalar_at s at ≡ None
+  no_scalar : (b at : ℕ) {m : ℕ} → one_at s (Byte b) at ≡ Some m → Lacks b → scalar_at s at ≡ None
   unfolding scalar_at string_at number_at int_at digits_at literal_at word_at
   no_scalar b at e z =
       simp (
@@ -46,12 +44,12 @@ module _ (s : List ℕ) where
   unfolding token_at in_class
   leaf_starts at {t} {n} e = rw (bad 0x5B (refl, refl, refl, refl, refl, refl, refl), bad 0x7B (refl, refl, refl, refl, refl, refl, refl))
     where
-      bad : (b : ℕ) → Lacks b → one_at s (Byte b) at ≡ Bad
+      bad : (b : ℕ) → Lacks b → one_at s (Byte b) at ≡ None
       bad b z = go (one_at s (Byte b) at) refl
         where
-          go : (o : Out) → one_at s (Byte b) at ≡ o → o ≡ Bad
-          go (End m) q = got_none (sym (ap (on_leaf s at) (no_scalar b at q z)) ∙ e)
-          go Bad q = refl
+          go : (o : Option ℕ) → one_at s (Byte b) at ≡ o → o ≡ None
+          go (Some m) q = got_none (sym (ap (on_leaf s at) (no_scalar b at q z)) ∙ e)
+          go None q = refl
 
   module _ (U X : ℕ → Got Json) (up : (v : ℕ) (t : Json) (n : ℕ) → U v ≡ got t n → X v ≡ got t n) where
     more_items : (named : Bool) (f i : ℕ) (ts : Items) (n : ℕ) → items_at U s named f i ≡ got ts n → items_at X s named f i ≡ got ts n
@@ -75,11 +73,11 @@ module _ (s : List ℕ) where
         body v none p ih q = got_none q
         body v (got t m) p ih q = rw (up v t m p) (rest (next_at s m named) v t ih q)
 
-        head : (o : Out) → case o (λ v. bind (U v) λ t m. follow (item i v t) (next_at s m named) (items_at U s named f)) none ≡ got ts n
+        head : (o : Option ℕ) → case o (λ v. bind (U v) λ t m. follow (item i v t) (next_at s m named) (items_at U s named f)) none ≡ got ts n
             → ((j : ℕ) (us : Items) (m : ℕ) → items_at U s named f j ≡ got us m → items_at X s named f j ≡ got us m)
             → case o (λ v. bind (X v) λ t m. follow (item i v t) (next_at s m named) (items_at X s named f)) none ≡ got ts n
-        head (End v) q ih = body v (U v) refl ih q
-        head Bad q ih = got_none q
+        head (Some v) q ih = body v (U v) refl ih q
+        head None q ih = got_none q
 
     more_group : (at : ℕ) (t : Json) (n : ℕ) (r : Start) → group_at U s at r ≡ got t n → group_at X s at r ≡ got t n
     more_group at t n Leaf e = e

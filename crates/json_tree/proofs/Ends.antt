@@ -1,5 +1,6 @@
 -- What ends where: a byte that is taken lies within the text, so what begins with one ends behind its beginning, and
 -- the characters of a string never run out of fuel.
+use Rattle.std.specs.Prelude.{MatchOption, Option, Some, None}
 use mathlib.Core.Path.{◌≡◌, refl, sym, ap, ◌∙◌}
 use mathlib.Core.List.{List}
 use mathlib.Core.Bool.{Bool, true, false, cond, false≢true, ◌&&◌}
@@ -9,14 +10,13 @@ use native.Mathlib.Omega.{arith}
 use lib.Dec.{ltb}
 use lib.ListN.{length, get_or}
 use borrow.Author.Tests.{eqb-true, lt-ltb, le-ltb}
+use Rattle.std.specs.Option.{unwrap_or}
 use Rattle.json_tree.specs.Grammar.{case, in_class, one_at, hex_at, escaped_at, char_at, chars_up_to, chars_at}
 use Rattle.json_tree.specs.declared.Class.{Class}
 use Rattle.json_tree.specs.declared.Class.TheVariants.{Plain, Hex, Short, Byte}
-use Rattle.json_tree.specs.declared.Out.{Out}
-use Rattle.json_tree.specs.declared.Out.TheVariants.{End, Bad}
 use Rattle.json_tree.proofs.Bytes.{class_within}
 
-pub ends_bad : {A : Type 0} {n : ℕ} → Bad ≡ End n → A
+pub ends_bad : {A : Type 0} {n : ℕ} → None ≡ Some n → A
 ends_bad e = absurd (let z : ◌≡◌ {A = ℕ} 0 1 = cc in omega arith)
 
 pub all_both : (a b : Bool) → (a && b) ≡ true → (a ≡ true) × (b ≡ true)
@@ -24,69 +24,69 @@ all_both true b e = (refl, e)
 all_both false b e = absurd (false≢true e)
 
 -- ---- what a `case` that ends went through
-pub then_end : {n : ℕ} (o : Out) (f : ℕ → Out) → case o f Bad ≡ End n → (m : ℕ) × (o ≡ End m) × (f m ≡ End n)
-then_end (End m) f e = (m, refl, e)
-then_end Bad f e = ends_bad e
+pub then_end : {n : ℕ} (o : Option ℕ) (f : ℕ → Option ℕ) → case o f None ≡ Some n → (m : ℕ) × (o ≡ Some m) × (f m ≡ Some n)
+then_end (Some m) f e = (m, refl, e)
+then_end None f e = ends_bad e
 
 -- where o ends, it ends behind `at`, and within a text of length `size`
-abbrev pub Ends : ℕ → ℕ → Out → Type 0
-Ends at size o = (n : ℕ) → o ≡ End n → (at < n) × (n ≤ size)
+abbrev pub Ends : ℕ → ℕ → Option ℕ → Type 0
+Ends at size o = (n : ℕ) → o ≡ Some n → (at < n) × (n ≤ size)
 
 module _ (at size : ℕ) where
   -- one thing, or another
-  pub ends_or : (o z : Out) → Ends at size o → Ends at size z → Ends at size (case o End z)
-  ends_or (End m) z a b n e = a n e
-  ends_or Bad z a b n e = b n e
+  pub ends_or : (o z : Option ℕ) → Ends at size o → Ends at size z → Ends at size (case o Some z)
+  ends_or (Some m) z a b n e = a n e
+  ends_or None z a b n e = b n e
 
   -- one thing, and then another
-  pub ends_then : (o : Out) (f : ℕ → Out) → Ends at size o → ((m : ℕ) → Ends m size (f m)) → Ends at size (case o f Bad)
-  ends_then (End m) f a b n e = let p = a m refl in let q = b m n e in omega arith
-  ends_then Bad f a b n e = ends_bad e
+  pub ends_then : (o : Option ℕ) (f : ℕ → Option ℕ) → Ends at size o → ((m : ℕ) → Ends m size (f m)) → Ends at size (case o f None)
+  ends_then (Some m) f a b n e = let p = a m refl in let q = b m n e in omega arith
+  ends_then None f a b n e = ends_bad e
 
   -- one thing and then another, or a third
-  pub ends_if : (o : Out) (f : ℕ → Out) (z : Out) → Ends at size o → ((m : ℕ) → Ends m size (f m)) → Ends at size z → Ends at size (case o f z)
-  ends_if (End m) f z a b c n e = let p = a m refl in let q = b m n e in omega arith
-  ends_if Bad f z a b c n e = c n e
+  pub ends_if : (o : Option ℕ) (f : ℕ → Option ℕ) (z : Option ℕ) → Ends at size o → ((m : ℕ) → Ends m size (f m)) → Ends at size z → Ends at size (case o f z)
+  ends_if (Some m) f z a b c n e = let p = a m refl in let q = b m n e in omega arith
+  ends_if None f z a b c n e = c n e
 
 module _ (s : List ℕ) where
   pub one_ends : (class : Class) (at : ℕ) → in_class class 0 ≡ false → Ends at (length s) (one_at s class at)
   unfolding one_at
   one_ends class at z = go (in_class class (get_or s at 0)) refl
     where
-      go : (b : Bool) → in_class class (get_or s at 0) ≡ b → Ends at (length s) (cond b (End (at + 1)) Bad)
+      go : (b : Bool) → in_class class (get_or s at 0) ≡ b → Ends at (length s) (cond b (Some (at + 1)) None)
       go true q n e = let h = class_within class s at z q in let w : at + 1 ≡ n = cc in omega arith
       go false q n e = ends_bad e
 
-  pub one_is : (class : Class) (at : ℕ) {n : ℕ} → one_at s class at ≡ End n → (in_class class (get_or s at 0) ≡ true) × (at + 1 ≡ n)
+  pub one_is : (class : Class) (at : ℕ) {n : ℕ} → one_at s class at ≡ Some n → (in_class class (get_or s at 0) ≡ true) × (at + 1 ≡ n)
   unfolding one_at
   one_is class at {n} e = go (in_class class (get_or s at 0)) e
     where
-      go : (b : Bool) → cond b (End (at + 1)) Bad ≡ End n → (b ≡ true) × (at + 1 ≡ n)
+      go : (b : Bool) → cond b (Some (at + 1)) None ≡ Some n → (b ≡ true) × (at + 1 ≡ n)
       go true q = (refl, cc)
       go false q = ends_bad q
 
-  pub one_of : (class : Class) (at : ℕ) → in_class class (get_or s at 0) ≡ true → one_at s class at ≡ End (at + 1)
+  pub one_of : (class : Class) (at : ℕ) → in_class class (get_or s at 0) ≡ true → one_at s class at ≡ Some (at + 1)
   unfolding one_at
   one_of class at e = rw e
 
-  pub one_not : (class : Class) (at : ℕ) → in_class class (get_or s at 0) ≡ false → one_at s class at ≡ Bad
+  pub one_not : (class : Class) (at : ℕ) → in_class class (get_or s at 0) ≡ false → one_at s class at ≡ None
   unfolding one_at
   one_not class at e = rw e
 
-  pub byte_is : (b at : ℕ) {n : ℕ} → one_at s (Byte b) at ≡ End n → get_or s at 0 ≡ b
+  pub byte_is : (b at : ℕ) {n : ℕ} → one_at s (Byte b) at ≡ Some n → get_or s at 0 ≡ b
   unfolding in_class
   byte_is b at e = eqb-true _ _ (one_is (Byte b) at e).0
 
   -- the byte b is of no class that lacks it, and a byte of such a class is not b
-  pub byte_not : (b : ℕ) (class : Class) (at : ℕ) {n : ℕ} → in_class class b ≡ false → one_at s (Byte b) at ≡ End n → one_at s class at ≡ Bad
+  pub byte_not : (b : ℕ) (class : Class) (at : ℕ) {n : ℕ} → in_class class b ≡ false → one_at s (Byte b) at ≡ Some n → one_at s class at ≡ None
   byte_not b class at z e = one_not class at (ap (in_class class) (byte_is b at e) ∙ z)
 
-  pub not_byte : (b : ℕ) (class : Class) (at : ℕ) {n : ℕ} → in_class class b ≡ false → one_at s class at ≡ End n → one_at s (Byte b) at ≡ Bad
+  pub not_byte : (b : ℕ) (class : Class) (at : ℕ) {n : ℕ} → in_class class b ≡ false → one_at s class at ≡ Some n → one_at s (Byte b) at ≡ None
   not_byte b class at z e = go (one_at s (Byte b) at) refl
     where
-      go : (o : Out) → one_at s (Byte b) at ≡ o → o ≡ Bad
-      go (End m) q = absurd (false≢true (sym z ∙ sym (ap (in_class class) (byte_is b at q)) ∙ (one_is class at e).0))
-      go Bad q = refl
+      go : (o : Option ℕ) → one_at s (Byte b) at ≡ o → o ≡ None
+      go (Some m) q = absurd (false≢true (sym z ∙ sym (ap (in_class class) (byte_is b at q)) ∙ (one_is class at e).0))
+      go None q = refl
 
   pub hex_ends : (at : ℕ) → Ends at (length s) (hex_at s at)
   unfolding hex_at in_class
@@ -97,11 +97,11 @@ module _ (s : List ℕ) where
   escaped_ends at = ends_then at _ _ _ (one_ends (Byte 0x5C) at refl) λ n. ends_if n _ _ _ _ (one_ends (Byte 0x75) n refl) hex_ends (one_ends Short n refl)
 
   -- ---- char: the 0 past the end is none
-  pub char_inside : (at : ℕ) → at < length s → char_at s at ≡ case (one_at s Plain at) End (escaped_at s at)
+  pub char_inside : (at : ℕ) → at < length s → char_at s at ≡ case (one_at s Plain at) Some (escaped_at s at)
   unfolding char_at
   char_inside at h = rw (lt-ltb at (length s) h)
 
-  pub char_outside : (at : ℕ) → length s ≤ at → char_at s at ≡ Bad
+  pub char_outside : (at : ℕ) → length s ≤ at → char_at s at ≡ None
   unfolding char_at
   char_outside at h = rw (le-ltb at (length s) h)
 
@@ -112,11 +112,11 @@ module _ (s : List ℕ) where
   ]
 
   -- a quotation mark is none
-  pub char_quote : (at : ℕ) → get_or s at 0 ≡ 0x22 → char_at s at ≡ Bad
+  pub char_quote : (at : ℕ) → get_or s at 0 ≡ 0x22 → char_at s at ≡ None
   unfolding char_at escaped_at one_at in_class
   char_quote at e = go (ltb at (length s))
     where
-      go : (b : Bool) → cond b (case (one_at s Plain at) End (escaped_at s at)) Bad ≡ Bad
+      go : (b : Bool) → cond b (case (one_at s Plain at) Some (escaped_at s at)) None ≡ None
       go true = rw e
       go false = refl
 
@@ -125,16 +125,16 @@ module _ (s : List ℕ) where
   unfolding chars_up_to
   enough zero at h = go (char_at s at) refl
     where
-      go : (o : Out) → char_at s at ≡ o → case o (λ n. n) at ≡ at
-      go (End n) e = let q = char_ends at n e in omega arith
-      go Bad e = refl
+      go : (o : Option ℕ) → char_at s at ≡ o → case o (λ n. n) at ≡ at
+      go (Some n) e = let q = char_ends at n e in omega arith
+      go None e = refl
   enough (suc f) at h = go (char_at s at) refl λ n k. enough f n k
     where
-      go : (o : Out) → char_at s at ≡ o → ((n : ℕ) → length s ≤ f + n → chars_up_to (suc f) s n ≡ chars_up_to f s n) → case o (chars_up_to (suc f) s) at ≡ case o (chars_up_to f s) at
-      go (End n) e ih = let q = char_ends at n e in ih n (omega arith)
-      go Bad e ih = refl
+      go : (o : Option ℕ) → char_at s at ≡ o → ((n : ℕ) → length s ≤ f + n → chars_up_to (suc f) s n ≡ chars_up_to f s n) → case o (chars_up_to (suc f) s) at ≡ case o (chars_up_to f s) at
+      go (Some n) e ih = let q = char_ends at n e in ih n (omega arith)
+      go None e ih = refl
 
-  pub chars_more : (at n : ℕ) → char_at s at ≡ End n → chars_at s n ≡ chars_at s at
+  pub chars_more : (at n : ℕ) → char_at s at ≡ Some n → chars_at s n ≡ chars_at s at
   unfolding chars_at chars_up_to
   chars_more at n e = go (length s) refl
     where
@@ -142,7 +142,7 @@ module _ (s : List ℕ) where
       go zero q = let h = char_ends at n e in absurd (omega arith)
       go (suc f) q = let h = char_ends at n e in enough f n (omega arith) ∙ rw e
 
-  pub chars_none : (at : ℕ) → char_at s at ≡ Bad → chars_at s at ≡ at
+  pub chars_none : (at : ℕ) → char_at s at ≡ None → chars_at s at ≡ at
   unfolding chars_at chars_up_to
   chars_none at e = go (length s)
     where
@@ -152,7 +152,7 @@ module _ (s : List ℕ) where
 
   -- ---- the same by the byte that stands there
   module _ (at : ℕ) where
-    pub char_plain : at < length s → in_class Plain (get_or s at 0) ≡ true → char_at s at ≡ End (at + 1)
+    pub char_plain : at < length s → in_class Plain (get_or s at 0) ≡ true → char_at s at ≡ Some (at + 1)
     char_plain h e = rw (char_inside at h, one_of Plain at e)
 
     pub char_escaped : at < length s → in_class Plain (get_or s at 0) ≡ false → char_at s at ≡ escaped_at s at
@@ -171,7 +171,22 @@ module _ (s : List ℕ) where
       let y : at + 1 + 1 ≡ at + 2 = omega arith in
       let z : at + 2 + 1 ≡ at + 3 = omega arith in
       let w : at + 3 + 1 ≡ at + 4 = omega arith in
-      chars_more (at + 3) (at + 4) (char_plain (at + 3) (omega arith) d ∙ ap End w)
-      ∙ chars_more (at + 2) (at + 3) (char_plain (at + 2) (omega arith) c ∙ ap End z)
-      ∙ chars_more (at + 1) (at + 2) (char_plain (at + 1) (omega arith) b ∙ ap End y)
+      chars_more (at + 3) (at + 4) (char_plain (at + 3) (omega arith) d ∙ ap Some w)
+      ∙ chars_more (at + 2) (at + 3) (char_plain (at + 2) (omega arith) c ∙ ap Some z)
+      ∙ chars_more (at + 1) (at + 2) (char_plain (at + 1) (omega arith) b ∙ ap Some y)
       ∙ chars_more at (at + 1) (char_plain at (omega arith) a)
+
+-- ---- an Option's methods
+-- what `unwrap_or` gives is what `opt_at` says
+pub case_or : (x : Option ℕ) (z : ℕ) → unwrap_or x z ≡ case x (λ n. n) z
+case_or (Some n) z = refl
+case_or None z = refl
+
+-- the first of two that stands: `or_else`
+pub or_else_case : {P : Type 0} {r z : Option ℕ} (o : Option ℕ) → MatchOption o P (λ v. r ≡ Some v) → (P → r ≡ z) → r ≡ case o Some z
+or_else_case (Some n) m f = m
+or_else_case None m f = f m
+
+pub case_assoc : (a b z : Option ℕ) → case (case a Some b) Some z ≡ case a Some (case b Some z)
+case_assoc (Some n) b z = refl
+case_assoc None b z = refl

@@ -1,4 +1,5 @@
 -- A character is known by its bytes, so what stands between quotation marks is a spelling wherever it stands.
+use Rattle.std.specs.Prelude.{Option, Some, None}
 use mathlib.Core.Path.{◌≡◌, refl, sym, ap, ◌∙◌}
 use mathlib.Core.List.{List}
 use mathlib.Core.Bool.{true}
@@ -12,43 +13,41 @@ use Rattle.json_tree.specs.Grammar.{case, in_class, one_at, hex_at, escaped_at, 
 use Rattle.json_tree.specs.Grammar.{string_at}
 use Rattle.json_tree.specs.declared.Class.{Class}
 use Rattle.json_tree.specs.declared.Class.TheVariants.{Plain, Hex, Short, Byte}
-use Rattle.json_tree.specs.declared.Out.{Out}
-use Rattle.json_tree.specs.declared.Out.TheVariants.{End, Bad}
 use Rattle.json_tree.proofs.Ends.{ends_bad, then_end, one_is, one_of, byte_not, not_byte, one_ends, char_inside}
 use Rattle.json_tree.proofs.Ends.{char_outside, char_ends, chars_more, chars_past}
 
 -- ---- char and *char as RFC 8259 has them, with the bytes of `Plain` for unescaped
 pub data Char (s : List ℕ) : ℕ → ℕ → Type 0 where
-  plain : {at n : ℕ} → at < length s → one_at s Plain at ≡ End n → Char s at n
-  short : {at a n : ℕ} → one_at s (Byte 0x5C) at ≡ End a → one_at s Short a ≡ End n → Char s at n
-  code : {at a b c d e n : ℕ} → one_at s (Byte 0x5C) at ≡ End a → one_at s (Byte 0x75) a ≡ End b
-      → one_at s Hex b ≡ End c → one_at s Hex c ≡ End d → one_at s Hex d ≡ End e → one_at s Hex e ≡ End n → Char s at n
+  plain : {at n : ℕ} → at < length s → one_at s Plain at ≡ Some n → Char s at n
+  short : {at a n : ℕ} → one_at s (Byte 0x5C) at ≡ Some a → one_at s Short a ≡ Some n → Char s at n
+  code : {at a b c d e n : ℕ} → one_at s (Byte 0x5C) at ≡ Some a → one_at s (Byte 0x75) a ≡ Some b
+      → one_at s Hex b ≡ Some c → one_at s Hex c ≡ Some d → one_at s Hex d ≡ Some e → one_at s Hex e ≡ Some n → Char s at n
 
 pub data Chars (s : List ℕ) : ℕ → ℕ → Type 0 where
   stop : {at : ℕ} → Chars s at at
   more : {at m n : ℕ} → Char s at m → Chars s m n → Chars s at n
 
 module _ (s : List ℕ) where
-  pub char_sound : (at n : ℕ) → char_at s at ≡ End n → Char s at n
+  pub char_sound : (at n : ℕ) → char_at s at ≡ Some n → Char s at n
   unfolding escaped_at hex_at
   char_sound at n e = elim (dec_lt at (length s)) [
     | yes h ↦ unescaped h (one_at s Plain at) refl (sym (char_inside s at h) ∙ e)
     | no h ↦ ends_bad (sym (char_outside s at (omega arith)) ∙ e)
   ]
     where
-      letter : (a : ℕ) (o : Out) → one_at s (Byte 0x5C) at ≡ End a → one_at s (Byte 0x75) a ≡ o → case o (hex_at s) (one_at s Short a) ≡ End n → Char s at n
-      letter a (End b) p q z =
+      letter : (a : ℕ) (o : Option ℕ) → one_at s (Byte 0x5C) at ≡ Some a → one_at s (Byte 0x75) a ≡ o → case o (hex_at s) (one_at s Short a) ≡ Some n → Char s at n
+      letter a (Some b) p q z =
           let (c, e₁, z₁) = then_end (one_at s Hex b) _ z in
           let (d, e₂, z₂) = then_end (one_at s Hex c) _ z₁ in
           let (f, e₃, e₄) = then_end (one_at s Hex d) _ z₂ in
           code p q e₁ e₂ e₃ e₄
-      letter a Bad p q z = short p z
+      letter a None p q z = short p z
 
-      unescaped : at < length s → (o : Out) → one_at s Plain at ≡ o → case o End (escaped_at s at) ≡ End n → Char s at n
-      unescaped h (End m) p z = plain h (p ∙ z)
-      unescaped h Bad p z = let (a, q, y) = then_end (one_at s (Byte 0x5C) at) _ z in letter a (one_at s (Byte 0x75) a) q refl y
+      unescaped : at < length s → (o : Option ℕ) → one_at s Plain at ≡ o → case o Some (escaped_at s at) ≡ Some n → Char s at n
+      unescaped h (Some m) p z = plain h (p ∙ z)
+      unescaped h None p z = let (a, q, y) = then_end (one_at s (Byte 0x5C) at) _ z in letter a (one_at s (Byte 0x75) a) q refl y
 
-  pub char_taken : (at n : ℕ) → Char s at n → char_at s at ≡ End n
+  pub char_taken : (at n : ℕ) → Char s at n → char_at s at ≡ Some n
   unfolding escaped_at hex_at in_class
   char_taken at n (plain h e) = rw (char_inside s at h, e)
   char_taken at n (short {a = a} e f) =
@@ -63,9 +62,9 @@ module _ (s : List ℕ) where
   reach zero at = stop
   reach (suc f) at = go (char_at s at) refl (reach f)
     where
-      go : (o : Out) → char_at s at ≡ o → ((m : ℕ) → Chars s m (chars_up_to f s m)) → Chars s at (case o (chars_up_to f s) at)
-      go (End m) e ih = more (char_sound at m e) (ih m)
-      go Bad e ih = stop
+      go : (o : Option ℕ) → char_at s at ≡ o → ((m : ℕ) → Chars s m (chars_up_to f s m)) → Chars s at (case o (chars_up_to f s) at)
+      go (Some m) e ih = more (char_sound at m e) (ih m)
+      go None e ih = stop
 
   pub chars_sound : (at : ℕ) → Chars s at (chars_at s at)
   unfolding chars_at
@@ -82,12 +81,12 @@ module _ (s : List ℕ) where
 -- ---- the bytes of s from lo to hi stand in t, each at its place by g
 module _ (s t : List ℕ) (g : ℕ → ℕ) (lo hi : ℕ) (within : (x : ℕ) → lo ≤ x → x < hi → g x < length t)
     (same : (x : ℕ) → lo ≤ x → x < hi → get_or t (g x) 0 ≡ get_or s x 0) (step : (x : ℕ) → lo ≤ x → g x + 1 ≡ g (x + 1)) where
-  one_moved : (class : Class) (x m : ℕ) → lo ≤ x → m ≤ hi → one_at s class x ≡ End m → (one_at t class (g x) ≡ End (g m)) × (lo ≤ m)
+  one_moved : (class : Class) (x m : ℕ) → lo ≤ x → m ≤ hi → one_at s class x ≡ Some m → (one_at t class (g x) ≡ Some (g m)) × (lo ≤ m)
   one_moved class x m l h e =
       let (q, w) = one_is s class x e in
       let k : x < hi = omega arith in
       let p : in_class class (get_or t (g x) 0) ≡ true = rw (same x l k) q in
-      (one_of t class (g x) p ∙ ap End (step x l ∙ ap g w), omega arith)
+      (one_of t class (g x) p ∙ ap Some (step x l ∙ ap g w), omega arith)
 
   char_moved : (x m : ℕ) → lo ≤ x → m ≤ hi → Char s x m → Char t (g x) (g m)
   unfolding in_class
@@ -118,20 +117,20 @@ module _ (s t : List ℕ) (g : ℕ → ℕ) (lo hi : ℕ) (within : (x : ℕ) �
 
 -- ---- strings
 -- a string is a quotation mark, characters, and a quotation mark
-pub string_parts : (s : List ℕ) (at n : ℕ) → string_at s at ≡ End n
-    → (one_at s (Byte 0x22) at ≡ End (at + 1)) × (chars_at s (at + 1) + 1 ≡ n) × (one_at s (Byte 0x22) (chars_at s (at + 1)) ≡ End n) × (at + 2 ≤ n) × (n ≤ length s)
+pub string_parts : (s : List ℕ) (at n : ℕ) → string_at s at ≡ Some n
+    → (one_at s (Byte 0x22) at ≡ Some (at + 1)) × (chars_at s (at + 1) + 1 ≡ n) × (one_at s (Byte 0x22) (chars_at s (at + 1)) ≡ Some n) × (at + 2 ≤ n) × (n ≤ length s)
 unfolding string_at in_class
 string_parts s at n e =
     let (m, p, q) = then_end (one_at s (Byte 0x22) at) _ e in
     let w = (one_is s (Byte 0x22) at p).1 in
-    let q' : one_at s (Byte 0x22) (chars_at s (at + 1)) ≡ End n = rw w q in
+    let q' : one_at s (Byte 0x22) (chars_at s (at + 1)) ≡ Some n = rw w q in
     let l = (one_is s (Byte 0x22) (chars_at s (at + 1)) q').1 in
     let k = chars_from_lem s (at + 1) (chars_at s (at + 1)) (chars_sound s (at + 1)) in
     let h = one_ends s (Byte 0x22) (chars_at s (at + 1)) refl n q' in
-    (p ∙ ap End (sym w), l, q', omega arith, h.1)
+    (p ∙ ap Some (sym w), l, q', omega arith, h.1)
 
 -- what stands between the quotation marks of a string is a spelling
-pub string_spelled : (s : List ℕ) (at n : ℕ) → string_at s at ≡ End n → is_spelling (take (n - at - 2) (drop (at + 1) s)) ≡ true
+pub string_spelled : (s : List ℕ) (at n : ℕ) → string_at s at ≡ Some n → is_spelling (take (n - at - 2) (drop (at + 1) s)) ≡ true
 string_spelled s at n e = eq-eqb _ _ (ap (chars_at p) zeroth ∙ sym (chars_taken p (g (at + 1)) (g m) moved) ∙ chars_past p (g m) (omega (arith, size)) ∙ sym size)
   where
     m : ℕ

@@ -1,5 +1,6 @@
 -- A tree a step at a time: what begin's answer says of the tree at a place, and what head, value and after say of the
 -- items from a place on.
+use Rattle.std.specs.Prelude.{Option, Some, None}
 use mathlib.Core.Path.{◌≡◌, refl, sym, ap, ◌∙◌}
 use mathlib.Core.List.{List}
 use mathlib.Core.Bool.{Bool}
@@ -11,8 +12,6 @@ use lib.ListN.{length}
 use Rattle.json_tree.specs.Grammar.{scalar_at, start_at, head_at, next_at}
 use Rattle.json_tree.specs.Tree.{Json, Items, nil, item, fold_items, Got, none, got, end_of, bind, on_leaf, follow}
 use Rattle.json_tree.specs.Tree.{items_at, node, group_at, tree_at}
-use Rattle.json_tree.specs.declared.Out.{Out}
-use Rattle.json_tree.specs.declared.Out.TheVariants.{End, Bad}
 use Rattle.json_tree.specs.declared.Start.{Start}
 use Rattle.json_tree.specs.declared.Start.TheVariants.{Many}
 use Rattle.json_tree.specs.declared.Next.{Next}
@@ -41,15 +40,15 @@ module _ (value : ℕ → Got Json) (s : List ℕ) (named : Bool) (k i : ℕ) wh
   unfolding items_at
   items_gone h = let z : length s - k ≡ 0 = omega arith in rw z
 
-  pub items_unnamed : k < length s → head_at s i named ≡ Bad → items_at value s named (length s - k) i ≡ none
+  pub items_unnamed : k < length s → head_at s i named ≡ None → items_at value s named (length s - k) i ≡ none
   unfolding items_at
   items_unnamed h e = rw (one_more h, items_at, e)
 
-  pub items_none : (v : ℕ) → k < length s → head_at s i named ≡ End v → value v ≡ none → items_at value s named (length s - k) i ≡ none
+  pub items_none : (v : ℕ) → k < length s → head_at s i named ≡ Some v → value v ≡ none → items_at value s named (length s - k) i ≡ none
   unfolding items_at
   items_none v h e w = rw (one_more h, items_at, e, w)
 
-  pub items_are : (v n : ℕ) (t : Json) (x : Next) → k < length s → head_at s i named ≡ End v → value v ≡ got t n → next_at s n named ≡ x
+  pub items_are : (v n : ℕ) (t : Json) (x : Next) → k < length s → head_at s i named ≡ Some v → value v ≡ got t n → next_at s n named ≡ x
       → items_at value s named (length s - k) i ≡ follow (item i v t) x (items_at value s named (length s - (k + 1)))
   unfolding items_at
   items_are v n t x h e w y = rw (one_more h, items_at, e, w, y)
@@ -80,23 +79,23 @@ module _ {A B : Type 0} {W : A → Got Items → B} {f : A → ℕ → ℕ → J
     pub view_gone : length s ≤ k → W a (items_at value s named (length s - k) i) ≡ z
     view_gone l = ap (W a) (items_gone value s named k i l) ∙ view.on_none a
 
-    pub view_unnamed : k < length s → head_at s i named ≡ Bad → W a (items_at value s named (length s - k) i) ≡ z
+    pub view_unnamed : k < length s → head_at s i named ≡ None → W a (items_at value s named (length s - k) i) ≡ z
     view_unnamed l e = ap (W a) (items_unnamed value s named k i l e) ∙ view.on_none a
 
-    pub view_bad : (v : ℕ) → k < length s → head_at s i named ≡ End v → end_of (value v) ≡ Bad → W a (items_at value s named (length s - k) i) ≡ z
+    pub view_bad : (v : ℕ) → k < length s → head_at s i named ≡ Some v → end_of (value v) ≡ None → W a (items_at value s named (length s - k) i) ≡ z
     view_bad v l e w = go (value v) refl w
       where
-        go : (g : Got Json) → value v ≡ g → end_of g ≡ Bad → W a (items_at value s named (length s - k) i) ≡ z
+        go : (g : Got Json) → value v ≡ g → end_of g ≡ None → W a (items_at value s named (length s - k) i) ≡ z
         go none q y = ap (W a) (items_none value s named k i v l e q) ∙ view.on_none a
         go (got t n) q y = absurd (let c : ◌≡◌ {A = ℕ} 0 1 = cc in omega arith)
 
     -- b is what f makes of the item, whatever its tree is
-    pub view_next : (v n : ℕ) (x : Next) (b : A) → k < length s → head_at s i named ≡ End v → end_of (value v) ≡ End n → next_at s n named ≡ x
+    pub view_next : (v n : ℕ) (x : Next) (b : A) → k < length s → head_at s i named ≡ Some v → end_of (value v) ≡ Some n → next_at s n named ≡ x
         → ((t : Json) → value v ≡ got t n → b ≡ f a i v t)
         → W a (items_at value s named (length s - k) i) ≡ turned x z (h b) (λ j. W b (items_at value s named (length s - (k + 1)) j))
     view_next v n x b l e w y made = go (value v) refl w
       where
-        go : (g : Got Json) → value v ≡ g → end_of g ≡ End n → W a (items_at value s named (length s - k) i) ≡ turned x z (h b) (λ j. W b (items_at value s named (length s - (k + 1)) j))
+        go : (g : Got Json) → value v ≡ g → end_of g ≡ Some n → W a (items_at value s named (length s - k) i) ≡ turned x z (h b) (λ j. W b (items_at value s named (length s - (k + 1)) j))
         go none q r = absurd (let c : ◌≡◌ {A = ℕ} 0 1 = cc in omega arith)
         go (got t m) q r =
             let c : m ≡ n = cc in
@@ -119,20 +118,20 @@ module _ {A B : Type 0} (f : A → ℕ → ℕ → Json → A) (z : B) (h : A �
   pub fold_gone : length s ≤ k → fold_to f z h a (items_at value s named (length s - k) i) ≡ z
   fold_gone = view_gone (fold_view f z h) a value s named k i
 
-  pub fold_unnamed : k < length s → head_at s i named ≡ Bad → fold_to f z h a (items_at value s named (length s - k) i) ≡ z
+  pub fold_unnamed : k < length s → head_at s i named ≡ None → fold_to f z h a (items_at value s named (length s - k) i) ≡ z
   fold_unnamed = view_unnamed (fold_view f z h) a value s named k i
 
-  pub fold_bad : (v : ℕ) → k < length s → head_at s i named ≡ End v → end_of (value v) ≡ Bad → fold_to f z h a (items_at value s named (length s - k) i) ≡ z
+  pub fold_bad : (v : ℕ) → k < length s → head_at s i named ≡ Some v → end_of (value v) ≡ None → fold_to f z h a (items_at value s named (length s - k) i) ≡ z
   fold_bad = view_bad (fold_view f z h) a value s named k i
 
-  pub fold_next : (v n : ℕ) (x : Next) (b : A) → k < length s → head_at s i named ≡ End v → end_of (value v) ≡ End n → next_at s n named ≡ x
+  pub fold_next : (v n : ℕ) (x : Next) (b : A) → k < length s → head_at s i named ≡ Some v → end_of (value v) ≡ Some n → next_at s n named ≡ x
       → ((t : Json) → value v ≡ got t n → b ≡ f a i v t)
       → fold_to f z h a (items_at value s named (length s - k) i) ≡ turned x z (h b) (λ j. fold_to f z h b (items_at value s named (length s - (k + 1)) j))
   fold_next = view_next (fold_view f z h) a value s named k i
 
 -- ---- where the items end
-abbrev pub end_items : Got Items → Out
-end_items g = fold_to (λ a p v t. a) Bad (λ a n. End n) (tt {0}) g
+abbrev pub end_items : Got Items → Option ℕ
+end_items g = fold_to (λ a p v t. a) None (λ a n. Some n) (tt {0}) g
 
 pub end_items_lem : (f : Items → Json) (g : Got Items) → end_items g ≡ end_of (bind g λ ts n. got (f ts) n)
 end_items_lem f none = refl

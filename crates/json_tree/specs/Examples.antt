@@ -1,9 +1,8 @@
 -- Texts, and what the definitions say of them, by computation.
-use Rattle.std.specs.Prelude.{◌≡◌, refl, List, [], ◌∷◌, ◌++◌, Bool, true, false, cond, not, ℕ, zero, suc}
+use Rattle.std.specs.Prelude.{◌≡◌, refl, List, [], ◌∷◌, ◌++◌, Bool, true, false, cond, not, ℕ, zero, suc, Some, None}
 use Prim.Native.Char.{code}
 use Prim.Native.String.{String, [] as none_left, ◌∷◌ as ◌then◌}
 use Rattle.json_tree.specs.declared.Class.TheVariants.{Space, Digit, Plain, Hex, Short, Exponent, Sign}
-use Rattle.json_tree.specs.declared.Out.TheVariants.{End, Bad}
 use Rattle.json_tree.specs.Grammar.{is_unescaped, in_class, run, past, one_at, token_at, word_at, literal_at, digits_at}
 use Rattle.json_tree.specs.Grammar.{int_at, frac_at}
 use Rattle.json_tree.specs.Grammar.{exp_at, number_at, hex_at, escaped_at, char_at, chars_up_to, chars_at, string_at}
@@ -79,8 +78,8 @@ unfolding in_class run past one_at token_at word_at literal_at digits_at int_at 
 raw_spellings = (refl, refl, refl, refl, refl, refl)
 
 -- and the end of a text is no U+0000: "ab without its second quotation mark, and with 00 in it
-text_ends : (string_at (bytes "\"ab") 0 ≡ Bad) × (string_at (0x22 ∷ 0x00 ∷ []) 0 ≡ Bad) ×
-    (string_at (0x22 ∷ 0x00 ∷ 0x22 ∷ []) 0 ≡ End 3)
+text_ends : (string_at (bytes "\"ab") 0 ≡ None) × (string_at (0x22 ∷ 0x00 ∷ []) 0 ≡ None) ×
+    (string_at (0x22 ∷ 0x00 ∷ 0x22 ∷ []) 0 ≡ Some 3)
 unfolding in_class one_at hex_at escaped_at char_at chars_up_to chars_at string_at
 text_ends = (refl, refl, refl)
 

@@ -1,13 +1,11 @@
 -- RFC 8259, sections 2 to 7, but for the values that hold values (Tree.antt): for each rule a function from a place in
 -- the text to the place after what stands there. Past the end stands 0, which no rule takes but *char, and that tests
 -- the end.
-use Rattle.std.specs.Prelude.{◌≡◌, ℕ, zero, suc, ◌+◌, ◌≤◌, List, [], ◌∷◌, Bool, true, false, cond, ◌&&◌, ◌||◌, length, get_or, drop, eqb, leb, ltb}
+use Rattle.std.specs.Prelude.{◌≡◌, ℕ, zero, suc, ◌+◌, ◌≤◌, List, [], ◌∷◌, Bool, true, false, cond, ◌&&◌, ◌||◌, length, get_or, drop, eqb, leb, ltb, Option, Some, None}
 use Rattle.json_tree.specs.declared.Class.{Class}
 use Rattle.json_tree.specs.declared.Class.TheVariants.{Space, Digit, Plain, Hex, Short, Exponent, Sign, Byte}
-use Rattle.json_tree.specs.declared.Out.{Out}
-use Rattle.json_tree.specs.declared.Out.TheVariants.{End, Bad}
 use Rattle.json_tree.specs.declared.Kind.{Kind}
-use Rattle.json_tree.specs.declared.Kind.TheVariants.{Str, Num, Word, None}
+use Rattle.json_tree.specs.declared.Kind.TheVariants.{Str, Num, Word}
 use Rattle.json_tree.specs.declared.Start.{Start}
 use Rattle.json_tree.specs.declared.Start.TheVariants.{Leaf, Empty, Many}
 use Rattle.json_tree.specs.declared.Next.{Next}
@@ -15,9 +13,9 @@ use Rattle.json_tree.specs.declared.Next.TheVariants.{More, Done, Wrong}
 use Rattle.wire.specs.Bytes.{Bytes, Place, is_control}
 
 -- f of the end, or z where there is none
-abbrev pub case : {A : Type 0} (x : Out) (f : ℕ → A) (z : A) → A
-case (End n) f z = f n
-case Bad f z = z
+abbrev pub case : {A : Type 0} (x : Option ℕ) (f : ℕ → A) (z : A) → A
+case (Some n) f z = f n
+case None f z = z
 
 -- ---- bytes
 -- %xlow-high
@@ -58,8 +56,8 @@ unfoldable pub past : (class : Class) (s : Bytes) (at : Place) → ℕ
 past class s at = at + run class (drop at s)
 
 -- class
-unfoldable pub one_at : (s : Bytes) (class : Class) (at : Place) → Out
-one_at s class at = cond (in_class class (get_or s at 0)) (End (at + 1)) Bad
+unfoldable pub one_at : (s : Bytes) (class : Class) (at : Place) → Option ℕ
+one_at s class at = cond (in_class class (get_or s at 0)) (Some (at + 1)) None
 
 -- [ class ]
 abbrev pub opt_at : (s : Bytes) (class : Class) (at : Place) → ℕ
@@ -71,14 +69,14 @@ abbrev pub ws_at : Bytes → Place → ℕ
 ws_at s at = past Space s at
 
 -- a structural character, with the ws after it (the ws before it belongs to what stands before)
-unfoldable pub token_at : (s : Bytes) (b : ℕ) (at : Place) → Out
-token_at s b at = case (one_at s (Byte b) at) (λ n. End (ws_at s n)) Bad
+unfoldable pub token_at : (s : Bytes) (b : ℕ) (at : Place) → Option ℕ
+token_at s b at = case (one_at s (Byte b) at) (λ n. Some (ws_at s n)) None
 
 -- ---- section 3: the literal names
 -- the bytes of w
-unfoldable pub word_at : (s w : Bytes) (at : Place) → Out
-word_at s [] at = End at
-word_at s (b ∷ w) at = case (one_at s (Byte b) at) (word_at s w) Bad
+unfoldable pub word_at : (s w : Bytes) (at : Place) → Option ℕ
+word_at s [] at = Some at
+word_at s (b ∷ w) at = case (one_at s (Byte b) at) (word_at s w) None
 
 -- false = %x66.61.6c.73.65
 abbrev pub false_name : Bytes
@@ -93,42 +91,42 @@ abbrev pub true_name : Bytes
 true_name = 0x74 ∷ 0x72 ∷ 0x75 ∷ 0x65 ∷ []
 
 -- false / null / true
-unfoldable pub literal_at : Bytes → Place → Out
-literal_at s at = case (word_at s false_name at) End (case (word_at s null_name at) End (word_at s true_name at))
+unfoldable pub literal_at : Bytes → Place → Option ℕ
+literal_at s at = case (word_at s false_name at) Some (case (word_at s null_name at) Some (word_at s true_name at))
 
 -- ---- section 6: number = [ minus ] int [ frac ] [ exp ]
 -- 1*DIGIT
-unfoldable pub digits_at : Bytes → Place → Out
-digits_at s at = case (one_at s Digit at) (λ n. End (past Digit s n)) Bad
+unfoldable pub digits_at : Bytes → Place → Option ℕ
+digits_at s at = case (one_at s Digit at) (λ n. Some (past Digit s n)) None
 
 -- int = zero / ( digit1-9 *DIGIT )
-unfoldable pub int_at : Bytes → Place → Out
-int_at s at = case (one_at s (Byte 0x30) at) End (digits_at s at)
+unfoldable pub int_at : Bytes → Place → Option ℕ
+int_at s at = case (one_at s (Byte 0x30) at) Some (digits_at s at)
 
 -- [ frac ], frac = decimal-point 1*DIGIT
-unfoldable pub frac_at : Bytes → Place → Out
-frac_at s at = case (one_at s (Byte 0x2E) at) (digits_at s) (End at)
+unfoldable pub frac_at : Bytes → Place → Option ℕ
+frac_at s at = case (one_at s (Byte 0x2E) at) (digits_at s) (Some at)
 
 -- [ exp ], exp = e [ minus / plus ] 1*DIGIT
-unfoldable pub exp_at : Bytes → Place → Out
-exp_at s at = case (one_at s Exponent at) (λ n. digits_at s (opt_at s Sign n)) (End at)
+unfoldable pub exp_at : Bytes → Place → Option ℕ
+exp_at s at = case (one_at s Exponent at) (λ n. digits_at s (opt_at s Sign n)) (Some at)
 
-unfoldable pub number_at : Bytes → Place → Out
-number_at s at = case (int_at s (opt_at s (Byte 0x2D) at)) (λ n. case (frac_at s n) (exp_at s) Bad) Bad
+unfoldable pub number_at : Bytes → Place → Option ℕ
+number_at s at = case (int_at s (opt_at s (Byte 0x2D) at)) (λ n. case (frac_at s n) (exp_at s) None) None
 
 -- ---- section 7: string = quotation-mark *char quotation-mark
 -- 4HEXDIG
-unfoldable pub hex_at : Bytes → Place → Out
-hex_at s at = case (one_at s Hex at) (λ a. case (one_at s Hex a) (λ b. case (one_at s Hex b) (one_at s Hex) Bad) Bad) Bad
+unfoldable pub hex_at : Bytes → Place → Option ℕ
+hex_at s at = case (one_at s Hex at) (λ a. case (one_at s Hex a) (λ b. case (one_at s Hex b) (one_at s Hex) None) None) None
 
 -- escape ( one of eight / %x75 4HEXDIG )
-unfoldable pub escaped_at : Bytes → Place → Out
-escaped_at s at = case (one_at s (Byte 0x5C) at) (λ n. case (one_at s (Byte 0x75) n) (hex_at s) (one_at s Short n)) Bad
+unfoldable pub escaped_at : Bytes → Place → Option ℕ
+escaped_at s at = case (one_at s (Byte 0x5C) at) (λ n. case (one_at s (Byte 0x75) n) (hex_at s) (one_at s Short n)) None
 
 -- char = unescaped / escape ( .. ), and unescaped as `Plain` has it. The end of a text is no character: the 0 past it
 -- would be U+0000
-unfoldable pub char_at : Bytes → Place → Out
-char_at s at = cond (ltb at (length s)) (case (one_at s Plain at) End (escaped_at s at)) Bad
+unfoldable pub char_at : Bytes → Place → Option ℕ
+char_at s at = cond (ltb at (length s)) (case (one_at s Plain at) Some (escaped_at s at)) None
 
 -- *char, of at most f characters
 unfoldable pub chars_up_to : (f : ℕ) (s : Bytes) (at : Place) → ℕ
@@ -139,8 +137,8 @@ chars_up_to (suc f) s at = case (char_at s at) (chars_up_to f s) at
 unfoldable pub chars_at : Bytes → Place → ℕ
 chars_at s at = chars_up_to (length s) s at
 
-unfoldable pub string_at : Bytes → Place → Out
-string_at s at = case (one_at s (Byte 0x22) at) (λ n. one_at s (Byte 0x22) (chars_at s n)) Bad
+unfoldable pub string_at : Bytes → Place → Option ℕ
+string_at s at = case (one_at s (Byte 0x22) at) (λ n. one_at s (Byte 0x22) (chars_at s n)) None
 
 -- what may stand between quotation marks: *char and no more
 abbrev pub is_spelling : Bytes → Bool
@@ -148,8 +146,8 @@ is_spelling p = eqb (chars_at p 0) (length p)
 
 -- ---- section 3: values that hold no value
 -- false / null / true / number / string, its kind and the place after it
-unfoldable pub scalar_at : Bytes → Place → Kind
-scalar_at s at = case (string_at s at) Str (case (number_at s at) Num (case (literal_at s at) Word None))
+unfoldable pub scalar_at : Bytes → Place → Option Kind
+scalar_at s at = case (string_at s at) (λ n. Some (Str n)) (case (number_at s at) (λ n. Some (Num n)) (case (literal_at s at) (λ n. Some (Word n)) None))
 
 -- ---- sections 4 and 5: objects and arrays, whose items are members with their names, and values
 -- end-object, end-array
@@ -167,9 +165,9 @@ start_at s at =
     case (token_at s 0x5B at) (λ n. opened_at s n false) (case (token_at s 0x7B at) (λ n. opened_at s n true) Leaf)
 
 -- member = string name-separator value: the place of the value
-abbrev pub head_at : (s : Bytes) (at : Place) (q : Bool) → Out
-head_at s at true = case (string_at s at) (λ n. token_at s 0x3A (ws_at s n)) Bad
-head_at s at false = End at
+abbrev pub head_at : (s : Bytes) (at : Place) (q : Bool) → Option ℕ
+head_at s at true = case (string_at s at) (λ n. token_at s 0x3A (ws_at s n)) None
+head_at s at false = Some at
 
 -- after an item: value-separator and the next item's place, or what closes
 abbrev pub next_at : (s : Bytes) (at : Place) (named : Bool) → Next

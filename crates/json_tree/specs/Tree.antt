@@ -1,10 +1,8 @@
 -- RFC 8259, sections 2 to 5: a text read into a tree, whose leaves are places in the text, each a start and a length.
 -- Every later rule is defined on the tree.
-use Rattle.std.specs.Prelude.{ℕ, zero, suc, ◌+◌, ◌-◌, Bool, true, false, not, ◌&&◌, length, eqb}
-use Rattle.json_tree.specs.declared.Out.{Out}
-use Rattle.json_tree.specs.declared.Out.TheVariants.{End, Bad}
+use Rattle.std.specs.Prelude.{ℕ, zero, suc, ◌+◌, ◌-◌, Bool, true, false, not, ◌&&◌, length, eqb, Option, Some, None}
 use Rattle.json_tree.specs.declared.Kind.{Kind}
-use Rattle.json_tree.specs.declared.Kind.TheVariants.{Str, Num, Word, None}
+use Rattle.json_tree.specs.declared.Kind.TheVariants.{Str, Num, Word}
 use Rattle.json_tree.specs.declared.Start.{Start}
 use Rattle.json_tree.specs.declared.Start.TheVariants.{Leaf, Empty, Many}
 use Rattle.json_tree.specs.declared.Next.{Next}
@@ -37,19 +35,19 @@ pub data Got (A : Type 0) : Type 0 where
   none : Got A
   got : A → ℕ → Got A
 
-abbrev pub end_of : {A : Type 0} → Got A → Out
-end_of none = Bad
-end_of (got t n) = End n
+abbrev pub end_of : {A : Type 0} → Got A → Option ℕ
+end_of none = None
+end_of (got t n) = Some n
 
 abbrev pub bind : {A B : Type 0} → Got A → (A → ℕ → Got B) → Got B
 bind none k = none
 bind (got t n) k = k t n
 
 -- a value that holds no value, and the ws after it
-abbrev pub on_leaf : (s : Bytes) (at : Place) (x : Kind) → Got Json
-on_leaf s at (Str n) = got (str (at + 1) (n - at - 2)) (ws_at s n)
-on_leaf s at (Num n) = got (num at (n - at)) (ws_at s n)
-on_leaf s at (Word n) = got (word at (n - at)) (ws_at s n)
+abbrev pub on_leaf : (s : Bytes) (at : Place) (x : Option Kind) → Got Json
+on_leaf s at (Some (Str n)) = got (str (at + 1) (n - at - 2)) (ws_at s n)
+on_leaf s at (Some (Num n)) = got (num at (n - at)) (ws_at s n)
+on_leaf s at (Some (Word n)) = got (word at (n - at)) (ws_at s n)
 on_leaf s at None = none
 
 abbrev pub follow : (f : Items → Items) (x : Next) (rest : ℕ → Got Items) → Got Items
@@ -79,9 +77,9 @@ unfoldable pub tree_at : (s : Bytes) (d : ℕ) (at : Place) → Got Json
 tree_at s zero at = on_leaf s at (scalar_at s at)
 tree_at s (suc d) at = group_at (tree_at s d) s at (start_at s at)
 
-abbrev pub ends_at : ℕ → Out → Bool
-ends_at k (End n) = eqb n k
-ends_at k Bad = false
+abbrev pub ends_at : ℕ → Option ℕ → Bool
+ends_at k (Some n) = eqb n k
+ends_at k None = false
 
 -- the value of a text
 abbrev pub root : Bytes → Got Json

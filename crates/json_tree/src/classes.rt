@@ -2,7 +2,7 @@
 ghost use Rattle.std.specs.Prelude.{◌≡◌, ◌+◌, ◌<◌, ◌≤◌, true, false, length};
 ghost use Rattle.json_tree.specs.Grammar.{case, in_class, past, one_at, token_at, no_zero, word_at, Skips, Owned};
 
-use crate::{Class, Out};
+use crate::Class;
 
 // Whether a byte of a string stands for itself, with no branch: all do but seven.
 pub(crate) fn own(b: u8) -> bool
@@ -39,9 +39,7 @@ pub(crate) fn past8(s: &[u8], i: usize) -> usize
 pub(crate) fn short(b: u8) -> bool
     ensures { result ≡ in_class Class.Short b }
 {
-    b == 0x22
-        || (b == 0x5c
-            || (b == 0x2f || (b == 0x62 || (b == 0x66 || (b == 0x6e || (b == 0x72 || b == 0x74))))))
+    matches!(b, b'"' | b'\\' | b'/' | b'b' | b'f' | b'n' | b'r' | b't')
 }
 
 // A hexadecimal digit, in either case.
@@ -81,85 +79,68 @@ pub(crate) fn skip(s: &[u8], at: usize, class: Class) -> usize
 }
 
 // One byte of a class.
-pub(crate) fn one(s: &[u8], at: usize, class: Class) -> Out
+pub(crate) fn one(s: &[u8], at: usize, class: Class) -> Option<usize>
     requires { in_class class 0 ≡ false }
     ensures { result ≡ one_at s.now class at }
 {
     if is(class, wire::byte(s, at)) {
-        Out::End(at + 1)
+        Some(at + 1)
     } else {
-        Out::Bad
+        None
     }
 }
 
 // The byte b: `one` again, small enough to be compiled in place.
-pub(crate) fn this(s: &[u8], at: usize, b: u8) -> Out
+pub(crate) fn this(s: &[u8], at: usize, b: u8) -> Option<usize>
     requires { 0 < b }
     ensures { result ≡ one_at s.now (Class.Byte b) at }
 {
     if wire::byte(s, at) == b {
-        Out::End(at + 1)
+        Some(at + 1)
     } else {
-        Out::Bad
+        None
     }
 }
 
 // A hexadecimal digit: `one` again, small enough to be compiled in place.
-pub(crate) fn nibble(s: &[u8], at: usize) -> Out
+pub(crate) fn nibble(s: &[u8], at: usize) -> Option<usize>
     ensures { result ≡ one_at s.now Class.Hex at }
 {
     if hex_digit(wire::byte(s, at)) {
-        Out::End(at + 1)
+        Some(at + 1)
     } else {
-        Out::Bad
+        None
     }
 }
 
 // What a backslash may stand before, but for u: `one` again, small enough to be compiled in place.
-pub(crate) fn letter(s: &[u8], at: usize) -> Out
+pub(crate) fn letter(s: &[u8], at: usize) -> Option<usize>
     ensures { result ≡ one_at s.now Class.Short at }
 {
     if short(wire::byte(s, at)) {
-        Out::End(at + 1)
+        Some(at + 1)
     } else {
-        Out::Bad
-    }
-}
-
-// The place after what may be missing at a place.
-pub(crate) fn or(o: Out, at: usize) -> usize
-    ensures { result ≡ case o (λ n. n) at }
-{
-    match o {
-        Out::End(n) => n,
-        Out::Bad => at,
+        None
     }
 }
 
 // The byte b, and the white space after it.
-pub(crate) fn token(s: &[u8], at: usize, b: u8) -> Out
+pub(crate) fn token(s: &[u8], at: usize, b: u8) -> Option<usize>
     requires { 0 < b }
     ensures { result ≡ token_at s.now b at }
 {
-    match this(s, at, b) {
-        Out::End(n) => Out::End(crate::space(s, n)),
-        Out::Bad => Out::Bad,
-    }
+    let n = this(s, at, b)?;
+    Some(crate::space(s, n))
 }
 
 // The bytes of w.
-pub(crate) fn word(s: &[u8], at: usize, w: &[u8]) -> Out
+pub(crate) fn word(s: &[u8], at: usize, w: &[u8]) -> Option<usize>
     requires { no_zero w.now ≡ true }
     ensures { result ≡ word_at s.now w.now at }
 {
     let mut i = at;
-    let mut k: usize = 0;
-    while k < w.len() {
-        let Out::End(n) = this(s, i, w[k]) else {
-            return Out::Bad;
-        };
-        i = n;
-        k += 1;
+    for b in w {
+        i = this(s, i, *b)?;
     }
-    Out::End(i)
+    Some(i)
 }

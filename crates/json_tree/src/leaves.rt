@@ -3,101 +3,82 @@ ghost use Rattle.std.specs.Prelude.{◌≡◌};
 ghost use Rattle.json_tree.specs.Grammar.{literal_at, digits_at, int_at, frac_at, exp_at, number_at, hex_at, escaped_at};
 ghost use Rattle.json_tree.specs.Grammar.{chars_at};
 
-use crate::{Class, Out, classes};
+use crate::{Class, classes};
 
 // false / null / true
-pub(crate) fn literal(s: &[u8], at: usize) -> Out
+pub(crate) fn literal(s: &[u8], at: usize) -> Option<usize>
     ensures { result ≡ literal_at s.now at }
 {
-    match classes::word(s, at, b"false") {
-        Out::End(n) => Out::End(n),
-        Out::Bad => match classes::word(s, at, b"null") {
-            Out::End(n) => Out::End(n),
-            Out::Bad => classes::word(s, at, b"true"),
-        },
-    }
+    classes::word(s, at, b"false")
+        .or_else(|| classes::word(s, at, b"null"))
+        .or_else(|| classes::word(s, at, b"true"))
 }
 
 // 1*DIGIT
-pub(crate) fn digits(s: &[u8], at: usize) -> Out
+pub(crate) fn digits(s: &[u8], at: usize) -> Option<usize>
     ensures { result ≡ digits_at s.now at }
 {
     if crate::between(0x30, 0x39, wire::byte(s, at)) {
-        Out::End(classes::skip(s, at, Class::Digit))
+        Some(classes::skip(s, at, Class::Digit))
     } else {
-        Out::Bad
+        None
     }
 }
 
 // zero / ( digit1-9 *DIGIT )
-pub(crate) fn int(s: &[u8], at: usize) -> Out
+pub(crate) fn int(s: &[u8], at: usize) -> Option<usize>
     ensures { result ≡ int_at s.now at }
 {
-    match classes::this(s, at, b'0') {
-        Out::End(n) => Out::End(n),
-        Out::Bad => digits(s, at),
-    }
+    classes::this(s, at, b'0').or_else(|| digits(s, at))
 }
 
 // [ decimal-point 1*DIGIT ]
-pub(crate) fn frac(s: &[u8], at: usize) -> Out
+pub(crate) fn frac(s: &[u8], at: usize) -> Option<usize>
     ensures { result ≡ frac_at s.now at }
 {
     match classes::this(s, at, b'.') {
-        Out::End(n) => digits(s, n),
-        Out::Bad => Out::End(at),
+        Some(n) => digits(s, n),
+        None => Some(at),
     }
 }
 
 // [ e [ minus / plus ] 1*DIGIT ]
-pub(crate) fn exp(s: &[u8], at: usize) -> Out
+pub(crate) fn exp(s: &[u8], at: usize) -> Option<usize>
     ensures { result ≡ exp_at s.now at }
 {
     match classes::one(s, at, Class::Exponent) {
-        Out::End(n) => digits(s, classes::or(classes::one(s, n, Class::Sign), n)),
-        Out::Bad => Out::End(at),
+        Some(n) => digits(s, classes::one(s, n, Class::Sign).unwrap_or(n)),
+        None => Some(at),
     }
 }
 
 // [ minus ] int [ frac ] [ exp ]
-pub(crate) fn number(s: &[u8], at: usize) -> Out
+pub(crate) fn number(s: &[u8], at: usize) -> Option<usize>
     ensures { result ≡ number_at s.now at }
 {
-    match int(s, classes::or(classes::this(s, at, b'-'), at)) {
-        Out::End(n) => match frac(s, n) {
-            Out::End(m) => exp(s, m),
-            Out::Bad => Out::Bad,
-        },
-        Out::Bad => Out::Bad,
-    }
+    let n = int(s, classes::this(s, at, b'-').unwrap_or(at))?;
+    let m = frac(s, n)?;
+    exp(s, m)
 }
 
 // Four hexadecimal digits.
-pub(crate) fn hex4(s: &[u8], at: usize) -> Out
+pub(crate) fn hex4(s: &[u8], at: usize) -> Option<usize>
     ensures { result ≡ hex_at s.now at }
 {
-    match classes::nibble(s, at) {
-        Out::End(a) => match classes::nibble(s, a) {
-            Out::End(b) => match classes::nibble(s, b) {
-                Out::End(c) => classes::nibble(s, c),
-                Out::Bad => Out::Bad,
-            },
-            Out::Bad => Out::Bad,
-        },
-        Out::Bad => Out::Bad,
-    }
+    let a = classes::nibble(s, at)?;
+    let b = classes::nibble(s, a)?;
+    let c = classes::nibble(s, b)?;
+    classes::nibble(s, c)
 }
 
 // A backslash and what it stands before.
-pub(crate) fn escaped(s: &[u8], at: usize) -> Out
+pub(crate) fn escaped(s: &[u8], at: usize) -> Option<usize>
     ensures { result ≡ escaped_at s.now at }
 {
-    match classes::this(s, at, b'\\') {
-        Out::End(n) => match classes::this(s, n, b'u') {
-            Out::End(m) => hex4(s, m),
-            Out::Bad => classes::letter(s, n),
-        },
-        Out::Bad => Out::Bad,
+    let n = classes::this(s, at, b'\\')?;
+    match classes::this(s, n, b'u') {
+        Some(m) => hex4(s, m),
+        None => classes::letter(s, n),
     }
 }
 
@@ -116,7 +97,7 @@ pub(crate) fn chars(s: &[u8], at: usize) -> usize
             i += 1;
             continue;
         }
-        let Out::End(n) = escaped(s, i) else {
+        let Some(n) = escaped(s, i) else {
             return i;
         };
         i = n;

@@ -28,13 +28,6 @@ pub enum Class {
     Byte(u8),
 }
 
-// The place after a part of the text, or that no such part stands there.
-#[derive(Clone, Copy)]
-pub enum Out {
-    End(usize),
-    Bad,
-}
-
 // %xlow-high
 pub fn between(low: u8, high: u8, b: u8) -> bool
     ensures { result ≡ is_between low high b }
@@ -50,13 +43,11 @@ pub fn space(s: &[u8], at: usize) -> usize
 }
 
 // A string, with its quotes.
-pub fn string(s: &[u8], at: usize) -> Out
+pub fn string(s: &[u8], at: usize) -> Option<usize>
     ensures { result ≡ string_at s.now at }
 {
-    match classes::this(s, at, b'"') {
-        Out::End(n) => classes::this(s, leaves::chars(s, n), b'"'),
-        Out::Bad => Out::Bad,
-    }
+    let n = classes::this(s, at, b'"')?;
+    classes::this(s, leaves::chars(s, n), b'"')
 }
 
 // Whether p may stand between quotes.
@@ -72,34 +63,28 @@ pub enum Kind {
     Str(usize),
     Num(usize),
     Word(usize),
-    None,
 }
 
 // false / null / true / number / string
-pub fn scalar(s: &[u8], at: usize) -> Kind
+pub fn scalar(s: &[u8], at: usize) -> Option<Kind>
     ensures { result ≡ scalar_at s.now at }
 {
-    match string(s, at) {
-        Out::End(n) => Kind::Str(n),
-        Out::Bad => match leaves::number(s, at) {
-            Out::End(n) => Kind::Num(n),
-            Out::Bad => match leaves::literal(s, at) {
-                Out::End(n) => Kind::Word(n),
-                Out::Bad => Kind::None,
-            },
-        },
+    if let Some(n) = string(s, at) {
+        return Some(Kind::Str(n));
     }
+    if let Some(n) = leaves::number(s, at) {
+        return Some(Kind::Num(n));
+    }
+    let n = leaves::literal(s, at)?;
+    Some(Kind::Word(n))
 }
 
 // The place after such a value and the white space after it.
-fn leaf(s: &[u8], at: usize) -> Out
+fn leaf(s: &[u8], at: usize) -> Option<usize>
     ensures { result ≡ end_of (on_leaf s.now at (scalar_at s.now at)) }
 {
-    match scalar(s, at) {
-        Kind::Str(n) => Out::End(space(s, n)),
-        Kind::Num(n) => Out::End(space(s, n)),
-        Kind::Word(n) => Out::End(space(s, n)),
-        Kind::None => Out::Bad,
+    match scalar(s, at)? {
+        Kind::Str(n) | Kind::Num(n) | Kind::Word(n) => Some(space(s, n)),
     }
 }
 
@@ -124,8 +109,8 @@ fn opened(s: &[u8], at: usize, named: bool) -> Start
     ensures { result ≡ opened_at s.now at named }
 {
     match classes::token(s, at, closing(named)) {
-        Out::End(n) => Start::Empty(n, named),
-        Out::Bad => Start::Many(at, named),
+        Some(n) => Start::Empty(n, named),
+        None => Start::Many(at, named),
     }
 }
 
@@ -134,26 +119,23 @@ pub fn begin(s: &[u8], at: usize) -> Start
     ensures { result ≡ start_at s.now at }
 {
     match classes::token(s, at, b'[') {
-        Out::End(n) => opened(s, n, false),
-        Out::Bad => match classes::token(s, at, b'{') {
-            Out::End(n) => opened(s, n, true),
-            Out::Bad => Start::Leaf,
+        Some(n) => opened(s, n, false),
+        None => match classes::token(s, at, b'{') {
+            Some(n) => opened(s, n, true),
+            None => Start::Leaf,
         },
     }
 }
 
 // The place of an item's value: in an object (true) after its name and the colon.
-pub fn head(s: &[u8], at: usize, named: bool) -> Out
+pub fn head(s: &[u8], at: usize, named: bool) -> Option<usize>
     ensures { result ≡ head_at s.now at named }
 {
-    if named {
-        match string(s, at) {
-            Out::End(n) => classes::token(s, space(s, n), b':'),
-            Out::Bad => Out::Bad,
-        }
-    } else {
-        Out::End(at)
+    if !named {
+        return Some(at);
     }
+    let n = string(s, at)?;
+    classes::token(s, space(s, n), b':')
 }
 
 // After an item: another one's place, or the place after what closes, or neither.
@@ -169,16 +151,16 @@ pub fn after(s: &[u8], at: usize, named: bool) -> Next
     ensures { result ≡ next_at s.now at named }
 {
     match classes::token(s, at, b',') {
-        Out::End(n) => Next::More(n),
-        Out::Bad => match classes::token(s, at, closing(named)) {
-            Out::End(n) => Next::Done(n),
-            Out::Bad => Next::Wrong,
+        Some(n) => Next::More(n),
+        None => match classes::token(s, at, closing(named)) {
+            Some(n) => Next::Done(n),
+            None => Next::Wrong,
         },
     }
 }
 
 // The place after a value, with at most d brackets and braces open at once, and the white space after it.
-pub fn value(s: &[u8], at: usize, d: usize) -> Out
+pub fn value(s: &[u8], at: usize, d: usize) -> Option<usize>
     ensures { result ≡ end_of (tree_at s.now d at) }
 {
     if d == 0 {
@@ -186,31 +168,25 @@ pub fn value(s: &[u8], at: usize, d: usize) -> Out
     }
     match begin(s, at) {
         Start::Leaf => leaf(s, at),
-        Start::Empty(n, _) => Out::End(n),
+        Start::Empty(n, _) => Some(n),
         Start::Many(first, named) => {
             let mut i = first;
-            let mut k: usize = 0;
-            while k < s.len() {
-                let Out::End(v) = head(s, i, named) else {
-                    return Out::Bad;
-                };
-                let Out::End(n) = value(s, v, d - 1) else {
-                    return Out::Bad;
-                };
+            for _ in 0..s.len() {
+                let v = head(s, i, named)?;
+                let n = value(s, v, d - 1)?;
                 match after(s, n, named) {
                     Next::More(j) => {
                         i = j;
                     }
                     Next::Done(e) => {
-                        return Out::End(e);
+                        return Some(e);
                     }
                     Next::Wrong => {
-                        return Out::Bad;
+                        return None;
                     }
                 }
-                k += 1;
             }
-            Out::Bad
+            None
         }
     }
 }

@@ -1,8 +1,8 @@
 -- The definitions at work: verdicts, room, and what two relays tell each other.
+use Rattle.std.specs.Prelude.{None, Some}
 use mathlib.Core.Path.{◌≡◌, refl}
 use mathlib.Core.Bool.{true, false}
 use mathlib.Core.Logic.{◌↔◌, inr}
-use mathlib.Core.Option.{none, some}
 use mathlib.Core.List.Memᴰ
 use mathlib.Core.List.{List, [], ◌∷◌, ◌++◌, map, append-nil}
 use Prim.Native.Nat.{ℕ, zero, suc}
@@ -61,18 +61,18 @@ abbrev event : ℕ → List ℕ → Event
 event i t = record { id = i ∷ []; text = t }
 
 abbrev note : ℕ → Offer Toy
-note i = some (event i (0 ∷ []))
+note i = Some (event i (0 ∷ []))
 
 abbrev tile : (id time d : ℕ) → Offer Toy
-tile i t d = some (event i (1 ∷ t ∷ d ∷ []))
+tile i t d = Some (event i (1 ∷ t ∷ d ∷ []))
 
 abbrev offers : List (Offer Toy)
 offers =
     note 1
-    ∷ none
+    ∷ None
     ∷ tile 5 8 4
     ∷ note 1
-    ∷ some (event 11 [])
+    ∷ Some (event 11 [])
     ∷ tile 6 8 4
     ∷ tile 4 8 4
     ∷ tile 2 7 4
@@ -125,11 +125,11 @@ unfolding verdicts verdict after same_bytes
 four_fit = refl
 
 -- without the id premise the order would matter: of two regular events with one id the first stays
-first_of_one_id : run Toy 2 [] (some (event 1 (0 ∷ 1 ∷ [])) ∷ some (event 1 (0 ∷ 2 ∷ [])) ∷ []) ≡ event 1 (0 ∷ 1 ∷ []) ∷ []
+first_of_one_id : run Toy 2 [] (Some (event 1 (0 ∷ 1 ∷ [])) ∷ Some (event 1 (0 ∷ 2 ∷ [])) ∷ []) ≡ event 1 (0 ∷ 1 ∷ []) ∷ []
 unfolding run after verdict same_bytes
 first_of_one_id = refl
 
-second_of_one_id : run Toy 2 [] (some (event 1 (0 ∷ 2 ∷ [])) ∷ some (event 1 (0 ∷ 1 ∷ [])) ∷ []) ≡ event 1 (0 ∷ 2 ∷ []) ∷ []
+second_of_one_id : run Toy 2 [] (Some (event 1 (0 ∷ 2 ∷ [])) ∷ Some (event 1 (0 ∷ 1 ∷ [])) ∷ []) ≡ event 1 (0 ∷ 2 ∷ []) ∷ []
 unfolding run after verdict same_bytes
 second_of_one_id = refl
 
@@ -137,22 +137,22 @@ second_of_one_id = refl
 
 -- Whatever the histories, there is an exchange: relay A is told what relay B holds, and then B what A holds.
 module _ (E : Events) where
-  all_told : (t : Table E) (e : E.Event) → Valid E e (map some t) ↔ Held E e t
-  all_told t e = (λ v. of (Memᴰ.of_map some t v), λ m. Memᴰ.map some m)
+  all_told : (t : Table E) (e : E.Event) → Valid E e (map Some t) ↔ Held E e t
+  all_told t e = (λ v. of (Memᴰ.of_map Some t v), λ m. Memᴰ.map Some m)
     where
-      of : ((a : E.Event) × (a ∈ t) × (some a ≡ some e)) → e ∈ t
+      of : ((a : E.Event) × (a ∈ t) × (Some a ≡ Some e)) → e ∈ t
       of (a, m, q) = let p : e ≡ a = cc in Memᴰ.cast p m
 
   module _ (N M : ℕ) (H K : List (Offer E)) where
     abbrev relay_a : Relay E
-    relay_a = record { capacity = N; history = H; early = map some (run E M [] K); late = [] }
+    relay_a = record { capacity = N; history = H; early = map Some (run E M [] K); late = [] }
 
     abbrev relay_b : Relay E
-    relay_b = record { capacity = M; history = K; early = []; late = map some (moment E relay_a) }
+    relay_b = record { capacity = M; history = K; early = []; late = map Some (moment E relay_a) }
 
     exchange : Exchange E relay_a relay_b
     exchange = record {
-      to_A = λ e. rw (append-nil K, append-nil (map some (run E M [] K))) (all_told (run E M [] K) e);
+      to_A = λ e. rw (append-nil K, append-nil (map Some (run E M [] K))) (all_told (run E M [] K) e);
       to_B = all_told (moment E relay_a);
       at_an_end = inr refl;
     }
@@ -210,7 +210,7 @@ module _ (E : Events) (Sig : Type 0) where
     capacity = λ b. b.capacity;
     slots = λ b. b.held;
     judge = λ o. o;
-    AsParts = λ o s. o ≡ some s;
+    AsParts = λ o s. o ≡ Some s;
   }
 
   abbrev any_table : Listed → Type 0
@@ -230,4 +230,4 @@ module _ (E : Events) (Sig : Type 0) where
   model_meets L = demand_3_on E Sig model any_table model_faithful L (λ b o s g m p. p)
 
   model_exchanges : ExchangesOn E Sig model
-  model_exchanges = exchanges_on E Sig model any_table model_faithful (λ b s g m. (some s, refl))
+  model_exchanges = exchanges_on E Sig model any_table model_faithful (λ b s g m. (Some s, refl))

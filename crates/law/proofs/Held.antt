@@ -1,8 +1,8 @@
 -- What a list of offers leaves in a table that always has room: of each place the newest event, once.
+use Rattle.std.specs.Prelude.{None, Some}
 use mathlib.Core.Path.{◌≡◌, refl, sym, ap, ◌∙◌}
 use mathlib.Core.Bool.{Bool, true, false, cond, not}
 use mathlib.Core.Logic.{◌⊎◌, inl, inr, ⊎_elim, ◌≢◌}
-use mathlib.Core.Option.{none, some}
 use mathlib.Core.List.Memᴰ
 use mathlib.Core.List.{List, [], ◌∷◌}
 use Prim.Native.Nat.{ℕ}
@@ -109,19 +109,19 @@ module _ (E : Events) (L : Laws E) where
   pub covers : {S : Event → Type 0} {t : Table E} → Right S [] t → (s : Event) → S s → Lasting s → Covered s t
   covers r s ss st = ⊎_elim (λ m. absurd (Memᴰ.not-nil m)) (λ c. c) (r.best s ss st)
 
-  pub valid_cases : {s e : Event} {os : List (Offer E)} → Valid E s (some e ∷ os) → (s ≡ e) ⊎ Valid E s os
-  valid_cases {s} {e} v = ⊎_elim (λ (q : some s ≡ some e). inl cc) (λ w. inr w) (Memᴰ.cases_cons v)
+  pub valid_cases : {s e : Event} {os : List (Offer E)} → Valid E s (Some e ∷ os) → (s ≡ e) ⊎ Valid E s os
+  valid_cases {s} {e} v = ⊎_elim (λ (q : Some s ≡ Some e). inl cc) (λ w. inr w) (Memᴰ.cases_cons v)
 
-  pub valid_skip : {s : Event} {os : List (Offer E)} → Valid E s (none ∷ os) → Valid E s os
+  pub valid_skip : {s : Event} {os : List (Offer E)} → Valid E s (None ∷ os) → Valid E s os
   valid_skip {s} v = ⊎_elim
-      (λ (q : some s ≡ none). let z : ◌≡◌ {A = ℕ} 0 1 = cc in absurd (omega arith))
+      (λ (q : Some s ≡ None). let z : ◌≡◌ {A = ℕ} 0 1 = cc in absurd (omega arith))
       (λ w. w)
       (Memᴰ.cases_cons v)
 
   -- an offer, and a list of offers, to a table that always has room
   abbrev pub put : Table E → Offer E → Table E
-  put t none = t
-  put t (some e) =
+  put t None = t
+  put t (Some e) =
       cond (is_stored (first_verdict (is_ephemeral (class_of e)) (any (has_id E e) t) (any (has_key_newer E e) t) false)) (store (has_key E e) e t) t
 
   abbrev pub PutsOf : Table E → List (Offer E) → Table E
@@ -130,7 +130,7 @@ module _ (E : Events) (L : Laws E) where
 
   module _ (S : Event → Type 0) (ids : (e f : Event) → S e → S f → id_of e ≡ id_of f → e ≡ f) where
     -- the next offer leaves the table as it is
-    keep : (e : Event) (rest : List (Offer E)) (t : Table E) → Right S (some e ∷ rest) t → (Lasting e → Covered e t)
+    keep : (e : Event) (rest : List (Offer E)) (t : Table E) → Right S (Some e ∷ rest) t → (Lasting e → Covered e t)
         → Right S rest t
     keep e rest t r c = record {
       from = r.from;
@@ -141,7 +141,7 @@ module _ (E : Events) (L : Laws E) where
     -- the next offer is stored
     add : (e : Event) (rest : List (Offer E)) (t : Table E) → S e → Lasting e
         → T (not (any (has_id E e) t)) → T (not (any (has_key_newer E e) t))
-        → Right S (some e ∷ rest) t → Right S rest (store (has_key E e) e t)
+        → Right S (Some e ∷ rest) t → Right S rest (store (has_key E e) e t)
     add e rest t se le no_id noNewer r = record {
       from = λ x m. ⊎_elim (λ q. rw q (se, le)) (r.from x) (store_from (has_key E e) e t m);
       best = λ s ss st. ⊎_elim (λ v. ⊎_elim (itself s) inl (valid_cases v)) (λ c. inr (store_covers e t no_id noNewer s c)) (r.best s ss st);
@@ -151,7 +151,7 @@ module _ (E : Events) (L : Laws E) where
         itself : (s : Event) → s ≡ e → Valid E s rest ⊎ Covered s (store (has_key E e) e t)
         itself s q = inr (e, store_in (has_key E e) e t, (ap place (sym q), inl (sym q)))
 
-    step : (e : Event) (rest : List (Offer E)) (t : Table E) → S e → Right S (some e ∷ rest) t → Right S rest (put t (some e))
+    step : (e : Event) (rest : List (Offer E)) (t : Table E) → S e → Right S (Some e ∷ rest) t → Right S rest (put t (Some e))
     step e rest t se r = go (is_ephemeral (class_of e)) (any (has_id E e) t) (any (has_key_newer E e) t) refl refl refl
       where
         go : (a b c : Bool) → is_ephemeral (class_of e) ≡ a → any (has_id E e) t ≡ b → any (has_key_newer E e) t ≡ c
@@ -169,12 +169,12 @@ module _ (E : Events) (L : Laws E) where
 
     steps : (os : List (Offer E)) (t : Table E) → ((e : Event) → Valid E e os → S e) → Right S os t → Right S [] (PutsOf t os)
     steps [] t sees r = r
-    steps (none ∷ os) t sees r = steps os t (λ e v. sees e (Memᴰ.tail v)) (record {
+    steps (None ∷ os) t sees r = steps os t (λ e v. sees e (Memᴰ.tail v)) (record {
       from = r.from;
       best = λ s ss st. ⊎_elim (λ v. inl (valid_skip v)) inr (r.best s ss st);
       once = r.once;
     })
-    steps (some e ∷ os) t sees r = steps os (put t (some e)) (λ f v. sees f (Memᴰ.tail v)) (step e os t (sees e (Memᴰ.head refl)) r)
+    steps (Some e ∷ os) t sees r = steps os (put t (Some e)) (λ f v. sees f (Memᴰ.tail v)) (step e os t (sees e (Memᴰ.head refl)) r)
 
   -- a list of offers to a fresh table leaves a table that is right for its valid events
   pub right : (os : List (Offer E)) → IdPremise E os → Right (λ e. Valid E e os) [] (PutsOf [] os)

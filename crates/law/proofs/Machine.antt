@@ -1,8 +1,8 @@
 -- The claims, for a relay in any form that does with each single offer what the definition says.
+use Rattle.std.specs.Prelude.{Some}
 use mathlib.Core.Path.{◌≡◌, refl, sym, ap, ap₂, ◌∙◌}
 use mathlib.Core.Bool.{not, ◌||◌}
 use mathlib.Core.Logic.{inl, inr, ⊎_elim}
-use mathlib.Core.Option.{some}
 use mathlib.Core.List.Memᴰ
 use mathlib.Core.List.{List, [], ◌∷◌, ◌++◌, map, map-append}
 use Prim.Native.Nat.{ℕ}
@@ -40,7 +40,7 @@ module _ (E : Events) (Sig : Type 0) (M : Machine E Sig) where
 
   -- a held slot that is offered as parts passes rows 1 to 10 again
   abbrev pub Passes : (State → Type 0) → Type 0
-  Passes Good = (b : State) (o : Offering) (s : Slot E Sig) → Good b → s ∈ slots b → AsParts o s → judge o ≡ some s
+  Passes Good = (b : State) (o : Offering) (s : Slot E Sig) → Good b → s ∈ slots b → AsParts o s → judge o ≡ Some s
 
   -- and parts of it exist
   abbrev pub Tellable : (State → Type 0) → Type 0
@@ -171,7 +171,7 @@ module _ (E : Events) (Sig : Type 0) (M : Machine E Sig) (Good : M.State → Typ
     where
       stored_by : StoredIn S (capacity b) [] (map judge os) s → StoredBy E Sig M b os s
       stored_by i =
-          let x = judged_split os i.before i.later (some s) i.splits in
+          let x = judged_split os i.before i.later (Some s) i.splits in
           let c = keeps_run x.before b (F.fresh b f) in
           record {
             before = x.before;
@@ -228,7 +228,7 @@ module _ (E : Events) (Sig : Type 0) (M : Machine E Sig) (Good : M.State → Typ
         os : List Offering
         os = told_on E Sig M A
 
-        passes : (o : Offering) (s : Slot E Sig) → s ∈ slots b → AsParts o s → judge o ≡ some s
+        passes : (o : Offering) (s : Slot E Sig) → s ∈ slots b → AsParts o s → judge o ≡ Some s
         passes o s m p = P b o s (good_run B.table (B.history ++ B.early) B.fresh) m p
 
         valid_held : Valid E e (valid os) → Held E e (view E Sig M b)
@@ -236,7 +236,7 @@ module _ (E : Events) (Sig : Type 0) (M : Machine E Sig) (Good : M.State → Typ
             let (j, k, p) = Memᴰ.of_map (without_signature E Sig) (map judge os) v in
             let (o, n, q) = Memᴰ.of_map judge os k in
             let (s, m, t) = x.no_other o n in
-            let r : some e ≡ some s.0 = sym p ∙ ap (without_signature E Sig) (sym q ∙ passes o s m t) in
+            let r : Some e ≡ Some s.0 = sym p ∙ ap (without_signature E Sig) (sym q ∙ passes o s m t) in
             let i : e ≡ s.0 = cc in
             Memᴰ.cast i (Memᴰ.map (event E Sig) m)
 
@@ -244,7 +244,7 @@ module _ (E : Events) (Sig : Type 0) (M : Machine E Sig) (Good : M.State → Typ
         held_valid h =
             let (s, m, p) = Memᴰ.of_map (event E Sig) (slots b) h in
             let (o, n, t) = x.each s m in
-            Memᴰ.cast (ap some (sym p) ∙ ap (without_signature E Sig) (sym (passes o s m t))) (Memᴰ.map (without_signature E Sig) (Memᴰ.map judge n))
+            Memᴰ.cast (ap Some (sym p) ∙ ap (without_signature E Sig) (sym (passes o s m t))) (Memᴰ.map (without_signature E Sig) (Memᴰ.map judge n))
 
     exchange_is : (A B : RelayOn E Sig M) → ExchangeOn E Sig M A B → Exchange E (relay A) (relay B)
     exchange_is A B x = record {

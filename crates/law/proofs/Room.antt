@@ -1,8 +1,8 @@
 -- When an offer lacks room, and how many slots a list of offers takes.
+use Rattle.std.specs.Prelude.{None, Some}
 use mathlib.Core.Path.{◌≡◌, refl, sym, ap, ◌∙◌}
 use mathlib.Core.Bool.{Bool, true, false, cond, not, ◌||◌, ◌&&◌}
 use mathlib.Core.Logic.{◌↔◌, ◌⊎◌, inl, inr, ⊎_elim}
-use mathlib.Core.Option.{none, some}
 use mathlib.Core.List.Memᴰ
 use mathlib.Core.List.{List, [], ◌∷◌, ◌++◌}
 use Prim.Native.Nat.{ℕ, suc, ◌+◌, ◌≤◌, ◌<◌}
@@ -26,8 +26,8 @@ module _ (E : Events) (L : Laws E) where
   -- ---- a table grows, and a run does what it does where there is always room, until it lacks room
 
   put_grows : (t : Table E) (o : Offer E) → length t ≤ length (put E L t o)
-  put_grows t none = omega arith
-  put_grows t (some e) =
+  put_grows t None = omega arith
+  put_grows t (Some e) =
       go (is_stored (first_verdict (is_ephemeral (class_of e)) (any (has_id E e) t) (any (has_key_newer E e) t) false)) (any (has_key E e) t) (store_length (has_key E e) e t)
     where
       go : (s k : Bool) → length (store (has_key E e) e t) ≡ cond k (length t) (suc (length t))
@@ -51,8 +51,8 @@ module _ (E : Events) (L : Laws E) where
 
     after_put : (t : Table E) (o : Offer E) → length t ≤ N → Outcome (is_no_room (verdict E N t o)) (after E N t o) (put E L t o)
     unfolding verdict after
-    after_put t none h = inr (tt, refl, h)
-    after_put t (some e) h =
+    after_put t None h = inr (tt, refl, h)
+    after_put t (Some e) h =
         go (is_ephemeral (class_of e)) (any (has_id E e) t) (any (has_key_newer E e) t) (any (has_key E e) t) (leb N (length t)) refl (store_length (has_key E e) e t)
       where
         u : Table E
@@ -114,8 +114,8 @@ module _ (E : Events) (L : Laws E) where
 
   abbrev places : List (Offer E) → List (Place Id Key)
   places [] = []
-  places (none ∷ os) = places os
-  places (some e ∷ os) = place_in (class_of e) (id_of e) (places os)
+  places (None ∷ os) = places os
+  places (Some e ∷ os) = place_in (class_of e) (id_of e) (places os)
 
   place_in_has : (c : Class Key) (i : Id) (ps : List (Place Id Key)) → T (not (is_ephemeral c)) → place_of i c ∈ place_in c i ps
   place_in_has ephemeral i ps st = absurd st
@@ -135,8 +135,8 @@ module _ (E : Events) (L : Laws E) where
 
   places_has : (os : List (Offer E)) (e : Event) → Valid E e os → Lasting E L e → place E L e ∈ places os
   places_has [] e v st = absurd (Memᴰ.not-nil v)
-  places_has (none ∷ os) e v st = places_has os e (valid_skip E L v) st
-  places_has (some f ∷ os) e v st = go (λ w. places_has os e w st) (valid_cases E L v)
+  places_has (None ∷ os) e v st = places_has os e (valid_skip E L v) st
+  places_has (Some f ∷ os) e v st = go (λ w. places_has os e w st) (valid_cases E L v)
     where
       go : (Valid E e os → place E L e ∈ places os) → (e ≡ f) ⊎ Valid E e os → place E L e ∈ place_in (class_of f) (id_of f) (places os)
       go ih (inl q) = rw q (place_in_has (class_of f) (id_of f) (places os) (rw q at st))
@@ -148,10 +148,10 @@ module _ (E : Events) (L : Laws E) where
 
   places_from_lem : (os : List (Offer E)) (z : Place Id Key) → z ∈ places os → Stood z os
   places_from_lem [] z m = absurd (Memᴰ.not-nil m)
-  places_from_lem (none ∷ os) z m = let (e, v, st, p) = places_from_lem os z m in (e, Memᴰ.tail v, st, p)
-  places_from_lem (some f ∷ os) z m = go (λ w. places_from_lem os z w) (place_in_from (class_of f) (id_of f) (places os) z m)
+  places_from_lem (None ∷ os) z m = let (e, v, st, p) = places_from_lem os z m in (e, Memᴰ.tail v, st, p)
+  places_from_lem (Some f ∷ os) z m = go (λ w. places_from_lem os z w) (place_in_from (class_of f) (id_of f) (places os) z m)
     where
-      go : (z ∈ places os → Stood z os) → (Lasting E L f × (place E L f ≡ z)) ⊎ (z ∈ places os) → Stood z (some f ∷ os)
+      go : (z ∈ places os → Stood z os) → (Lasting E L f × (place E L f ≡ z)) ⊎ (z ∈ places os) → Stood z (Some f ∷ os)
       go ih (inl q) = (f, Memᴰ.head refl, q.0, q.1)
       go ih (inr w) = let (e, v, st, p) = ih w in (e, Memᴰ.tail v, st, p)
 
@@ -159,8 +159,8 @@ module _ (E : Events) (L : Laws E) where
 
   any_own : (i : Id) (os : List (Offer E)) → any (same_place (own i)) (places os) ≡ any (same_id i) (regular_ids E os)
   any_own i [] = refl
-  any_own i (none ∷ os) = any_own i os
-  any_own i (some e ∷ os) = go (class_of e) (any_own i os)
+  any_own i (None ∷ os) = any_own i os
+  any_own i (Some e ∷ os) = go (class_of e) (any_own i os)
     where
       go : (c : Class Key) → any (same_place (own i)) (places os) ≡ any (same_id i) (regular_ids E os)
           → any (same_place (own i)) (place_in c (id_of e) (places os)) ≡ any (same_id i) (id_if_regular E c (id_of e) (regular_ids E os))
@@ -170,8 +170,8 @@ module _ (E : Events) (L : Laws E) where
 
   any_shared : (k : Key) (os : List (Offer E)) → any (same_place (shared k)) (places os) ≡ any (same_key k) (keys E os)
   any_shared k [] = refl
-  any_shared k (none ∷ os) = any_shared k os
-  any_shared k (some e ∷ os) = go (class_of e) (any_shared k os)
+  any_shared k (None ∷ os) = any_shared k os
+  any_shared k (Some e ∷ os) = go (class_of e) (any_shared k os)
     where
       go : (c : Class Key) → any (same_place (shared k)) (places os) ≡ any (same_key k) (keys E os)
           → any (same_place (shared k)) (place_in c (id_of e) (places os)) ≡ any (same_key k) (key_if_keyed E c (keys E os))
@@ -189,8 +189,8 @@ module _ (E : Events) (L : Laws E) where
 
   places_needed : (os : List (Offer E)) → different same_place (places os) ≡ slots_needed E os
   places_needed [] = refl
-  places_needed (none ∷ os) = places_needed os
-  places_needed (some e ∷ os) = go (class_of e) (places_needed os)
+  places_needed (None ∷ os) = places_needed os
+  places_needed (Some e ∷ os) = go (class_of e) (places_needed os)
     where
       go : (c : Class Key) → different same_place (places os) ≡ slots_needed E os
           → different same_place (place_in c (id_of e) (places os))

@@ -1,8 +1,8 @@
 -- A table of slots with signatures does what the table of their events does, and the signature first stored stays.
+use Rattle.std.specs.Prelude.{None, Some}
 use mathlib.Core.Path.{◌≡◌, refl, ap, ap₂, ◌∙◌}
 use mathlib.Core.Bool.{Bool, true, false, cond, ◌||◌}
 use mathlib.Core.Logic.{⊎_elim}
-use mathlib.Core.Option.{none, some}
 use mathlib.Core.List.{List, [], ◌∷◌, ◌++◌, map}
 use Prim.Native.Nat.{ℕ}
 use lib.ListN.{length-map}
@@ -41,8 +41,8 @@ module _ (E : Events) (Sig : Type 0) where
 
   verdict_event : (N : ℕ) (t : Table S) (o : Offer S) → verdict S N t o ≡ verdict E N (bare t) (without_signature E Sig o)
   unfolding verdict
-  verdict_event N t none = refl
-  verdict_event N t (some s) = rw (
+  verdict_event N t None = refl
+  verdict_event N t (Some s) = rw (
     any_map (event E Sig) (has_id E s.0) t,
     any_map (event E Sig) (has_key_newer E s.0) t,
     any_map (event E Sig) (has_key E s.0) t,
@@ -51,10 +51,10 @@ module _ (E : Events) (Sig : Type 0) where
 
   after_event : (N : ℕ) (t : Table S) (o : Offer S) → bare (after S N t o) ≡ after E N (bare t) (without_signature E Sig o)
   unfolding after
-  after_event N t none = refl
-  after_event N t (some s) =
-      cond_map (event E Sig) (is_stored (verdict S N t (some s))) (store (has_key S s) s t) t
-      ∙ ap₂ (λ v u. cond (is_stored v) u (bare t)) (verdict_event N t (some s)) (store_map (event E Sig) (has_key E s.0) s t)
+  after_event N t None = refl
+  after_event N t (Some s) =
+      cond_map (event E Sig) (is_stored (verdict S N t (Some s))) (store (has_key S s) s t) t
+      ∙ ap₂ (λ v u. cond (is_stored v) u (bare t)) (verdict_event N t (Some s)) (store_map (event E Sig) (has_key E s.0) s t)
 
   pub run_event : (N : ℕ) (os : List (Offer S)) (t : Table S) → bare (run S N t os) ≡ run E N (bare t) (bares os)
   unfolding run

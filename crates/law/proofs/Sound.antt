@@ -1,9 +1,9 @@
 -- An offer leaves a table with no ephemeral kind and no id or key twice as such, and a held event gives way only to a
 -- newer one of its key.
+use Rattle.std.specs.Prelude.{None, Some}
 use mathlib.Core.Path.{◌≡◌, refl, sym, ap, ◌∙◌}
 use mathlib.Core.Bool.{Bool, true, false, cond, not}
 use mathlib.Core.Logic.{◌⊎◌, inl, inr, ⊎_elim, ◌≢◌}
-use mathlib.Core.Option.{none, some}
 use mathlib.Core.List.Memᴰ
 use mathlib.Core.List.{List, [], ◌∷◌, ◌++◌}
 use Prim.Native.Nat.{ℕ}
@@ -26,21 +26,21 @@ module _ (E : Events) where
     pub keys : Pairwise (λ e h. T (has_key E e h) → ⊥) t
 
   -- a stored event, and any other offer
-  pub after_stored : (N : ℕ) (t : Table E) (e : Event) → verdict E N t (some e) ≡ stored → after E N t (some e) ≡ store (has_key E e) e t
+  pub after_stored : (N : ℕ) (t : Table E) (e : Event) → verdict E N t (Some e) ≡ stored → after E N t (Some e) ≡ store (has_key E e) e t
   unfolding after
   after_stored N t e p = rw p
 
   pub after_other : (N : ℕ) (t : Table E) (o : Offer E) → is_stored (verdict E N t o) ≡ false → after E N t o ≡ t
   unfolding after
-  after_other N t none p = refl
-  after_other N t (some e) p = rw p
+  after_other N t None p = refl
+  after_other N t (Some e) p = rw p
 
   -- what is held was held before or stored by an offer of the list
   pub record StoredIn (N : ℕ) (t : Table E) (os : List (Offer E)) (x : Event) : Type 0 where
     pub before : List (Offer E)
     pub later : List (Offer E)
-    pub splits : os ≡ before ++ (some x ∷ later)
-    pub says : verdict E N (run E N t before) (some x) ≡ stored
+    pub splits : os ≡ before ++ (Some x ∷ later)
+    pub says : verdict E N (run E N t before) (Some x) ≡ stored
 
   pub run_from : (N : ℕ) (os : List (Offer E)) (t : Table E) (x : Event) → x ∈ run E N t os → (x ∈ t) ⊎ StoredIn N t os x
   unfolding run after
@@ -50,14 +50,14 @@ module _ (E : Events) where
       there : (o : Offer E) → StoredIn N (after E N t o) os x → StoredIn N t (o ∷ os) x
       there o s = record { before = o ∷ s.before; later = s.later; splits = ap (o ∷◌) s.splits; says = s.says }
 
-      now : (e : Event) → verdict E N t (some e) ≡ stored → x ≡ e → StoredIn N t (some e ∷ os) x
-      now e v q = record { before = []; later = os; splits = ap (λ y. some y ∷ os) (sym q); says = rw q v }
+      now : (e : Event) → verdict E N t (Some e) ≡ stored → x ≡ e → StoredIn N t (Some e ∷ os) x
+      now e v q = record { before = []; later = os; splits = ap (λ y. Some y ∷ os) (sym q); says = rw q v }
 
       here : (o : Offer E) → x ∈ after E N t o → (x ∈ t) ⊎ StoredIn N t (o ∷ os) x
-      here none k = inl k
-      here (some e) k = go (verdict E N t (some e)) refl k
+      here None k = inl k
+      here (Some e) k = go (verdict E N t (Some e)) refl k
         where
-          go : (v : Verdict) → verdict E N t (some e) ≡ v → x ∈ cond (is_stored v) (store (has_key E e) e t) t → (x ∈ t) ⊎ StoredIn N t (some e ∷ os) x
+          go : (v : Verdict) → verdict E N t (Some e) ≡ v → x ∈ cond (is_stored v) (store (has_key E e) e t) t → (x ∈ t) ⊎ StoredIn N t (Some e ∷ os) x
           go refused p k = inl k
           go was_ephemeral p k = inl k
           go duplicate p k = inl k
@@ -72,7 +72,7 @@ module _ (E : Events) (L : Laws E) where
   -- what holds of the table as it was and of the table with e stored holds afterwards
   stored_or_not : (P : Table E → Type 0) (N : ℕ) (t : Table E) (e : Event) → P t
       → (Lasting E L e → T (not (any (has_id E e) t)) → T (not (any (has_key_newer E e) t)) → P (store (has_key E e) e t))
-      → P (after E N t (some e))
+      → P (after E N t (Some e))
   unfolding after verdict
   stored_or_not P N t e p s = go (is_ephemeral (class_of e)) (any (has_id E e) t) (any (has_key_newer E e) t) (lacks_slot E N t e) s
     where
@@ -105,8 +105,8 @@ module _ (E : Events) (L : Laws E) where
 
   pub distinct_after : (N : ℕ) (t : Table E) (o : Offer E) → Distinct E t → Distinct E (after E N t o)
   unfolding after
-  distinct_after N t none d = d
-  distinct_after N t (some e) d = stored_or_not (Distinct E) N t e d (λ le no_id noNewer. record {
+  distinct_after N t None d = d
+  distinct_after N t (Some e) d = stored_or_not (Distinct E) N t e d (λ le no_id noNewer. record {
     lasting = λ x m. ⊎_elim (λ q. rw q le) (d.lasting x) (store_from (has_key E e) e t m);
     ids = store_pairwise (has_key E e) e (λ x y. id_of x ≢ id_of y) t
         (λ x y m k h ne q. other_id E L e t no_id noNewer y k (sym q))
@@ -133,9 +133,9 @@ module _ (E : Events) (L : Laws E) where
   pub run_covers : (N : ℕ) (os : List (Offer E)) (t : Table E) (x : Event) → Covered E L x t → Covered E L x (run E N t os)
   unfolding run after
   run_covers N [] t x c = c
-  run_covers N (none ∷ os) t x c = run_covers N os t x c
-  run_covers N (some e ∷ os) t x c =
-      run_covers N os (after E N t (some e)) x
+  run_covers N (None ∷ os) t x c = run_covers N os t x c
+  run_covers N (Some e ∷ os) t x c =
+      run_covers N os (after E N t (Some e)) x
       (stored_or_not (Covered E L x) N t e c (λ le no_id noNewer. store_covers E L e t no_id noNewer x c))
 
   run_append : (N : ℕ) (os ps : List (Offer E)) (t : Table E) → run E N t (os ++ ps) ≡ run E N (run E N t os) ps

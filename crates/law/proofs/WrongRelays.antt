@@ -1,8 +1,8 @@
 -- Relays that do not meet the claims: 01, "How far each promise must reach".
+use Rattle.std.specs.Prelude.{Some}
 use mathlib.Core.Path.{◌≡◌, refl, sym, ap, ap₂, ◌∙◌}
 use mathlib.Core.Bool.{Bool, true, false, cond, not, ◌||◌, ◌&&◌}
 use mathlib.Core.Logic.{◌⊎◌, inl, inr, ⊎_elim, ◌≢◌}
-use mathlib.Core.Option.{some}
 use mathlib.Core.List.Memᴰ
 use mathlib.Core.List.{List, [], ◌∷◌, ◌++◌}
 use Prim.Native.Nat.{ℕ, ◌+◌, ◌≤◌}
@@ -35,20 +35,20 @@ only (z ∷ w ∷ xs) ys e = absurd (let q : ◌≡◌ {A = ℕ} 0 1 = cc in ome
 module _ (E : Events) where
   open E use {Event, id_of, class_of, same_id}
 
-  same_event : {e f : Event} → Valid E e (some f ∷ []) → e ≡ f
-  same_event {e} {f} v = let q : some e ≡ some f = Memᴰ.eq_of_singleton v in cc
+  same_event : {e f : Event} → Valid E e (Some f ∷ []) → e ≡ f
+  same_event {e} {f} v = let q : Some e ≡ Some f = Memᴰ.eq_of_singleton v in cc
 
-  one_ids : (e : Event) → IdPremise E (some e ∷ [])
+  one_ids : (e : Event) → IdPremise E (Some e ∷ [])
   one_ids e f g vf vg q = same_event vf ∙ sym (same_event vg)
 
-  one_needed : (e : Event) → class_of e ≡ regular → slots_needed E (some e ∷ []) ≡ 1
+  one_needed : (e : Event) → class_of e ≡ regular → slots_needed E (Some e ∷ []) ≡ 1
   one_needed e c = rw c
 
-  two_ids : (e f : Event) → id_of e ≢ id_of f → IdPremise E (some e ∷ some f ∷ [])
+  two_ids : (e f : Event) → id_of e ≢ id_of f → IdPremise E (Some e ∷ Some f ∷ [])
   two_ids e f ne x y vx vy q = go (cases vx) (cases vy)
     where
-      cases : {x : Event} → Valid E x (some e ∷ some f ∷ []) → (x ≡ e) ⊎ (x ≡ f)
-      cases {x} v = ⊎_elim (λ (q : some x ≡ some e). inl cc) (λ w. inr (same_event w)) (Memᴰ.cases_cons v)
+      cases : {x : Event} → Valid E x (Some e ∷ Some f ∷ []) → (x ≡ e) ⊎ (x ≡ f)
+      cases {x} v = ⊎_elim (λ (q : Some x ≡ Some e). inl cc) (λ w. inr (same_event w)) (Memᴰ.cases_cons v)
 
       go : (x ≡ e) ⊎ (x ≡ f) → (y ≡ e) ⊎ (y ≡ f) → x ≡ y
       go (inl p) (inl r) = p ∙ sym r
@@ -60,7 +60,7 @@ module _ (E : Events) where
   pub one_id : ((e f : Event) → id_of e ≡ id_of f) → (os : List (Offer E)) (e f : Event) → Valid E e os → Valid E f os → e ≢ f → IdPremise E os → ⊥
   one_id same os e f v w ne ids = ne (ids e f v w (same e f))
 
-  two_needed : (e f : Event) → class_of e ≡ regular → class_of f ≡ regular → slots_needed E (some e ∷ some f ∷ []) ≤ 2
+  two_needed : (e f : Event) → class_of e ≡ regular → class_of f ≡ regular → slots_needed E (Some e ∷ Some f ∷ []) ≤ 2
   two_needed e f c d = rw (c, d) (go (same_id (id_of e) (id_of f)))
     where
       go : (b : Bool) → cond (b || false) 1 2 + 0 ≤ 2
@@ -69,7 +69,7 @@ module _ (E : Events) where
 
   -- ---- a regular event offered twice
 
-  fresh_stored : (N : ℕ) (e : Event) → 1 ≤ N → class_of e ≡ regular → verdict E N [] (some e) ≡ stored
+  fresh_stored : (N : ℕ) (e : Event) → 1 ≤ N → class_of e ≡ regular → verdict E N [] (Some e) ≡ stored
   unfolding verdict
   fresh_stored N e le c = rw c (go (leb N 0) refl)
     where
@@ -77,11 +77,11 @@ module _ (E : Events) where
       go true p = absurd (omega (arith, leb→le N 0 (rw p tt)))
       go false p = refl
 
-  fresh_table_lem : (N : ℕ) (e : Event) → 1 ≤ N → class_of e ≡ regular → after E N [] (some e) ≡ e ∷ []
+  fresh_table_lem : (N : ℕ) (e : Event) → 1 ≤ N → class_of e ≡ regular → after E N [] (Some e) ≡ e ∷ []
   unfolding after
   fresh_table_lem N e le c = rw (fresh_stored N e le c)
 
-  again_duplicate : Laws E → (N : ℕ) (e : Event) → class_of e ≡ regular → verdict E N (e ∷ []) (some e) ≡ duplicate
+  again_duplicate : Laws E → (N : ℕ) (e : Event) → class_of e ≡ regular → verdict E N (e ∷ []) (Some e) ≡ duplicate
   unfolding verdict
   again_duplicate L N e c = rw c (go (same_id (id_of e) (id_of e)) ((L.id_eq (id_of e) (id_of e)).1 refl))
     where
@@ -96,13 +96,13 @@ module _ (E : Events) (Sig : Type 0) (M : Machine E Sig) where
   -- an offer of a regular event
   pub record OfRegular (o : Offering) (e : Event) : Type 0 where
     pub signature : Sig
-    pub valid : judge o ≡ some (e, signature)
+    pub valid : judge o ≡ Some (e, signature)
     pub kind : class_of e ≡ regular
 
-  judged_one : (o : Offering) (e : Event) → OfRegular o e → judged E Sig M (o ∷ []) ≡ some e ∷ []
+  judged_one : (o : Offering) (e : Event) → OfRegular o e → judged E Sig M (o ∷ []) ≡ Some e ∷ []
   judged_one o e v = ap (λ j. without_signature E Sig j ∷ []) v.valid
 
-  judged_two : (o p : Offering) (e f : Event) → OfRegular o e → OfRegular p f → judged E Sig M (o ∷ p ∷ []) ≡ some e ∷ some f ∷ []
+  judged_two : (o p : Offering) (e f : Event) → OfRegular o e → OfRegular p f → judged E Sig M (o ∷ p ∷ []) ≡ Some e ∷ Some f ∷ []
   judged_two o p e f v w = ap₂ (λ j k. without_signature E Sig j ∷ without_signature E Sig k ∷ []) v.valid w.valid
 
   module _ (held : HeldSetOn E Sig M) (room : RoomLawOn E Sig M) where
@@ -120,14 +120,14 @@ module _ (E : Events) (Sig : Type 0) (M : Machine E Sig) where
 
     module _ (b : State) (f : Fresh b) where
       -- after one offer of a regular event that event alone is held
-      one_held : (o : Offering) (e : Event) → OfRegular o e → 1 ≤ capacity b → Settled E (view E Sig M (next b o)) (some e ∷ [])
+      one_held : (o : Offering) (e : Event) → OfRegular o e → 1 ≤ capacity b → Settled E (view E Sig M (next b o)) (Some e ∷ [])
       unfolding run_on
       one_held o e v le =
           let q = judged_one o e v in
           rw q at (settles b (o ∷ []) f (rw q (one_ids E e)) (rw (q, one_needed E e v.kind) le))
 
       both_held : (o p : Offering) (e g : Event) → OfRegular o e → OfRegular p g → id_of e ≢ id_of g → 2 ≤ capacity b
-          → Settled E (view E Sig M (next (next b o) p)) (some e ∷ some g ∷ [])
+          → Settled E (view E Sig M (next (next b o) p)) (Some e ∷ Some g ∷ [])
       unfolding run_on
       both_held o p e g v w ne le =
           let q = judged_two o p e g v w in
@@ -156,7 +156,7 @@ module _ (E : Events) (Sig : Type 0) (M : Machine E Sig) where
       pub constant_count : Laws E → (o : Offering) (e : Event) → OfRegular o e → 1 ≤ capacity b
           → ((b : State) (o : Offering) → length (slots (next b o)) ≡ length (slots b)) → ⊥
       constant_count L o e v le idle =
-          let c = settled_count E L (view E Sig M (next b o)) (some e ∷ []) (one_ids E e) (one_held o e v le) in
+          let c = settled_count E L (view E Sig M (next b o)) (Some e ∷ []) (one_ids E e) (one_held o e v le) in
           omega (arith, c, one_needed E e v.kind, length-map (slots (next b o)) (event E Sig), idle b o, ap length (empty b f))
 
       pub made_up_count : Laws E → (os : List Offering) → IdPremise E (judged E Sig M os) → slots_needed E (judged E Sig M os) ≤ capacity b
@@ -173,13 +173,13 @@ module _ (E : Events) (Sig : Type 0) (M : Machine E Sig) where
           let m : Held E e (view E Sig M (next b o)) = ((one_held o e v le).held e).1 (Memᴰ.head refl, rw v.kind tt) in
           let (s, k, q) = Memᴰ.of_map (event E Sig) (slots (next b o)) m in
           let i = sigs b (o ∷ []) s f k in
-          let j : some s ≡ some (e, v.signature) = sym i.brings ∙ ap judge (sym (only i.before i.later i.splits)) ∙ v.valid in
+          let j : Some s ≡ Some (e, v.signature) = sym i.brings ∙ ap judge (sym (only i.before i.later i.splits)) ∙ v.valid in
           let same : s ≡ (e, v.signature) = cc in
           other (Memᴰ.cast (sym same) k)
 
       -- one that stores another signature than the offer's
       pub other_signature : SignatureStoredOn E Sig M → (o : Offering) (e : Event) → OfRegular o e → 1 ≤ capacity b
-          → ((b : State) (o : Offering) (s : Slot E Sig) → judge o ≡ some s → s ∈ slots (next b o) → ⊥) → ⊥
+          → ((b : State) (o : Offering) (s : Slot E Sig) → judge o ≡ Some s → s ∈ slots (next b o) → ⊥) → ⊥
       other_signature sigs o e v le other = held_signature sigs o e v le (other b o (e, v.signature) v.valid)
 
   -- "one verdict .. for all": the first offer of a regular event is stored, and the second is a duplicate

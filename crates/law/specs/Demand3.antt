@@ -1,7 +1,6 @@
 -- The claims of demand 3 for a relay in any form, as a table in bytes. Quotes are from demand 3 where nothing else is
 -- said.
-use Rattle.std.specs.Prelude.{◌≡◌, Bool, not, ◌↔◌, ◌⊎◌, List, [], ◌∷◌, ◌++◌, map, ℕ, ◌≤◌, ◌<◌, T, length}
-use Rattle.std.proofs.Math.Option.{some}
+use Rattle.std.specs.Prelude.{◌≡◌, Bool, not, ◌↔◌, ◌⊎◌, List, [], ◌∷◌, ◌++◌, map, ℕ, ◌≤◌, ◌<◌, T, length, Some}
 use Rattle.law.specs.Lists.{◌∈◌, any}
 use Rattle.law.specs.Table.{Events, Verdict, stored, is_no_room, Table, Offer, IdPremise, SameValid, SameHeld}
 use Rattle.law.specs.Table.{Settled, slots_needed}
@@ -90,7 +89,7 @@ module _ (E : Events) (Sig : Type 0) (M : Machine E Sig) where
     pub offer : Offering
     pub later : List Offering
     pub splits : os ≡ before ++ (offer ∷ later)
-    pub brings : judge offer ≡ some s
+    pub brings : judge offer ≡ Some s
     pub says : verdict_of (answer (run_on b before) offer) ≡ stored
 
   -- the signature held is that of such an offer

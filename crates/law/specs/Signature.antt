@@ -1,6 +1,6 @@
 -- Slots: an event with the signature that was stored with it.
 -- 01: "Offers with one id and one text but other signatures are the same event": the tests look at the event alone.
-use Rattle.std.proofs.Math.Option.{none, some}
+use Rattle.std.specs.Prelude.{None, Some}
 use Rattle.law.specs.Table.{Events, Offer}
 
 module _ (E : Events) (Sig : Type 0) where
@@ -24,5 +24,5 @@ module _ (E : Events) (Sig : Type 0) where
   event s = s.0
 
   abbrev pub without_signature : Offer with_signature → Offer E
-  without_signature none = none
-  without_signature (some s) = some s.0
+  without_signature None = None
+  without_signature (Some s) = Some s.0

@@ -1,7 +1,7 @@
 -- The table of a relay as the list of the events in its slots; what an offer does, and what a list of offers should
 -- leave. In the order of 01, "Kinds and keys" and "The table"; quotes are from 01 where nothing else is said.
-use Rattle.std.specs.Prelude.{◌≡◌, Bool, true, false, cond, not, ◌&&◌, ◌↔◌, ◌⊎◌, ◌≢◌, List, [], ◌∷◌, ℕ, ◌+◌, T, leb, length}
-use Rattle.std.proofs.Math.Option.{Option, none, some}
+use Rattle.std.specs.Prelude.{◌≡◌, Bool, true, false, cond, not, ◌&&◌, ◌↔◌, ◌⊎◌, ◌≢◌, List, [], ◌∷◌, ℕ, ◌+◌, T, leb}
+use Rattle.std.specs.Prelude.{length, Option, None, Some}
 use Rattle.law.specs.Lists.{◌∈◌, any, store, different, Once}
 
 -- ---- Kinds and keys
@@ -111,20 +111,20 @@ module _ (E : Events) where
 
   -- the verdict of an offer to a table of capacity N
   unfoldable pub verdict : ℕ → Table E → Offer → Verdict
-  verdict N t none = refused
-  verdict N t (some e) = first_verdict (is_ephemeral (class_of e)) (any (has_id E e) t) (any (has_key_newer e) t)
+  verdict N t None = refused
+  verdict N t (Some e) = first_verdict (is_ephemeral (class_of e)) (any (has_id E e) t) (any (has_key_newer e) t)
       (lacks_slot N t e)
 
   -- the table after it: "stored, over the slot with its key, else in slot C"; with any other verdict as it was
   unfoldable pub after : ℕ → Table E → Offer → Table E
-  after N t none = t
-  after N t (some e) = cond (is_stored (verdict N t (some e))) (store (has_key E e) e t) t
+  after N t None = t
+  after N t (Some e) = cond (is_stored (verdict N t (Some e))) (store (has_key E e) e t) t
 
   -- ---- Lists of offers
 
   -- e is a valid event of the list: "Valid is judged from what is offered, whatever the table holds."
   abbrev pub Valid : Event → List Offer → Type 0
-  Valid e os = some e ∈ os
+  Valid e os = Some e ∈ os
 
   -- "The set held is the pairs of id and text in slots 0 to C-1."
   abbrev pub Held : Event → Table E → Type 0
@@ -149,14 +149,14 @@ module _ (E : Events) where
   -- among a list's valid events "the .. ids of the regular ones"
   abbrev pub regular_ids : List Offer → List Id
   regular_ids [] = []
-  regular_ids (none ∷ os) = regular_ids os
-  regular_ids (some e ∷ os) = id_if_regular (class_of e) (id_of e) (regular_ids os)
+  regular_ids (None ∷ os) = regular_ids os
+  regular_ids (Some e ∷ os) = id_if_regular (class_of e) (id_of e) (regular_ids os)
 
   -- "the .. keys of those that have a key"
   abbrev pub keys : List Offer → List Key
   keys [] = []
-  keys (none ∷ os) = keys os
-  keys (some e ∷ os) = key_if_keyed (class_of e) (keys os)
+  keys (None ∷ os) = keys os
+  keys (Some e ∷ os) = key_if_keyed (class_of e) (keys os)
 
   -- "count the different ids .. and the different keys .. the sum"
   abbrev pub slots_needed : List Offer → ℕ

@@ -6,7 +6,7 @@
 //   while 0 < l.left { ..; l = lines::next(&mut input, &mut line, &mut chunk, l)?; }
 #![tactic(auto)]
 
-ghost use Rattle.std.specs.Prelude.{◌≡◌, ◌∷◌, [], ◌≤◌, ◌<◌, length, false, IfOk, is_err, ◌||◌};
+ghost use Rattle.std.specs.Prelude.{◌≡◌, ◌∷◌, [], ◌≤◌, ◌<◌, length, false, IfOk, IfSome, MatchOption, is_err, ◌||◌};
 ghost use Rattle.std.specs.Io.{ReadsAtMost};
 ghost use Rattle.wire.specs.Put.{put};
 ghost use Rattle.lines.specs.Line.{no_line, NoEnd, IsLine, KeepsLengths};
@@ -51,13 +51,9 @@ fn read<R: Read>(input: &mut Input<R>, chunk: &mut [u8]) -> io::Result<usize>
     ensures in_bounds { ReadsAtMost result chunk.new }
     ensures failed { input.new.failed ≡ (input.old.failed || is_err result) }
 {
-    match input.reader.read(chunk) {
-        Ok(n) => Ok(n),
-        Err(e) => {
-            input.failed = true;
-            Err(e)
-        }
-    }
+    let result = input.reader.read(chunk);
+    input.failed |= result.is_err();
+    result
 }
 
 // These bytes to the output. Of what is written no clause says anything. `failed` tells afterwards whether this or an
@@ -65,13 +61,9 @@ fn read<R: Read>(input: &mut Input<R>, chunk: &mut [u8]) -> io::Result<usize>
 pub fn write<W: Write>(output: &mut Output<W>, bytes: &[u8]) -> io::Result<()>
     ensures { output.new.failed ≡ (output.old.failed || is_err result) }
 {
-    match output.writer.write_all(bytes) {
-        Ok(()) => Ok(()),
-        Err(e) => {
-            output.failed = true;
-            Err(e)
-        }
-    }
+    let result = output.writer.write_all(bytes);
+    output.failed |= result.is_err();
+    result
 }
 
 // How many lines are left to read with this one, 0 where there was none; how many bytes of it the buffer holds; and
@@ -84,57 +76,24 @@ pub struct Line {
     pub end: usize,
 }
 
-#[derive(Clone, Copy)]
-struct Taken {
-    done: bool,
-    n: usize,
-    at: usize,
-}
-
-fn push(line: &mut [u8], n: usize, b: u8) -> usize
-    requires { (n ≤ length line.old) × NoEnd line.old n × (b ≡ 10 → ⊥) }
-    ensures { (result ≤ length line.old) × (length line.new ≡ length line.old) ×
-        NoEnd line.new result }
+// Where a text's first line ends, if it ends there.
+fn line_end(part: &[u8]) -> Option<usize>
+    ensures { MatchOption result (NoEnd part.now (length part.now))
+        (λ e. (e < length part.now) × NoEnd part.now e) }
 {
-    if n < line.len() {
-        line[n] = b;
-        return n + 1;
-    }
-    n
+    part.iter().position(|b| *b == b'\n')
 }
 
-// Bytes of the chunk up to a line's end or its own.
-fn take(line: &mut [u8], n: usize, chunk: &[u8], at: usize, end: usize) -> Taken
+// The line's next bytes, up to its end if that is among them, behind its first n; how many it has then, and where its
+// end is. What does not fit is dropped.
+fn take(line: &mut [u8], n: usize, part: &[u8]) -> (usize, Option<usize>)
     requires { (n ≤ length line.old) × NoEnd line.old n }
-    ensures { (result.n ≤ length line.old) × (length line.new ≡ length line.old) ×
-        NoEnd line.new result.n }
+    ensures { (result.0 ≤ length line.old) × (length line.new ≡ length line.old) ×
+        NoEnd line.new result.0 × IfSome result.1 (λ e. e < length part.now) }
 {
-    let mut k = n;
-    let mut i = at;
-    while i < end {
-        if chunk.len() <= i {
-            return Taken {
-                done: false,
-                n: k,
-                at: i,
-            };
-        }
-        let b = chunk[i];
-        i += 1;
-        if b == b'\n' {
-            return Taken {
-                done: true,
-                n: k,
-                at: i,
-            };
-        }
-        k = push(line, k, b);
-    }
-    Taken {
-        done: false,
-        n: k,
-        at: i,
-    }
+    let end = line_end(part);
+    let k = wire::put(line, n, &part[..end.unwrap_or(part.len())]);
+    (k, end)
 }
 
 // Before the first line. No more than 2^48 - 1 lines are read: a loop over them needs a number that falls.
@@ -153,13 +112,7 @@ pub fn none() -> Line
 fn left_after(some: bool, left: u64) -> u64
     ensures { 0 < left → result < left }
 {
-    if !some {
-        return 0;
-    }
-    if left == 0 {
-        return 0;
-    }
-    left - 1
+    if some { left.saturating_sub(1) } else { 0 }
 }
 
 // The line of the input after the line `r`, into `line`; `chunk` holds what was read. An error is one
@@ -177,30 +130,28 @@ pub fn next<R: Read>(
     let mut n: usize = 0;
     let mut at = r.at;
     let mut end = r.end;
-    let mut turns: u64 = 0;
-    while turns < 0xffff_ffff_ffff {
-        let t = take(line, n, chunk, at, end);
-        n = t.n;
-        if t.done {
+    for _turn in 0..0xffff_ffff_ffff_u64 {
+        let part = wire::piece(chunk, at, end.saturating_sub(at));
+        let (k, line_end) = take(line, n, part);
+        n = k;
+        if let Some(e) = line_end {
             return Ok(Line {
                 left: left_after(true, r.left),
                 n,
-                at: t.at,
+                at: at + e + 1,
                 end,
             });
         }
-        let k = read(input, chunk)?;
-        if k == 0 {
+        at = 0;
+        end = read(input, chunk)?;
+        if end == 0 {
             return Ok(Line {
                 left: left_after(0 < n, r.left),
                 n,
-                at: 0,
-                end: 0,
+                at,
+                end,
             });
         }
-        at = 0;
-        end = k;
-        turns += 1;
     }
     Ok(Line {
         left: 0,
@@ -227,10 +178,7 @@ pub fn next_within<R: Read, W: Write>(
         ((input.old.failed || output.old.failed) || is_err result) }
 {
     let mut l = next(input, line, chunk, r)?;
-    while 0 < l.left {
-        if l.n < line.len() {
-            return Ok(l);
-        }
+    while 0 < l.left && line.len() <= l.n {
         write(output, refusal)?;
         l = next(input, line, chunk, l)?;
     }

@@ -33,18 +33,15 @@ pub(crate) fn answered(
     fs: [message::FilterParts; 4],
     n: usize,
     row: &mut [u16],
-) -> query::Listing
+) -> Result<usize, u8>
     requires { (sound table.now ≡ true) × (filters_row m.now fs n ≡ 0) }
     ensures value { result ≡ told (answer_to table.now m.now fs n) row.old }
     ensures row_after { row.new ≡ told_row (answer_to table.now m.now fs n) row.old }
 {
     let c = wire::le_at(table, slots::COUNT_PLACE, 4) as usize;
     let mut hits = [0u8; HITS];
-    let mut j: usize = 0;
-    while j < n {
-        let p = fs[j];
-        ask(table, c, m, p, j, &mut hits);
-        j += 1;
+    for j in 0..n {
+        ask(table, c, m, fs[j], j, &mut hits);
     }
     order::listed_hits(table, c, &hits, fs, n, row)
 }

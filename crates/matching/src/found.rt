@@ -1,5 +1,5 @@
 // The members of a filter's lists found: their places in the text, in a row of numbers.
-ghost use Rattle.std.specs.Prelude.{◌≡◌, true, false, ◌+◌, ◌≤◌, length};
+ghost use Rattle.std.specs.Prelude.{◌≡◌, true, false, ◌+◌, ◌≤◌, length, Some};
 ghost use Rattle.wire.specs.Bytes.{part};
 ghost use Rattle.rows.specs.Strings.{spelled_at};
 ghost use Rattle.spell.specs.Spell.{decode};
@@ -7,7 +7,6 @@ ghost use Rattle.json_tree.specs.Tree.{depth, tree_at, on_object};
 ghost use Rattle.json_tree.specs.Grammar.{start_at};
 ghost use Rattle.shape.specs.Shape.{is_array_of, is_string, is_number, is_letter, is_filter};
 ghost use Rattle.shape.specs.Rows.{wrong_list, filter_counts};
-ghost use Rattle.message.specs.declared.Listed.TheVariants.{At};
 ghost use Rattle.message.specs.Lent.{value5, on_value, value_at, wrong_smalls, in_list, filter_row};
 ghost use Rattle.query.specs.Filter.{strings_in, numbers_in, if_listed, filter_of};
 ghost use Rattle.matching.specs.Inner.Found.{spelled_by, numbers_by, filter_by};
@@ -16,23 +15,32 @@ ghost use Rattle.matching.specs.Inner.Finds.{condition_letter, first_named, next
 ghost use Rattle.matching.specs.Inner.Finds.{FindsMembers, FindsConditions};
 
 use crate::{
-    AUTHORS_PLACE, CONDITIONS_PLACE, Conditions, KINDS_PLACE, KINDS_ROOM, Known, Members, Needed,
+    AUTHORS_PLACE, CONDITIONS_PLACE, Conditions, KINDS_PLACE, KINDS_ROOM, Known, Needed,
     STRINGS_ROOM, matcher,
 };
-use json_tree::{Kind, Next, Out, Start};
-use message::{Listed, Span};
+use json_tree::{Kind, Next, Start};
+use message::Span;
 use numeral::Whole;
+
+const NO_CONDITIONS: Conditions = Conditions {
+    list: [Needed {
+        letter: 0,
+        from: 0,
+        len: 0,
+    }; 4],
+    n: 0,
+};
 
 // The string at a place, between its quotes; nothing where there is none.
 fn span(m: &[u8], at: usize) -> Span
     ensures { part m.now result.start result.len ≡ spelled_at m.now at }
 {
     match json_tree::string(m, at) {
-        Out::End(n) => Span {
+        Some(n) => Span {
             start: at + 1,
             len: n - at - 2,
         },
-        Out::Bad => Span { start: 0, len: 0 },
+        None => Span { start: 0, len: 0 },
     }
 }
 
@@ -45,18 +53,17 @@ fn strings_at(m: &[u8], v: usize, row: &mut [usize], at: usize) -> usize
         strings_room row.old at result row.new }
 {
     let mut x = matcher::first(m, v);
-    let mut n: usize = 0;
-    while n < STRINGS_ROOM {
-        let Listed::At(i) = x else {
+    for k in 0..wire::MOST_MEMBERS {
+        let n = k * 2;
+        let Some(i) = x else {
             return n;
         };
         let s = span(m, i);
         row[at + n] = s.start;
         row[at + n + 1] = s.len;
-        n += 2;
         x = matcher::next(m, i);
     }
-    n
+    STRINGS_ROOM
 }
 
 fn small_from(w: Whole) -> u64
@@ -64,8 +71,7 @@ fn small_from(w: Whole) -> u64
 {
     match w {
         Whole::Value(z) => event::kind_of(z),
-        Whole::Large => 0,
-        Whole::Malformed => 0,
+        Whole::Large | Whole::Malformed => 0,
     }
 }
 
@@ -74,15 +80,13 @@ fn small_at(m: &[u8], at: usize) -> u64
     ensures { result ≡ small_at m.now at }
 {
     match json_tree::scalar(m, at) {
-        Kind::Str(_) => 0,
-        Kind::Num(n) => {
-            if n < at {
-                return 0;
-            }
-            small_from(numeral::read_whole(wire::piece(m, at, n - at)))
+        Some(Kind::Num(n)) => {
+            small_from(numeral::read_whole(wire::piece(m, at, n.saturating_sub(at))))
         }
-        Kind::Word(_) => 0,
-        Kind::None => 0,
+        // An arm each: of joined arms nothing is known of what was met.
+        Some(Kind::Str(_)) => 0,
+        Some(Kind::Word(_)) => 0,
+        None => 0,
     }
 }
 
@@ -96,28 +100,20 @@ fn numbers_at(m: &[u8], v: usize, row: &mut [usize], at: usize) -> usize
         row.old at result row.new }
 {
     let mut x = matcher::first(m, v);
-    let mut n: usize = 0;
-    while n < KINDS_ROOM {
-        let Listed::At(i) = x else {
+    for n in 0..KINDS_ROOM {
+        let Some(i) = x else {
             return n;
         };
         row[at + n] = small_at(m, i) as usize;
-        n += 1;
         x = matcher::next(m, i);
     }
-    n
+    KINDS_ROOM
 }
 
 fn is_letter(x: u8) -> bool
     ensures { result ≡ is_letter x }
 {
-    if 97 <= x {
-        return x <= 122;
-    }
-    if 65 <= x {
-        return x <= 90;
-    }
-    false
+    x.is_ascii_alphabetic()
 }
 
 // The letter of a condition's name, which is spelled in any way; 0 of another name.
@@ -129,38 +125,31 @@ fn letter(name: &[u8]) -> u8
     }
     let mut two = [0u8; 2];
     spell::put_decoded(&mut two, 0, name);
-    if two[0] != 35 {
-        return 0;
+    if two[0] == b'#' && is_letter(two[1]) {
+        two[1]
+    } else {
+        0
     }
-    let x = two[1];
-    if is_letter(x) {
-        return x;
-    }
-    0
 }
 
 // The place of the first name of the object at a place, if there is one.
-fn first_named(m: &[u8], at: usize) -> Listed
+fn first_named(m: &[u8], at: usize) -> Option<usize>
     ensures { result ≡ first_named (start_at m.now at) }
 {
     match json_tree::begin(m, at) {
-        Start::Leaf => Listed::Absent,
-        Start::Empty(_, _) => Listed::Absent,
-        Start::Many(i, named) => { if named { Listed::At(i) } else { Listed::Absent } }
+        Start::Many(i, true) => Some(i),
+        _ => None,
     }
 }
 
 // The place of the name after the value at a place, if there is one.
-fn next_named(m: &[u8], at: usize) -> Listed
+fn next_named(m: &[u8], at: usize) -> Option<usize>
     ensures { result ≡ next_named m.now at }
 {
-    match json_tree::value(m, at, 7) {
-        Out::End(n) => match json_tree::after(m, n, true) {
-            Next::More(j) => Listed::At(j),
-            Next::Done(_) => Listed::Absent,
-            Next::Wrong => Listed::Absent,
-        },
-        Out::Bad => Listed::Absent,
+    let n = json_tree::value(m, at, 7)?;
+    match json_tree::after(m, n, true) {
+        Next::More(j) => Some(j),
+        Next::Done(_) | Next::Wrong => None,
     }
 }
 
@@ -168,10 +157,7 @@ fn next_named(m: &[u8], at: usize) -> Listed
 fn value_place(m: &[u8], at: usize) -> usize
     ensures { result ≡ value_place m.now at }
 {
-    match json_tree::head(m, at, true) {
-        Out::End(v) => v,
-        Out::Bad => 0,
-    }
+    json_tree::head(m, at, true).unwrap_or(0)
 }
 
 // The # conditions of the filter's object at v, their members behind the other lists of the row.
@@ -179,22 +165,15 @@ fn conditions_at(m: &[u8], v: usize, row: &mut [usize]) -> Conditions
     requires v_value { value5 (is_filter m.now) m.now v ≡ false }
     requires v_value_2 { on_value (on_object (filter_counts m.now)) (value_at m.now v) ≡ false }
     requires row_room_in_bounds { row_room ≤ length row.old }
-    ensures { FindsConditions m.now (At v) row.old result.list result.n row.new }
+    ensures { FindsConditions m.now (Some v) row.old result.list result.n row.new }
 {
-    let none = Needed {
-        letter: 0,
-        from: 0,
-        len: 0,
-    };
-    let mut list = [none; 4];
+    let mut list = NO_CONDITIONS.list;
     let mut n: usize = 0;
     let mut x = first_named(m, v);
-    let mut k: usize = 0;
-    while k < m.len() {
-        let Listed::At(p) = x else {
+    for _k in 0..m.len() {
+        let Some(p) = x else {
             return Conditions { list, n };
         };
-        k += 1;
         let w = value_place(m, p);
         x = next_named(m, w);
         let c = letter(rows::spelled(m, p));
@@ -214,7 +193,12 @@ fn conditions_at(m: &[u8], v: usize, row: &mut [usize]) -> Conditions
 }
 
 // ids or authors, if they are given.
-fn string_members(m: &[u8], l: Listed, row: &mut [usize], at: usize) -> Members
+fn string_members(
+    m: &[u8],
+    l: Option<usize>,
+    row: &mut [usize],
+    at: usize,
+) -> Option<(usize, usize)>
     requires l_value { in_list (value5 (is_array_of is_string) m.now) l ≡ false }
     requires l_value_2 { in_list (λ v. on_value wrong_list (value_at m.now v)) l ≡ false }
     requires strings_room_in_bounds { at + strings_room ≤ length row.old }
@@ -222,14 +206,17 @@ fn string_members(m: &[u8], l: Listed, row: &mut [usize], at: usize) -> Members
         (if_listed (λ v. strings_in m.now (tree_at m.now depth v)) l) strings_room row.old
         at result row.new }
 {
-    match l {
-        Listed::Absent => Members::Absent,
-        Listed::At(v) => Members::In(at, strings_at(m, v, row, at)),
-    }
+    let v = l?;
+    Some((at, strings_at(m, v, row, at)))
 }
 
 // kinds, if they are given.
-fn number_members(m: &[u8], l: Listed, row: &mut [usize], at: usize) -> Members
+fn number_members(
+    m: &[u8],
+    l: Option<usize>,
+    row: &mut [usize],
+    at: usize,
+) -> Option<(usize, usize)>
     requires l_value { in_list (value5 (is_array_of is_number) m.now) l ≡ false }
     requires l_value_2 { in_list (λ v. on_value (wrong_smalls m.now) (value_at m.now v)) l ≡ false }
     requires l_value_3 { in_list (λ v. on_value wrong_list (value_at m.now v)) l ≡ false }
@@ -238,32 +225,20 @@ fn number_members(m: &[u8], l: Listed, row: &mut [usize], at: usize) -> Members
         (if_listed (λ v. numbers_in m.now (tree_at m.now depth v)) l) kinds_room row.old at
         result row.new }
 {
-    match l {
-        Listed::Absent => Members::Absent,
-        Listed::At(v) => Members::In(at, numbers_at(m, v, row, at)),
-    }
+    let v = l?;
+    Some((at, numbers_at(m, v, row, at)))
 }
 
 // The # conditions, if the filter has an object.
-fn condition_members(m: &[u8], l: Listed, row: &mut [usize]) -> Conditions
+fn condition_members(m: &[u8], l: Option<usize>, row: &mut [usize]) -> Conditions
     requires l_value { in_list (value5 (is_filter m.now) m.now) l ≡ false }
     requires l_value_2 { in_list (λ v. on_value (on_object (filter_counts m.now)) (value_at m.now v)) l ≡ false }
     requires row_room_in_bounds { row_room ≤ length row.old }
     ensures { FindsConditions m.now l row.old result.list result.n row.new }
 {
     match l {
-        Listed::Absent => {
-            let none = Needed {
-                letter: 0,
-                from: 0,
-                len: 0,
-            };
-            Conditions {
-                list: [none; 4],
-                n: 0,
-            }
-        }
-        Listed::At(v) => conditions_at(m, v, row),
+        None => NO_CONDITIONS,
+        Some(v) => conditions_at(m, v, row),
     }
 }
 
@@ -273,27 +248,19 @@ pub(crate) fn find(m: &[u8], p: message::FilterParts, row: &mut [usize]) -> Know
     requires row_room_in_bounds { row_room ≤ length row.old }
     ensures { filter_by m.now row.new result ≡ filter_of m.now p }
 {
-    let ids_at = p.ids;
-    let ids = string_members(m, ids_at, row, 0);
-    let authors_at = p.authors;
-    let authors = string_members(m, authors_at, row, AUTHORS_PLACE);
-    let kinds_at = p.kinds;
-    let kinds = number_members(m, kinds_at, row, KINDS_PLACE);
-    let conditions_at = p.conditions;
-    let found = condition_members(m, conditions_at, row);
-    let since = p.since;
-    let until = p.until;
-    let limit = p.limit;
+    let ids = string_members(m, p.ids, row, 0);
+    let authors = string_members(m, p.authors, row, AUTHORS_PLACE);
+    let kinds = number_members(m, p.kinds, row, KINDS_PLACE);
+    let found = condition_members(m, p.conditions, row);
     let conditions = found.list;
-    let n = found.n;
     Known {
         ids,
         authors,
         kinds,
-        since,
-        until,
-        limit,
+        since: p.since,
+        until: p.until,
+        limit: p.limit,
         conditions,
-        n,
+        n: found.n,
     }
 }

@@ -15,9 +15,9 @@ ghost use Rattle.query.specs.Answer.{matches_slot};
 ghost use Rattle.matching.specs.Inner.Found.{spelled_by, given, condition_by, filter_by};
 ghost use Rattle.matching.specs.Inner.Hits.{Filled};
 
-use crate::{Known, Members, matcher};
+use crate::{Known, matcher};
 
-// The hex digit of a number, in lower case.
+// The hex digit of a number, in lower case: wire has the same, private to it.
 fn hex_digit(d: u8) -> u8
     requires { d < 16 }
     ensures { result ≡ hex_digit d }
@@ -31,28 +31,24 @@ fn put_hex(hex: &mut [u8], id: &[u8])
     requires { (length id.now ≡ id_size) × (length hex.old ≡ id_size * 2) }
     ensures { hex.new ≡ hex_of id.now }
 {
-    let mut i = 0;
-    while i < slots::ID_SIZE {
+    for i in 0..slots::ID_SIZE {
         hex[i * 2] = hex_digit(id[i] / 16);
         hex[i * 2 + 1] = hex_digit(id[i] % 16);
-        i += 1;
     }
 }
 
 // Whether the id of the slot s, in hex, is in the list.
-fn id_listed(s: &[u8], ids: Members, m: &[u8], row: &[usize]) -> bool
+fn id_listed(s: &[u8], ids: Option<(usize, usize)>, m: &[u8], row: &[usize]) -> bool
     requires { id_size ≤ length s.now }
     ensures { result ≡ is_listed (given (spelled_by m.now) row.now ids)
         (hex_of (id_in s.now)) }
 {
-    match ids {
-        Members::Absent => true,
-        Members::In(a, n) => {
-            let mut hex = [0u8; wire::HEX_LENGTH];
-            put_hex(&mut hex, wire::piece(s, slots::ID_PLACE, slots::ID_SIZE));
-            matcher::listed(Members::In(a, n), &hex, m, row)
-        }
+    if ids.is_none() {
+        return true;
     }
+    let mut hex = [0u8; wire::HEX_LENGTH];
+    put_hex(&mut hex, wire::piece(s, slots::ID_PLACE, slots::ID_SIZE));
+    matcher::listed(ids, &hex, m, row)
 }
 
 // Whether the conditions hold of the tags in the text t, which stand after [0,"PUBKEY",TIME,KIND, .
@@ -66,8 +62,7 @@ fn tags_hold(t: &[u8], time: i64, kind: u64, m: &[u8], row: &[usize], f: Known) 
         return true;
     }
     let tags = 72 + numeral::decimal_len(time) + numeral::natural_len(kind);
-    let cs = f.conditions;
-    matcher::all_hold(t, tags, m, row, cs, f.n)
+    matcher::all_hold(t, tags, m, row, f.conditions, f.n)
 }
 
 // Whether the event in slot k matches the filter: time and kind are the slot's fields.
@@ -77,8 +72,7 @@ fn slot_matched(table: &[u8], k: usize, m: &[u8], row: &[usize], f: Known) -> bo
     ensures { result ≡ matches_slot table.now (filter_by m.now row.now f) k }
 {
     let s = slots::slot(table, k);
-    let ids = f.ids;
-    if !id_listed(s, ids, m, row) {
+    if !id_listed(s, f.ids, m, row) {
         return false;
     }
     let time = wire::to_signed(wire::le_at(s, slots::TIME_PLACE, 8));
@@ -116,15 +110,7 @@ pub(crate) fn fill(
     ensures { Filled table.now (filter_by m.now row.now f) j c
         hits.old hits.new }
 {
-    let mut k: usize = 0;
-    while k < c {
-        let at = k * 4 + j;
-        if slot_matched(table, k, m, row, f) {
-            hits[at] = 1;
-            k += 1;
-            continue;
-        }
-        hits[at] = 0;
-        k += 1;
+    for k in 0..c {
+        hits[k * 4 + j] = slot_matched(table, k, m, row, f) as u8;
     }
 }

@@ -8,13 +8,11 @@ ghost use Rattle.query.specs.Answer.{filters_row};
 fn count_row(n: usize) -> u8
     ensures { result ≡ cond (outside 1 most_filters n) 8 0 }
 {
-    if n < 1 {
-        return 8;
+    if n < 1 || wire::MOST_FILTERS < n {
+        8
+    } else {
+        0
     }
-    if wire::MOST_FILTERS < n {
-        return 8;
-    }
-    0
 }
 
 // The lowest row of the first n filters and of their number, from the last filter down.
@@ -22,14 +20,8 @@ pub(crate) fn filters_row(m: &[u8], fs: [message::FilterParts; 4], n: usize) -> 
     ensures { result ≡ filters_row m.now fs n }
 {
     let mut r: u8 = 0;
-    let mut j: usize = wire::MOST_FILTERS;
-    while 0 < j {
-        j -= 1;
-        if n <= j {
-            continue;
-        }
-        let p = fs[j];
-        r = message::lower_row(message::filter_row(m, p), r);
+    for j in (0..n.min(wire::MOST_FILTERS)).rev() {
+        r = message::lower_row(message::filter_row(m, fs[j]), r);
     }
     message::lower_row(r, count_row(n))
 }

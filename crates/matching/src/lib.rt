@@ -13,8 +13,6 @@ mod matcher;
 mod order;
 mod several;
 
-use message::Bound;
-
 // The row that a filter's members are written to: two numbers for each string, one for each kind. ids stand in it from
 // 0 on, and behind them authors, kinds, and the members of the # conditions.
 pub(crate) const STRINGS_ROOM: usize = wire::MOST_MEMBERS * 2;
@@ -28,13 +26,6 @@ pub(crate) const KINDS_PLACE: usize = AUTHORS_PLACE + STRINGS_ROOM;
 pub(crate) const CONDITIONS_PLACE: usize = KINDS_PLACE + KINDS_ROOM;
 
 pub(crate) const ROW_ROOM: usize = CONDITIONS_PLACE + wire::MOST_CONDITIONS * STRINGS_ROOM;
-
-// The members of a list that may be absent: where they stand in a row of numbers, and how many numbers they are there.
-#[derive(Clone, Copy)]
-pub(crate) enum Members {
-    Absent,
-    In(usize, usize),
-}
 
 // A # condition: its letter, and where its members stand in the row.
 #[derive(Clone, Copy)]
@@ -54,21 +45,14 @@ pub(crate) struct Conditions {
 // A filter whose list members were found.
 #[derive(Clone, Copy)]
 pub(crate) struct Known {
-    pub ids: Members,
-    pub authors: Members,
-    pub kinds: Members,
-    pub since: Bound,
-    pub until: Bound,
-    pub limit: Bound,
+    pub ids: Option<(usize, usize)>,
+    pub authors: Option<(usize, usize)>,
+    pub kinds: Option<(usize, usize)>,
+    pub since: Option<i64>,
+    pub until: Option<i64>,
+    pub limit: Option<i64>,
     pub conditions: [Needed; 4],
     pub n: usize,
-}
-
-// A tag's second string, between its quotes, if the tag is named as wanted.
-#[derive(Clone, Copy)]
-pub(crate) enum Second {
-    Is(usize, usize),
-    Not,
 }
 
 // The slots that a REQ with the first n filters is answered with, newest first: how many were written to the row, or
@@ -79,17 +63,17 @@ pub fn answer(
     fs: [message::FilterParts; 4],
     n: usize,
     row: &mut [u16],
-) -> query::Listing
+) -> Result<usize, u8>
     ensures value { result ≡ listed table.now m.now fs n row.old }
     ensures result_value { listing_number result ≡ listing_row table.now m.now fs n row.old }
     ensures row_after { row.new ≡ listed_row table.now m.now fs n row.old }
 {
     let r = lent::filters_row(m, fs, n);
     if r != 0 {
-        return query::Listing::Refused(r);
+        return Err(r);
     }
     if !slots::sound(table) {
-        return query::Listing::Refused(11);
+        return Err(11);
     }
     answers::answered(table, m, fs, n, row)
 }
@@ -102,20 +86,17 @@ pub fn matched(
     m: &[u8],
     fs: [message::FilterParts; 4],
     n: usize,
-) -> query::Matched
+) -> Result<bool, u8>
     ensures value { result ≡ matched b.now p m.now fs n }
     ensures result_value { match_number result ≡ matched_row b.now p m.now fs n }
 {
     let row = message::lower_row(message::event_row(b, p), lent::filters_row(m, fs, n));
     if row != 0 {
-        return query::Matched::Refused(row);
+        return Err(row);
     }
     let body = p.body;
     if wire::MOST_TEXT < event::text_len(b, body) {
-        return query::Matched::Refused(9);
+        return Err(9);
     }
-    if several::some_match(b, p, m, fs, n) {
-        return query::Matched::Matches;
-    }
-    query::Matched::Differs
+    Ok(several::some_match(b, p, m, fs, n))
 }

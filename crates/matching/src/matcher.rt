@@ -1,6 +1,5 @@
 // Whether an event matches a filter whose list members were found beforehand.
-ghost use Rattle.std.specs.Prelude.{◌≡◌, true, false, map, take};
-ghost use Rattle.std.proofs.Math.Option.{some};
+ghost use Rattle.std.specs.Prelude.{◌≡◌, true, false, map, take, Some};
 ghost use Rattle.wire.specs.Bytes.{part, same_bytes};
 ghost use Rattle.spell.specs.Spell.{decode};
 ghost use Rattle.json_tree.specs.Grammar.{start_at};
@@ -12,10 +11,11 @@ ghost use Rattle.query.specs.Match.{is_member, is_listed, kind_listed, since_hol
 ghost use Rattle.matching.specs.Inner.Found.{spelled_by, numbers_by, given, condition_by, filter_by};
 ghost use Rattle.matching.specs.Inner.Steps.{placed, asked, second_of, fields_hold};
 
-use crate::{Known, Members, Needed, Second};
-use message::{Bound, Element, Listed};
+use crate::{Known, Needed};
+use message::Element;
 
 // The part of a row of numbers at a place, as far as it lies in it.
+// wire::piece does the same with bytes; its signature, which other code calls, names them.
 fn cut(s: &[usize], start: usize, len: usize) -> &[usize]
     ensures { result.now ≡ part s.now start len }
 {
@@ -31,47 +31,42 @@ fn cut(s: &[usize], start: usize, len: usize) -> &[usize]
 }
 
 // An element's place, if there is one.
-fn place(x: Element) -> Listed
+fn place(x: Element) -> Option<usize>
     ensures { result ≡ placed x }
 {
     match x {
-        Element::At(v) => Listed::At(v),
-        Element::Ended => Listed::Absent,
-        Element::Broken => Listed::Absent,
+        Element::At(v) => Some(v),
+        Element::Ended | Element::Broken => None,
     }
 }
 
 // The first element of the array at a place, if there is one.
-pub(crate) fn first(b: &[u8], at: usize) -> Listed
+pub(crate) fn first(b: &[u8], at: usize) -> Option<usize>
     ensures { result ≡ placed (start_element (start_at b.now at)) }
 {
     place(message::first(b, at))
 }
 
 // The element after the one at a place, if there is one.
-pub(crate) fn next(b: &[u8], at: usize) -> Listed
+pub(crate) fn next(b: &[u8], at: usize) -> Option<usize>
     ensures { result ≡ placed (next_of b.now at) }
 {
     place(message::next(b, at))
 }
 
 // The second string of the tag at v, if its first is the letter.
-fn second_string(b: &[u8], v: usize, letter: u8) -> Second
+fn second_string(b: &[u8], v: usize, letter: u8) -> Option<(usize, usize)>
     ensures { result ≡ second_of b.now v letter }
 {
-    let Listed::At(i) = first(b, v) else {
-        return Second::Not;
-    };
+    let i = first(b, v)?;
     let name = [letter];
     if !spell::spells(rows::spelled(b, i), &name) {
-        return Second::Not;
+        return None;
     }
-    let Listed::At(j) = next(b, i) else {
-        return Second::Not;
-    };
+    let j = next(b, i)?;
     match json_tree::string(b, j) {
-        json_tree::Out::End(n) => Second::Is(j + 1, n - j - 2),
-        json_tree::Out::Bad => Second::Is(0, 0),
+        Some(n) => Some((j + 1, n - j - 2)),
+        None => Some((0, 0)),
     }
 }
 
@@ -82,25 +77,17 @@ fn holds(b: &[u8], tags: usize, letter: u8, m: &[u8], spans: &[usize]) -> bool
         (asked letter (spelled_by m.now spans.now)) }
 {
     let mut x = first(b, tags);
-    let mut k: usize = 0;
-    'tags: while k < b.len() {
-        let Listed::At(v) = x else {
+    'tags: for _k in 0..b.len() {
+        let Some(v) = x else {
             return false;
         };
-        k += 1;
         x = next(b, v);
-        let Second::Is(start, len) = second_string(b, v, letter) else {
+        let Some((start, len)) = second_string(b, v, letter) else {
             continue;
         };
         let value = wire::piece(b, start, len);
-        let mut j: usize = 1;
-        'members: while j < spans.len() {
-            let at = spans[j - 1];
-            let n = spans[j];
-            if spell::same(value, wire::piece(m, at, n)) {
-                return true;
-            }
-            j += 2;
+        if among(value, m, spans) {
+            return true;
         }
     }
     false
@@ -118,10 +105,8 @@ fn same_bytes(p: &[u8], q: &[u8]) -> bool
         return false;
     }
     let mut same = true;
-    let mut i = 0;
-    while i < p.len() {
+    for i in 0..p.len() {
         same = same & (p[i] == q[i]);
-        i += 1;
     }
     same
 }
@@ -131,72 +116,47 @@ fn same_bytes(p: &[u8], q: &[u8]) -> bool
 fn among(v: &[u8], m: &[u8], spans: &[usize]) -> bool
     ensures { result ≡ is_member (spelled_by m.now spans.now) (decode v.now) }
 {
-    let mut j: usize = 1;
-    while j < spans.len() {
-        let at = spans[j - 1];
-        let n = spans[j];
-        if same_bytes(v, wire::piece(m, at, n)) {
+    for k in 0..spans.len() / 2 {
+        let member = wire::piece(m, spans[k * 2], spans[k * 2 + 1]);
+        if same_bytes(v, member) || spell::same(v, member) {
             return true;
         }
-        if spell::same(v, wire::piece(m, at, n)) {
-            return true;
-        }
-        j += 2;
     }
     false
 }
 
 // ids, authors: exact membership, where the list is given.
-pub(crate) fn listed(l: Members, v: &[u8], m: &[u8], row: &[usize]) -> bool
+pub(crate) fn listed(l: Option<(usize, usize)>, v: &[u8], m: &[u8], row: &[usize]) -> bool
     ensures { result ≡ is_listed (given (spelled_by m.now) row.now l) (decode v.now) }
 {
-    match l {
-        Members::Absent => true,
-        Members::In(a, n) => among(v, m, cut(row, a, n)),
-    }
+    l.is_none_or(|(a, n)| among(v, m, cut(row, a, n)))
 }
 
 // Whether a row of numbers has the kind.
 fn has(row: &[usize], k: u64) -> bool
-    ensures { result ≡ kind_listed (some (numbers_by row.now)) k }
+    ensures { result ≡ kind_listed (Some (numbers_by row.now)) k }
 {
-    let mut j: usize = 0;
-    while j < row.len() {
-        if row[j] as u64 == k {
-            return true;
-        }
-        j += 1;
-    }
-    false
+    row.contains(&(k as usize))
 }
 
 // kinds: exact membership, where the list is given.
-fn kind_listed(l: Members, k: u64, row: &[usize]) -> bool
+fn kind_listed(l: Option<(usize, usize)>, k: u64, row: &[usize]) -> bool
     ensures { result ≡ kind_listed (given numbers_by row.now l) k }
 {
-    match l {
-        Members::Absent => true,
-        Members::In(a, n) => has(cut(row, a, n), k),
-    }
+    l.is_none_or(|(a, n)| has(cut(row, a, n), k))
 }
 
 // since and until are inclusive, and 0 is a number.
-fn since_holds(s: Bound, t: i64) -> bool
+fn since_holds(s: Option<i64>, t: i64) -> bool
     ensures { result ≡ since_holds s t }
 {
-    match s {
-        Bound::Absent => true,
-        Bound::Number(z) => { if t < z { false } else { true } }
-    }
+    s.is_none_or(|z| z <= t)
 }
 
-fn until_holds(u: Bound, t: i64) -> bool
+fn until_holds(u: Option<i64>, t: i64) -> bool
     ensures { result ≡ until_holds u t }
 {
-    match u {
-        Bound::Absent => true,
-        Bound::Number(z) => { if z < t { false } else { true } }
-    }
+    u.is_none_or(|z| t <= z)
 }
 
 // All of the first n conditions hold.
@@ -212,16 +172,11 @@ pub(crate) fn all_hold(
     ensures { result ≡ all (condition_holds (lent_tags_at b.now tags))
         (map (condition_by m.now row.now) (take n cs)) }
 {
-    let mut i: usize = 0;
-    while i < 4 {
-        if n <= i {
-            return true;
-        }
+    for i in 0..n.min(4) {
         let c = cs[i];
         if !holds(b, tags, c.letter, m, cut(row, c.from, c.len)) {
             return false;
         }
-        i += 1;
     }
     true
 }
@@ -238,20 +193,16 @@ pub(crate) fn fields_hold(
     ensures { result ≡ fields_hold (filter_by m.now row.now f) (decode pubkey.now) time
         kind }
 {
-    let authors = f.authors;
-    if !listed(authors, pubkey, m, row) {
+    if !listed(f.authors, pubkey, m, row) {
         return false;
     }
-    let kinds = f.kinds;
-    if !kind_listed(kinds, kind, row) {
+    if !kind_listed(f.kinds, kind, row) {
         return false;
     }
-    let since = f.since;
-    if !since_holds(since, time) {
+    if !since_holds(f.since, time) {
         return false;
     }
-    let until = f.until;
-    until_holds(until, time)
+    until_holds(f.until, time)
 }
 
 // Whether the event of the parts p over b matches the filter.
@@ -266,9 +217,8 @@ pub(crate) fn event_matched(
     ensures { result ≡ matches (filter_by m.now row.now f) (said b.now p.id)
         (event_of b.now p.body) }
 {
-    let ids = f.ids;
     let id = p.id;
-    if !listed(ids, wire::piece(b, id.start, id.len), m, row) {
+    if !listed(f.ids, wire::piece(b, id.start, id.len), m, row) {
         return false;
     }
     let body = p.body;
@@ -277,6 +227,5 @@ pub(crate) fn event_matched(
     if !fields_hold(key, body.created_at, event::kind_of(body.kind), m, row, f) {
         return false;
     }
-    let cs = f.conditions;
-    all_hold(b, body.tags, m, row, cs, f.n)
+    all_hold(b, body.tags, m, row, f.conditions, f.n)
 }

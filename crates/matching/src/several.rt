@@ -34,16 +34,10 @@ pub(crate) fn some_match(
     ensures { result ≡ matches_some (meant m.now fs n) (said b.now p.id)
         (event_of b.now p.body) }
 {
-    let mut i: usize = 0;
-    while i < 4 {
-        if n <= i {
-            return false;
-        }
-        let f = fs[i];
-        if one_match(b, p, m, f) {
+    for i in 0..n {
+        if one_match(b, p, m, fs[i]) {
             return true;
         }
-        i += 1;
     }
     false
 }

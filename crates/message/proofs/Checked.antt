@@ -1,4 +1,5 @@
 -- What the rows of lent parts say of an event's tags and of a filter's lists, where none holds: for whoever reads them.
+use Rattle.std.specs.Prelude.{Option, Some}
 use mathlib.Core.Path.{◌≡◌, refl, sym, ap, ◌∙◌}
 use mathlib.Core.Bool.{Bool, true, false, ◌||◌, false≢true}
 use mathlib.Core.List.{List}
@@ -15,8 +16,6 @@ use Rattle.shape.specs.Shape.{filter_member, is_filter, ids_name, authors_name, 
 use Rattle.shape.specs.Rows.{wrong_small, wrong_hex, wrong_list, filter_number, filter_hex, wrong_filter, filter_counts}
 use Rattle.message.specs.declared.EventParts.{EventParts}
 use Rattle.message.specs.declared.FilterParts.{FilterParts}
-use Rattle.message.specs.declared.Listed.{Listed}
-use Rattle.message.specs.declared.Listed.TheVariants.{At}
 use Rattle.message.specs.Lent.{on_value, value_at, is_tags_shape, string5, value2, value4, value5, time6, small6}
 use Rattle.message.specs.Lent.{wrong_hexes, wrong_smalls, body5, body6, body8, event2, event4, event5, event7, event_row}
 use Rattle.message.specs.Lent.{in_list, in_bound, filter2, filter4, filter5, filter6, filter7, filter8, filter_row}
@@ -69,7 +68,7 @@ list_of_lem f g (arr ts) h c l =
     record { items = ts; is = refl; each = h; clean = c; some = ltb-false (count ts) 1 x; few = ltb-false 16 (count ts) y }
 
 -- ---- a filter's lists
-at : (f : ℕ → Bool) (x : Listed) {v : ℕ} → x ≡ At v → in_list f x ≡ false → f v ≡ false
+at : (f : ℕ → Bool) (x : Option ℕ) {v : ℕ} → x ≡ Some v → in_list f x ≡ false → f v ≡ false
 at f x q h = sym (ap (in_list f) q) ∙ h
 
 module _ (b : List ℕ) (p : FilterParts) (e : filter_row b p ≡ 0) where
@@ -127,7 +126,7 @@ module _ (b : List ℕ) (p : FilterParts) (e : filter_row b p ≡ 0) where
       let (a, c) = or_not (in_list (λ v. on_value (wrong_hexes b) (value_at b v)) p.authors) _ x in
       (i, a, c)
 
-  pub ids_are : {v : ℕ} → p.ids ≡ At v → ListIs is_string (wrong_hex hex_length b) b v
+  pub ids_are : {v : ℕ} → p.ids ≡ Some v → ListIs is_string (wrong_hex hex_length b) b v
   ids_are q = record {
     l2 = at (value2 b) p.ids q two.0;
     l4 = at (value4 b) p.ids q row4.0;
@@ -136,7 +135,7 @@ module _ (b : List ℕ) (p : FilterParts) (e : filter_row b p ≡ 0) where
     l8 = at (λ w. on_value wrong_list (value_at b w)) p.ids q eight.0;
   }
 
-  pub authors_are : {v : ℕ} → p.authors ≡ At v → ListIs is_string (wrong_hex hex_length b) b v
+  pub authors_are : {v : ℕ} → p.authors ≡ Some v → ListIs is_string (wrong_hex hex_length b) b v
   authors_are q = record {
     l2 = at (value2 b) p.authors q two.1;
     l4 = at (value4 b) p.authors q row4.1;
@@ -145,7 +144,7 @@ module _ (b : List ℕ) (p : FilterParts) (e : filter_row b p ≡ 0) where
     l8 = at (λ w. on_value wrong_list (value_at b w)) p.authors q eight.1;
   }
 
-  pub kinds_are : {v : ℕ} → p.kinds ≡ At v → ListIs is_number (wrong_small b) b v
+  pub kinds_are : {v : ℕ} → p.kinds ≡ Some v → ListIs is_number (wrong_small b) b v
   kinds_are q = record {
     l2 = at (value2 b) p.kinds q two.2;
     l4 = at (value4 b) p.kinds q row4.2;
@@ -163,7 +162,7 @@ pub record FilterIs (b : List ℕ) (v : ℕ) : Type 0 where
   pub o7 : on_value (on_object (any_item (filter_hex b))) (value_at b v) ≡ false
   pub o8 : on_value (on_object (filter_counts b)) (value_at b v) ≡ false
 
-pub conditions_are : (b : List ℕ) (p : FilterParts) → filter_row b p ≡ 0 → {v : ℕ} → p.conditions ≡ At v → FilterIs b v
+pub conditions_are : (b : List ℕ) (p : FilterParts) → filter_row b p ≡ 0 → {v : ℕ} → p.conditions ≡ Some v → FilterIs b v
 conditions_are b p e q = record {
   o2 = at (value2 b) p.conditions q (two b p e).3;
   o4 = at (value4 b) p.conditions q (row4 b p e).3;

@@ -1,5 +1,6 @@
 -- A character of UTF-8 ends before and after each byte below 80. So what stands between two such edges of a text is
 -- UTF-8: a string between its quotes, an array or an object with the white space after it.
+use Rattle.std.specs.Prelude.{Option, Some, None}
 use mathlib.Core.Path.{◌≡◌, refl, sym, ap, ◌∙◌}
 use mathlib.Core.List.{List, [], ◌∷◌, ◌++◌}
 use mathlib.Core.Bool.{Bool, true, false, cond, ◌||◌, false≢true}
@@ -19,8 +20,6 @@ use Rattle.utf8.specs.Utf8.{next_want, ends, utf8_from, is_utf8}
 use Rattle.utf8.proofs.States.{Reached, lead_reached, next_reached, low_next, low_turn}
 use Rattle.json_tree.specs.Grammar.{case, in_class, run, past, ws_at, token_at, close_of, opened_at, start_at, chars_at, string_at}
 use Rattle.json_tree.specs.Tree.{Json, Items, Got}
-use Rattle.json_tree.specs.declared.Out.{Out}
-use Rattle.json_tree.specs.declared.Out.TheVariants as out
 use Rattle.json_tree.specs.declared.Start.TheVariants.{Leaf, Empty, Many}
 use Rattle.json_tree.specs.declared.Next.TheVariants.{More, Done, Wrong}
 use Rattle.json_tree.proofs.Ends.{then_end, one_is, byte_is}
@@ -137,7 +136,7 @@ module _ (s : List ℕ) (u : is_utf8 s ≡ true) where
   byte_edges : (b x : ℕ) → 0 < b → b < 0x80 → get_or s x 0 ≡ b → Edge s x × Edge s (x + 1)
   byte_edges b x h l e = low_edges s u x (held s x b h e) (omega arith)
 
-  token_edges : (b x n : ℕ) → 0 < b → b < 0x80 → token_at s b x ≡ out.End n → Edge s x × Edge s n
+  token_edges : (b x n : ℕ) → 0 < b → b < 0x80 → token_at s b x ≡ Some n → Edge s x × Edge s n
   unfolding token_at
   token_edges b x n h l e =
       let (k, p, r) = then_end _ _ e in
@@ -146,58 +145,58 @@ module _ (s : List ℕ) (u : is_utf8 s ≡ true) where
       let y : ws_at s k ≡ n = cc in
       (i, rw (← y, ← z) (ws_edge s (x + 1) j))
 
-  close_edge : (named : Bool) (x n : ℕ) → token_at s (close_of named) x ≡ out.End n → Edge s n
+  close_edge : (named : Bool) (x n : ℕ) → token_at s (close_of named) x ≡ Some n → Edge s n
   close_edge true x n e = (token_edges 0x7D x n (omega arith) (omega arith) e).1
   close_edge false x n e = (token_edges 0x5D x n (omega arith) (omega arith) e).1
 
   walk_edge : {value : ℕ → Got Json} {named : Bool} {f i : ℕ} {ts : Items} {n : ℕ} → Walk value s named f i ts n → Edge s n
   walk_edge {named = named} {n = n} (last {m = m} h w q) = comma (token_at s 0x2C m) q
     where
-      close : (o : Out) → token_at s (close_of named) m ≡ o → case o Done Wrong ≡ Done n → Edge s n
-      close (out.End k) p e = let z : k ≡ n = cc in close_edge named m n (rw z at p)
-      close out.Bad p e = absurd (let z : ◌≡◌ {A = ℕ} 0 1 = cc in omega arith)
+      close : (o : Option ℕ) → token_at s (close_of named) m ≡ o → case o Done Wrong ≡ Done n → Edge s n
+      close (Some k) p e = let z : k ≡ n = cc in close_edge named m n (rw z at p)
+      close None p e = absurd (let z : ◌≡◌ {A = ℕ} 0 1 = cc in omega arith)
 
-      comma : (o : Out) → case o More (case (token_at s (close_of named) m) Done Wrong) ≡ Done n → Edge s n
-      comma (out.End k) e = absurd (let z : ◌≡◌ {A = ℕ} 0 1 = cc in omega arith)
-      comma out.Bad e = close (token_at s (close_of named) m) refl e
+      comma : (o : Option ℕ) → case o More (case (token_at s (close_of named) m) Done Wrong) ≡ Done n → Edge s n
+      comma (Some k) e = absurd (let z : ◌≡◌ {A = ℕ} 0 1 = cc in omega arith)
+      comma None e = close (token_at s (close_of named) m) refl e
   walk_edge (more h w q r) = walk_edge r
 
   opened_edge : (named : Bool) {named' : Bool} (x n : ℕ) → opened_at s x named ≡ Empty n named' → Edge s n
   opened_edge named {named'} x n e = on (token_at s (close_of named) x) refl e
     where
-      on : (o : Out) → token_at s (close_of named) x ≡ o → case o (λ k. Empty k named) (Many x named) ≡ Empty n named' → Edge s n
-      on (out.End k) p q = let z : k ≡ n = cc in close_edge named x n (rw z at p)
-      on out.Bad p q = absurd (let z : ◌≡◌ {A = ℕ} 0 1 = cc in omega arith)
+      on : (o : Option ℕ) → token_at s (close_of named) x ≡ o → case o (λ k. Empty k named) (Many x named) ≡ Empty n named' → Edge s n
+      on (Some k) p q = let z : k ≡ n = cc in close_edge named x n (rw z at p)
+      on None p q = absurd (let z : ◌≡◌ {A = ℕ} 0 1 = cc in omega arith)
 
   -- brackets or braces around nothing, and around items
   start_edges : (x : ℕ) {n : ℕ} {named : Bool} → start_at s x ≡ Empty n named → Edge s x × Edge s n
   start_edges x {n} {named} e = square (token_at s 0x5B x) refl e
     where
-      curly : (o : Out) → token_at s 0x7B x ≡ o → case o (λ k. opened_at s k true) Leaf ≡ Empty n named → Edge s x × Edge s n
-      curly (out.End k) p q = ((token_edges 0x7B x k (omega arith) (omega arith) p).0, opened_edge true k n q)
-      curly out.Bad p q = absurd (let z : ◌≡◌ {A = ℕ} 0 1 = cc in omega arith)
+      curly : (o : Option ℕ) → token_at s 0x7B x ≡ o → case o (λ k. opened_at s k true) Leaf ≡ Empty n named → Edge s x × Edge s n
+      curly (Some k) p q = ((token_edges 0x7B x k (omega arith) (omega arith) p).0, opened_edge true k n q)
+      curly None p q = absurd (let z : ◌≡◌ {A = ℕ} 0 1 = cc in omega arith)
 
-      square : (o : Out) → token_at s 0x5B x ≡ o → case o (λ k. opened_at s k false) (case (token_at s 0x7B x) (λ k. opened_at s k true) Leaf) ≡ Empty n named → Edge s x × Edge s n
-      square (out.End k) p q = ((token_edges 0x5B x k (omega arith) (omega arith) p).0, opened_edge false k n q)
-      square out.Bad p q = curly (token_at s 0x7B x) refl q
+      square : (o : Option ℕ) → token_at s 0x5B x ≡ o → case o (λ k. opened_at s k false) (case (token_at s 0x7B x) (λ k. opened_at s k true) Leaf) ≡ Empty n named → Edge s x × Edge s n
+      square (Some k) p q = ((token_edges 0x5B x k (omega arith) (omega arith) p).0, opened_edge false k n q)
+      square None p q = curly (token_at s 0x7B x) refl q
 
   many_edge : (x : ℕ) {i : ℕ} {named : Bool} → start_at s x ≡ Many i named → Edge s x
   many_edge x {i} {named} e = square (token_at s 0x5B x) refl e
     where
-      curly : (o : Out) → token_at s 0x7B x ≡ o → case o (λ k. opened_at s k true) Leaf ≡ Many i named → Edge s x
-      curly (out.End k) p q = (token_edges 0x7B x k (omega arith) (omega arith) p).0
-      curly out.Bad p q = absurd (let z : ◌≡◌ {A = ℕ} 0 1 = cc in omega arith)
+      curly : (o : Option ℕ) → token_at s 0x7B x ≡ o → case o (λ k. opened_at s k true) Leaf ≡ Many i named → Edge s x
+      curly (Some k) p q = (token_edges 0x7B x k (omega arith) (omega arith) p).0
+      curly None p q = absurd (let z : ◌≡◌ {A = ℕ} 0 1 = cc in omega arith)
 
-      square : (o : Out) → token_at s 0x5B x ≡ o → case o (λ k. opened_at s k false) (case (token_at s 0x7B x) (λ k. opened_at s k true) Leaf) ≡ Many i named → Edge s x
-      square (out.End k) p q = (token_edges 0x5B x k (omega arith) (omega arith) p).0
-      square out.Bad p q = curly (token_at s 0x7B x) refl q
+      square : (o : Option ℕ) → token_at s 0x5B x ≡ o → case o (λ k. opened_at s k false) (case (token_at s 0x7B x) (λ k. opened_at s k true) Leaf) ≡ Many i named → Edge s x
+      square (Some k) p q = (token_edges 0x5B x k (omega arith) (omega arith) p).0
+      square None p q = curly (token_at s 0x7B x) refl q
 
   -- ---- so parts of the text are UTF-8
   pub group_utf8 : {x n : ℕ} {named : Bool} {ts : Items} → Group s x named ts n → is_utf8 (part s x (n - x)) ≡ true
   group_utf8 {x} {n} (hollow p) = let (i, j) = start_edges x p in between s x n i j
   group_utf8 {x} {n} (filled p w) = between s x n (many_edge x p) (walk_edge w)
 
-  pub string_utf8 : (x k : ℕ) → string_at s x ≡ out.End k → is_utf8 (part s (x + 1) (k - x - 2)) ≡ true
+  pub string_utf8 : (x k : ℕ) → string_at s x ≡ Some k → is_utf8 (part s (x + 1) (k - x - 2)) ≡ true
   string_utf8 x k e =
       let (p, l, q, h, m) = string_parts s x k e in
       let c = chars_at s (x + 1) in

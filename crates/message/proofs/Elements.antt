@@ -1,5 +1,6 @@
 -- The list of an array's elements is that of the places of its items in the tree; a walk over an array that is there
 -- ends and does not break.
+use Rattle.std.specs.Prelude.{Option, Some, None}
 use mathlib.Core.Path.{◌≡◌, refl, sym, ap, ◌∙◌}
 use mathlib.Core.List.{List, [], ◌∷◌}
 use mathlib.Core.Bool.{Bool, true, false}
@@ -10,7 +11,7 @@ use Rattle.json_tree.specs.Grammar.{scalar_at, start_at}
 use Rattle.json_tree.specs.Tree.{Json, word, num, str, arr, obj, Items, nil, item, Got, got, on_leaf, node}
 use Rattle.json_tree.specs.Tree.{items_at, group_at, depth, tree_at}
 use Rattle.json_tree.specs.declared.Kind.{Kind}
-use Rattle.json_tree.specs.declared.Kind.TheVariants.{Str, Num, Word, None}
+use Rattle.json_tree.specs.declared.Kind.TheVariants.{Str, Num, Word}
 use Rattle.json_tree.specs.declared.Start.{Start}
 use Rattle.json_tree.specs.declared.Start.TheVariants.{Leaf, Empty, Many}
 use Rattle.json_tree.proofs.Trees.{tree_open}
@@ -37,13 +38,13 @@ group_of s at named ts n e = on (start_at s at) refl (sym (tree_open s open_with
     same : (b : Bool) (us : Items) {m : ℕ} → got (node b us) m ≡ got (node named ts) n → Group s at b us m → Group s at named ts n
     same b us q a = let (x, y, z) = node_is b named us ts q in rw (← x, ← y, ← z) a
 
-    leaf : (b : Bool) (k : Kind) → on_leaf s at k ≡ got (node b ts) n → Group s at named ts n
-    leaf true (Str m) q = absurd (let z : ◌≡◌ {A = ℕ} 0 1 = cc in omega arith)
-    leaf false (Str m) q = absurd (let z : ◌≡◌ {A = ℕ} 0 1 = cc in omega arith)
-    leaf true (Num m) q = absurd (let z : ◌≡◌ {A = ℕ} 0 1 = cc in omega arith)
-    leaf false (Num m) q = absurd (let z : ◌≡◌ {A = ℕ} 0 1 = cc in omega arith)
-    leaf true (Word m) q = absurd (let z : ◌≡◌ {A = ℕ} 0 1 = cc in omega arith)
-    leaf false (Word m) q = absurd (let z : ◌≡◌ {A = ℕ} 0 1 = cc in omega arith)
+    leaf : (b : Bool) (k : Option Kind) → on_leaf s at k ≡ got (node b ts) n → Group s at named ts n
+    leaf true (Some (Str m)) q = absurd (let z : ◌≡◌ {A = ℕ} 0 1 = cc in omega arith)
+    leaf false (Some (Str m)) q = absurd (let z : ◌≡◌ {A = ℕ} 0 1 = cc in omega arith)
+    leaf true (Some (Num m)) q = absurd (let z : ◌≡◌ {A = ℕ} 0 1 = cc in omega arith)
+    leaf false (Some (Num m)) q = absurd (let z : ◌≡◌ {A = ℕ} 0 1 = cc in omega arith)
+    leaf true (Some (Word m)) q = absurd (let z : ◌≡◌ {A = ℕ} 0 1 = cc in omega arith)
+    leaf false (Some (Word m)) q = absurd (let z : ◌≡◌ {A = ℕ} 0 1 = cc in omega arith)
     leaf b None q = never q
 
     on : (r : Start) → start_at s at ≡ r → group_at (tree_at s open_within) s at r ≡ got (node named ts) n → Group s at named ts n
@@ -120,10 +121,10 @@ first_in_lem s d at t n e = on (start_at s at) (sym (tree_open s d at (start_at 
     same : (x : Element) (u : Json) (k : ℕ) → got u k ≡ got t n → x ≡ first_in u → x ≡ first_in t
     same x u k q h = let z : u ≡ t = cc in h ∙ ap first_in z
 
-    leaf : (k : Kind) → on_leaf s at k ≡ got t n → Broken ≡ first_in t
-    leaf (Str m) q = same _ _ _ q refl
-    leaf (Num m) q = same _ _ _ q refl
-    leaf (Word m) q = same _ _ _ q refl
+    leaf : (k : Option Kind) → on_leaf s at k ≡ got t n → Broken ≡ first_in t
+    leaf (Some (Str m)) q = same _ _ _ q refl
+    leaf (Some (Num m)) q = same _ _ _ q refl
+    leaf (Some (Word m)) q = same _ _ _ q refl
     leaf None q = never q
 
     many : (i : ℕ) (named : Bool) (us : Items) (k : ℕ) → Walk (tree_at s d) s named (length s) i us k → got (node named us) k ≡ got t n → start_element (Many i named) ≡ first_in t

@@ -1,4 +1,5 @@
 -- A walk over an object's members finds the first of each name; what stands at its place is the member's tree.
+use Rattle.std.specs.Prelude.{Option, Some, None}
 use mathlib.Core.Path.{◌≡◌, refl, ap, ◌∙◌}
 use mathlib.Core.List.{List}
 use mathlib.Core.Bool.{Bool, true, false, cond}
@@ -9,15 +10,13 @@ use Rattle.json_tree.specs.Grammar.{scalar_at, start_at}
 use Rattle.json_tree.specs.Tree.{Json, arr, obj, Items, nil, item, fold_items, Got, none, got, bind, on_leaf, node, items_at}
 use Rattle.json_tree.specs.Tree.{group_at, tree_at}
 use Rattle.json_tree.specs.declared.Kind.{Kind}
-use Rattle.json_tree.specs.declared.Kind.TheVariants.{Str, Num, Word, None}
+use Rattle.json_tree.specs.declared.Kind.TheVariants.{Str, Num, Word}
 use Rattle.json_tree.specs.declared.Start.{Start}
 use Rattle.json_tree.specs.declared.Start.TheVariants.{Leaf, Empty, Many}
 use Rattle.json_tree.proofs.Trees.{tree_open, fold_got}
 use Rattle.rows.specs.Strings.{spelled_at}
 use Rattle.shape.specs.Shape.{name_at, named, id_name, pubkey_name, created_at_name, kind_name, tags_name, content_name}
 use Rattle.shape.specs.Shape.{sig_name, ids_name, authors_name, kinds_name, since_name, until_name, limit_name}
-use Rattle.message.specs.declared.Listed.{Listed}
-use Rattle.message.specs.declared.Listed.TheVariants.{Absent, At}
 use Rattle.message.specs.declared.Members.{Members}
 use Rattle.message.specs.Lists.{open_within}
 use Rattle.message.specs.Parts.{Member, missing, member, member_of, nowhere, span_of, number_spelled, span_in}
@@ -39,10 +38,10 @@ module _ {A : Type 0} (f : A → ℕ → ℕ → Json → A) (z : A) (s : List �
   unfolding members_at
   fold_open at r e = rw (tree_open s open_within at r e) (on r)
     where
-      leaf : (k : Kind) → z ≡ fold_items f z (members_got (on_leaf s at k))
-      leaf (Str n) = refl
-      leaf (Num n) = refl
-      leaf (Word n) = refl
+      leaf : (k : Option Kind) → z ≡ fold_items f z (members_got (on_leaf s at k))
+      leaf (Some (Str n)) = refl
+      leaf (Some (Num n)) = refl
+      leaf (Some (Word n)) = refl
       leaf None = refl
 
       array : (g : Got Items) → z ≡ fold_items f z (members_got (bind g λ ts n. got (node false ts) n))
@@ -64,25 +63,25 @@ module _ {A : Type 0} (f : A → ℕ → ℕ → Json → A) (z : A) (s : List �
 abbrev pub by : List ℕ → Bool → Members → ℕ → ℕ → Json → Members
 by s event a p v t = step_of s event a p v
 
-abbrev or_else : Listed → Member → Listed
-or_else (At u) m = At u
-or_else Absent m = listed_in m
+abbrev or_else : Option ℕ → Member → Option ℕ
+or_else (Some u) m = Some u
+or_else None m = listed_in m
 
-or_missing : (x : Listed) → x ≡ or_else x missing
-or_missing (At u) = refl
-or_missing Absent = refl
+or_missing : (x : Option ℕ) → x ≡ or_else x missing
+or_missing (Some u) = refl
+or_missing None = refl
 
 module _ (s w : List ℕ) where
-  or_kept : (x : Listed) (p v : ℕ) (t : Json) (ts : Items) → or_else (kept_place (spelled_at s p) w x v) (member_of s w ts) ≡ or_else x (member_of s w (item p v t ts))
+  or_kept : (x : Option ℕ) (p v : ℕ) (t : Json) (ts : Items) → or_else (kept_place (spelled_at s p) w x v) (member_of s w ts) ≡ or_else x (member_of s w (item p v t ts))
   unfolding kept_place member_of name_at
-  or_kept (At u) p v t ts = refl
-  or_kept Absent p v t ts = go (named s w p)
+  or_kept (Some u) p v t ts = refl
+  or_kept None p v t ts = go (named s w p)
     where
-      go : (b : Bool) → or_else (cond b (At v) Absent) (member_of s w ts) ≡ listed_in (cond b (member v t) (member_of s w ts))
+      go : (b : Bool) → or_else (cond b (Some v) None) (member_of s w ts) ≡ listed_in (cond b (member v t) (member_of s w ts))
       go true = refl
       go false = refl
 
-  fold_first : (f : Members → ℕ → ℕ → Json → Members) (part : Members → Listed)
+  fold_first : (f : Members → ℕ → ℕ → Json → Members) (part : Members → Option ℕ)
       → ((a : Members) (p v : ℕ) (t : Json) → part (f a p v t) ≡ kept_place (spelled_at s p) w (part a) v)
       → (a : Members) (ts : Items) → part (fold_items f a ts) ≡ or_else (part a) (member_of s w ts)
   unfolding member_of
@@ -163,10 +162,10 @@ pub members_read : (s : List ℕ) (at : ℕ) → Reads (tree_at s open_within) (
 unfolding members_at
 members_read s at = rw (tree_open s open_within at (start_at s at) refl) (on (start_at s at))
   where
-    leaf : (k : Kind) → Reads (tree_at s open_within) (members_got (on_leaf s at k))
-    leaf (Str n) = end
-    leaf (Num n) = end
-    leaf (Word n) = end
+    leaf : (k : Option Kind) → Reads (tree_at s open_within) (members_got (on_leaf s at k))
+    leaf (Some (Str n)) = end
+    leaf (Some (Num n)) = end
+    leaf (Some (Word n)) = end
     leaf None = end
 
     many : (named : Bool) (i : ℕ) (g : Got Items) → items_at (tree_at s open_within) s named (length s) i ≡ g → Reads (tree_at s open_within) (members_got (bind g λ ts n. got (node named ts) n))
@@ -186,8 +185,8 @@ module _ (s : List ℕ) (at : ℕ) (m : Members) where
   seen w = member_seen s w (members_read s at)
 
   module _ (event : Bool) (e : m ≡ found_in s event (members_at s at)) where
-    found : (w : List ℕ) (part : Members → Listed) → ((a : Members) (p v : ℕ) (t : Json) → part (step_of s event a p v) ≡ kept_place (spelled_at s p) w (part a) v)
-        → part no_members ≡ Absent → part m ≡ listed_in (member_of s w (members_at s at))
+    found : (w : List ℕ) (part : Members → Option ℕ) → ((a : Members) (p v : ℕ) (t : Json) → part (step_of s event a p v) ≡ kept_place (spelled_at s p) w (part a) v)
+        → part no_members ≡ None → part m ≡ listed_in (member_of s w (members_at s at))
     found w part step z = ap part e ∙ fold_first s w (by s event) part step no_members (members_at s at) ∙ ap (λ x. or_else x (member_of s w (members_at s at))) z
 
   pub event_is : m ≡ found_in s true (members_at s at) → record { id = span_found s m.first; body = body_found s m; sig = span_found s m.seventh } ≡ event_at s at
@@ -210,7 +209,7 @@ module _ (s : List ℕ) (at : ℕ) (m : Members) where
         span_in_lem s (seen sig_name),
       )
 
-  pub filter_is : m ≡ found_in s false (members_at s at) → filter_found s m (At at) ≡ filter_at s at
+  pub filter_is : m ≡ found_in s false (members_at s at) → filter_found s m (Some at) ≡ filter_at s at
   unfolding filter_at filter_parts_of step_of
   filter_is e =
       let ids = found false e ids_name (λ a. a.first) (λ a p v t. refl) refl in

@@ -1,37 +1,25 @@
--- The lowest_by row as a number: the least of two such numbers is the lowest_by row that holds on either side; and the
--- rows of one part, by its tests in the order of the code.
+-- The lowest row as a number: the least of two such numbers is the lowest row that holds on either side; and the rows
+-- of an event and of a filter, by those of their parts in the order of the code.
+use Rattle.std.specs.Prelude.{Option, Some, None}
 use mathlib.Core.Path.{◌≡◌, refl, sym, ap, ◌∙◌}
 use mathlib.Core.List.{List}
 use mathlib.Core.Bool.{Bool, true, false, cond, not, ◌||◌, or-false}
-use Prim.Native.Nat.{ℕ, ◌+◌, ◌-◌, ◌<◌, ◌≤◌, min}
-use native.Mathlib.Decide.{dec_le}
+use Prim.Native.Nat.{ℕ, ◌-◌, ◌<◌, ◌≤◌, min}
 use native.Mathlib.Omega.{arith}
-use borrow.Author.Tests.{le-leb, lt-leb, ne_eqb, eqb-true, eqb-false}
-use lib.Dec.{eqb, leb}
-use lib.IntN.{ℤ}
-use lib.ListN.{length}
+use borrow.Author.Tests.{ne_eqb, eqb-true, eqb-false}
+use lib.Dec.{eqb}
 use Rattle.utf8.specs.Utf8.{is_utf8}
-use Rattle.json_tree.specs.Grammar.{is_spelling}
 use Rattle.json_tree.specs.Tree.{Json, Got, none, got, depth, tree_at}
-use Rattle.spell.specs.Spell.{character_count, refuses, is_hex_of}
-use Rattle.wire.specs.Limits.{most_characters}
-use Rattle.numeral.specs.Whole.{is_within}
-use Rattle.numeral.specs.declared.Whole.TheVariants.{Value}
 use Rattle.rows.specs.Strings.{part, refused_in}
-use Rattle.shape.specs.Rows.{outside}
 use Rattle.message.specs.declared.Span.{Span}
 use Rattle.message.specs.declared.Body.{Body}
 use Rattle.shape.proofs.Low.{at_least, least}
 use Rattle.message.specs.declared.EventParts.{EventParts}
 use Rattle.message.specs.declared.FilterParts.{FilterParts}
-use Rattle.message.specs.declared.Bound.{Bound}
-use Rattle.message.specs.declared.Bound.TheVariants as bound
-use Rattle.message.specs.declared.Listed.{Listed}
-use Rattle.message.specs.declared.Listed.TheVariants as listed
 use Rattle.shape.specs.declared.Sort.{Sort}
 use Rattle.shape.specs.declared.Sort.TheVariants.{Tags, Hexes, Smalls, Filter}
-use Rattle.message.specs.Lent.{span_bytes, is_inside, is_spelled, string2, string4, string5, string7, subscription8}
-use Rattle.message.specs.Lent.{on_value, value_at, value2, value4, value5, wrong_number, time6, small6, in_list}
+use Rattle.message.specs.Lent.{string2, string4, string5, string7}
+use Rattle.message.specs.Lent.{on_value, value_at, value2, value4, value5, time6, small6, in_list}
 use Rattle.message.specs.Lent.{in_bound, body2, body4, body5, body6, body7, body8, event2, event4, event5, event7}
 use Rattle.message.specs.Lent.{event_row, filter2, filter4, filter5, filter6, filter7, filter8, filter_row}
 use Rattle.wire.specs.Lowest.{lower_row}
@@ -113,7 +101,7 @@ told_rank = in_step (λ x y. row_told x ≡ y) refl refl refl refl refl refl ref
 pub told_is : {x : ℕ} {a b c d e f : Bool} → LowestRank x a b c d e f → row_told x ≡ lowest_by a b c d e f
 told_is {x} {a} {b} {c} {d} {e} {f} w = ap row_told w.is ∙ told_rank a b c d e f
 
--- ---- the lowest_by of rows that hold on either side is the lower of the two lowest
+-- ---- the lowest of rows that hold on either side is the lower of the two lowest
 rank_between : (a b c d e f : Bool) → (0 < rank a b c d e f) × (rank a b c d e f ≤ 9)
 rank_between = in_step (λ x y. (0 < x) × (x ≤ 9)) (omega arith, omega arith) (omega arith, omega arith) (omega arith, omega arith) (omega arith, omega arith) (omega arith, omega arith) (omega arith, omega arith) (omega arith, omega arith)
 
@@ -144,84 +132,11 @@ lowest_lower a b c d e f a' b' c' d' e' f' =
     ∙ ap (λ (x : ℕ). lower_row x (row_told (rank a' b' c' d' e' f'))) (told_rank a b c d e f) ∙ ap (lower_row (lowest_by a b c d e f)) (told_rank a' b' c' d' e' f')
 
 -- ---- a string part
-module _ (b : List ℕ) (p : Span) where
-  pub inside_not : length b < p.start → false ≡ is_inside b p
-  unfolding is_inside
-  inside_not h = sym (lt-leb (p.start + p.len) (length b) (omega arith))
+abbrev StringRank : List ℕ → Span → ℕ → Type 0
+StringRank b p x = LowestRank x (string2 b p) (string4 b p) (string5 b p) false false false
 
-  pub inside_is : p.start ≤ length b → leb p.len (length b - p.start) ≡ is_inside b p
-  unfolding is_inside
-  inside_is h = elim (dec_le p.len (length b - p.start)) [
-    | yes l ↦ le-leb p.len (length b - p.start) l ∙ sym (le-leb (p.start + p.len) (length b) (omega arith))
-    | no l ↦ lt-leb p.len (length b - p.start) (omega arith) ∙ sym (lt-leb (p.start + p.len) (length b) (omega arith))
-  ]
-
-module _ (b : List ℕ) (p : Span) where
-  abbrev StringRank : ℕ → Type 0
-  StringRank x = LowestRank x (string2 b p) (string4 b p) (string5 b p) false false false
-
-  pub string_outside : is_inside b p ≡ false → StringRank 5
-  unfolding rank string2 string4 string5 is_spelled
-  string_outside i = record { is = simp i }
-
-  -- w are its bytes
-  module _ (i : is_inside b p ≡ true) (w : List ℕ) (e : w ≡ span_bytes b p) where
-    pub string_bytes_lem : is_utf8 w ≡ false → StringRank 2
-    unfolding rank string2
-    string_bytes_lem u = record { is = simp (i, rw e at u) }
-
-    module _ (u : is_utf8 w ≡ true) where
-      pub string_unspelled : is_spelling w ≡ false → StringRank 5
-      unfolding rank string2 string4 string5 is_spelled
-      string_unspelled q = record { is = simp (i, rw e at u, rw e at q) }
-
-      pub string_refused : is_spelling w ≡ true → refuses w ≡ true → StringRank 4
-      unfolding rank string2 string4 string5 is_spelled
-      string_refused q r = record { is = simp (i, rw e at u, rw e at q, rw e at r) }
-
-      pub string_fine : is_spelling w ≡ true → refuses w ≡ false → StringRank 9
-      unfolding rank string2 string4 string5 is_spelled
-      string_fine q r = record { is = simp (i, rw e at u, rw e at q, rw e at r) }
-
-  -- one that breaks none of these rows; and one that does, whatever rows 7 and 8 say of it
-  string_clean : {x : ℕ} → StringRank x → x ≡ 9 → (string2 b p ≡ false) × (string4 b p ≡ false) × (is_spelled b p ≡ true)
-  unfolding rank string5
-  string_clean {x} w n = go (string2 b p) (string4 b p) (is_spelled b p) (sym n ∙ w.is)
-    where
-      go : (s t u : Bool) → ◌≡◌ {A = ℕ} 9 (cond s 2 (cond t 4 (cond (not u) 5 9))) → (s ≡ false) × (t ≡ false) × (u ≡ true)
-      go true t u q = absurd (omega arith)
-      go false true u q = absurd (omega arith)
-      go false false true q = (refl, refl, refl)
-      go false false false q = absurd (omega arith)
-
-  pub string_early : (row7 row8 : Bool) {x : ℕ} → StringRank x → (x ≡ 9 → ⊥) → LowestRank x (string2 b p) (string4 b p) (string5 b p) false row7 row8
-  unfolding rank
-  string_early row7 row8 {x} w n = record { is = go (string2 b p) (string4 b p) (string5 b p) w.is }
-    where
-      go : (s t u : Bool) → x ≡ cond s 2 (cond t 4 (cond u 5 9)) → x ≡ cond s 2 (cond t 4 (cond u 5 (cond row7 7 (cond row8 8 9))))
-      go true t u q = q
-      go false true u q = q
-      go false false true q = q
-      go false false false q = absurd (n q)
-
-  -- hex of k characters
-  module _ (k : ℕ) where
-    abbrev HexRank : ℕ → Type 0
-    HexRank x = LowestRank x (string2 b p) (string4 b p) (string5 b p) false (string7 k b p) false
-
-    pub hex_late : {x : ℕ} (w : List ℕ) (h : Bool) → StringRank x → x ≡ 9 → w ≡ span_bytes b p → is_hex_of k w ≡ h → HexRank (cond h 9 7)
-    unfolding rank string5 string7
-    hex_late v h w n q e = let (c, d, i) = string_clean w n in record { is = rw (c, d, i, rw q at e) (go h) }
-      where
-        go : (h : Bool) → ◌≡◌ {A = ℕ} (cond h 9 7) (cond (not h) 7 9)
-        go true = refl
-        go false = refl
-
-  -- a subscription id
-  pub subscription_late : {x : ℕ} (h : Bool) → StringRank x → x ≡ 9 → outside 1 most_characters (character_count (span_bytes b p)) ≡ h
-      → LowestRank (cond h 8 9) (string2 b p) (string4 b p) (string5 b p) false false (subscription8 b p)
-  unfolding rank string5 subscription8
-  subscription_late h w n e = let (c, d, i) = string_clean w n in record { is = rw (c, d, i, e) }
+abbrev HexRank : List ℕ → Span → ℕ → ℕ → Type 0
+HexRank b p k x = LowestRank x (string2 b p) (string4 b p) (string5 b p) false (string7 k b p) false
 
 -- ---- the value at a place
 rank_row : (a b c d e f : Bool) → rank_of (lowest_by a b c d e f) ≡ rank a b c d e f
@@ -241,27 +156,9 @@ none_value : (g : Got Json) → on_value (λ t. false) g ≡ false
 none_value none = refl
 none_value (got t n) = refl
 
-none_list : (b : List ℕ) (l : Listed) → in_list (λ v. on_value (λ t. false) (value_at b v)) l ≡ false
-none_list b listed.Absent = refl
-none_list b (listed.At v) = none_value (value_at b v)
-
-pub list_absent : (b : List ℕ) (l : Listed) (k : Sort) → l ≡ listed.Absent → ListRank b l k 9
-unfolding rank
-list_absent b l k e = rw e record { is = refl }
-
--- ---- numbers
-module _ (z low high : ℤ) where
-  pub number_fine : is_within (Value z) low high ≡ true → LowestRank 9 false false false (wrong_number low high z) false false
-  unfolding rank wrong_number
-  number_fine e = record { is = simp e }
-
-  pub number_wrong : is_within (Value z) low high ≡ false → LowestRank 6 false false false (wrong_number low high z) false false
-  unfolding rank wrong_number
-  number_wrong e = record { is = simp e }
-
-pub bound_absent : (x : Bound) (low high : ℤ) → x ≡ bound.Absent → LowestRank 9 false false false (in_bound (wrong_number low high) x) false false
-unfolding rank
-bound_absent x low high e = rw e record { is = refl }
+none_list : (b : List ℕ) (l : Option ℕ) → in_list (λ v. on_value (λ t. false) (value_at b v)) l ≡ false
+none_list b None = refl
+none_list b (Some v) = none_value (value_at b v)
 
 -- ---- an event's fields, an event, a filter: their parts in the order of the code
 abbrev pub BodyRank : List ℕ → Body → ℕ → Type 0

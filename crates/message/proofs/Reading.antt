@@ -1,5 +1,6 @@
 -- A message that rows 1 to 5 let pass is an array of a word and more, and its parts stand where the code looks for
 -- them.
+use Rattle.std.specs.Prelude.{Option, Some, None}
 use mathlib.Core.Path.{◌≡◌, refl, sym, ap, ◌∙◌}
 use mathlib.Core.List.{List}
 use mathlib.Core.Bool.{Bool, true, false, cond, not, false≢true}
@@ -11,7 +12,6 @@ use lib.ListN.{length}
 use Rattle.json_tree.specs.Grammar.{ws_at, string_at, scalar_at, start_at}
 use Rattle.json_tree.specs.Tree.{Json, word, num, str, arr, obj, Items, nil, item, Got, none, got, on_leaf, node, items_at}
 use Rattle.json_tree.specs.Tree.{group_at, tree_at, root}
-use Rattle.json_tree.specs.declared.Out.TheVariants.{End}
 use Rattle.json_tree.specs.declared.Kind.{Kind}
 use Rattle.json_tree.specs.declared.Kind.TheVariants as kind
 use Rattle.json_tree.specs.declared.Start.{Start}
@@ -100,20 +100,20 @@ begun_of s (arr (item p v (str a n) nil)) e = alone (word_of (decode (part s a n
 begun_of s (arr (item p v (str a n) (item q w u us))) e = begun
 
 -- ---- a string's tree and its text
-pub string_tree : (s : List ℕ) (d v a n m : ℕ) → tree_at s (suc d) v ≡ got (str a n) m → (k : ℕ) × (string_at s v ≡ End k) × (v + 1 ≡ a) × (k - v - 2 ≡ n)
+pub string_tree : (s : List ℕ) (d v a n m : ℕ) → tree_at s (suc d) v ≡ got (str a n) m → (k : ℕ) × (string_at s v ≡ Some k) × (v + 1 ≡ a) × (k - v - 2 ≡ n)
 string_tree s d v a n m e = on (start_at s v) (sym (tree_open s d v (start_at s v) refl) ∙ e)
   where
-    leaf : (k : Kind) → scalar_at s v ≡ k → on_leaf s v k ≡ got (str a n) m → (k : ℕ) × (string_at s v ≡ End k) × (v + 1 ≡ a) × (k - v - 2 ≡ n)
-    leaf (kind.Str k) r q = (k, scalar_string s v k r, cc, cc)
-    leaf (kind.Num k) r q = absurd (let z : ◌≡◌ {A = ℕ} 0 1 = cc in omega arith)
-    leaf (kind.Word k) r q = absurd (let z : ◌≡◌ {A = ℕ} 0 1 = cc in omega arith)
-    leaf kind.None r q = never q
+    leaf : (k : Option Kind) → scalar_at s v ≡ k → on_leaf s v k ≡ got (str a n) m → (k : ℕ) × (string_at s v ≡ Some k) × (v + 1 ≡ a) × (k - v - 2 ≡ n)
+    leaf (Some (kind.Str k)) r q = (k, scalar_string s v k r, cc, cc)
+    leaf (Some (kind.Num k)) r q = absurd (let z : ◌≡◌ {A = ℕ} 0 1 = cc in omega arith)
+    leaf (Some (kind.Word k)) r q = absurd (let z : ◌≡◌ {A = ℕ} 0 1 = cc in omega arith)
+    leaf None r q = never q
 
-    group : (named : Bool) (ts : Items) (k : ℕ) → got (node named ts) k ≡ got (str a n) m → (k : ℕ) × (string_at s v ≡ End k) × (v + 1 ≡ a) × (k - v - 2 ≡ n)
+    group : (named : Bool) (ts : Items) (k : ℕ) → got (node named ts) k ≡ got (str a n) m → (k : ℕ) × (string_at s v ≡ Some k) × (v + 1 ≡ a) × (k - v - 2 ≡ n)
     group true ts k q = absurd (let z : ◌≡◌ {A = ℕ} 0 1 = cc in omega arith)
     group false ts k q = absurd (let z : ◌≡◌ {A = ℕ} 0 1 = cc in omega arith)
 
-    on : (r : Start) → group_at (tree_at s d) s v r ≡ got (str a n) m → (k : ℕ) × (string_at s v ≡ End k) × (v + 1 ≡ a) × (k - v - 2 ≡ n)
+    on : (r : Start) → group_at (tree_at s d) s v r ≡ got (str a n) m → (k : ℕ) × (string_at s v ≡ Some k) × (v + 1 ≡ a) × (k - v - 2 ≡ n)
     on Leaf q = leaf (scalar_at s v) refl q
     on (Empty k named) q = group named nil k q
     on (Many i named) q = let (ts, k, w, e₁) = bind_got (items_at (tree_at s d) s named (length s) i) _ q in group named ts k e₁

@@ -40,15 +40,17 @@ module _ (s : List ℕ) where
         let n : length s - k ≡ suc (length s - (k + 1)) = omega arith in
         rw (e, n, f) (omega arith)
 
-    pub count_ended : x ≡ Ended → k ≡ k + length (up_to (length s - k) s x)
-    count_ended e = rw (e, up_to_ended (length s - k) s) (omega arith)
+    pub count_stopped : ((v : ℕ) → x ≡ At v → ⊥) → k ≡ k + length (up_to (length s - k) s x)
+    count_stopped other = go x refl
+      where
+        go : (y : Element) → x ≡ y → k ≡ k + length (up_to (length s - k) s y)
+        go (At v) e = absurd (other v e)
+        go Ended e = rw (up_to_ended (length s - k) s) (omega arith)
+        go Broken e = rw (up_to_broken (length s - k) s) (omega arith)
 
-    pub count_broken : x ≡ Broken → k ≡ k + length (up_to (length s - k) s x)
-    count_broken e = rw (e, up_to_broken (length s - k) s) (omega arith)
-
-    pub count_past : length s ≤ k → k ≡ k + length (up_to (length s - k) s x)
+    pub count_past : length s ≤ k → k ≤ length s → length s ≡ k + length (up_to (length s - k) s x)
     unfolding up_to
-    count_past h = let n : length s - k ≡ 0 = omega arith in rw n (omega arith)
+    count_past h l = let n : length s - k ≡ 0 = omega arith in rw n (omega arith)
 
   -- ---- the filter of element k
   abbrev after : ℕ → Element → Element

@@ -1,5 +1,6 @@
 -- The items that a text was read into, one after the other; what is read with so many brackets open at once is read
 -- with one more.
+use Rattle.std.specs.Prelude.{None, Option, Some}
 use mathlib.Core.Path.{◌≡◌, refl}
 use mathlib.Core.List.{List}
 use mathlib.Core.Bool.{Bool, true, false}
@@ -10,9 +11,6 @@ use Rattle.json_tree.specs.Grammar.{case, in_class, one_at, token_at, word_at, l
 use Rattle.json_tree.specs.Grammar.{scalar_at, opened_at, start_at, head_at, next_at}
 use Rattle.json_tree.specs.Tree.{Json, Items, nil, item, Got, none, got, bind, follow, on_leaf, items_at, group_at}
 use Rattle.json_tree.specs.Tree.{tree_at}
-use Rattle.json_tree.specs.declared.Out.{Out}
-use Rattle.json_tree.specs.declared.Out.TheVariants.{End, Bad}
-use Rattle.json_tree.specs.declared.Kind.TheVariants.{None}
 use Rattle.json_tree.specs.declared.Start.{Start}
 use Rattle.json_tree.specs.declared.Start.TheVariants.{Leaf, Empty, Many}
 use Rattle.json_tree.specs.declared.Next.{Next}
@@ -23,9 +21,9 @@ pub never : {A B : Type 0} {t : A} {n : ℕ} → ◌≡◌ {A = Got A} none (got
 never e = absurd (let z : ◌≡◌ {A = ℕ} 0 1 = cc in omega arith)
 
 -- ---- what something that was read went through
-pub case_got : {A : Type 0} {a : A} {n : ℕ} (o : Out) (f : ℕ → Got A) → case o f none ≡ got a n → (m : ℕ) × (o ≡ End m) × (f m ≡ got a n)
-case_got (End m) f e = (m, refl, e)
-case_got Bad f e = never e
+pub case_got : {A : Type 0} {a : A} {n : ℕ} (o : Option ℕ) (f : ℕ → Got A) → case o f none ≡ got a n → (m : ℕ) × (o ≡ Some m) × (f m ≡ got a n)
+case_got (Some m) f e = (m, refl, e)
+case_got None f e = never e
 
 pub bind_got : {A B : Type 0} {b : B} {n : ℕ} (g : Got A) (f : A → ℕ → Got B) → bind g f ≡ got b n → (a : A) × (m : ℕ) × (g ≡ got a m) × (f a m ≡ got b n)
 bind_got none f e = never e
@@ -33,8 +31,8 @@ bind_got (got a m) f e = (a, m, refl, e)
 
 -- the items from i on, of at most f, up to n
 pub data Walk (value : ℕ → Got Json) (s : List ℕ) (named : Bool) : ℕ → ℕ → Items → ℕ → Type 0 where
-  last : {f i v m n : ℕ} {t : Json} → head_at s i named ≡ End v → value v ≡ got t m → next_at s m named ≡ Done n → Walk value s named (suc f) i (item i v t nil) n
-  more : {f i v m j n : ℕ} {t : Json} {ts : Items} → head_at s i named ≡ End v → value v ≡ got t m → next_at s m named ≡ More j → Walk value s named f j ts n
+  last : {f i v m n : ℕ} {t : Json} → head_at s i named ≡ Some v → value v ≡ got t m → next_at s m named ≡ Done n → Walk value s named (suc f) i (item i v t nil) n
+  more : {f i v m j n : ℕ} {t : Json} {ts : Items} → head_at s i named ≡ Some v → value v ≡ got t m → next_at s m named ≡ More j → Walk value s named f j ts n
       → Walk value s named (suc f) i (item i v t ts) n
 
 walk_same : {value : ℕ → Got Json} {s : List ℕ} {named : Bool} {f i : ℕ} {us ts : Items} {k n : ℕ} → got us k ≡ got ts n → Walk value s named f i us k → Walk value s named f i ts n
@@ -51,7 +49,7 @@ walk_of value s named (suc f) i ts n e =
     let (t, m, w, e₂) = bind_got (value v) _ e₁ in
     on v t m h w (next_at s m named) refl e₂ λ j us k q. walk_of value s named f j us k q
   where
-    on : (v : ℕ) (t : Json) (m : ℕ) → head_at s i named ≡ End v → value v ≡ got t m → (x : Next) → next_at s m named ≡ x
+    on : (v : ℕ) (t : Json) (m : ℕ) → head_at s i named ≡ Some v → value v ≡ got t m → (x : Next) → next_at s m named ≡ x
         → follow (item i v t) x (items_at value s named f) ≡ got ts n
         → ((j : ℕ) (us : Items) (k : ℕ) → items_at value s named f j ≡ got us k → Walk value s named f j us k) → Walk value s named (suc f) i ts n
     on v t m h w (More j) q e ih =
@@ -67,11 +65,11 @@ walk_taken (more h w q r) = rw (items_at, h, w, q, walk_taken r)
 
 -- ---- a value that holds none begins with no bracket
 module _ (s : List ℕ) (at : ℕ) where
-  square : {n : ℕ} → token_at s 0x5B at ≡ End n → scalar_at s at ≡ None
+  square : {n : ℕ} → token_at s 0x5B at ≡ Some n → scalar_at s at ≡ None
   unfolding token_at scalar_at string_at number_at int_at digits_at literal_at word_at one_at in_class
   square e = let (m, p, r) = then_end _ _ e in simp (byte_is s 0x5B at p)
 
-  curly : {n : ℕ} → token_at s 0x7B at ≡ End n → scalar_at s at ≡ None
+  curly : {n : ℕ} → token_at s 0x7B at ≡ Some n → scalar_at s at ≡ None
   unfolding token_at scalar_at string_at number_at int_at digits_at literal_at word_at one_at in_class
   curly e = let (m, p, r) = then_end _ _ e in simp (byte_is s 0x7B at p)
 
@@ -81,13 +79,13 @@ module _ (s : List ℕ) (at : ℕ) where
       gone : scalar_at s at ≡ None → {A : Type 0} → A
       gone z = let y : on_leaf s at None ≡ got t n = rw z at e in never y
 
-      two : (o : Out) → token_at s 0x7B at ≡ o → case o (λ n. opened_at s n true) Leaf ≡ Leaf
-      two (End m) q = gone (curly q)
-      two Bad q = refl
+      two : (o : Option ℕ) → token_at s 0x7B at ≡ o → case o (λ n. opened_at s n true) Leaf ≡ Leaf
+      two (Some m) q = gone (curly q)
+      two None q = refl
 
-      one : (o : Out) → token_at s 0x5B at ≡ o → case o (λ n. opened_at s n false) (case (token_at s 0x7B at) (λ n. opened_at s n true) Leaf) ≡ Leaf
-      one (End m) q = gone (square q)
-      one Bad q = two (token_at s 0x7B at) refl
+      one : (o : Option ℕ) → token_at s 0x5B at ≡ o → case o (λ n. opened_at s n false) (case (token_at s 0x7B at) (λ n. opened_at s n true) Leaf) ≡ Leaf
+      one (Some m) q = gone (square q)
+      one None q = two (token_at s 0x7B at) refl
 
 -- ---- depth
 walk_map : {value other : ℕ → Got Json} {s : List ℕ} {named : Bool} {f i : ℕ} {ts : Items} {n : ℕ}

@@ -1,13 +1,12 @@
 -- Whether a message's first word is EVENT, by the place of its first element.
-use mathlib.Core.Path.{◌≡◌, refl, ap, ◌∙◌}
+use Rattle.std.specs.Option.{is_some}
+use mathlib.Core.Path.{◌≡◌, refl, sym, ap, ◌∙◌}
 use mathlib.Core.List.{List}
-use mathlib.Core.Bool.{Bool, true, false, cond}
+use mathlib.Core.Bool.{Bool, true, false, cond, false≢true}
 use Prim.Native.Nat.{ℕ}
-use native.Mathlib.Omega.{arith}
 use Rattle.wire.specs.Bytes.{same_bytes}
 use Rattle.json_tree.specs.Grammar.{ws_at, start_at}
 use Rattle.json_tree.specs.Tree.{Json, word, num, str, arr, obj, Items, nil, item, Got, none, got, end_of, tree_at, root}
-use Rattle.json_tree.specs.declared.Out.TheVariants.{End, Bad}
 use Rattle.spell.specs.Spell.{chars_from, chars_bytes, decode}
 use Rattle.rows.specs.Strings.{part}
 use Rattle.rows.specs.Rows.{on_root}
@@ -55,18 +54,18 @@ module _ (s : List ℕ) where
       go : Listing s (item p v u ts) → is_event_at s (At v) ≡ is_event_word (opened s (arr (item p v u ts))).first
       go (one e f l) = event_element v u _ e p ts
 
-  pub event_first : (n : ℕ) → end_of (root s) ≡ End n → is_event_at s (start_element (start_at s (ws_at s 0))) ≡ is_event s
+  pub event_first : is_some (end_of (root s)) ≡ true → is_event_at s (start_element (start_at s (ws_at s 0))) ≡ is_event s
   unfolding is_event
-  event_first n e = go (root s) refl e
+  event_first e = go (root s) refl e
     where
-      go : (g : Got Json) → root s ≡ g → end_of g ≡ End n → is_event_at s (start_element (start_at s (ws_at s 0))) ≡ on_root (λ t. is_event_word (opened s t).first) g
-      go none r q = absurd (let z : ◌≡◌ {A = ℕ} 0 1 = cc in omega arith)
+      go : (g : Got Json) → root s ≡ g → is_some (end_of g) ≡ true → is_event_at s (start_element (start_at s (ws_at s 0))) ≡ on_root (λ t. is_event_word (opened s t).first) g
+      go none r q = absurd (false≢true q)
       go (got t k) r q = ap (is_event_at s) (first_in_lem s open_within (ws_at s 0) t k r) ∙ event_tree t k r
 
-  pub event_none : end_of (root s) ≡ Bad → false ≡ is_event s
+  pub event_none : is_some (end_of (root s)) ≡ false → false ≡ is_event s
   unfolding is_event
   event_none e = go (root s) e
     where
-      go : (g : Got Json) → end_of g ≡ Bad → false ≡ on_root (λ t. is_event_word (opened s t).first) g
+      go : (g : Got Json) → is_some (end_of g) ≡ false → false ≡ on_root (λ t. is_event_word (opened s t).first) g
       go none q = refl
-      go (got t k) q = absurd (let z : ◌≡◌ {A = ℕ} 0 1 = cc in omega arith)
+      go (got t k) q = absurd (false≢true (sym q))

@@ -1,10 +1,9 @@
 -- What the private functions promise each other: the first member of each name as places, found in one walk, and what
 -- stands at a place.
-use Rattle.std.specs.Prelude.{ℕ, ◌≡◌, Bool, false, cond, eqb, ℤ, pos}
+use Rattle.std.specs.Prelude.{ℕ, ◌≡◌, Bool, false, cond, eqb, ℤ, pos, Option, None, Some}
 use Rattle.json_tree.specs.Grammar.{ws_at, scalar_at, start_at}
 use Rattle.json_tree.specs.Tree.{Json, Items, Got, none, got, fold_items, on_leaf}
 use Rattle.json_tree.specs.declared.Kind.{Kind}
-use Rattle.json_tree.specs.declared.Kind.TheVariants.{None}
 use Rattle.json_tree.specs.declared.Start.{Start}
 use Rattle.json_tree.specs.declared.Start.TheVariants.{Leaf, Empty, Many}
 use Rattle.wire.specs.Limits.{most_characters}
@@ -15,10 +14,6 @@ use Rattle.shape.specs.Shape.{name_at, Word, event, req, close, other, word_of, 
 use Rattle.shape.specs.Shape.{created_at_name, kind_name, tags_name, content_name, sig_name, ids_name, authors_name, kinds_name}
 use Rattle.shape.specs.Shape.{since_name, until_name, limit_name}
 use Rattle.message.specs.declared.Span.{Span}
-use Rattle.message.specs.declared.Bound.{Bound}
-use Rattle.message.specs.declared.Bound.TheVariants as bound
-use Rattle.message.specs.declared.Listed.{Listed}
-use Rattle.message.specs.declared.Listed.TheVariants.{Absent, At}
 use Rattle.message.specs.declared.Element.{Element}
 use Rattle.message.specs.declared.Element.TheVariants as element
 use Rattle.message.specs.declared.Body.{Body}
@@ -41,9 +36,9 @@ use Rattle.shape.specs.declared.Sort.{Sort}
 
 -- a member whose name is spelled l and whose value stands at v is the first one named w, or what was found before it
 -- stays
-unfoldable pub kept_place : (l w : Bytes) (x : Listed) (v : ℕ) → Listed
-kept_place l w (At u) v = At u
-kept_place l w Absent v = cond (same_bytes (decode l) w) (At v) Absent
+unfoldable pub kept_place : (l w : Bytes) (x : Option ℕ) (v : ℕ) → Option ℕ
+kept_place l w (Some u) v = Some u
+kept_place l w None v = cond (same_bytes (decode l) w) (Some v) None
 
 -- a member of an event (b) or of a filter: the first of each name, or what was found before it stays
 unfoldable pub step_of : (s : Bytes) (b : Bool) (a : Members) (p v : ℕ) → Members
@@ -59,25 +54,25 @@ step_of s b a p v = record {
 
 abbrev pub no_members : Members
 no_members = record {
-  first = Absent;
-  second = Absent;
-  third = Absent;
-  fourth = Absent;
-  fifth = Absent;
-  sixth = Absent;
-  seventh = Absent;
+  first = None;
+  second = None;
+  third = None;
+  fourth = None;
+  fifth = None;
+  sixth = None;
+  seventh = None;
 }
 
 abbrev pub found_in : (s : Bytes) (e : Bool) (ts : Items) → Members
 found_in s e ts = fold_items (λ a p v t. step_of s e a p v) no_members ts
 
 -- ---- what stands at a place, where a value may hold no value
-abbrev pub on_start : Kind → Start → Kind
+abbrev pub on_start : Option Kind → Start → Option Kind
 on_start k Leaf = k
 on_start k (Empty n named) = None
 on_start k (Many n named) = None
 
-unfoldable pub leaf_at : Bytes → Place → Kind
+unfoldable pub leaf_at : Bytes → Place → Option Kind
 leaf_at s at = on_start (scalar_at s at) (start_at s at)
 
 -- f of the value there
@@ -91,20 +86,20 @@ span_at s v = got_or span_of nowhere (on_leaf s v (leaf_at s v))
 unfoldable pub number_leaf : Bytes → ℕ → ℤ
 number_leaf s v = got_or (number_spelled s) (pos 0) (on_leaf s v (leaf_at s v))
 
-abbrev pub span_found : Bytes → Listed → Span
-span_found s Absent = nowhere
-span_found s (At v) = span_at s v
+abbrev pub span_found : Bytes → Option ℕ → Span
+span_found s None = nowhere
+span_found s (Some v) = span_at s v
 
-abbrev pub number_found : Bytes → Listed → ℤ
-number_found s Absent = pos 0
-number_found s (At v) = number_leaf s v
+abbrev pub number_found : Bytes → Option ℕ → ℤ
+number_found s None = pos 0
+number_found s (Some v) = number_leaf s v
 
-abbrev pub bound_found : Bytes → Listed → Bound
-bound_found s Absent = bound.Absent
-bound_found s (At v) = bound.Number (number_leaf s v)
+abbrev pub bound_found : Bytes → Option ℕ → Option ℤ
+bound_found s None = None
+bound_found s (Some v) = Some (number_leaf s v)
 
 -- a filter by its members, and the place of its # conditions
-abbrev pub filter_found : (s : Bytes) (m : Members) (c : Listed) → FilterParts
+abbrev pub filter_found : (s : Bytes) (m : Members) (c : Option ℕ) → FilterParts
 filter_found s m c = record {
   ids = m.first;
   authors = m.second;
@@ -115,9 +110,9 @@ filter_found s m c = record {
   conditions = c;
 }
 
-abbrev pub place_found : Listed → ℕ
-place_found Absent = 0
-place_found (At v) = v
+abbrev pub place_found : Option ℕ → ℕ
+place_found None = 0
+place_found (Some v) = v
 
 unfoldable pub body_found : Bytes → Members → Body
 body_found s m = record {
@@ -211,7 +206,7 @@ ValueRank b at k x =
     LowestRank x (value2 b at) (value4 b at) (value5 (fits b k) b at) (on_value (sort6 b k) (value_at b at))
     (on_value (sort7 b k) (value_at b at)) (on_value (sort8 b k) (value_at b at))
 
-abbrev pub ListRank : (b : Bytes) (l : Listed) (k : Sort) (x : ℕ) → Type 0
+abbrev pub ListRank : (b : Bytes) (l : Option ℕ) (k : Sort) (x : ℕ) → Type 0
 ListRank b l k x =
     LowestRank x (in_list (value2 b) l) (in_list (value4 b) l) (in_list (value5 (fits b k) b) l)
     (in_list (λ v. on_value (sort6 b k) (value_at b v)) l)

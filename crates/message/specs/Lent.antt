@@ -1,7 +1,7 @@
 -- Parts lent by anybody, over the buffer b in which they lie. 01: "Parts of an event, filter or reply are tested by
 -- rows 2 and 4 to 8 (5 also if a part lies outside its buffer or is no RFC 8259 spelling)". Each row by itself, and
 -- then the lowest that holds, or 0.
-use Rattle.std.specs.Prelude.{ℕ, ◌+◌, Bool, false, cond, not, ◌&&◌, ◌||◌, leb, ℤ, pos, neg_ℤ, length}
+use Rattle.std.specs.Prelude.{ℕ, ◌+◌, Bool, false, cond, not, ◌&&◌, ◌||◌, leb, ℤ, pos, neg_ℤ, length, Option, Some, None}
 use Rattle.utf8.specs.Utf8.{is_utf8}
 use Rattle.json_tree.specs.Grammar.{is_spelling}
 use Rattle.json_tree.specs.Tree.{Json, Got, none, got, depth, tree_at, on_object}
@@ -17,10 +17,6 @@ use Rattle.shape.specs.Rows.{outside, wrong_tags, wrong_list, filter_number, fil
 use Rattle.message.specs.declared.Span.{Span}
 use Rattle.message.specs.declared.Body.{Body}
 use Rattle.message.specs.declared.EventParts.{EventParts}
-use Rattle.message.specs.declared.Bound.{Bound}
-use Rattle.message.specs.declared.Bound.TheVariants as bound
-use Rattle.message.specs.declared.Listed.{Listed}
-use Rattle.message.specs.declared.Listed.TheVariants as listed
 use Rattle.message.specs.declared.FilterParts.{FilterParts}
 use Rattle.wire.specs.Bytes.{Bytes, Place, Row}
 
@@ -183,13 +179,13 @@ event_row b p = lowest (record {
 })
 
 -- ---- the parts of a filter: each is absent or tested
-abbrev pub in_list : (ℕ → Bool) → Listed → Bool
-in_list f listed.Absent = false
-in_list f (listed.At v) = f v
+abbrev pub in_list : (ℕ → Bool) → Option ℕ → Bool
+in_list f None = false
+in_list f (Some v) = f v
 
-abbrev pub in_bound : (ℤ → Bool) → Bound → Bool
-in_bound f bound.Absent = false
-in_bound f (bound.Number z) = f z
+abbrev pub in_bound : (ℤ → Bool) → Option ℤ → Bool
+in_bound f None = false
+in_bound f (Some z) = f z
 
 unfoldable pub filter2 : Bytes → FilterParts → Bool
 filter2 b p =

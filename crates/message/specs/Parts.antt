@@ -1,6 +1,6 @@
 -- 01, "Shape": the parts of an event and of a filter, as places in the text s, over the items of its object. On an
 -- object of another shape what is not there is empty, 0 or absent.
-use Rattle.std.specs.Prelude.{ℕ, List, [], ◌∷◌, map, cond, ℤ, pos, length, get_or}
+use Rattle.std.specs.Prelude.{ℕ, List, [], ◌∷◌, map, cond, ℤ, pos, length, get_or, Option, Some, None}
 use Rattle.json_tree.specs.Tree.{Json, Items, nil, item, Got, none, got, depth, tree_at, of_string, of_number, of_object}
 use Rattle.rows.specs.Strings.{part}
 use Rattle.numeral.specs.Whole.{whole_of, whole_answer}
@@ -11,10 +11,6 @@ use Rattle.shape.specs.Shape.{ids_name, authors_name, kinds_name, since_name, un
 use Rattle.message.specs.declared.Span.{Span}
 use Rattle.message.specs.declared.Body.{Body}
 use Rattle.message.specs.declared.EventParts.{EventParts}
-use Rattle.message.specs.declared.Bound.{Bound}
-use Rattle.message.specs.declared.Bound.TheVariants as bound
-use Rattle.message.specs.declared.Listed.{Listed}
-use Rattle.message.specs.declared.Listed.TheVariants as listed
 use Rattle.message.specs.declared.FilterParts.{FilterParts}
 use Rattle.message.specs.declared.Filters.{Filters}
 use Rattle.message.specs.declared.Element.TheVariants.{At}
@@ -57,13 +53,13 @@ abbrev pub place_in : Member → ℕ
 place_in missing = 0
 place_in (member v t) = v
 
-abbrev pub bound_in : Bytes → Member → Bound
-bound_in s missing = bound.Absent
-bound_in s (member v t) = bound.Number (number_spelled s t)
+abbrev pub bound_in : Bytes → Member → Option ℤ
+bound_in s missing = None
+bound_in s (member v t) = Some (number_spelled s t)
 
-abbrev pub listed_in : Member → Listed
-listed_in missing = listed.Absent
-listed_in (member v t) = listed.At v
+abbrev pub listed_in : Member → Option ℕ
+listed_in missing = None
+listed_in (member v t) = Some v
 
 -- ---- the parts
 unfoldable pub body_of : Bytes → Items → Body
@@ -91,7 +87,7 @@ filter_parts_of s v ts = record {
   since = bound_in s (member_of s since_name ts);
   until = bound_in s (member_of s until_name ts);
   limit = bound_in s (member_of s limit_name ts);
-  conditions = listed.At v;
+  conditions = Some v;
 }
 
 -- the items of an object; none of any other value
@@ -118,13 +114,13 @@ filter_at s at = filter_parts_of s at (members_at s at)
 -- a filter that has nothing
 abbrev pub no_filter : FilterParts
 no_filter = record {
-  ids = listed.Absent;
-  authors = listed.Absent;
-  kinds = listed.Absent;
-  since = bound.Absent;
-  until = bound.Absent;
-  limit = bound.Absent;
-  conditions = listed.Absent;
+  ids = None;
+  authors = None;
+  kinds = None;
+  since = None;
+  until = None;
+  limit = None;
+  conditions = None;
 }
 
 -- the first four of some, and behind them filters that have nothing

@@ -8,7 +8,7 @@ ghost use Rattle.message.specs.Lent.{span_bytes, is_inside, string2, string4, st
 ghost use Rattle.message.specs.Lent.{wrong_number, in_bound, body2, body4, body5, body6, body7, body8};
 ghost use Rattle.message.specs.Inner.{row_told, rank_of, LowestRank, ValueRank, ListRank};
 
-use crate::{Body, Bound, Listed, Span};
+use crate::{Body, Span};
 use numeral::Whole;
 use shape::Sort;
 
@@ -23,32 +23,29 @@ pub(crate) fn miscounted(s: &[u8], p: Span) -> bool
     n < 1 || wire::MOST_CHARACTERS < n
 }
 
-// Parts lent by anybody. Every part answers the lowest row that it breaks, and NO_ROW for none; parts are joined by the
-// least.
+// The row of a rank: 0 for no row.
 pub(crate) fn told(row: u8) -> u8
     ensures { result ≡ row_told row }
 {
     if row == NO_ROW { 0 } else { row }
 }
 
+// The rank of a row, of which 0 is none.
 pub(crate) fn ranked(row: u8) -> u8
     ensures { result ≡ rank_of row }
 {
     if row == 0 { NO_ROW } else { row }
 }
 
+#[tactic(auto, unfolding(crate::specs::Lent::is_inside))]
 pub(crate) fn inside(b: &[u8], p: Span) -> bool
     ensures { result ≡ is_inside b.now p }
 {
-    let start = p.start;
-    let size = b.len();
-    if size < start {
-        return false;
-    }
-    p.len <= size - start
+    p.start <= b.len() && p.len <= b.len() - p.start
 }
 
 // A string part.
+#[tactic(auto, unfolding(crate::specs::Inner::rank, crate::specs::Lent::string2, crate::specs::Lent::string4, crate::specs::Lent::string5, crate::specs::Lent::is_spelled))]
 pub(crate) fn string_rank(b: &[u8], p: Span) -> u8
     ensures { LowestRank result (string2 b.now p) (string4 b.now p) (string5 b.now p)
         false false false }
@@ -70,33 +67,34 @@ pub(crate) fn string_rank(b: &[u8], p: Span) -> u8
 }
 
 // A string part of k characters of lower-case hex.
+#[tactic(auto, unfolding(crate::specs::Inner::rank, crate::specs::Lent::string5, crate::specs::Lent::string7))]
 pub(crate) fn hex_rank(b: &[u8], p: Span, k: usize) -> u8
     ensures { LowestRank result (string2 b.now p) (string4 b.now p) (string5 b.now p)
         false (string7 k b.now p) false }
 {
     let row = string_rank(b, p);
-    if row != NO_ROW {
-        return row;
-    }
-    if spell::is_hex(wire::piece(b, p.start, p.len), k) {
-        NO_ROW
-    } else {
+    if row == NO_ROW && !spell::is_hex(wire::piece(b, p.start, p.len), k) {
         7
+    } else {
+        row
     }
 }
 
 // A string part that is a subscription id.
+#[tactic(auto, unfolding(crate::specs::Inner::rank, crate::specs::Lent::string5, crate::specs::Lent::subscription8))]
 pub(crate) fn subscription_rank(b: &[u8], p: Span) -> u8
     ensures { LowestRank result (string2 b.now p) (string4 b.now p) (string5 b.now p)
         false false (subscription8 b.now p) }
 {
     let row = string_rank(b, p);
-    if row != NO_ROW {
-        return row;
+    if row == NO_ROW && miscounted(b, p) {
+        8
+    } else {
+        row
     }
-    if miscounted(b, p) { 8 } else { NO_ROW }
 }
 
+#[tactic(auto, unfolding(crate::specs::Inner::rank, crate::specs::Lent::wrong_number))]
 pub(crate) fn number_rank(z: i64, low: i64, high: i64) -> u8
     ensures { LowestRank result false false false (wrong_number low high z) false false }
 {
@@ -107,13 +105,11 @@ pub(crate) fn number_rank(z: i64, low: i64, high: i64) -> u8
     }
 }
 
-pub(crate) fn bound_rank(x: Bound, low: i64, high: i64) -> u8
+#[tactic(auto, unfolding(crate::specs::Inner::rank))]
+pub(crate) fn bound_rank(x: Option<i64>, low: i64, high: i64) -> u8
     ensures { LowestRank result false false false (in_bound (wrong_number low high) x) false false }
 {
-    match x {
-        Bound::Absent => NO_ROW,
-        Bound::Number(z) => number_rank(z, low, high),
-    }
+    x.map_or(NO_ROW, |z| number_rank(z, low, high))
 }
 
 // The value at a place, where a sort must stand.
@@ -123,23 +119,19 @@ pub(crate) fn value_rank(b: &[u8], at: usize, k: Sort) -> u8
     ranked(shape::value_row(b, at, k))
 }
 
-pub(crate) fn list_rank(b: &[u8], x: Listed, k: Sort) -> u8
+#[tactic(auto, unfolding(crate::specs::Inner::rank))]
+pub(crate) fn list_rank(b: &[u8], x: Option<usize>, k: Sort) -> u8
     ensures { ListRank b.now x k result }
 {
-    match x {
-        Listed::Absent => NO_ROW,
-        Listed::At(v) => value_rank(b, v, k),
-    }
+    x.map_or(NO_ROW, |v| value_rank(b, v, k))
 }
 
 pub(crate) fn body_rank(b: &[u8], p: Body) -> u8
     ensures { LowestRank result (body2 b.now p) (body4 b.now p) (body5 b.now p)
         (body6 p) (body7 b.now p) (body8 b.now p) }
 {
-    let pubkey = p.pubkey;
-    let content = p.content;
-    let tags = wire::least(value_rank(b, p.tags, Sort::Tags), string_rank(b, content));
-    let texts = wire::least(hex_rank(b, pubkey, wire::HEX_LENGTH), tags);
+    let tags = wire::least(value_rank(b, p.tags, Sort::Tags), string_rank(b, p.content));
+    let texts = wire::least(hex_rank(b, p.pubkey, wire::HEX_LENGTH), tags);
     let kind = wire::least(number_rank(p.kind, 0, wire::MOST_SMALL), texts);
     wire::least(
         number_rank(p.created_at, wire::MINUS_WIDEST, wire::WIDEST),

@@ -16,7 +16,7 @@ mod object;
 mod values;
 mod words;
 
-use json_tree::{Next, Out, Start};
+use json_tree::{Next, Start};
 use shape::{Refusal, Sort};
 
 // The brackets and braces that may be open at once within an item of what stands at a place.
@@ -47,20 +47,6 @@ pub struct EventParts {
     pub sig: Span,
 }
 
-// 01: "since, until and limit are each absent or a number".
-#[derive(Clone, Copy)]
-pub enum Bound {
-    Absent,
-    Number(i64),
-}
-
-// A list that may be absent: the place of its array.
-#[derive(Clone, Copy)]
-pub enum Listed {
-    Absent,
-    At(usize),
-}
-
 // A step of a walk over an array: the place of an element, the array's end, or no array that goes on so.
 #[derive(Clone, Copy)]
 pub enum Element {
@@ -72,13 +58,13 @@ pub enum Element {
 // `conditions` is the place of the object whose # members are the conditions.
 #[derive(Clone, Copy)]
 pub struct FilterParts {
-    pub ids: Listed,
-    pub authors: Listed,
-    pub kinds: Listed,
-    pub since: Bound,
-    pub until: Bound,
-    pub limit: Bound,
-    pub conditions: Listed,
+    pub ids: Option<usize>,
+    pub authors: Option<usize>,
+    pub kinds: Option<usize>,
+    pub since: Option<i64>,
+    pub until: Option<i64>,
+    pub limit: Option<i64>,
+    pub conditions: Option<usize>,
 }
 
 // The filters of a REQ: how many there are, and the first four; behind them stand filters that have nothing.
@@ -122,13 +108,13 @@ pub struct Naming {
 // pubkey, created_at, kind, tags, content, sig of an event; ids, authors, kinds, since, until, limit of a filter.
 #[derive(Clone, Copy)]
 struct Members {
-    first: Listed,
-    second: Listed,
-    third: Listed,
-    fourth: Listed,
-    fifth: Listed,
-    sixth: Listed,
-    seventh: Listed,
+    first: Option<usize>,
+    second: Option<usize>,
+    third: Option<usize>,
+    fourth: Option<usize>,
+    fifth: Option<usize>,
+    sixth: Option<usize>,
+    seventh: Option<usize>,
 }
 
 // The first word of a message.
@@ -144,7 +130,7 @@ enum Opening {
 pub fn filter_at(s: &[u8], at: usize) -> FilterParts
     ensures { result ≡ filter_at s.now at }
 {
-    values::filter_of(s, object::find(s, at, false), Listed::At(at))
+    values::filter_of(s, object::find(s, at, false), Some(at))
 }
 
 // The first element of the array at a place. Ended: it has none. Broken: no array begins there.
@@ -152,36 +138,25 @@ pub fn first(s: &[u8], at: usize) -> Element
     ensures { result ≡ start_element (start_at s.now at) }
 {
     match json_tree::begin(s, at) {
-        Start::Leaf => Element::Broken,
-        Start::Empty(_, named) => {
-            if named {
-                Element::Broken
-            } else {
-                Element::Ended
-            }
-        }
-        Start::Many(i, named) => {
-            if named {
-                Element::Broken
-            } else {
-                Element::At(i)
-            }
-        }
+        Start::Empty(_, false) => Element::Ended,
+        Start::Many(i, false) => Element::At(i),
+        Start::Leaf | Start::Empty(_, true) | Start::Many(_, true) => Element::Broken,
     }
 }
 
 // The element after the one at a place. Ended: the closing bracket follows it. Broken: no value stands there, or
 // neither a comma nor the bracket follows.
+#[tactic(auto, unfolding(crate::specs::Lists::next_of))]
 pub fn next(s: &[u8], at: usize) -> Element
     ensures { result ≡ next_of s.now at }
 {
-    match json_tree::value(s, at, WITHIN) {
-        Out::End(n) => match json_tree::after(s, n, false) {
-            Next::More(j) => Element::At(j),
-            Next::Done(_) => Element::Ended,
-            Next::Wrong => Element::Broken,
-        },
-        Out::Bad => Element::Broken,
+    let Some(n) = json_tree::value(s, at, WITHIN) else {
+        return Element::Broken;
+    };
+    match json_tree::after(s, n, false) {
+        Next::More(j) => Element::At(j),
+        Next::Done(_) => Element::Ended,
+        Next::Wrong => Element::Broken,
     }
 }
 
@@ -206,11 +181,12 @@ pub fn filters_at(s: &[u8], at: usize) -> Filters
     let x = next(s, at);
     let y = words::following(s, x);
     let z = words::following(s, y);
-    let p = words::filter_in(s, 0, n, Element::At(at));
-    let q = words::filter_in(s, 1, n, x);
-    let r = words::filter_in(s, 2, n, y);
-    let t = words::filter_in(s, 3, n, z);
-    let parts = [p, q, r, t];
+    let parts = [
+        words::filter_in(s, 0, n, Element::At(at)),
+        words::filter_in(s, 1, n, x),
+        words::filter_in(s, 2, n, y),
+        words::filter_in(s, 3, n, z),
+    ];
     Filters { parts, n }
 }
 
@@ -219,10 +195,7 @@ pub fn is_event(s: &[u8]) -> bool
     ensures { result ≡ is_event s.now }
 {
     let at = json_tree::space(s, 0);
-    match json_tree::value(s, at, json_tree::DEPTH) {
-        Out::End(_) => words::is_event_at(s, first(s, at)),
-        Out::Bad => false,
-    }
+    json_tree::value(s, at, json_tree::DEPTH).is_some() && words::is_event_at(s, first(s, at))
 }
 
 // What refuses a message, with the offset of rows 6 and 7, and what the reply to a message that rows 6 to 12 refuse
@@ -271,12 +244,12 @@ pub fn lower_row(r: u8, s: u8) -> u8
     ensures { result ≡ lower_row r s }
 {
     if r == 0 {
-        return s;
+        s
+    } else if s == 0 {
+        r
+    } else {
+        wire::least(r, s)
     }
-    if s == 0 {
-        return r;
-    }
-    wire::least(r, s)
 }
 
 // The lowest of rows 2 and 4 to 8 that holds of the fields of an event's text, lent in b; 0 where none does.
@@ -290,14 +263,11 @@ pub fn body_row(b: &[u8], p: Body) -> u8
 pub fn event_row(b: &[u8], p: EventParts) -> u8
     ensures { result ≡ event_row b.now p }
 {
-    let id = p.id;
-    let body = p.body;
-    let sig = p.sig;
     lent::told(wire::least(
-        lent::hex_rank(b, id, wire::HEX_LENGTH),
+        lent::hex_rank(b, p.id, wire::HEX_LENGTH),
         wire::least(
-            lent::body_rank(b, body),
-            lent::hex_rank(b, sig, wire::SIG_LENGTH),
+            lent::body_rank(b, p.body),
+            lent::hex_rank(b, p.sig, wire::SIG_LENGTH),
         ),
     ))
 }
@@ -306,27 +276,20 @@ pub fn event_row(b: &[u8], p: EventParts) -> u8
 pub fn filter_row(b: &[u8], p: FilterParts) -> u8
     ensures { result ≡ filter_row b.now p }
 {
-    let ids = p.ids;
-    let authors = p.authors;
-    let kinds = p.kinds;
-    let since = p.since;
-    let until = p.until;
-    let limit = p.limit;
-    let conditions = p.conditions;
     let rest = wire::least(
-        lent::bound_rank(limit, 0, wire::MOST_SMALL),
-        lent::list_rank(b, conditions, Sort::Filter),
+        lent::bound_rank(p.limit, 0, wire::MOST_SMALL),
+        lent::list_rank(b, p.conditions, Sort::Filter),
     );
     let times = wire::least(
-        lent::bound_rank(since, wire::MINUS_WIDEST, wire::WIDEST),
+        lent::bound_rank(p.since, wire::MINUS_WIDEST, wire::WIDEST),
         wire::least(
-            lent::bound_rank(until, wire::MINUS_WIDEST, wire::WIDEST),
+            lent::bound_rank(p.until, wire::MINUS_WIDEST, wire::WIDEST),
             rest,
         ),
     );
     let lists = wire::least(
-        lent::list_rank(b, authors, Sort::Hexes),
-        wire::least(lent::list_rank(b, kinds, Sort::Smalls), times),
+        lent::list_rank(b, p.authors, Sort::Hexes),
+        wire::least(lent::list_rank(b, p.kinds, Sort::Smalls), times),
     );
-    lent::told(wire::least(lent::list_rank(b, ids, Sort::Hexes), lists))
+    lent::told(wire::least(lent::list_rank(b, p.ids, Sort::Hexes), lists))
 }

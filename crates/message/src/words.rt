@@ -7,11 +7,21 @@ ghost use Rattle.message.specs.Read.{id_named, is_early};
 ghost use Rattle.message.specs.Inner.{opening_at, element_place, word_place, string_after, is_event_at, parts_at};
 ghost use Rattle.message.specs.Inner.{following_of, filter_after, label_named, named_at};
 
-use crate::{
-    Element, FilterParts, Listed, Message, Named, Opening, ReqParts, Span, lent, object, values,
-};
-use shape::{Offset, Refusal};
+use crate::{Element, FilterParts, Message, Named, Opening, ReqParts, Span, lent, values};
+use shape::Refusal;
 
+// A filter that has nothing.
+const NO_FILTER: FilterParts = FilterParts {
+    ids: None,
+    authors: None,
+    kinds: None,
+    since: None,
+    until: None,
+    limit: None,
+    conditions: None,
+};
+
+#[tactic(auto, unfolding(crate::specs::Inner::opening_at, shape::specs::Shape::word_of, shape::specs::Shape::name_at))]
 pub(crate) fn opening_at(s: &[u8], at: usize) -> Opening
     ensures { result ≡ opening_at s.now at }
 {
@@ -32,12 +42,12 @@ pub(crate) fn element_place(x: Element) -> usize
 {
     match x {
         Element::At(v) => v,
-        Element::Ended => 0,
-        Element::Broken => 0,
+        Element::Ended | Element::Broken => 0,
     }
 }
 
 // The place of a message's first element.
+#[tactic(auto, unfolding(crate::specs::Inner::word_place))]
 pub(crate) fn word_place(s: &[u8]) -> usize
     ensures { result ≡ word_place s.now }
 {
@@ -45,6 +55,7 @@ pub(crate) fn word_place(s: &[u8]) -> usize
 }
 
 // The place of the element after the one at a place.
+#[tactic(auto, unfolding(crate::specs::Inner::string_after))]
 pub(crate) fn second(s: &[u8], at: usize) -> usize
     ensures { result ≡ string_after s.now at }
 {
@@ -52,26 +63,20 @@ pub(crate) fn second(s: &[u8], at: usize) -> usize
 }
 
 // The parts of a message, by its first word; its second element stands at j.
+#[tactic(auto, unfolding(crate::specs::Inner::parts_at))]
 pub(crate) fn parts(s: &[u8], x: Opening, j: usize) -> Message
     ensures { result ≡ parts_at s.now x j }
 {
     match x {
-        Opening::Event => {
-            let e = values::event_at(s, j);
-            Message::Event(e)
-        }
-        Opening::Req => {
-            let subscription = values::span_at(s, j);
-            let filters = second(s, j);
-            Message::Req(ReqParts {
-                subscription,
-                filters,
-            })
-        }
+        Opening::Event => Message::Event(values::event_at(s, j)),
+        Opening::Req => Message::Req(ReqParts {
+            subscription: values::span_at(s, j),
+            filters: second(s, j),
+        }),
         Opening::Close => Message::Close(values::span_at(s, j)),
         Opening::Other => Message::Refused(Refusal {
             row: 5,
-            offset: Offset::Absent,
+            offset: None,
         }),
     }
 }
@@ -81,22 +86,13 @@ pub(crate) fn count_from(s: &[u8], at: usize) -> usize
     ensures { result ≡ length (elements_from s.now (At at)) }
 {
     let mut x = Element::At(at);
-    let mut k: usize = 0;
-    while k < s.len() {
-        match x {
-            Element::At(v) => {
-                x = crate::next(s, v);
-            }
-            Element::Ended => {
-                return k;
-            }
-            Element::Broken => {
-                return k;
-            }
-        }
-        k += 1;
+    for k in 0..s.len() {
+        let Element::At(v) = x else {
+            return k;
+        };
+        x = crate::next(s, v);
     }
-    k
+    s.len()
 }
 
 // The element after another.
@@ -105,33 +101,22 @@ pub(crate) fn following(s: &[u8], x: Element) -> Element
 {
     match x {
         Element::At(v) => crate::next(s, v),
-        Element::Ended => Element::Ended,
-        Element::Broken => Element::Broken,
+        Element::Ended | Element::Broken => x,
     }
-}
-
-// A filter that has nothing.
-pub(crate) fn no_filter(s: &[u8]) -> FilterParts
-    ensures { result ≡ no_filter }
-{
-    values::filter_of(s, object::no_members(), Listed::Absent)
 }
 
 // The filter that is element k of n.
 pub(crate) fn filter_in(s: &[u8], k: usize, n: usize, x: Element) -> FilterParts
     ensures { result ≡ cond (ltb k n) (filter_after s.now x) no_filter }
 {
-    if k < n {
-        return match x {
-            Element::At(v) => crate::filter_at(s, v),
-            Element::Ended => no_filter(s),
-            Element::Broken => no_filter(s),
-        };
+    match x {
+        Element::At(v) if k < n => crate::filter_at(s, v),
+        _ => NO_FILTER,
     }
-    no_filter(s)
 }
 
 // Whether an element is the string EVENT.
+#[tactic(auto, unfolding(crate::specs::Inner::is_event_at))]
 pub(crate) fn is_event_at(s: &[u8], x: Element) -> bool
     ensures { result ≡ is_event_at s.now x }
 {
@@ -140,15 +125,14 @@ pub(crate) fn is_event_at(s: &[u8], x: Element) -> bool
             let p = values::span_at(s, v);
             spell::spells(wire::piece(s, p.start, p.len), b"EVENT")
         }
-        Element::Ended => false,
-        Element::Broken => false,
+        Element::Ended | Element::Broken => false,
     }
 }
 
 pub(crate) fn early(row: u8) -> bool
     ensures { result ≡ is_early row }
 {
-    1 <= row && row <= 5
+    matches!(row, 1..=5)
 }
 
 pub(crate) fn id_named(s: &[u8], p: Span) -> Named
@@ -161,6 +145,7 @@ pub(crate) fn id_named(s: &[u8], p: Span) -> Named
     }
 }
 
+#[tactic(auto, unfolding(crate::specs::Inner::label_named))]
 pub(crate) fn label_named(s: &[u8], p: Span) -> Named
     ensures { result ≡ label_named s.now p }
 {
@@ -171,17 +156,13 @@ pub(crate) fn label_named(s: &[u8], p: Span) -> Named
     }
 }
 
+#[tactic(auto, unfolding(crate::specs::Inner::named_at))]
 pub(crate) fn named_in(s: &[u8], x: Opening, j: usize) -> Named
     ensures { result ≡ named_at s.now x j }
 {
     match x {
-        Opening::Event => {
-            let e = values::event_at(s, j);
-            let id = e.id;
-            id_named(s, id)
-        }
+        Opening::Event => id_named(s, values::event_at(s, j).id),
         Opening::Req => label_named(s, values::span_at(s, j)),
-        Opening::Close => Named::Nothing,
-        Opening::Other => Named::Nothing,
+        Opening::Close | Opening::Other => Named::Nothing,
     }
 }

@@ -3,9 +3,9 @@
 // fields in the order of 01 and # conditions by their letter's byte.
 #![tactic(auto)]
 
-use json_tree::{Next, Out, Start};
+use json_tree::{Next, Start};
 use lines::Output;
-use message::{Body, Bound, Element, EventParts, FilterParts, Listed, Message, ReqParts, Span};
+use message::{Body, Element, EventParts, FilterParts, Message, ReqParts, Span};
 use std::io;
 use std::io::Write;
 
@@ -42,7 +42,7 @@ fn put_piece(out: &mut [u8], at: usize, s: &[u8], i: usize) -> Piece {
     let b = s[i];
     if b == b'"' {
         match json_tree::string(s, i) {
-            Out::End(n) => {
+            Some(n) => {
                 if n < i + 2 {
                     return Piece {
                         out: at,
@@ -52,7 +52,7 @@ fn put_piece(out: &mut [u8], at: usize, s: &[u8], i: usize) -> Piece {
                 let o = put_string(out, at, s, i + 1, n - i - 2);
                 return Piece { out: o, next: n };
             }
-            Out::Bad => {
+            None => {
                 return Piece {
                     out: at,
                     next: i + 1,
@@ -75,8 +75,8 @@ fn put_piece(out: &mut [u8], at: usize, s: &[u8], i: usize) -> Piece {
 
 fn value_end(s: &[u8], at: usize) -> usize {
     match json_tree::value(s, at, 8) {
-        Out::End(n) => n,
-        Out::Bad => at,
+        Some(n) => n,
+        None => at,
     }
 }
 
@@ -85,15 +85,13 @@ fn put_value(out: &mut [u8], at: usize, s: &[u8], from: usize) -> usize {
     let end = value_end(s, from);
     let mut o = at;
     let mut i = from;
-    let mut k: usize = 0;
-    while k < s.len() {
+    for _ in 0..s.len() {
         if end <= i {
             return o;
         }
         let p = put_piece(out, o, s, i);
         o = p.out;
         i = p.next;
-        k += 1;
     }
     o
 }
@@ -139,10 +137,17 @@ fn put_comma(out: &mut [u8], at: usize, first: usize) -> usize {
     }
 }
 
-fn put_list(out: &mut [u8], at: usize, first: usize, name: &[u8], s: &[u8], x: Listed) -> usize {
+fn put_list(
+    out: &mut [u8],
+    at: usize,
+    first: usize,
+    name: &[u8],
+    s: &[u8],
+    x: Option<usize>,
+) -> usize {
     match x {
-        Listed::Absent => at,
-        Listed::At(v) => {
+        None => at,
+        Some(v) => {
             let a = put_comma(out, at, first);
             let b = wire::put(out, a, name);
             put_value(out, b, s, v)
@@ -150,10 +155,10 @@ fn put_list(out: &mut [u8], at: usize, first: usize, name: &[u8], s: &[u8], x: L
     }
 }
 
-fn put_bound(out: &mut [u8], at: usize, first: usize, name: &[u8], x: Bound) -> usize {
+fn put_bound(out: &mut [u8], at: usize, first: usize, name: &[u8], x: Option<i64>) -> usize {
     match x {
-        Bound::Absent => at,
-        Bound::Number(n) => {
+        None => at,
+        Some(n) => {
             let a = put_comma(out, at, first);
             let b = wire::put(out, a, name);
             numeral::put_decimal(out, b, n)
@@ -164,7 +169,7 @@ fn put_bound(out: &mut [u8], at: usize, first: usize, name: &[u8], x: Bound) -> 
 // Whether the name that begins at a place is # and the letter.
 fn is_condition(s: &[u8], at: usize, letter: u8) -> bool {
     match json_tree::string(s, at) {
-        Out::End(n) => {
+        Some(n) => {
             if s.len() < n {
                 return false;
             }
@@ -179,57 +184,49 @@ fn is_condition(s: &[u8], at: usize, letter: u8) -> bool {
             let w = [b'#', letter];
             spell::spells(&s[start..from], &w)
         }
-        Out::Bad => false,
+        None => false,
     }
 }
 
 // The member after the one whose value is at a place.
-fn next_member(s: &[u8], v: usize) -> Listed {
+fn next_member(s: &[u8], v: usize) -> Option<usize> {
     match json_tree::value(s, v, 7) {
-        Out::End(n) => match json_tree::after(s, n, true) {
-            Next::More(j) => Listed::At(j),
-            Next::Done(_) => Listed::Absent,
-            Next::Wrong => Listed::Absent,
+        Some(n) => match json_tree::after(s, n, true) {
+            Next::More(j) => Some(j),
+            Next::Done(_) => None,
+            Next::Wrong => None,
         },
-        Out::Bad => Listed::Absent,
+        None => None,
     }
 }
 
-fn first_member(s: &[u8], at: usize) -> Listed {
+fn first_member(s: &[u8], at: usize) -> Option<usize> {
     match json_tree::begin(s, at) {
-        Start::Leaf => Listed::Absent,
-        Start::Empty(_, _) => Listed::Absent,
-        Start::Many(i, _) => Listed::At(i),
+        Start::Leaf => None,
+        Start::Empty(_, _) => None,
+        Start::Many(i, _) => Some(i),
     }
 }
 
 fn value_of(s: &[u8], at: usize) -> usize {
     match json_tree::head(s, at, true) {
-        Out::End(v) => v,
-        Out::Bad => at,
+        Some(v) => v,
+        None => at,
     }
 }
 
 // The list of the condition of a letter, in the object at a place.
-fn condition(s: &[u8], object: usize, letter: u8) -> Listed {
+fn condition(s: &[u8], object: usize, letter: u8) -> Option<usize> {
     let mut x = first_member(s, object);
-    let mut k: usize = 0;
-    while k < s.len() {
-        match x {
-            Listed::At(i) => {
-                let v = value_of(s, i);
-                if is_condition(s, i, letter) {
-                    return Listed::At(v);
-                }
-                x = next_member(s, v);
-            }
-            Listed::Absent => {
-                return Listed::Absent;
-            }
+    for _ in 0..s.len() {
+        let i = x?;
+        let v = value_of(s, i);
+        if is_condition(s, i, letter) {
+            return Some(v);
         }
-        k += 1;
+        x = next_member(s, v);
     }
-    Listed::Absent
+    None
 }
 
 fn put_condition(
@@ -246,10 +243,8 @@ fn put_condition(
 
 fn put_conditions(out: &mut [u8], at: usize, first: usize, s: &[u8], object: usize) -> usize {
     let mut o = at;
-    let mut letter: u8 = b'A';
-    while letter <= b'z' {
+    for letter in b'A'..=b'z' {
         o = put_condition(out, o, first, s, object, letter);
-        letter += 1;
     }
     o
 }
@@ -284,22 +279,13 @@ fn put_filter(out: &mut [u8], at: usize, s: &[u8], place: usize) -> usize {
 fn put_filters(out: &mut [u8], at: usize, s: &[u8], place: usize) -> usize {
     let mut o = at;
     let mut x = Element::At(place);
-    let mut k: usize = 0;
-    while k < s.len() {
-        match x {
-            Element::At(v) => {
-                o = wire::put(out, o, b",");
-                o = put_filter(out, o, s, v);
-                x = message::next(s, v);
-            }
-            Element::Ended => {
-                return o;
-            }
-            Element::Broken => {
-                return o;
-            }
-        }
-        k += 1;
+    for _ in 0..s.len() {
+        let Element::At(v) = x else {
+            return o;
+        };
+        o = wire::put(out, o, b",");
+        o = put_filter(out, o, s, v);
+        x = message::next(s, v);
     }
     o
 }

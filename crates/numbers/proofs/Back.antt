@@ -1,5 +1,6 @@
 -- A number that was read fits 64 bits, and no list of a message stands at 0: so both are read back from the row as they
 -- are.
+use Rattle.std.specs.Prelude.{Some}
 use mathlib.Core.Path.{◌≡◌, refl, ap}
 use mathlib.Core.List.{List}
 use mathlib.Core.Bool.{true, not}
@@ -18,12 +19,9 @@ use Rattle.numeral.specs.declared.Whole.TheVariants.{Value, Large, Malformed}
 use Rattle.numeral.proofs.Wholes.{in_range, answer_value}
 use Rattle.json_tree.specs.Grammar.{ws_at, past, one_at, token_at, string_at, head_at}
 use Rattle.json_tree.specs.Tree.{Json, word, num, str, arr, obj, Items, nil, Got, none, got, depth, tree_at}
-use Rattle.json_tree.specs.declared.Out.TheVariants.{End}
 use Rattle.json_tree.proofs.Ends.{then_end, one_is}
 use Rattle.rows.specs.Strings.{part}
 use Rattle.shape.specs.Shape.{since_name, until_name, limit_name}
-use Rattle.message.specs.declared.Bound.TheVariants as bound
-use Rattle.message.specs.declared.Listed.TheVariants as listed
 use Rattle.message.specs.declared.FilterParts.{FilterParts}
 use Rattle.message.specs.Parts.{Member, missing, member, member_of, whole_value, number_spelled, number_in, bound_in}
 use Rattle.message.specs.Parts.{listed_in, members_got, members_at, filter_parts_of, filter_at, no_filter}
@@ -60,10 +58,10 @@ number_back s (member v t) = signed_unsigned (number_spelled s t) (number_mag s 
 
 bound_back : (s : List ℕ) (m : Member) → bound_from (flag_of (bound_in s m)) (bits_of (bound_in s m)) ≡ bound_in s m
 bound_back s missing = refl
-bound_back s (member v t) = ap bound.Number (signed_unsigned (number_spelled s t) (number_mag s t))
+bound_back s (member v t) = ap Some (signed_unsigned (number_spelled s t) (number_mag s t))
 
 -- ---- places
-pub token_positive : (s : List ℕ) (b at n : ℕ) → token_at s b at ≡ End n → 0 < n
+pub token_positive : (s : List ℕ) (b at n : ℕ) → token_at s b at ≡ Some n → 0 < n
 unfolding token_at past
 token_positive s b at n e =
     let (m, f, g) = then_end (one_at s _ at) _ e in
@@ -71,7 +69,7 @@ token_positive s b at n e =
     let q : ws_at s m ≡ n = cc in
     omega arith
 
-head_positive : (s : List ℕ) (i v : ℕ) → head_at s i true ≡ End v → 0 < v
+head_positive : (s : List ℕ) (i v : ℕ) → head_at s i true ≡ Some v → 0 < v
 head_positive s i v e = let (m, f, g) = then_end (string_at s i) _ e in token_positive s 0x3A (ws_at s m) v g
 
 walk_positive : {value : ℕ → Got Json} {s : List ℕ} {f i n p v : ℕ} {t : Json} {ts : Items} → Walk value s true f i ts n → In p v t ts → 0 < v
@@ -99,7 +97,7 @@ members_positive s at {p} {v} {t} i = go (tree_at s depth at) refl i
     go (got (arr ts) n) e k = no_item k
     go (got (obj ts) n) e k = group_positive (group_of s at true ts n e) k
 
-place_back : (v : ℕ) → 0 < v → listed_from v ≡ listed.At v
+place_back : (v : ℕ) → 0 < v → listed_from v ≡ Some v
 place_back v h = rw (ne_eqb v 0 (λ e. omega arith)) refl
 
 list_back : (s w : List ℕ) (at : ℕ) → listed_from (place_of (listed_in (member_of s w (members_at s at)))) ≡ listed_in (member_of s w (members_at s at))

@@ -1,4 +1,5 @@
 -- The filters of a REQ stand behind the place 0, so each of them is read back; so is an EVENT.
+use Rattle.std.specs.Prelude.{Option, Some, None}
 use mathlib.Core.Path.{◌≡◌, refl, sym, ap, ap₂, ◌∙◌}
 use mathlib.Core.List.{List, [], ◌∷◌, ◌++◌, map, Memᴰ}
 use mathlib.Core.Bool.{Bool, true, false, cond, false≢true}
@@ -12,8 +13,6 @@ use Rattle.json_tree.specs.Grammar.{case, in_class, close_of, ws_at, one_at, tok
 use Rattle.json_tree.specs.Tree.{Json, word, num, str, arr, obj, Items, Got, none, got, end_of, depth, tree_at}
 use Rattle.json_tree.specs.Tree.{root}
 use Rattle.json_tree.specs.declared.Class.TheVariants.{Space, Byte}
-use Rattle.json_tree.specs.declared.Out.{Out}
-use Rattle.json_tree.specs.declared.Out.TheVariants.{End, Bad}
 use Rattle.json_tree.specs.declared.Next.TheVariants.{More, Done, Wrong}
 use Rattle.json_tree.specs.declared.Start.{Start}
 use Rattle.json_tree.specs.declared.Start.TheVariants.{Leaf, Empty, Many}
@@ -26,7 +25,6 @@ use Rattle.message.specs.declared.Element.{Element}
 use Rattle.message.specs.declared.Element.TheVariants.{At, Ended, Broken}
 use Rattle.message.specs.declared.EventParts.{EventParts}
 use Rattle.message.specs.declared.FilterParts.{FilterParts}
-use Rattle.message.specs.declared.Listed.TheVariants as listed
 use Rattle.message.specs.declared.ReqParts.{ReqParts}
 use Rattle.message.specs.declared.Message.TheVariants.{Event, Req, Refused}
 use Rattle.message.specs.Lists.{more_of, open_within, next_of, up_to, elements_from}
@@ -47,21 +45,21 @@ use Rattle.numbers.proofs.Back.{Kept, token_positive, number_back, filter_kept, 
 more_positive : (s : List ℕ) (n j : ℕ) → more_of (next_at s n false) ≡ At j → 0 < j
 more_positive s n j e = go (token_at s 0x2C n) refl e
   where
-    closes : (o : Out) → more_of (case o Done Wrong) ≡ At j → 0 < j
-    closes (End m) q = absurd (let z : ◌≡◌ {A = ℕ} 0 1 = cc in omega arith)
-    closes Bad q = absurd (let z : ◌≡◌ {A = ℕ} 0 1 = cc in omega arith)
+    closes : (o : Option ℕ) → more_of (case o Done Wrong) ≡ At j → 0 < j
+    closes (Some m) q = absurd (let z : ◌≡◌ {A = ℕ} 0 1 = cc in omega arith)
+    closes None q = absurd (let z : ◌≡◌ {A = ℕ} 0 1 = cc in omega arith)
 
-    go : (o : Out) → token_at s 0x2C n ≡ o → more_of (case o More (case (token_at s (close_of false) n) Done Wrong)) ≡ At j → 0 < j
-    go (End m) q f = let k : m ≡ j = cc in rw (sym k) (token_positive s 0x2C n m q)
-    go Bad q f = closes (token_at s (close_of false) n) f
+    go : (o : Option ℕ) → token_at s 0x2C n ≡ o → more_of (case o More (case (token_at s (close_of false) n) Done Wrong)) ≡ At j → 0 < j
+    go (Some m) q f = let k : m ≡ j = cc in rw (sym k) (token_positive s 0x2C n m q)
+    go None q f = closes (token_at s (close_of false) n) f
 
 next_positive : (s : List ℕ) (v j : ℕ) → next_of s v ≡ At j → 0 < j
 unfolding next_of
 next_positive s v j e = go (end_of (tree_at s open_within v)) e
   where
-    go : (o : Out) → case o (λ n. more_of (next_at s n false)) Broken ≡ At j → 0 < j
-    go (End n) q = more_positive s n j q
-    go Bad q = absurd (let z : ◌≡◌ {A = ℕ} 0 1 = cc in omega arith)
+    go : (o : Option ℕ) → case o (λ n. more_of (next_at s n false)) Broken ≡ At j → 0 < j
+    go (Some n) q = more_positive s n j q
+    go None q = absurd (let z : ◌≡◌ {A = ℕ} 0 1 = cc in omega arith)
 
 all_kept : (f : ℕ) (s : List ℕ) (x : Element) → ((v : ℕ) → x ≡ At v → 0 < v) → (i : ℕ) → Kept (get_or (map (filter_at s) (up_to f s x)) i no_filter)
 unfolding up_to
@@ -77,7 +75,7 @@ braced Leaf = false
 braced (Empty n b) = b
 braced (Many i b) = b
 
-brace_first : (s : List ℕ) (at n : ℕ) → token_at s 0x7B at ≡ End n → ws_at s at ≡ at
+brace_first : (s : List ℕ) (at n : ℕ) → token_at s 0x7B at ≡ Some n → ws_at s at ≡ at
 unfolding token_at in_class
 brace_first s at n f =
     let (m, g, h) = then_end (one_at s (Byte 0x7B) at) _ f in
@@ -86,14 +84,14 @@ brace_first s at n f =
 brace_start : (s : List ℕ) (at : ℕ) → braced (start_at s at) ≡ true → ws_at s at ≡ at
 brace_start s at e = go (token_at s 0x5B at) (token_at s 0x7B at) refl e
   where
-    opens : (n : ℕ) (o : Out) → braced (case o (λ m. Empty m false) (Many n false)) ≡ true → ws_at s at ≡ at
-    opens n (End m) q = absurd (false≢true q)
-    opens n Bad q = absurd (false≢true q)
+    opens : (n : ℕ) (o : Option ℕ) → braced (case o (λ m. Empty m false) (Many n false)) ≡ true → ws_at s at ≡ at
+    opens n (Some m) q = absurd (false≢true q)
+    opens n None q = absurd (false≢true q)
 
-    go : (a b : Out) → token_at s 0x7B at ≡ b → braced (case a (λ n. opened_at s n false) (case b (λ n. opened_at s n true) Leaf)) ≡ true → ws_at s at ≡ at
-    go (End n) b f q = opens n (token_at s (close_of false) n) q
-    go Bad (End n) f q = brace_first s at n f
-    go Bad Bad f q = absurd (false≢true q)
+    go : (a b : Option ℕ) → token_at s 0x7B at ≡ b → braced (case a (λ n. opened_at s n false) (case b (λ n. opened_at s n true) Leaf)) ≡ true → ws_at s at ≡ at
+    go (Some n) b f q = opens n (token_at s (close_of false) n) q
+    go None (Some n) f q = brace_first s at n f
+    go None None f q = absurd (false≢true q)
 
 group_braced : {s : List ℕ} {at n : ℕ} {ts : Items} → Group s at true ts n → braced (start_at s at) ≡ true
 group_braced (hollow e) = ap braced e
@@ -134,7 +132,7 @@ module _ (s : List ℕ) (r : ReqParts) (e : read_of s ≡ Req r) where
       go zero q = let c = (filters_counted s r e).0 in absurd (let l : length (request_filters s r) ≡ 0 = rw q refl in omega arith)
       go (suc k) q = rw (z, q) (Memᴰ.head refl)
 
-  at_zero : (filter_at s 0).conditions ≡ listed.At 0
+  at_zero : (filter_at s 0).conditions ≡ Some 0
   unfolding filter_at filter_parts_of
   at_zero = refl
 

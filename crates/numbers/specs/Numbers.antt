@@ -1,34 +1,30 @@
 -- Parts as rows of 64-bit numbers, for callers that can lend nothing else: what is written. Signed numbers are their 64
 -- bits, in two's complement.
-use Rattle.std.specs.Prelude.{ℕ, List, [], ◌∷◌, ◌++◌, take}
+use Rattle.text.specs.declared.Unread.{Unread}
+use Rattle.std.specs.Prelude.{ℕ, List, [], ◌∷◌, ◌++◌, take, Option, ℤ, Some, None, Result, Ok, Err}
 use Rattle.wire.specs.Field.{unsigned}
 use Rattle.message.specs.Parts.{filters_at}
 use Rattle.message.specs.declared.EventParts.{EventParts}
 use Rattle.message.specs.declared.FilterParts.{FilterParts}
 use Rattle.message.specs.declared.ReqParts.{ReqParts}
-use Rattle.message.specs.declared.Bound.{Bound}
-use Rattle.message.specs.declared.Bound.TheVariants as bound
-use Rattle.message.specs.declared.Listed.{Listed}
-use Rattle.message.specs.declared.Listed.TheVariants as listed
 use Rattle.message.specs.declared.Message.{Message}
 use Rattle.message.specs.declared.Message.TheVariants as message
+use Rattle.text.specs.declared.Unread.TheVariants.{TooLarge, WrongShape}
 use Rattle.text.specs.declared.Text.{Text}
-use Rattle.text.specs.declared.TextAnswer.{TextAnswer}
-use Rattle.text.specs.declared.TextAnswer.TheVariants as answer
 
 -- a place, and 0 where there is none: no list of a message stands at 0
-abbrev pub place_of : Listed → ℕ
-place_of listed.Absent = 0
-place_of (listed.At v) = v
+abbrev pub place_of : Option ℕ → ℕ
+place_of None = 0
+place_of (Some v) = v
 
 -- whether there is a number, and its 64 bits
-abbrev pub flag_of : Bound → ℕ
-flag_of bound.Absent = 0
-flag_of (bound.Number z) = 1
+abbrev pub flag_of : Option ℤ → ℕ
+flag_of None = 0
+flag_of (Some z) = 1
 
-abbrev pub bits_of : Bound → ℕ
-bits_of bound.Absent = 0
-bits_of (bound.Number z) = unsigned z
+abbrev pub bits_of : Option ℤ → ℕ
+bits_of None = 0
+bits_of (Some z) = unsigned z
 
 abbrev pub event_numbers : EventParts → List ℕ
 event_numbers p =
@@ -62,7 +58,7 @@ message_numbers s (message.Refused r) = []
 abbrev pub text_numbers : Text → List ℕ
 text_numbers x = unsigned x.time ∷ x.kind ∷ x.tags ∷ x.content ∷ x.content_len ∷ x.d ∷ x.d_len ∷ []
 
-abbrev pub answer_numbers : TextAnswer → List ℕ
-answer_numbers (answer.Read x) = text_numbers x
-answer_numbers answer.TooLarge = []
-answer_numbers answer.WrongShape = []
+abbrev pub answer_numbers : Result Text Unread → List ℕ
+answer_numbers (Ok x) = text_numbers x
+answer_numbers (Err TooLarge) = []
+answer_numbers (Err WrongShape) = []

@@ -1,13 +1,9 @@
 -- The parts that a row of numbers gives, as Numbers writes them. A number past the end of a row is 0.
-use Rattle.std.specs.Prelude.{ℕ, ◌+◌, cond, List, [], ◌∷◌, eqb, drop, get_or}
+use Rattle.std.specs.Prelude.{ℕ, ◌+◌, cond, List, [], ◌∷◌, eqb, drop, get_or, Option, ℤ, Some, None}
 use Rattle.wire.specs.Field.{signed}
 use Rattle.message.specs.declared.Span.{Span}
 use Rattle.message.specs.declared.EventParts.{EventParts}
 use Rattle.message.specs.declared.FilterParts.{FilterParts}
-use Rattle.message.specs.declared.Bound.{Bound}
-use Rattle.message.specs.declared.Bound.TheVariants as bound
-use Rattle.message.specs.declared.Listed.{Listed}
-use Rattle.message.specs.declared.Listed.TheVariants as listed
 
 -- number k, and the row from k on
 abbrev pub number_from : List ℕ → ℕ → ℕ
@@ -35,11 +31,11 @@ event_from l = record {
 }
 
 -- ---- a filter
-abbrev pub listed_from : ℕ → Listed
-listed_from v = cond (eqb v 0) listed.Absent (listed.At v)
+abbrev pub listed_from : ℕ → Option ℕ
+listed_from v = cond (eqb v 0) None (Some v)
 
-abbrev pub bound_from : ℕ → ℕ → Bound
-bound_from f v = cond (eqb f 0) bound.Absent (bound.Number (signed v))
+abbrev pub bound_from : ℕ → ℕ → Option ℤ
+bound_from f v = cond (eqb f 0) None (Some (signed v))
 
 -- the ten numbers of a filter, from k on
 unfoldable pub filter_from : List ℕ → ℕ → FilterParts

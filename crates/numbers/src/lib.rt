@@ -9,7 +9,7 @@ ghost use Rattle.numbers.specs.Numbers.{text_numbers};
 ghost use Rattle.numbers.specs.Parts.{number_from, row_from, span_from, event_from, listed_from, bound_from};
 ghost use Rattle.numbers.specs.Parts.{filter_from, filters_from};
 
-use message::{Body, Bound, EventParts, FilterParts, Listed, Span};
+use message::{Body, EventParts, FilterParts, Span};
 use text::Text;
 
 // The most filters of a REQ.
@@ -20,95 +20,65 @@ const MOST_FILTERS: usize = 4;
 pub fn put(out: &mut [u64], at: usize, part: &[u64]) -> usize
     ensures { Puts out.old at part.now result out.new }
 {
-    let n = out.len();
-    if n < at {
-        return n;
+    if out.len() < at {
+        return out.len();
     }
-    let mut i = 0;
-    while i < part.len() {
-        if n - at <= i {
-            return n;
-        }
-        out[at + i] = part[i];
-        i += 1;
-    }
-    at + i
+    let n = part.len().min(out.len() - at);
+    out[at..at + n].copy_from_slice(&part[..n]);
+    at + n
 }
 
-fn place(x: Listed) -> u64
+fn place(x: Option<usize>) -> u64
     ensures { result ≡ place_of x }
 {
-    match x {
-        Listed::Absent => 0,
-        Listed::At(v) => v as u64,
-    }
+    x.map_or(0, |v| v as u64)
 }
 
-fn flag(x: Bound) -> u64
+fn flag(x: Option<i64>) -> u64
     ensures { result ≡ flag_of x }
 {
-    match x {
-        Bound::Absent => 0,
-        Bound::Number(_) => 1,
-    }
+    u64::from(x.is_some())
 }
 
-fn bits(x: Bound) -> u64
+fn bits(x: Option<i64>) -> u64
     ensures { result ≡ bits_of x }
 {
-    match x {
-        Bound::Absent => 0,
-        Bound::Number(n) => wire::to_unsigned(n),
-    }
+    x.map_or(0, |n| wire::to_unsigned(n))
 }
 
 pub fn event_numbers(p: EventParts) -> [u64; 12]
     ensures { result ≡ event_numbers p }
 {
-    let id = p.id;
-    let body = p.body;
-    let pubkey = body.pubkey;
-    let content = body.content;
-    let sig = p.sig;
-    let time = wire::to_unsigned(body.created_at);
-    let kind = wire::to_unsigned(body.kind);
     [
         1,
-        id.start as u64,
-        id.len as u64,
-        pubkey.start as u64,
-        pubkey.len as u64,
-        time,
-        kind,
-        body.tags as u64,
-        content.start as u64,
-        content.len as u64,
-        sig.start as u64,
-        sig.len as u64,
+        p.id.start as u64,
+        p.id.len as u64,
+        p.body.pubkey.start as u64,
+        p.body.pubkey.len as u64,
+        wire::to_unsigned(p.body.created_at),
+        wire::to_unsigned(p.body.kind),
+        p.body.tags as u64,
+        p.body.content.start as u64,
+        p.body.content.len as u64,
+        p.sig.start as u64,
+        p.sig.len as u64,
     ]
 }
 
 fn filter_numbers(p: FilterParts) -> [u64; 10]
     ensures { result ≡ filter_numbers p }
 {
-    let ids = p.ids;
-    let authors = p.authors;
-    let kinds = p.kinds;
-    let since = p.since;
-    let until = p.until;
-    let limit = p.limit;
-    let conditions = p.conditions;
     [
-        place(ids),
-        place(authors),
-        place(kinds),
-        flag(since),
-        bits(since),
-        flag(until),
-        bits(until),
-        flag(limit),
-        bits(limit),
-        place(conditions),
+        place(p.ids),
+        place(p.authors),
+        place(p.kinds),
+        flag(p.since),
+        bits(p.since),
+        flag(p.until),
+        bits(p.until),
+        flag(p.limit),
+        bits(p.limit),
+        place(p.conditions),
     ]
 }
 
@@ -120,14 +90,8 @@ pub fn put_filters(out: &mut [u64], at: usize, fs: [FilterParts; 4], n: usize) -
         return out.len();
     }
     let mut o = at;
-    let mut i: usize = 0;
-    while i < MOST_FILTERS {
-        if n <= i {
-            return o;
-        }
-        let f = filter_numbers(fs[i]);
-        o = put(out, o, &f);
-        i += 1;
+    for i in 0..n.min(MOST_FILTERS) {
+        o = put(out, o, &filter_numbers(fs[i]));
     }
     o
 }
@@ -135,9 +99,8 @@ pub fn put_filters(out: &mut [u64], at: usize, fs: [FilterParts; 4], n: usize) -
 pub fn text_numbers(x: Text) -> [u64; 7]
     ensures { result ≡ text_numbers x }
 {
-    let time = wire::to_unsigned(x.time);
     [
-        time,
+        wire::to_unsigned(x.time),
         x.kind as u64,
         x.tags as u64,
         x.content as u64,
@@ -151,108 +114,94 @@ pub fn text_numbers(x: Text) -> [u64; 7]
 pub fn number_in(l: &[u64], i: usize) -> u64
     ensures { result ≡ number_from l.now i }
 {
-    if i < l.len() {
-        return l[i];
-    }
-    0
+    l.get(i).copied().unwrap_or(0)
 }
 
-fn listed_from(v: u64) -> Listed
+fn listed_from(v: u64) -> Option<usize>
     ensures { result ≡ listed_from v }
 {
-    if v == 0 {
-        return Listed::Absent;
-    }
-    Listed::At(v as usize)
+    if v == 0 { None } else { Some(v as usize) }
 }
 
-fn bound_from(flag: u64, bits: u64) -> Bound
+fn bound_from(flag: u64, bits: u64) -> Option<i64>
     ensures { result ≡ bound_from flag bits }
 {
     if flag == 0 {
-        return Bound::Absent;
+        None
+    } else {
+        Some(wire::to_signed(bits))
     }
-    Bound::Number(wire::to_signed(bits))
 }
 
 // A filter from its ten numbers, the first of which is number k.
+#[tactic(auto, unfolding(crate::specs::Parts::filter_from))]
 fn filter_from(l: &[u64], k: usize) -> FilterParts
     requires { k ≤ 34 }
     ensures { result ≡ filter_from l.now k }
 {
-    let ids = listed_from(number_in(l, k));
-    let authors = listed_from(number_in(l, k + 1));
-    let kinds = listed_from(number_in(l, k + 2));
-    let since = bound_from(number_in(l, k + 3), number_in(l, k + 4));
-    let until = bound_from(number_in(l, k + 5), number_in(l, k + 6));
-    let limit = bound_from(number_in(l, k + 7), number_in(l, k + 8));
-    let conditions = listed_from(number_in(l, k + 9));
     FilterParts {
-        ids,
-        authors,
-        kinds,
-        since,
-        until,
-        limit,
-        conditions,
+        ids: listed_from(number_in(l, k)),
+        authors: listed_from(number_in(l, k + 1)),
+        kinds: listed_from(number_in(l, k + 2)),
+        since: bound_from(number_in(l, k + 3), number_in(l, k + 4)),
+        until: bound_from(number_in(l, k + 5), number_in(l, k + 6)),
+        limit: bound_from(number_in(l, k + 7), number_in(l, k + 8)),
+        conditions: listed_from(number_in(l, k + 9)),
     }
 }
 
 // The filters of a REQ, after its four numbers.
+#[tactic(auto, unfolding(crate::specs::Parts::filters_from))]
 pub fn filters_from(l: &[u64]) -> [FilterParts; 4]
     ensures { result ≡ filters_from l.now }
 {
-    let a = filter_from(l, 4);
-    let b = filter_from(l, 14);
-    let c = filter_from(l, 24);
-    let d = filter_from(l, 34);
-    [a, b, c, d]
+    [
+        filter_from(l, 4),
+        filter_from(l, 14),
+        filter_from(l, 24),
+        filter_from(l, 34),
+    ]
 }
 
 // The numbers from k on.
 pub fn behind(l: &[u64], k: usize) -> &[u64]
     ensures { result.now ≡ row_from l.now k }
 {
-    let n = l.len();
-    if n < k {
-        return &l[n..];
+    &l[k.min(l.len())..]
+}
+
+// A string part from two numbers, the first of which is number k.
+fn span_at(l: &[u64], k: usize) -> Span
+    requires { k ≤ 10 }
+    ensures { result ≡ span_from l.now k }
+{
+    Span {
+        start: number_in(l, k) as usize,
+        len: number_in(l, k + 1) as usize,
     }
-    &l[k..]
 }
 
 // A string part from the first two numbers.
 pub fn span_from(l: &[u64]) -> Span
     ensures { result ≡ span_from l.now 0 }
 {
-    let start = number_in(l, 0) as usize;
-    let len = number_in(l, 1) as usize;
-    Span { start, len }
+    span_at(l, 0)
 }
 
 // An event's parts from its twelve numbers.
+#[tactic(auto, unfolding(crate::specs::Parts::event_from))]
 pub fn event_from(l: &[u64]) -> EventParts
     ensures { result ≡ event_from l.now }
 {
-    let id = Span {
-        start: number_in(l, 1) as usize,
-        len: number_in(l, 2) as usize,
-    };
-    let body = Body {
-        pubkey: Span {
-            start: number_in(l, 3) as usize,
-            len: number_in(l, 4) as usize,
+    EventParts {
+        id: span_at(l, 1),
+        body: Body {
+            pubkey: span_at(l, 3),
+            created_at: wire::to_signed(number_in(l, 5)),
+            kind: wire::to_signed(number_in(l, 6)),
+            tags: number_in(l, 7) as usize,
+            content: span_at(l, 8),
         },
-        created_at: wire::to_signed(number_in(l, 5)),
-        kind: wire::to_signed(number_in(l, 6)),
-        tags: number_in(l, 7) as usize,
-        content: Span {
-            start: number_in(l, 8) as usize,
-            len: number_in(l, 9) as usize,
-        },
-    };
-    let sig = Span {
-        start: number_in(l, 10) as usize,
-        len: number_in(l, 11) as usize,
-    };
-    EventParts { id, body, sig }
+        sig: span_at(l, 10),
+    }
 }

@@ -1,23 +1,22 @@
 -- A law for each way out of the code.
 use mathlib.Core.Path.{◌≡◌, refl, sym, ap, ◌∙◌}
-use mathlib.Core.Bool.{Bool, true, false, cond}
+use mathlib.Core.Bool.{Bool, true, false, cond, not}
 use mathlib.Core.List.{List, [], ◌∷◌, ◌++◌, append_assoc}
 use Prim.Native.Nat.{ℕ, zero, suc, ◌+◌, ◌-◌, ◌*◌, ◌/◌, ◌%◌, ◌^◌, ◌<◌, ◌≤◌, min}
 use native.Mathlib.Decide.{dec_le}
 use native.Mathlib.Omega.{arith}
 use native.Mathlib.Numerals.{add-one}
-use borrow.Author.Tests.{lt-ltb, le-ltb, le-leb, lt-leb, eq-eqb, ne_eqb, ltb-true}
-use lib.Dec.{eqb}
+use borrow.Author.Tests.{lt-ltb, le-ltb, le-leb, lt-leb, eq-eqb, ne_eqb, ltb-true, eqb-true}
+use lib.Dec.{eqb, leb, ltb}
 use lib.IntN.{ℤ, pos, negsuc, neg_ℤ, nat_abs, ◌-ℤ◌, +ℤ_idl}
 use lib.ListN.{length, take, drop, get_or, set, length-set, length-drop, drop_of_length-le}
 use lib.Seq.{drop-cons, drop-set-lt, get_or-set_same, take_all}
-use lib.Signed.{lt_z, mag}
+use lib.Signed.{lt_z, le_z, mag}
 use mir.Facts.{to_z_pos}
 use mir.Syntax.{w64}
 use mir.Val.{to_z, of_z, SFits}
 use mir.ValLaws.{to_z-of_z}
 use Rattle.wire.specs.Put.{Puts}
-use Rattle.wire.specs.Field.{unsigned}
 use Rattle.wire.proofs.Laws.{puts_then}
 use Rattle.numeral.specs.Decimal.{digits, decimal}
 use Rattle.wire.specs.Limits.{widest}
@@ -25,9 +24,8 @@ use Rattle.numeral.specs.Whole.{is_digit, all_digits, value_from, value_of, is_n
 use Rattle.numeral.specs.Whole.{negative_of, whole_of, is_within, whole_answer}
 use Rattle.numeral.specs.Inner.{above_widest, digits_sum, natural_sum, above_of, below_of}
 use Rattle.numeral.specs.declared.Whole.{Whole}
-use Rattle.numeral.specs.declared.Whole.TheVariants.{Value, Malformed}
-use Rattle.numeral.specs.declared.Natural.{Natural}
-use Rattle.numeral.specs.declared.Natural.TheVariants.{Sum, NotOne}
+use Rattle.numeral.specs.declared.Whole.TheVariants.{Value, Large}
+use Rattle.std.specs.Prelude.{Option, Some, None}
 use Rattle.numeral.proofs.Digits.{digits_one, digits_split, digits_length, one_length, some_digit, digit_is}
 
 -- ---- digits read
@@ -40,25 +38,25 @@ unfolding is_digit
 not_high x h = rw (le-leb 48 x (omega arith), lt-leb x 57 h)
 
 -- b is the answer seen from i on; the digits passed spell a number that v is, but for the cap
-pub record Seen (b : Natural) (s : List ℕ) (i v : ℕ) : Type 0 where
+pub record Seen (b : Option ℕ) (s : List ℕ) (i v : ℕ) : Type 0 where
   pub sum : ℕ
   pub is : v ≡ min sum above_widest
   pub same : b ≡ digits_sum sum (drop i s)
 
-module _ {b : Natural} {s : List ℕ} {i v : ℕ} (p : Seen b s i v) where
-  pub seen_end_lem : length s ≤ i → Sum v ≡ b
+module _ {b : Option ℕ} {s : List ℕ} {i v : ℕ} (p : Seen b s i v) where
+  pub seen_end_lem : length s ≤ i → Some v ≡ b
   unfolding digits_sum all_digits value_from
   seen_end_lem h = sym (p.same ∙ rw (drop_of_length-le s {i = i} h, p.is))
 
   module _ (h : i < length s) where
-    seen_other : is_digit (get_or s i 0) ≡ false → NotOne ≡ b
+    seen_other : is_digit (get_or s i 0) ≡ false → None ≡ b
     unfolding digits_sum all_digits
     seen_other e = sym (p.same ∙ rw (drop-cons s i 0, e))
 
-    pub seen_low : get_or s i 0 < 48 → NotOne ≡ b
+    pub seen_low : get_or s i 0 < 48 → None ≡ b
     seen_low l = seen_other (not_low (get_or s i 0) l)
 
-    pub seen_high : 57 < get_or s i 0 → NotOne ≡ b
+    pub seen_high : 57 < get_or s i 0 → None ≡ b
     seen_high l = seen_other (not_high (get_or s i 0) l)
 
     pub seen_more : 48 ≤ get_or s i 0 → get_or s i 0 ≤ 57 → (w : ℕ) → w ≡ min (v * 10 + (get_or s i 0 - 48)) above_widest → Seen b s (i + 1) w
@@ -70,27 +68,29 @@ module _ {b : Natural} {s : List ℕ} {i v : ℕ} (p : Seen b s i v) where
     }
 
 -- a first 0 only alone
-module _ (s : List ℕ) (i : ℕ) where
-  pub natural_none : length s ≤ i → NotOne ≡ natural_sum (drop i s)
-  unfolding natural_sum is_natural
-  natural_none h = rw (drop_of_length-le s {i = i} h)
+pub natural_none : (l : List ℕ) → length l < 1 → None ≡ natural_sum l
+unfolding natural_sum is_natural
+natural_none [] h = refl
+natural_none (x ∷ l) h = absurd (omega arith)
 
-  module _ (h : i < length s) where
-    pub natural_more : (get_or s i 0 ≡ 48 → ⊥) → (r : Natural) → r ≡ digits_sum 0 (drop i s) → r ≡ natural_sum (drop i s)
-    unfolding natural_sum is_natural digits_sum
-    natural_more n r e = e ∙ rw (drop-cons s i 0 h, ne_eqb (get_or s i 0) 48 n)
+pub natural_zeros : (l : List ℕ) → 2 ≤ length l → get_or l 0 0 ≡ 48 → None ≡ natural_sum l
+unfolding natural_sum is_natural
+natural_zeros [] h z = absurd (omega arith)
+natural_zeros (x ∷ []) h z = absurd (omega arith)
+natural_zeros (x ∷ y ∷ l) h z = rw z
 
-    module _ (z : get_or s i 0 ≡ 48) where
-      pub natural_zeros : 1 < length s - i → NotOne ≡ natural_sum (drop i s)
-      unfolding natural_sum is_natural
-      natural_zeros k = let h' : suc i < length s = omega arith in rw (drop-cons s i 0 h, drop-cons s (suc i) 0 h', z)
-
-      pub natural_zero : length s - i ≤ 1 → Sum 0 ≡ natural_sum (drop i s)
-      unfolding natural_sum is_natural value_from
-      natural_zero k = let h' : length s ≤ suc i = omega arith in rw (drop-cons s i 0 h, drop_of_length-le s {i = suc i} h', z)
+pub natural_rest : (l : List ℕ) → 1 ≤ length l → (get_or l 0 0 ≡ 48 → length l < 2) → digits_sum 0 l ≡ natural_sum l
+unfolding natural_sum is_natural digits_sum all_digits is_digit value_from
+natural_rest [] h k = absurd (omega arith)
+natural_rest (x ∷ []) h k = go (eqb x 48) refl
+  where
+    go : (t : Bool) → eqb x 48 ≡ t → digits_sum 0 (x ∷ []) ≡ cond (cond t true (all_digits (x ∷ []))) (Some (min (value_of (x ∷ [])) above_widest)) None
+    go true q = rw (eqb-true x 48 q)
+    go false q = refl
+natural_rest (x ∷ y ∷ l) h k = rw (ne_eqb x 48 (λ e. omega (arith, k e)))
 
 -- ---- the number, by its sign; the cap is above the widest
-answer_pos : (v : ℕ) → above_of (Sum (min v above_widest)) ≡ whole_answer (whole (pos v))
+answer_pos : (v : ℕ) → above_of (Some (min v above_widest)) ≡ whole_answer (whole (pos v))
 unfolding above_of whole_answer is_within
 answer_pos v = elim (dec_le v widest) [
   | yes h ↦ let e : min v above_widest ≡ v = omega arith in rw (e, le-ltb widest v h)
@@ -100,7 +100,7 @@ answer_pos v = elim (dec_le v widest) [
       rw (lt-ltb widest (min v above_widest) k, lt-ltb widest v l)
 ]
 
-answer_neg : (n : ℕ) → below_of (Sum (min (suc n) above_widest)) ≡ whole_answer (whole (negsuc n))
+answer_neg : (n : ℕ) → below_of (Some (min (suc n) above_widest)) ≡ whole_answer (whole (negsuc n))
 unfolding below_of whole_answer is_within
 answer_neg n = elim (dec_le (suc n) widest) [
   | yes h ↦
@@ -115,7 +115,7 @@ above_is : (l : List ℕ) → above_of (natural_sum l) ≡ whole_answer (natural
 unfolding natural_sum natural_of above_of whole_answer
 above_is l = go (is_natural l)
   where
-    go : (t : Bool) → above_of (cond t (Sum (min (value_of l) above_widest)) NotOne) ≡ whole_answer (cond t (whole (pos (value_of l))) malformed)
+    go : (t : Bool) → above_of (cond t (Some (min (value_of l) above_widest)) None) ≡ whole_answer (cond t (whole (pos (value_of l))) malformed)
     go true = answer_pos (value_of l)
     go false = refl
 
@@ -123,17 +123,12 @@ below_is : (l : List ℕ) → below_of (natural_sum l) ≡ whole_answer (negativ
 unfolding natural_sum negative_of below_of whole_answer
 below_is l = go (is_natural l) (value_of l)
   where
-    go : (t : Bool) (v : ℕ) → below_of (cond t (Sum (min v above_widest)) NotOne) ≡ whole_answer (cond t (cond (eqb v 0) malformed (whole (neg_ℤ (pos v)))) malformed)
+    go : (t : Bool) (v : ℕ) → below_of (cond t (Some (min v above_widest)) None) ≡ whole_answer (cond t (cond (eqb v 0) malformed (whole (neg_ℤ (pos v)))) malformed)
     go true zero = refl
     go true (suc n) = answer_neg n ∙ rw (ne_eqb (suc n) 0 (λ q. omega arith))
     go false v = refl
 
-pub whole_none : (p : List ℕ) → length p ≡ 0 → Malformed ≡ whole_answer (whole_of p)
-unfolding whole_of whole_answer
-whole_none [] h = refl
-whole_none (x ∷ p) h = absurd (omega arith)
-
-module _ (p : List ℕ) (n : Natural) (r : Whole) where
+module _ (p : List ℕ) (n : Option ℕ) (r : Whole) where
   pub whole_minus : get_or p 0 0 ≡ 45 → n ≡ natural_sum (drop 1 p) → r ≡ below_of n → r ≡ whole_answer (whole_of p)
   unfolding whole_of
   whole_minus h e f = f ∙ ap below_of e ∙ go p h
@@ -142,13 +137,13 @@ module _ (p : List ℕ) (n : Natural) (r : Whole) where
       go [] h = absurd (omega arith)
       go (x ∷ l) h = below_is l ∙ rw (eq-eqb x 45 h)
 
-  pub whole_plain : (length p ≡ 0 → ⊥) → (get_or p 0 0 ≡ 45 → ⊥) → n ≡ natural_sum (drop 0 p) → r ≡ above_of n → r ≡ whole_answer (whole_of p)
-  unfolding whole_of
-  whole_plain s h e f = f ∙ ap above_of e ∙ go p s h
+  pub whole_plain : (get_or p 0 0 ≡ 45 → length p < 1) → n ≡ natural_sum p → r ≡ above_of n → r ≡ whole_answer (whole_of p)
+  unfolding whole_of whole_answer natural_sum is_natural above_of
+  whole_plain h e f = f ∙ ap above_of e ∙ go p h
     where
-      go : (p : List ℕ) → (length p ≡ 0 → ⊥) → (get_or p 0 0 ≡ 45 → ⊥) → above_of (natural_sum (drop 0 p)) ≡ whole_answer (whole_of p)
-      go [] s h = absurd (s refl)
-      go (x ∷ l) s h = above_is (x ∷ l) ∙ rw (ne_eqb x 45 h)
+      go : (p : List ℕ) → (get_or p 0 0 ≡ 45 → length p < 1) → above_of (natural_sum p) ≡ whole_answer (whole_of p)
+      go [] h = refl
+      go (x ∷ l) h = above_is (x ∷ l) ∙ rw (ne_eqb x 45 (λ e. omega (arith, h e)))
 
 -- ---- digits written
 -- the digits of v, and those from i on, are the digits of n
@@ -205,43 +200,37 @@ module _ (v : ℕ) (h : v ≤ widest) where
   pub minus_is : to_z w64 (of_z w64 (pos 0 -ℤ to_z w64 v)) ≡ neg_ℤ (pos v)
   minus_is = to_z-of_z w64 _ minus_fits ∙ rw (plain v h, +ℤ_idl (neg_ℤ (pos v)))
 
+pub below_large : (v : ℕ) → widest < v → Large ≡ below_of (Some v)
+unfolding below_of
+below_large v h = rw (ne_eqb v 0 (λ e. omega arith), lt-ltb widest v h)
+
 -- a number is what the machine reads back from its bits
 pub back : (x : ℤ) → mag x < 2 ^ 63 → to_z w64 (of_z w64 x) ≡ x
 back x f = to_z-of_z w64 x (record { sfits = f })
 
-told : (x y : ℤ) (t : Bool) → mag x < 2 ^ 63 → mag y < 2 ^ 63 → lt_z (to_z w64 (of_z w64 x)) (to_z w64 (of_z w64 y)) ≡ t → lt_z x y ≡ t
-told x y t f g e = rw (back x f, back y g) at e
+le_not : (m n : ℕ) → leb m n ≡ not (ltb n m)
+le_not m n = elim (dec_le m n) [
+  | yes h ↦ rw (le-leb m n h, le-ltb n m h)
+  | no h ↦ let k : n < m = omega arith in rw (lt-leb m n k, lt-ltb n m k)
+]
+
+told_not : (x y : ℤ) → le_z x y ≡ not (lt_z y x)
+told_not (pos m) (pos n) = le_not m n
+told_not (pos m) (negsuc n) = refl
+told_not (negsuc m) (pos n) = refl
+told_not (negsuc m) (negsuc n) = le_not n m
+
+told : (x y : ℤ) (t : Bool) → mag x < 2 ^ 63 → mag y < 2 ^ 63 → le_z (to_z w64 (of_z w64 x)) (to_z w64 (of_z w64 y)) ≡ t → not (lt_z y x) ≡ t
+told x y t f g e = sym (told_not x y) ∙ rw (back x f, back y g) at e
 
 module _ (w : Whole) (z lo hi : ℤ) (e : w ≡ Value z) (fz : mag z < 2 ^ 63) (fl : mag lo < 2 ^ 63) (fh : mag hi < 2 ^ 63) where
-  pub within_low : lt_z (to_z w64 (of_z w64 z)) (to_z w64 (of_z w64 lo)) ≡ true → false ≡ is_within w lo hi
+  pub within_low : le_z (to_z w64 (of_z w64 lo)) (to_z w64 (of_z w64 z)) ≡ false → le_z (to_z w64 (of_z w64 lo)) (to_z w64 (of_z w64 z)) ≡ is_within w lo hi
   unfolding is_within
-  within_low a = rw (e, told z lo true fz fl a)
+  within_low a = a ∙ rw (e, told lo z false fl fz a)
 
-  module _ (a : lt_z (to_z w64 (of_z w64 z)) (to_z w64 (of_z w64 lo)) ≡ false) where
-    pub within_high : lt_z (to_z w64 (of_z w64 hi)) (to_z w64 (of_z w64 z)) ≡ true → false ≡ is_within w lo hi
-    unfolding is_within
-    within_high b = rw (e, told z lo false fz fl a, told hi z true fh fz b)
-
-    pub within_both : lt_z (to_z w64 (of_z w64 hi)) (to_z w64 (of_z w64 z)) ≡ false → true ≡ is_within w lo hi
-    unfolding is_within
-    within_both b = rw (e, told z lo false fz fl a, told hi z false fh fz b)
-
-module _ (x : ℤ) (f : mag x < 2 ^ 63) (u : ℕ) (e : u ≡ unsigned (to_z w64 (of_z w64 x))) where
-  pub size_below : lt_z (to_z w64 (of_z w64 x)) (pos 0) ≡ true → 18446744073709551615 - u + 1 ≡ nat_abs x
-  unfolding unsigned
-  size_below t = go x f (e ∙ ap unsigned (back x f)) (rw (back x f) at t)
-    where
-      go : (x : ℤ) → mag x < 2 ^ 63 → u ≡ unsigned x → lt_z x (pos 0) ≡ true → 18446744073709551615 - u + 1 ≡ nat_abs x
-      go (pos n) f e t = absurd (omega (arith, ltb-true n 0 t))
-      go (negsuc n) f e t = omega arith
-
-  pub size_above : lt_z (to_z w64 (of_z w64 x)) (pos 0) ≡ false → u ≡ nat_abs x
-  unfolding unsigned
-  size_above t = go x (e ∙ ap unsigned (back x f)) (rw (back x f) at t)
-    where
-      go : (x : ℤ) → u ≡ unsigned x → lt_z x (pos 0) ≡ false → u ≡ nat_abs x
-      go (pos n) e t = e
-      go (negsuc n) e t = absurd (let z : ◌≡◌ {A = ℕ} 0 1 = cc in omega arith)
+  pub within_high : le_z (to_z w64 (of_z w64 lo)) (to_z w64 (of_z w64 z)) ≡ true → le_z (to_z w64 (of_z w64 z)) (to_z w64 (of_z w64 hi)) ≡ is_within w lo hi
+  unfolding is_within
+  within_high a = sym (told z hi _ fz fh refl) ∙ rw (e, told lo z true fl fz a)
 
 -- ---- a number written
 module _ (x : ℤ) (f : mag x < 2 ^ 63) (n : ℕ) (e : n ≡ nat_abs (to_z w64 (of_z w64 x))) where

@@ -1,4 +1,5 @@
 -- The slot made from a message, by what the reader answers of it.
+use Rattle.std.specs.Prelude.{Result, Ok, Err}
 use mathlib.Core.Path.{◌≡◌, refl, sym, ap, ap₂, ◌∙◌}
 use mathlib.Core.Bool.{Bool, true, false, cond, ◌||◌}
 use mathlib.Core.Logic.{inl, inr}
@@ -28,9 +29,6 @@ use Rattle.message.specs.declared.EventParts.{EventParts}
 use Rattle.message.proofs.Reading.{row_read}
 use Rattle.message.proofs.Order.{Late, rows_first, rows_late, text_clean}
 use Rattle.event.specs.Sent.{unread_refusal, sent_row_of, sent_row, sent_text, sent_out, sent_text_number}
-use Rattle.event.specs.declared.SentText.{SentText}
-use Rattle.event.specs.declared.SentText.TheVariants as sent
-use Rattle.event.specs.declared.Written.TheVariants as written
 use Rattle.event.proofs.Answers.{AsOffered, row-alone-most}
 use Rattle.event.proofs.Sent.{some_row, sent_wrote, sent_refused}
 use Rattle.table.specs.Layout.{slot_size, text_place, slot_bytes}
@@ -106,15 +104,15 @@ module _ (m : List ℕ) where
       go (message.Refused r) e = unread e
 
   -- ---- the slot made from a message, o at exit; d is what was lent, zeros
-  module _ (d : List ℕ) (zs : d ≡ replicate slot_size 0) {s : SentText} (a : s ≡ sent_text m (lent_part d)) where
-    pub from_refused : {r : Refusal} {o : List ℕ} → sent_text_number s ≡ sent_row m (lent_part d) → s ≡ sent.Refused r → Makes m (sent.Refused r) o
+  module _ (d : List ℕ) (zs : d ≡ replicate slot_size 0) {s : Result (EventParts × ℕ) Refusal} (a : s ≡ sent_text m (lent_part d)) where
+    pub from_refused : {r : Refusal} {o : List ℕ} → sent_text_number s ≡ sent_row m (lent_part d) → s ≡ Err r → Makes m (Err r) o
     from_refused {r} q e =
         let z : r.row ≡ message_offer_row m = sym (ap sent_text_number e) ∙ q ∙ sent_row_lem (lent_part d) (lent_most zs) in
         let (f, n) = sent_refused m (lent_part d) (sym a ∙ e) in
         record { is = (f ∙ ap (refusal_for m) z, λ w. n (z ∙ w)) }
 
-    module _ {p : EventParts} {n : ℕ} (e : s ≡ sent.Wrote p n) where
-      told : (read_of m ≡ message.Event p) × AsOffered m p (lent_part d) (written.Wrote n) (sent_out m (lent_part d))
+    module _ {p : EventParts} {n : ℕ} (e : s ≡ Ok (p, n)) where
+      told : (read_of m ≡ message.Event p) × AsOffered m p (lent_part d) (Ok n) (sent_out m (lent_part d))
       told = sent_wrote m (lent_part d) (sym a ∙ e)
 
       pub from_ready : {y : List ℕ} → y ≡ sent_out m (lent_part d)
@@ -123,7 +121,7 @@ module _ (m : List ℕ) where
 
       pub from_event : {y : List ℕ} → y ≡ sent_out m (lent_part d) → {r : ℕ} {u : List ℕ}
           → ((v : Event) → read_text (part (given d y) text_place n) ≡ read v → Puts (given d y) 0 (head_of m p n (text_parts v)) r u)
-          → Makes m (sent.Wrote p n) u
+          → Makes m (Ok (p, n)) u
       unfolding parts_of
       from_event o g =
           let (f, (w, (q, y))) = told in
@@ -131,20 +129,20 @@ module _ (m : List ℕ) where
           record { is = (f, (k ∙ sym (event_rows m p f).as_parts_lem, l refl ∙ ap (λ x. slot_bytes (held_of m (parts_in x))) (sym f))) }
 
 -- ---- what was made: what refuses it alone
-module _ (m : List ℕ) {s : SentText} {o : List ℕ} (k : Makes m s o) where
-  pub made_wrote : {p : EventParts} {n : ℕ} → s ≡ sent.Wrote p n
+module _ (m : List ℕ) {s : Result (EventParts × ℕ) Refusal} {o : List ℕ} (k : Makes m s o) where
+  pub made_wrote : {p : EventParts} {n : ℕ} → s ≡ Ok (p, n)
       → (read_of m ≡ message.Event p) × ((0 ≡ message_offer_row m) × (o ≡ slot_bytes (held_of m (parts_of m))))
-  made_wrote {p} {n} e = let h : Made m (sent.Wrote p n) o = rw e at k.is in h
+  made_wrote {p} {n} e = let h : Made m (Ok (p, n)) o = rw e at k.is in h
 
-  pub made_refused : {r : Refusal} → s ≡ sent.Refused r → (r ≡ refusal_for m (message_offer_row m)) × (message_offer_row m ≡ 0 → ⊥)
-  made_refused {r} e = let h : Made m (sent.Refused r) o = rw e at k.is in h
+  pub made_refused : {r : Refusal} → s ≡ Err r → (r ≡ refusal_for m (message_offer_row m)) × (message_offer_row m ≡ 0 → ⊥)
+  made_refused {r} e = let h : Made m (Err r) o = rw e at k.is in h
 
   -- what make_from promises
   abbrev From : Refusal → Type 0
   From x = (x ≡ refusal_for m (message_offer_row m)) × (x.row ≡ 0 → o ≡ slot_bytes (held_of m (parts_of m)))
 
-  pub row_none : {p : EventParts} {n : ℕ} → s ≡ sent.Wrote p n → {x : Refusal} → x ≡ plain_refusal 0 → From x
+  pub row_none : {p : EventParts} {n : ℕ} → s ≡ Ok (p, n) → {x : Refusal} → x ≡ plain_refusal 0 → From x
   row_none e g = let (f, (z, q)) = made_wrote e in (g ∙ sym (valid_plain (as_message m) (sym z)), λ w. q)
 
-  pub row_some : {r : Refusal} → s ≡ sent.Refused r → From r
+  pub row_some : {r : Refusal} → s ≡ Err r → From r
   row_some e = let (f, n) = made_refused e in (f, λ z. absurd (n (sym (ap (λ x. x.row) f) ∙ z)))

@@ -3,9 +3,8 @@ use mathlib.Core.Path.{◌≡◌, refl, sym, ap, ap₂, ◌∙◌}
 use mathlib.Core.Bool.{Bool, true, false, ◌&&◌}
 use mathlib.Core.List.{List, []}
 use Prim.Native.Nat.{ℕ, ◌-◌}
-use native.Mathlib.Omega.{arith}
 use lib.Dec.{eqb, ltb}
-use lib.ListN.{length, get_or, drop, get_or-eq_default}
+use lib.ListN.{length, get_or, drop}
 use borrow.Author.Tests.{eqb-true, eq-eqb}
 use Rattle.wire.specs.Bytes.{same_bytes, part}
 use Rattle.wire.specs.Field.{field_at}
@@ -66,9 +65,6 @@ module _ (s : List ℕ) {n at len : ℕ} {t d : List ℕ} (x : n ≡ field_at s 
   pub last_is : get_or d (length d - 1) 0 ≡ d_last s
   unfolding d_last
   last_is = ap (λ r. get_or r (length r - 1) 0) d_bytes
-
-  pub no_last : length d ≡ 0 → 0 ≡ d_last s
-  no_last e = sym (get_or-eq_default d 0 (omega arith)) ∙ last_is
 
 -- ---- times
 newer_same : (t s : List ℕ) → slot_sound t ≡ true → slot_sound s ≡ true → signed_events.newer (in_slot t) (in_slot s) ≡ newer_in t s

@@ -1,4 +1,6 @@
 -- The slot that an event given as parts would fill: its text, then what stands before it.
+use Rattle.std.specs.Prelude.{Result, Ok, Err}
+use Rattle.text.specs.declared.Unread.{Unread}
 use mathlib.Core.Path.{◌≡◌, refl, sym, ap, ap₂, ◌∙◌}
 use mathlib.Core.Bool.{false}
 use mathlib.Core.List.{List, [], ◌++◌, append_assoc, append-nil}
@@ -22,8 +24,6 @@ use Rattle.text.specs.Answer.{text_parts, text_answer_of}
 use Rattle.text.specs.declared.Class.{Class}
 use Rattle.text.specs.declared.Class.TheVariants.{Regular, Replaceable, Ephemeral, Addressable}
 use Rattle.text.specs.declared.Text.{Text}
-use Rattle.text.specs.declared.TextAnswer.{TextAnswer}
-use Rattle.text.specs.declared.TextAnswer.TheVariants as answer
 use Rattle.text.proofs.RoundTrip.{read_back}
 use Rattle.message.specs.declared.Span.{Span}
 use Rattle.message.specs.declared.EventParts.{EventParts}
@@ -31,8 +31,6 @@ use Rattle.message.specs.Lent.{is_spelled, string5, string7, body5, body7, event
 use Rattle.event.specs.Lent.{said, event_of}
 use Rattle.event.specs.Lent as lent
 use Rattle.event.specs.Answer.{offered_row, offered_text_row, offered, offered_out, answered, output_after, written_number}
-use Rattle.event.specs.declared.Written.{Written}
-use Rattle.event.specs.declared.Written.TheVariants as written
 use Rattle.event.proofs.Decoded.{or_neither}
 use Rattle.event.proofs.Fit.{and_fails}
 use Rattle.event.proofs.Answers.{offered-small, row-alone-most}
@@ -60,17 +58,14 @@ unfolding slot_numbers
 numbers_put t n p q s w = rw (p, q, s) at w
 
 -- what reading a text answers where it reads as the event e
-pub read_answers : {x : TextAnswer} {s t : List ℕ} (e : Event) → s ≡ t → x ≡ text_answer_of (read_text s) → read_text t ≡ read e → x ≡ answer.Read (text_parts e)
+pub read_answers : {x : Result Text Unread} {s t : List ℕ} (e : Event) → s ≡ t → x ≡ text_answer_of (read_text s) → read_text t ≡ read e → x ≡ Ok (text_parts e)
 read_answers e q a r = a ∙ ap (λ z. text_answer_of (read_text z)) q ∙ ap text_answer_of r
 
-pub same_read : {x : TextAnswer} {t v : Text} → x ≡ answer.Read t → x ≡ answer.Read v → t ≡ v
+pub same_read : {x : Result Text Unread} {t v : Text} → x ≡ Ok t → x ≡ Ok v → t ≡ v
 same_read p q = cc
 
-pub not_large : {x : TextAnswer} {v : Text} → x ≡ answer.TooLarge → x ≡ answer.Read v → ⊥
-not_large p q = let z : ◌≡◌ {A = ℕ} 0 1 = cc in omega arith
-
-pub not_wrong : {x : TextAnswer} {v : Text} → x ≡ answer.WrongShape → x ≡ answer.Read v → ⊥
-not_wrong p q = let z : ◌≡◌ {A = ℕ} 0 1 = cc in omega arith
+pub not_unread : {x : Result Text Unread} {u : Unread} {v : Text} → x ≡ Err u → x ≡ Ok v → ⊥
+not_unread p q = let z : ◌≡◌ {A = ℕ} 0 1 = cc in omega arith
 
 -- ---- zeros, and a part of them that was lent
 zeros_take : (a k : ℕ) → take a (replicate (a + k) 0) ≡ replicate {A = ℕ} a 0
@@ -185,21 +180,21 @@ module _ (b : List ℕ) (p : EventParts) where
           (puts_whole (omega (arith, head_length)) u).1 ∙ ap (λ j. s ++ drop j d) head_length ∙ ap (s ++◌) rest ∙ head_text
 
   -- what a slot d of zeros came back as, its place for the text having been lent
-  module _ (d : List ℕ) (zs : d ≡ replicate slot_size 0) {w : Written} (a : w ≡ offered b p (lent_part d)) (q : written_number w ≡ offered_text_row b p (lent_part d)) where
+  module _ (d : List ℕ) (zs : d ≡ replicate slot_size 0) {w : Result ℕ ℕ} (a : w ≡ offered b p (lent_part d)) (q : written_number w ≡ offered_text_row b p (lent_part d)) where
     row_is : written_number w ≡ offered_row b p
     row_is = q ∙ row-alone-most b p (lent_part d) (lent_most zs)
 
-    not_wrote : (x r n : ℕ) → x ≡ 0 → answered x n ≡ written.Refused r → ⊥
+    not_wrote : (x r n : ℕ) → x ≡ 0 → answered x n ≡ Err r → ⊥
     not_wrote x r n h f = let g = sym (ap (λ t. answered t n) h) ∙ f in let y : ◌≡◌ {A = ℕ} 0 1 = cc in omega arith
 
-    pub made_none : {r : ℕ} {o : List ℕ} → w ≡ written.Refused r → (r ≡ offered_row b p) × (r ≡ 0 → o ≡ slot_bytes (held_of b p))
+    pub made_none : {r : ℕ} {o : List ℕ} → w ≡ Err r → (r ≡ offered_row b p) × (r ≡ 0 → o ≡ slot_bytes (held_of b p))
     unfolding offered
     made_none {r} e = (
       sym (ap written_number e) ∙ row_is,
       λ n. absurd (not_wrote (offered_text_row b p (lent_part d)) r (length (lent.text_of b p.body)) (sym q ∙ ap written_number e ∙ n) (sym a ∙ e)),
     )
 
-    module _ {n : ℕ} (e : w ≡ written.Wrote n) where
+    module _ {n : ℕ} (e : w ≡ Ok n) where
       pub row_none : offered_row b p ≡ 0
       row_none = sym row_is ∙ ap written_number e
 
@@ -209,7 +204,7 @@ module _ (b : List ℕ) (p : EventParts) where
       length_is : n ≡ length (lent.text_of b p.body)
       unfolding offered
       length_is =
-          let g : written.Wrote n ≡ written.Wrote (length (lent.text_of b p.body))
+          let g : Ok n ≡ Ok (length (lent.text_of b p.body))
           = sym e ∙ a ∙ ap (λ t. answered t (length (lent.text_of b p.body))) text_row_lem in
           cc
 

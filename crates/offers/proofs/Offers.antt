@@ -1,7 +1,7 @@
 -- The calls: what the slot of an offer is answered is what the offer is answered, with 01's number.
+use Rattle.std.specs.Prelude.{Some}
 use mathlib.Core.Path.{◌≡◌, refl, sym, ap, ap₂, ◌∙◌}
 use mathlib.Core.Bool.{Bool, true, false, cond, not, ◌&&◌, ◌||◌, false≢true}
-use mathlib.Core.Option.{some}
 use mathlib.Core.List.{List, [], ◌∷◌}
 use Prim.Native.Nat.{ℕ}
 use lib.Dec.{eqb, leb}
@@ -132,7 +132,7 @@ module _ (b : List ℕ) (o : Offering) where
         where
           go : (x : Bool) → sound b ≡ x → cond x (answer_for b s) (Refused (plain_refusal 11)) ≡ answer b o
           go true g =
-              ap₂ (λ k v. offered_by k (verdict signed_events (capacity_of b) (view b) (some v))) (sym (valid_plain o (sym f ∙ z))) held ∙ sym (answer_valid b o valid g)
+              ap₂ (λ k v. offered_by k (verdict signed_events (capacity_of b) (view b) (Some v))) (sym (valid_plain o (sym f ∙ z))) held ∙ sym (answer_valid b o valid g)
           go false g = sym (answer_unsound b o valid g)
 
       stores : stored_for b s ≡ stored_in b (offered_of o)

@@ -2,18 +2,17 @@
 -- it.
 use mathlib.Core.Path.{◌≡◌, refl, sym, ap, ap₂, ◌∙◌}
 use mathlib.Core.Bool.{Bool, true, false, cond, not, ◌&&◌, false≢true}
-use mathlib.Core.List.{List, ◌++◌, append-nil, append_assoc}
+use mathlib.Core.List.{List, ◌++◌, append_assoc}
 use Prim.Native.Nat.{ℕ, ◌+◌, ◌-◌, ◌≤◌, ◌<◌}
 use native.Mathlib.Omega.{arith}
 use lib.Dec.{leb, ltb}
-use lib.ListN.{length, take, drop, drop_of_length-le}
+use lib.ListN.{length, take, drop}
 use lib.Seq.{sets-eq, drop-drop}
 use borrow.Rule.Slice.PartMut.{put_mid}
 use borrow.Author.Tests.{ltb-true, leb-false}
 use Rattle.wire.specs.Limits.{most_slots}
 use Rattle.wire.specs.Field.{field_at, le_bytes}
 use Rattle.wire.specs.Put.{put, Puts}
-use Rattle.wire.proofs.Laws.{puts_whole}
 use Rattle.shape.specs.Offsets.{plain_refusal}
 use Rattle.shape.specs.declared.Refusal.{Refusal}
 use Rattle.text.specs.Kinds.{is_ephemeral}
@@ -34,11 +33,6 @@ use Rattle.offers.specs.declared.Decided.TheVariants.{Fills, Answered}
 use Rattle.offers.proofs.First.{find_most}
 use Rattle.offers.proofs.Held.{keys}
 use Rattle.offers.proofs.Verdicts.{newer_held, lacks, by_class}
-
--- a slot written whole
-pub slot_written : {d s o : List ℕ} {r : ℕ} → length d ≡ slot_size → length s ≡ slot_size → Puts d 0 s r o → o ≡ s
-slot_written {d} {s} {o} {r} h k p =
-    (puts_whole (omega arith) p).1 ∙ ap (s ++◌) (drop_of_length-le d {i = length s} (omega arith)) ∙ append-nil s
 
 -- a part that was lent and came back as s
 pub lent_put : (d : List ℕ) (a k : ℕ) (s : List ℕ) → length s ≡ k → a + k ≤ length d → take a d ++ (s ++ drop k (drop a d)) ≡ put d a s

@@ -1,4 +1,5 @@
 -- A message taken, by what was read and what its offer was answered.
+use Rattle.std.specs.Prelude.{Result, Ok, Err}
 use mathlib.Core.Path.{◌≡◌, refl, sym, ap, ◌∙◌}
 use mathlib.Core.List.{List}
 use Prim.Native.Nat.{ℕ}
@@ -10,8 +11,6 @@ use Rattle.message.specs.declared.EventParts.{EventParts}
 use Rattle.message.specs.declared.ReqParts.{ReqParts}
 use Rattle.message.specs.declared.Message.{Message}
 use Rattle.message.specs.declared.Message.TheVariants as message
-use Rattle.event.specs.declared.SentText.{SentText}
-use Rattle.event.specs.declared.SentText.TheVariants as sent
 use Rattle.table.specs.Offer.{as_message, answer, offer_number, next}
 use Rattle.table.specs.declared.Offered.{Offered}
 use Rattle.table.specs.declared.Offered.TheVariants as offered
@@ -55,13 +54,13 @@ pub read_again : (m : List ℕ) (a : Offered) {x y : Message} → x ≡ read_of 
 read_again m a f e = ap (taken_as a) (sym e ∙ f)
 
 -- s is what was made of the message: the slot o of its event, or what refuses it
-module _ (b m : List ℕ) {s : SentText} {o : List ℕ} (k : Makes m s o) where
-  pub refused_taken : {x : Refusal} {r : Taken} → s ≡ sent.Refused x → r ≡ taken_as (offered.Refused x) (read_of m) → Takes b m r b
+module _ (b m : List ℕ) {s : Result (EventParts × ℕ) Refusal} {o : List ℕ} (k : Makes m s o) where
+  pub refused_taken : {x : Refusal} {r : Taken} → s ≡ Err x → r ≡ taken_as (offered.Refused x) (read_of m) → Takes b m r b
   refused_taken e f =
       let (g, n) = made_refused m k e in
       takes_as b m (offers.refused_stays b (as_message m) refl n g) f (sym (table_as_lem b (read_of m)))
 
-  module _ {p : EventParts} {n : ℕ} (e : s ≡ sent.Wrote p n) where
+  module _ {p : EventParts} {n : ℕ} (e : s ≡ Ok (p, n)) where
     pub new_event : New o
     new_event = let (f, (z, q)) = made_wrote m k e in offers.is_new b (as_message m) z refl (λ w. q)
 

@@ -1,8 +1,7 @@
 -- Demand 3 for whoever calls: calls are known by their promises alone (src/lib.rt, and `format` of slots/src/lib.rt),
 -- and this is what a list of them leaves. Quotes are from demand 3 where nothing else is said. Proofs: proofs/Demand3.
-use Rattle.std.specs.Prelude.{◌≡◌, Bool, true, false, ◌↔◌, ◌≢◌, List, [], ◌∷◌, ◌++◌, map, ℕ, ◌≤◌, ◌<◌, eqb, length}
+use Rattle.std.specs.Prelude.{◌≡◌, Bool, true, false, ◌↔◌, ◌≢◌, List, [], ◌∷◌, ◌++◌, map, ℕ, ◌≤◌, ◌<◌, eqb, length, Some}
 use Rattle.std.proofs.Common.{sym, ◌∙◌}
-use Rattle.std.proofs.Math.Option.{some}
 use Rattle.digest.specs.Digest.{digest}
 use Rattle.text.specs.Event.{Event, serialise}
 use Rattle.law.specs.Lists.{◌∈◌, any}
@@ -107,7 +106,7 @@ pub record Brought (cs : List Call) (x : SignedEvent) : Type 0 where
   pub call : Call
   pub later : List Call
   pub splits : cs ≡ before ++ (call ∷ later)
-  pub brings : judge call.offer ≡ some x
+  pub brings : judge call.offer ≡ Some x
   pub says : call.answer ≡ Stored
 
 -- what is held was stored: with its event, its signature too

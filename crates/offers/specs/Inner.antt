@@ -1,7 +1,6 @@
 -- An offer by the bytes s of the slot that it would fill, to the table b: the steps of the code. That `offered_to` and
 -- `offered_next` are table/specs/Offer `answer` and `next` is proved: proofs/Offers.
-use Rattle.std.specs.Prelude.{◌≡◌, Bool, true, false, cond, List, ◌++◌, ℕ, ◌+◌, ◌-◌, ltb, length, get_or}
-use Rattle.std.proofs.Math.Option.{some}
+use Rattle.std.specs.Prelude.{◌≡◌, Bool, true, false, cond, List, ◌++◌, ℕ, ◌+◌, ◌-◌, ltb, length, get_or, Some}
 use Rattle.wire.specs.Bytes.{Bytes, part}
 use Rattle.wire.specs.Field.{le_bytes, signed, unsigned}
 use Rattle.wire.specs.Put.{put}
@@ -45,7 +44,7 @@ pub record New (s : List ℕ) : Type 0 where
 
 -- "Verdicts of an offer"
 unfoldable pub answer_for : Bytes → Bytes → Offered
-answer_for b s = offered_by (plain_refusal 0) (verdict signed_events (capacity_of b) (view b) (some (in_slot s)))
+answer_for b s = offered_by (plain_refusal 0) (verdict signed_events (capacity_of b) (view b) (Some (in_slot s)))
 
 -- row 11, then the verdict
 unfoldable pub offered_to : Bytes → Bytes → Offered

@@ -1,11 +1,11 @@
 -- A message m taken to the table b: it is read, and offered if it is an EVENT.
-use Rattle.std.specs.Prelude.{◌≡◌, List, ℕ}
+use Rattle.std.specs.Prelude.{◌≡◌, List, ℕ, Result, Ok, Err}
 use Rattle.shape.specs.Offsets.{refusal_for}
+use Rattle.shape.specs.declared.Refusal.{Refusal}
 use Rattle.message.specs.Read.{read_of}
+use Rattle.message.specs.declared.EventParts.{EventParts}
 use Rattle.message.specs.declared.Message.{Message}
 use Rattle.message.specs.declared.Message.TheVariants as message
-use Rattle.event.specs.declared.SentText.{SentText}
-use Rattle.event.specs.declared.SentText.TheVariants as sent
 use Rattle.table.specs.Layout.{slot_bytes}
 use Rattle.table.specs.Offer.{as_message, message_offer_row, parts_of, held_of, answer, offer_number, next}
 use Rattle.table.specs.declared.Offered.{Offered}
@@ -52,10 +52,10 @@ taken_table b m = table_as b (next b (as_message m)) (read_of m)
 
 -- ---- what private functions hand on: the parts of the event of m, and o the bytes of its slot; or the row that
 -- refuses its offer
-abbrev pub Made : (m : Bytes) (x : SentText) (o : Bytes) → Type 0
-Made m (sent.Wrote p n) o =
+abbrev pub Made : (m : Bytes) (x : Result (EventParts × ℕ) Refusal) (o : Bytes) → Type 0
+Made m (Ok (p, n)) o =
     (read_of m ≡ message.Event p) × ((0 ≡ message_offer_row m) × (o ≡ slot_bytes (held_of m (parts_of m))))
-Made m (sent.Refused r) o = (r ≡ refusal_for m (message_offer_row m)) × (message_offer_row m ≡ 0 → ⊥)
+Made m (Err r) o = (r ≡ refusal_for m (message_offer_row m)) × (message_offer_row m ≡ 0 → ⊥)
 
-pub record Makes (m : List ℕ) (s : SentText) (o : List ℕ) : Type 0 where
+pub record Makes (m : List ℕ) (s : Result (EventParts × ℕ) Refusal) (o : List ℕ) : Type 0 where
   pub is : Made m s o

@@ -39,22 +39,17 @@ enum Decided {
 fn is_ephemeral(kind: u64) -> bool
     ensures { result ≡ is_ephemeral kind }
 {
-    if kind < 20000 {
-        return false;
-    }
-    kind <= 29999
+    (20000..=29999).contains(&kind)
 }
 
 // Whether one of slots 0 to c-1 has the id of the slot `new`.
 fn id_held(table: &[u8], c: usize, new: &[u8]) -> bool
     ensures { result ≡ any (same_id_in new.now) (slots_from table.now 0 c) }
 {
-    let mut k = 0;
-    while k < c {
+    for k in 0..c {
         if slots::same_id(new, slots::slot(table, k)) {
             return true;
         }
-        k += 1;
     }
     false
 }
@@ -74,10 +69,7 @@ fn d_last(s: &[u8]) -> u8
     let at = wire::le_at(s, slots::D_OFFSET_PLACE, 2) as usize;
     let len = wire::le_at(s, slots::D_LENGTH_PLACE, 2) as usize;
     let d = wire::piece(wire::piece(s, slots::TEXT_PLACE, n), at, len);
-    if d.len() == 0 {
-        return 0;
-    }
-    d[d.len() - 1]
+    d.last().copied().unwrap_or(0)
 }
 
 // Whether slot t has the key of slot s, whose d ends with `last`: compared whole only where d ends alike.
@@ -85,10 +77,7 @@ fn has_key(s: &[u8], last: u8, t: &[u8]) -> bool
     requires { last ≡ d_last s.now }
     ensures { result ≡ same_key_in s.now t.now }
 {
-    if d_last(t) != last {
-        return false;
-    }
-    slots::same_key(s, t)
+    d_last(t) == last && slots::same_key(s, t)
 }
 
 // The first of slots 0 to c-1 that has the key of the slot `new`, or c.
@@ -96,14 +85,12 @@ fn find_key(table: &[u8], c: usize, new: &[u8]) -> usize
     ensures { result ≡ find (same_key_in new.now) (slots_from table.now 0 c) }
 {
     let last = d_last(new);
-    let mut k = 0;
-    while k < c {
+    for k in 0..c {
         if has_key(new, last, slots::slot(table, k)) {
             return k;
         }
-        k += 1;
     }
-    k
+    c
 }
 
 // Whether the event of slot s is newer than that of slot t: "created_at compares as a signed number".
@@ -168,7 +155,7 @@ fn write_slot(slot: &mut [u8], new: &[u8])
     requires { (length slot.old ≡ slot_size) × (length new.now ≡ slot_size) }
     ensures { slot.new ≡ new.now }
 {
-    wire::put(slot, 0, new);
+    slot.copy_from_slice(new);
 }
 
 // The count once slot k is filled.
@@ -176,10 +163,7 @@ fn count_after(c: usize, k: usize) -> usize
     requires { c ≤ most_slots }
     ensures { result ≡ count_from c k }
 {
-    if k < c {
-        return c;
-    }
-    c + 1
+    if k < c { c } else { c + 1 }
 }
 
 // "stored, over the slot with its key, else in slot C. A store writes only the bytes of the one slot it fills, and the
@@ -280,11 +264,11 @@ pub fn take(table: &mut [u8], m: &[u8]) -> Taken
 {
     let mut new = [0u8; slots::SLOT_SIZE];
     match made::make_event(&mut new, m) {
-        event::SentText::Wrote(p, _) => {
+        Ok((p, _)) => {
             let id = p.id;
             let a = offer_slot(table, &new);
             Taken::Event(id, a)
         }
-        event::SentText::Refused(r) => untaken(m, r),
+        Err(r) => untaken(m, r),
     }
 }

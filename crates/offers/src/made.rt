@@ -26,19 +26,18 @@ pub(crate) fn digit(x: u8) -> u8
     x % 16 + 9 * (x / 64)
 }
 
-// The bytes that pairs of such digits stand for. No way out of the loop, so that the compiler takes many at a time.
+// The bytes that pairs of such digits stand for. No way out of the loop, so that the compiler takes many at a time. By
+// index: two bytes are read for each that is written.
 pub(crate) fn put_digits(out: &mut [u8], at: usize, s: &[u8]) -> usize
     requires s_value { all is_hex s.now ≡ true }
     requires s_in_bounds { at + length s.now ≤ length out.old }
     ensures { Puts out.old at (unhex s.now) result out.new }
 {
     let n = s.len() / 2;
-    let mut k = 0;
-    while k < n {
+    for k in 0..n {
         out[at + k] = digit(s[2 * k]) * 16 + digit(s[2 * k + 1]);
-        k += 1;
     }
-    at + k
+    at + n
 }
 
 // The bytes of the n hex digits that a part spells. A part of n bytes has no escapes: they are the digits.
@@ -62,9 +61,7 @@ pub(crate) fn d_if(kind: u16, x: usize) -> usize
 {
     match text::class_of(kind) {
         text::Class::Addressable => x,
-        text::Class::Ephemeral => 0,
-        text::Class::Regular => 0,
-        text::Class::Replaceable => 0,
+        text::Class::Ephemeral | text::Class::Regular | text::Class::Replaceable => 0,
     }
 }
 
@@ -106,9 +103,8 @@ pub(crate) fn put_fields(out: &mut [u8], b: &[u8], p: message::EventParts, n: us
         Puts out.old 0 (head_of b.now p n (text_parts e)) result out.new }
 {
     match text::read_text(wire::piece(out, slots::TEXT_PLACE, n)) {
-        text::TextAnswer::Read(t) => put_head(out, b, p, n, t),
-        text::TextAnswer::TooLarge => 0,
-        text::TextAnswer::WrongShape => 0,
+        Ok(t) => put_head(out, b, p, n, t),
+        Err(_) => 0,
     }
 }
 
@@ -120,27 +116,26 @@ pub(crate) fn make_slot(out: &mut [u8], b: &[u8], p: message::EventParts) -> u8
     ensures out_after { result ≡ 0 → out.new ≡ slot_bytes (held_of b.now p) }
 {
     match event::offered_text(b, p, &mut out[slots::TEXT_PLACE..slots::SLOT_SIZE]) {
-        event::Written::Wrote(n) => {
+        Ok(n) => {
             put_fields(out, b, p, n);
             0
         }
-        event::Written::Refused(row) => row,
+        Err(row) => row,
     }
 }
 
 // The same, of the event of a message, with its parts; or the lowest of rows 1 to 10: the reader tests its parts, and
 // nobody tests them again.
-pub(crate) fn make_event(out: &mut [u8], m: &[u8]) -> event::SentText
+pub(crate) fn make_event(
+    out: &mut [u8],
+    m: &[u8],
+) -> Result<(message::EventParts, usize), shape::Refusal>
     requires { out.old ≡ replicate slot_size 0 }
     ensures { Makes m.now result out.new }
 {
-    match event::sent_text(m, &mut out[slots::TEXT_PLACE..slots::SLOT_SIZE]) {
-        event::SentText::Wrote(p, n) => {
-            put_fields(out, m, p, n);
-            event::SentText::Wrote(p, n)
-        }
-        event::SentText::Refused(r) => event::SentText::Refused(r),
-    }
+    let (p, n) = event::sent_text(m, &mut out[slots::TEXT_PLACE..slots::SLOT_SIZE])?;
+    put_fields(out, m, p, n);
+    Ok((p, n))
 }
 
 // What refuses the message alone, row 0 where none does.
@@ -151,7 +146,7 @@ pub(crate) fn make_from(out: &mut [u8], m: &[u8]) -> shape::Refusal
         out.new ≡ slot_bytes (held_of m.now (parts_of m.now)) }
 {
     match make_event(out, m) {
-        event::SentText::Wrote(_, _) => shape::plain_refusal(0),
-        event::SentText::Refused(r) => r,
+        Ok(_) => shape::plain_refusal(0),
+        Err(r) => r,
     }
 }

@@ -15,14 +15,11 @@
 #![tactic(auto)]
 
 use digest::Sha256;
-use event::Written;
 use lines::Output;
-use message::{
-    Body, Bound, EventParts, FilterParts, Listed, Message, Named, Naming, ReqParts, Span,
-};
+use message::{Body, EventParts, FilterParts, Message, Named, Naming, ReqParts, Span};
 use std::io;
 use std::io::Write;
-use text::{Class, Text, TextAnswer};
+use text::{Class, Text, Unread};
 
 // ---- What is written.
 fn put_row(out: &mut [u8], at: usize, row: u8) -> usize {
@@ -39,17 +36,17 @@ fn put_span(out: &mut [u8], at: usize, p: Span) -> usize {
     fields::put_number(out, a, p.len as u64)
 }
 
-fn put_listed(out: &mut [u8], at: usize, x: Listed) -> usize {
+fn put_listed(out: &mut [u8], at: usize, x: Option<usize>) -> usize {
     match x {
-        Listed::Absent => fields::put_word(out, at, b"x"),
-        Listed::At(v) => fields::put_number(out, at, v as u64),
+        None => fields::put_word(out, at, b"x"),
+        Some(v) => fields::put_number(out, at, v as u64),
     }
 }
 
-fn put_bound(out: &mut [u8], at: usize, x: Bound) -> usize {
+fn put_bound(out: &mut [u8], at: usize, x: Option<i64>) -> usize {
     match x {
-        Bound::Absent => fields::put_word(out, at, b"x"),
-        Bound::Number(z) => fields::put_integer(out, at, z),
+        None => fields::put_word(out, at, b"x"),
+        Some(z) => fields::put_integer(out, at, z),
     }
 }
 
@@ -79,13 +76,13 @@ fn put_print(out: &mut [u8], at: usize, p: &[u8]) -> usize {
 }
 
 // What serialising answers, a print of all that the lent output then holds, and the text.
-fn put_written(out: &mut [u8], at: usize, lent: &[u8], w: Written) -> usize {
+fn put_written(out: &mut [u8], at: usize, lent: &[u8], w: Result<usize, u8>) -> usize {
     match w {
-        Written::Refused(row) => {
+        Err(row) => {
             let a = put_row(out, at, row);
             put_print(out, a, lent)
         }
-        Written::Wrote(n) => {
+        Ok(n) => {
             let a = put_row(out, at, 0);
             let c = fields::put_number(out, a, n as u64);
             let d = put_print(out, c, lent);
@@ -269,9 +266,9 @@ fn put_places(out: &mut [u8], t: &[u8], x: Text) -> usize {
 
 fn put_again(out: &mut [u8], t: &[u8]) -> usize {
     match text::read_text(t) {
-        TextAnswer::Read(x) => put_places(out, t, x),
-        TextAnswer::TooLarge => put_row(out, 0, 9),
-        TextAnswer::WrongShape => put_row(out, 0, 5),
+        Ok(x) => put_places(out, t, x),
+        Err(Unread::TooLarge) => put_row(out, 0, 9),
+        Err(Unread::WrongShape) => put_row(out, 0, 5),
     }
 }
 
@@ -293,12 +290,8 @@ fn put_field(out: &mut [u8], line: &[u8], b: &mut [u8]) -> usize {
 fn put_digest(out: &mut [u8], line: &[u8], b: &[u8]) -> usize {
     let times = fields::natural(fields::field(line, 2));
     let mut st = Sha256::new();
-    let mut k: u64 = 0;
-    while k < times {
-        let u = st.update(b);
-        let s = u.state;
-        st = s;
-        k += 1;
+    for _ in 0..times {
+        st = st.update(b).state;
     }
     let f = st.finish();
     let bytes = f.bytes;

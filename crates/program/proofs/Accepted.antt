@@ -1,8 +1,8 @@
 -- An EVENT message that is accepted, by computation: it is read, its text is hashed to its id, and a fresh table stores
 -- it.
+use Rattle.std.specs.Prelude.{None, Some}
 use mathlib.Core.Path.{◌≡◌, refl, sym, ap, ap₂, ◌∙◌}
 use mathlib.Core.Bool.{true}
-use mathlib.Core.Option.{none, some}
 use mathlib.Core.List.{List, [], ◌∷◌, ◌++◌}
 use Prim.Native.Nat.{ℕ}
 use lib.Dec.{lit≤, lit<}
@@ -60,7 +60,6 @@ use Rattle.query.specs.Answer.{keep, among, numbers_from, newest_first, insert, 
 use Rattle.query.specs.Answer.{matches_slot}
 use Rattle.message.specs.Lists.{elements_from, up_to, next_of}
 use Rattle.message.specs.Parts as msg
-use Rattle.message.specs.declared.Bound.TheVariants.{Absent}
 use Rattle.reply.specs.Replies.{ok, event, eose, string_json, tags_json, reply_text, object_text}
 use Rattle.program.specs.Program.{is_accepted, verdict_reason}
 use Rattle.program.specs.Program.{events_of, request_replies, replies_to, table_after, lines, written, output_from}
@@ -119,9 +118,9 @@ held_is : of_held (held_of sent parts) ≡ note
 unfolding held_of unhex hex_val in_class run past one_at token_at word_at literal_at digits_at int_at frac_at exp_at number_at hex_at escaped_at char_at chars_up_to chars_at string_at scalar_at items_at tree_at char_of chars_from char_bytes chars_bytes decode tags_of lent_tags_at lent.event_of letter_of esc_one escape digits_in digits decimal quoted members_text tag_text tags_text serialise
 held_is = refl
 
-judged : judge (as_message sent) ≡ some note
+judged : judge (as_message sent) ≡ Some note
 unfolding judge parts_of
-judged = rw (valid, reads) (ap some held_is)
+judged = rw (valid, reads) (ap Some held_is)
 
 abbrev content : Event
 content = record { pubkey = replicate 64 97; time = pos 0; kind = 1; tags = []; content = [] }
@@ -134,11 +133,11 @@ regular_note : class_of_text text ≡ regular
 unfolding class_of_text class_of_event kinds.class_of
 regular_note = rw text_read
 
-first_verdict_lem : verdict signed_events 8 [] (some note) ≡ stored
+first_verdict_lem : verdict signed_events 8 [] (Some note) ≡ stored
 unfolding verdict
 first_verdict_lem = rw regular_note
 
-first_view : after signed_events 8 [] (some note) ≡ note ∷ []
+first_view : after signed_events 8 [] (Some note) ≡ note ∷ []
 unfolding after
 first_view = rw first_verdict_lem
 
@@ -168,9 +167,9 @@ says_stored : answer fresh_table (as_message sent) ≡ Stored
 unfolding parts_of
 says_stored =
     (rows_in_order.0 fresh_table (as_message sent)).judged (rw valid) (fresh_good fresh_table fresh).is_sound
-    ∙ ap (λ (t : List SignedEvent). offer.offered_by (plain_refusal 0) (verdict signed_events (capacity_of fresh_table) t (some (of_held (offered_of (as_message sent)))))) (fresh_view fresh_table fresh)
-    ∙ ap (λ N. offer.offered_by (plain_refusal 0) (verdict signed_events N [] (some (of_held (offered_of (as_message sent)))))) capacity
-    ∙ ap (λ x. offer.offered_by (plain_refusal 0) (verdict signed_events 8 [] (some x))) (rw reads held_is)
+    ∙ ap (λ (t : List SignedEvent). offer.offered_by (plain_refusal 0) (verdict signed_events (capacity_of fresh_table) t (Some (of_held (offered_of (as_message sent)))))) (fresh_view fresh_table fresh)
+    ∙ ap (λ N. offer.offered_by (plain_refusal 0) (verdict signed_events N [] (Some (of_held (offered_of (as_message sent)))))) capacity
+    ∙ ap (λ x. offer.offered_by (plain_refusal 0) (verdict signed_events 8 [] (Some x))) (rw reads held_is)
     ∙ ap (offer.offered_by (plain_refusal 0)) first_verdict_lem
 
 -- slot 0 holds it
@@ -181,7 +180,7 @@ abbrev asked : List ℕ
 asked = ascii "[\"REQ\",\"s\",{}]"
 
 abbrev all_events : Filter
-all_events = record { ids = none; authors = none; kinds = none; since = Absent; until = Absent; limit = Absent; conditions = [] }
+all_events = record { ids = None; authors = None; kinds = None; since = None; until = None; limit = None; conditions = [] }
 
 matched : matches_slot table all_events 0 ≡ true
 unfolding matches_slot matches texts.all

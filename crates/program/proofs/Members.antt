@@ -1,5 +1,6 @@
 -- What a text without white space spells is read as JSON: a number of decimal digits, a member with its name, items one
 -- after the other.
+use Rattle.std.specs.Prelude.{Some}
 use mathlib.Core.Bool.{Bool, true, false, cond}
 use mathlib.Core.Path.{◌≡◌, refl, sym, ap, ◌∙◌}
 use mathlib.Core.List.{List, [], ◌∷◌, ◌++◌, append_assoc}
@@ -18,7 +19,6 @@ use Rattle.json_tree.specs.Grammar.{in_class, run, past, one_at, digits_at, int_
 use Rattle.json_tree.specs.Grammar.{head_at, next_at, start_at}
 use Rattle.json_tree.specs.Tree.{Json, num, obj, Items, nil, item, got, items_at, tree_at}
 use Rattle.json_tree.specs.declared.Class.TheVariants.{Digit, Byte}
-use Rattle.json_tree.specs.declared.Out.TheVariants.{End}
 use Rattle.json_tree.specs.declared.Start.TheVariants.{Leaf, Many}
 use Rattle.json_tree.specs.declared.Next.TheVariants.{More, Done}
 use Rattle.json_tree.proofs.Ends.{one_of, one_not}
@@ -65,7 +65,7 @@ natural_bounds x l e = go (eqb x 48) refl e
 
 -- ---- a number, and a comma after it
 module _ (s : List ℕ) where
-  natural_here : (l : List ℕ) (at n : ℕ) → is_natural l ≡ true → Spelt s at l n → get_or s n 0 ≡ 44 → int_at s at ≡ End n
+  natural_here : (l : List ℕ) (at n : ℕ) → is_natural l ≡ true → Spelt s at l n → get_or s n 0 ≡ 44 → int_at s at ≡ Some n
   unfolding int_at one_at in_class digits_at is_natural all_digits is_digit past
   natural_here [] at n e a c = absurd (let z : ◌≡◌ {A = ℕ} 0 1 = cc in omega arith)
   natural_here (x ∷ l) at n e a c = go (eqb x 48) refl e
@@ -74,25 +74,25 @@ module _ (s : List ℕ) where
       alone [] f b = omega (arith, b.end)
       alone (y ∷ l) f b = absurd (let z : ◌≡◌ {A = ℕ} 0 1 = cc in omega arith)
 
-      go : (t : Bool) → eqb x 48 ≡ t → cond t (is_empty l) (all_digits (x ∷ l)) ≡ true → int_at s at ≡ End n
-      go true q f = rw (byte_is a, q) (ap End (alone l f a))
+      go : (t : Bool) → eqb x 48 ≡ t → cond t (is_empty l) (all_digits (x ∷ l)) ≡ true → int_at s at ≡ Some n
+      go true q f = rw (byte_is a, q) (ap Some (alone l f a))
       go false q f =
           let (p, r) = both (is_digit x) _ f in
           let b = tail a in
           let k : run Digit (l ++ drop n s) ≡ length l = digits_run l (drop n s) r (rw (sym (first_of s n (drop n s) refl), c)) in
           let z : at + 1 + length l ≡ n = omega (arith, b.end) in
-          rw (byte_is a, q, p, b.is, k) (ap End z)
+          rw (byte_is a, q, p, b.is, k) (ap Some z)
 
   -- what stands at n ends a number
-  number_ends : (n : ℕ) → get_or s n 0 ≡ 44 → (frac_at s n ≡ End n) × (exp_at s n ≡ End n)
+  number_ends : (n : ℕ) → get_or s n 0 ≡ 44 → (frac_at s n ≡ Some n) × (exp_at s n ≡ Some n)
   unfolding frac_at exp_at one_at in_class
   number_ends n c = (rw c, rw c)
 
-  number_here : (z : ℤ) (at n : ℕ) → Spelt s at (decimal z) n → get_or s n 0 ≡ 44 → number_at s at ≡ End n
+  number_here : (z : ℤ) (at n : ℕ) → Spelt s at (decimal z) n → get_or s n 0 ≡ 44 → number_at s at ≡ Some n
   unfolding decimal number_at in_class is_natural
   number_here (pos k) at n a c = go (digits k) (natural_digits k) a
     where
-      go : (l : List ℕ) → is_natural l ≡ true → Spelt s at l n → number_at s at ≡ End n
+      go : (l : List ℕ) → is_natural l ≡ true → Spelt s at l n → number_at s at ≡ Some n
       go [] e a = absurd (let z : ◌≡◌ {A = ℕ} 0 1 = cc in omega arith)
       go (x ∷ l) e a =
           let (p, q) = natural_bounds x l e in
@@ -129,7 +129,7 @@ module _ (s : List ℕ) where
 
   -- ---- a member: its name w, its value's text x, and the byte c after it
   pub record Member (w x r : List ℕ) (c at v n e : ℕ) : Type 0 where
-    pub head : Tight s v → head_at s at true ≡ End v
+    pub head : Tight s v → head_at s at true ≡ Some v
     pub name : spelled_at s at ≡ w
     pub value : Spelt s v x n
     pub next : get_or s n 0 ≡ c
@@ -160,12 +160,12 @@ module _ (s : List ℕ) where
       }
 
   -- ---- items
-  pub item_more : (d : ℕ) (named : Bool) (k at v n j m : ℕ) (t : Json) (us : Items) → k < length s → head_at s at named ≡ End v → tree_at s d v ≡ got t n
+  pub item_more : (d : ℕ) (named : Bool) (k at v n j m : ℕ) (t : Json) (us : Items) → k < length s → head_at s at named ≡ Some v → tree_at s d v ≡ got t n
       → next_at s n named ≡ More j → items_at (tree_at s d) s named (length s - (k + 1)) j ≡ got us m
       → items_at (tree_at s d) s named (length s - k) at ≡ got (item at v t us) m
   item_more d named k at v n j m t us l h e y i = items_are (tree_at s d) s named k at v n t (More j) l h e y ∙ rw i
 
-  pub item_last : (d : ℕ) (named : Bool) (k at v n m : ℕ) (t : Json) → k < length s → head_at s at named ≡ End v → tree_at s d v ≡ got t n
+  pub item_last : (d : ℕ) (named : Bool) (k at v n m : ℕ) (t : Json) → k < length s → head_at s at named ≡ Some v → tree_at s d v ≡ got t n
       → next_at s n named ≡ Done m → items_at (tree_at s d) s named (length s - k) at ≡ got (item at v t nil) m
   item_last d named k at v n m t l h e y = items_are (tree_at s d) s named k at v n t (Done m) l h e y
 

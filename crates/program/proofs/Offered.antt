@@ -1,4 +1,5 @@
 -- What an offer is answered, as a number.
+use Rattle.std.specs.Prelude.{Option, None}
 use mathlib.Core.Path.{◌≡◌, refl, sym, ap, ap₂, subst, ◌∙◌}
 use mathlib.Core.Bool.{Bool, true, false, cond, not, ◌&&◌}
 use mathlib.Core.Logic.{◌≢◌}
@@ -6,8 +7,6 @@ use mathlib.Core.List.{List}
 use Prim.Native.Nat.{ℕ, ◌≤◌}
 use native.Mathlib.Omega.{arith}
 use borrow.Author.Tests.{eqb-false}
-use Rattle.shape.specs.declared.Offset.{Offset}
-use Rattle.shape.specs.declared.Offset.TheVariants.{Absent}
 use Rattle.shape.specs.declared.Refusal.{Refusal}
 use Rattle.shape.specs.Offsets.{plain_refusal}
 use Rattle.shape.proofs.Offsets.{offset_plain}
@@ -29,7 +28,7 @@ Told o r = (1 ≤ r.row) × (r.offset ≡ offset_at o r.row)
 told_is : (o : Offering) {x r : Refusal} → offered.Refused x ≡ offered.Refused r → Told o x → Told o r
 told_is o {x} {r} e h = let z : x ≡ r = cc in subst (Told o) z h
 
-no_offset : (o : Offering) (row : ℕ) → (row ≡ 6 → ⊥) → (row ≡ 7 → ⊥) → Absent ≡ offset_at o row
+no_offset : (o : Offering) (row : ℕ) → (row ≡ 6 → ⊥) → (row ≡ 7 → ⊥) → None ≡ offset_at o row
 no_offset (as_message m) row a b = sym (offset_plain m row a b)
 no_offset (as_parts c p) row a b = refl
 
@@ -57,7 +56,7 @@ offered_number_lem b o = (λ r l. (of_number (answer b o) refl r l, ap offers.of
     of_number offered.Older q r l e = absurd (omega arith)
     of_number offered.Stored q r l e = absurd (omega arith)
     of_number (offered.Refused k) q r l e =
-        ap₂ (λ (x : ℕ) (y : Offset). offered.Refused (record { row = x; offset = y })) e ((refused_told b o k q).1 ∙ ap (offset_at o) e)
+        ap₂ (λ (x : ℕ) (y : Option ℕ). offered.Refused (record { row = x; offset = y })) e ((refused_told b o k q).1 ∙ ap (offset_at o) e)
 
     no_row : offers.offer_number (answer b o) ≡ 0 → (r : Refusal) → answer b o ≢ offered.Refused r
     no_row e r a = let l = (refused_told b o r a).0 in let z = ap offers.offer_number a in omega arith

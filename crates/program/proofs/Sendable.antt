@@ -1,9 +1,9 @@
 -- Each event within the limits has a valid message: the one that spells it as replies do, where row 1 lets that pass.
 -- Its bytes are taken apart member by member, so its tree is known; rows 2 to 8 do not hold of that tree, and its parts
 -- tell the event, so rows 9 and 10 do not hold either.
+use Rattle.std.specs.Prelude.{Some}
 use mathlib.Core.Bool.{true, false}
 use mathlib.Core.Path.{◌≡◌, refl, ap, ◌∙◌}
-use mathlib.Core.Option.{some}
 use mathlib.Core.List.{List, [], ◌∷◌, ◌++◌}
 use Prim.Native.Nat.{ℕ, ◌+◌, ◌-◌, ◌≤◌, ◌<◌}
 use native.Mathlib.Nat.{sub-zero}
@@ -484,7 +484,7 @@ module _ (i : List ℕ) (e : Event) (g s : List ℕ) (is : s ≡ event_message i
       sig = rw (← with-sig) sig_told;
     }
 
-    judged : h.0.id ≡ digest h.0.text → length h.1 ≡ 64 → all is_byte h.1 ≡ true → length s ≤ most_message → judge (as_message s) ≡ some h
+    judged : h.0.id ≡ digest h.0.text → length h.1 ≡ 64 → all is_byte h.1 ≡ true → length s ≤ most_message → judge (as_message s) ≡ Some h
     judged hashed n k l = (rows_in_order.2 s parts (reads l)).same_event ∙ judged_again s parts h hashed n k told
 
 pub sendable : Sendable

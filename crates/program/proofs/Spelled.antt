@@ -1,5 +1,6 @@
 -- A string and the tags, as a reply spells them, are read as JSON and say what they are: each byte is one character, as
 -- in the text or, a control character, as \u00 and its two digits.
+use Rattle.std.specs.Prelude.{Some}
 use mathlib.Core.Bool.{Bool, true, false, cond}
 use mathlib.Core.Path.{◌≡◌, refl, sym, ap, ◌∙◌}
 use mathlib.Core.List.{List, [], ◌∷◌, ◌++◌}
@@ -20,7 +21,6 @@ use Rattle.utf8.proofs.States.{Reached, lead_reached, next_reached, low_lead, le
 use Rattle.json_tree.specs.Grammar.{in_class, is_spelling, string_at}
 use Rattle.json_tree.specs.Tree.{str, got, tree_at}
 use Rattle.json_tree.specs.declared.Class.TheVariants.{Hex, Byte}
-use Rattle.json_tree.specs.declared.Out.TheVariants.{End}
 use Rattle.json_tree.proofs.Ends.{one_of, chars_past}
 use Rattle.json_tree.proofs.Spelled.{Char, code, Chars, stop, more, chars_taken}
 use Rattle.rows.specs.Strings.{part}
@@ -173,7 +173,7 @@ module _ (s : List ℕ) where
       code (one_of s (Byte 0x5C) i (rw (byte_is a))) (one_of s (Byte 0x75) (i + 1) (rw (byte_is u)))
       (one_of s Hex (i + 1 + 1) (rw (byte_is p))) (one_of s Hex (i + 1 + 1 + 1) (rw (byte_is q)))
       (one_of s Hex (i + 1 + 1 + 1 + 1) (rw (byte_is x) (hex_class (b / 16) (omega arith))))
-      (one_of s Hex (i + 1 + 1 + 1 + 1 + 1) (rw (byte_is y) (hex_class (b % 16) (omega arith))) ∙ ap End z)
+      (one_of s Hex (i + 1 + 1 + 1 + 1 + 1) (rw (byte_is y) (hex_class (b % 16) (omega arith))) ∙ ap Some z)
 
   json_char : (b i n : ℕ) → Spelt s i (json_of (esc_one b)) n → Char s i n
   json_char b i n a = go (is_control b) refl
@@ -197,7 +197,7 @@ module _ (s : List ℕ) where
   unfolding in_class
   string_tight v at n a = rw (byte_is (between v at n a))
 
-  pub string_here : (v : List ℕ) (at n : ℕ) → Spelt s at (string_json v) n → string_at s at ≡ End n
+  pub string_here : (v : List ℕ) (at n : ℕ) → Spelt s at (string_json v) n → string_at s at ≡ Some n
   string_here v at n a = chars_between s (json_of (escape v)) at n (json_chars v) (between v at n a)
 
   -- its place in the tree, and what it says

@@ -1,7 +1,7 @@
 -- The starred cases of 01 hold: one statement.
+use Rattle.std.specs.Prelude.{Some, None}
 use mathlib.Core.Path.{◌≡◌, refl, sym, ap, ◌∙◌}
 use mathlib.Core.Bool.{Bool, true, false, cond}
-use mathlib.Core.Option.{none}
 use mathlib.Core.List.{List, [], ◌∷◌, ◌++◌}
 use Prim.Native.Nat.{ℕ, zero, suc, ◌+◌}
 use native.Mathlib.Omega.{arith}
@@ -31,7 +31,6 @@ use Rattle.text.proofs.Cases.{xs_length, xs_cases}
 use Rattle.text.proofs.Strings.{utf8_escape}
 use Rattle.message.specs.declared.Span.{Span}
 use Rattle.message.specs.declared.Body.{Body}
-use Rattle.message.specs.declared.Bound.TheVariants.{Absent, Number}
 use Rattle.message.specs.Parts as parts
 use Rattle.message.specs.Parts.{members_at, filter_at}
 use Rattle.message.specs.Lent.{span_bytes, is_inside, is_spelled, string2, string4, string5, string7, wrong_number, value2}
@@ -54,17 +53,17 @@ keep_none p n [] = refl
 keep_none p n (x ∷ l) = rw (n x) (keep_none p n l)
 
 -- a filter with limit 0 picks no slot, so alone it is answered with none
-nothing : (f : Filter) → f.limit ≡ Number (pos 0) → (b : List ℕ) → answer_list b (f ∷ []) ≡ []
+nothing : (f : Filter) → f.limit ≡ Some (pos 0) → (b : List ℕ) → answer_list b (f ∷ []) ≡ []
 unfolding answer_list union picked newest_first among
 nothing f e b = rw (e, keep_none (λ s. false) (λ s. refl))
 
 -- ---- filters read from their texts
-limit_read : (filter_of_text (ascii "{\"limit\":0}")).limit ≡ Number (pos 0)
+limit_read : (filter_of_text (ascii "{\"limit\":0}")).limit ≡ Some (pos 0)
 unfolding json.in_class run past one_at token_at word_at literal_at digits_at int_at frac_at exp_at number_at hex_at escaped_at char_at chars_up_to chars_at string_at scalar_at items_at tree_at is_digit all_digits value_from is_natural natural_of negative_of whole_of whole_answer char_of chars_from bytesOfChar chars_bytes decode spell.any same_bytes spelled_at name_at parts.filter_parts_of members_at filter_at strings_of filter_of parts.member_of is_within is_condition
 limit_read = refl
 
 since_read : filter_of_text (ascii "{\"since\":0}")
-    ≡ record { ids = none; authors = none; kinds = none; since = Number (pos 0); until = Absent; limit = Absent; conditions = [] }
+    ≡ record { ids = None; authors = None; kinds = None; since = Some (pos 0); until = None; limit = None; conditions = [] }
 unfolding json.in_class run past one_at token_at word_at literal_at digits_at int_at frac_at exp_at number_at hex_at escaped_at char_at chars_up_to chars_at string_at scalar_at items_at tree_at is_digit all_digits value_from is_natural natural_of negative_of whole_of whole_answer char_of chars_from bytesOfChar chars_bytes decode spell.any same_bytes spelled_at name_at parts.filter_parts_of members_at filter_at strings_of filter_of parts.member_of is_within is_condition
 since_read = refl
 

@@ -1,4 +1,5 @@
 -- A REQ's answer a reply at a time: the claims of specs/Claims/Respond on single EVENTs and on as many as fit.
+use Rattle.std.specs.Prelude.{Ok, Err}
 use mathlib.Core.Path.{◌≡◌, refl, sym, ap, ap₂, ◌∙◌}
 use mathlib.Core.Bool.{Bool, true, false, cond, ◌&&◌}
 use mathlib.Core.Logic.{◌⊎◌, inl, inr, ⊎_elim, ◌≢◌}
@@ -33,7 +34,6 @@ use Rattle.reply.specs.declared.ReplyParts.TheVariants as parts
 use Rattle.program.specs.Respond.{response, slot_text, slot_line, slot_event_row, slot_event, slot_event_out, joined}
 use Rattle.program.specs.Respond.{fitting, slot_lines, fitting_text, none_fits, all_held, events_row, sent_events}
 use Rattle.program.specs.Respond.{sent_events_out, sent_number, sent_bytes, sent_slots}
-use Rattle.program.specs.declared.Sent.TheVariants as sending
 use Rattle.program.specs.Claims.Respond.{OneByOne, SlotTextIs, SlotEventHolds, of_subscription, not_sound}
 use Rattle.program.specs.Claims.Respond.{too_short, not_held, SlotEventRowIs, SlotEventMeans, Batches, EventsHold}
 use Rattle.program.specs.Claims.Respond.{of_label, bad_table, none_fits_lem, some_not_held, EventsRowIs, SentIs}
@@ -309,11 +309,11 @@ module _ (b ks m : List ℕ) (s : Span) (out : List ℕ) where
   abbrev bytes : List ℕ
   bytes = joined (take served (slot_lines b (said m s) ks))
 
-  is_sent : row ≡ 0 → sent_events b ks m s out ≡ sending.Wrote (length bytes) served
+  is_sent : row ≡ 0 → sent_events b ks m s out ≡ Ok ((length bytes), served)
   unfolding sent_events fitting_text
   is_sent e = rw (eq-eqb row 0 e)
 
-  is_refused_lem : row ≢ 0 → sent_events b ks m s out ≡ sending.Refused row
+  is_refused_lem : row ≢ 0 → sent_events b ks m s out ≡ Err row
   unfolding sent_events
   is_refused_lem ne = rw (ne_eqb row 0 ne)
 

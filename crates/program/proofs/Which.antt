@@ -1,8 +1,8 @@
 -- Which reply a message gets.
+use Rattle.std.specs.Prelude.{None, Some}
 use mathlib.Core.Path.{◌≡◌, refl, sym, ap, subst, ◌∙◌}
 use mathlib.Core.Bool.{Bool, true, false, cond, not, ◌&&◌, ◌||◌, false≢true}
 use mathlib.Core.Logic.{◌⊎◌, inl, inr, ◌≢◌}
-use mathlib.Core.Option.{some}
 use mathlib.Core.List.{List, [], ◌∷◌, ◌++◌, map, append-nil}
 use Prim.Native.Nat.{ℕ, zero, suc, ◌≤◌, ◌<◌}
 use native.Mathlib.Omega.{arith}
@@ -17,7 +17,6 @@ use Rattle.rows.specs.Rows as text
 use Rattle.shape.specs.Shape.{Word, event, req, close, other, opened, has_shape}
 use Rattle.shape.specs.Rows.{row4, row5, row6, row7, row8, tree_row, root_row, message_row, wrong_request}
 use Rattle.shape.specs.Rows.{wrong_subscription}
-use Rattle.shape.specs.declared.Offset.TheVariants.{Absent}
 use Rattle.shape.specs.declared.Refusal.{Refusal}
 use Rattle.shape.specs.Offsets.{plain_refusal, refusal_of}
 use Rattle.shape.proofs.Offsets.{refusal_own, offset_plain}
@@ -270,7 +269,7 @@ large_rows false false r e z = (omega arith, omega arith)
 
 -- rows 9 to 12, and no offset
 abbrev pub Last : Refusal → Type 0
-Last r = (9 ≤ r.row) × (r.row ≤ 12) × (r.offset ≡ Absent)
+Last r = (9 ≤ r.row) × (r.row ≤ 12) × (r.offset ≡ None)
 
 last_is : {x r : Refusal} → offered.Refused x ≡ offered.Refused r → Last x → Last r
 last_is {x} {r} e h = let z : x ≡ r = cc in subst Last z h
@@ -282,7 +281,7 @@ first_rows r x false false true l e = absurd (false≢true (sym (ap is_accepted 
 first_rows r x false false false true e = last_is e (omega arith, omega arith, refl)
 first_rows r x false false false false e = absurd (false≢true (sym (ap is_accepted e)))
 
-pub verdict_rows : (r x : Refusal) (N : ℕ) (t : List SignedEvent) (e : SignedEvent) → offered_by x (verdict signed_events N t (some e)) ≡ offered.Refused r → Last r
+pub verdict_rows : (r x : Refusal) (N : ℕ) (t : List SignedEvent) (e : SignedEvent) → offered_by x (verdict signed_events N t (Some e)) ≡ offered.Refused r → Last r
 unfolding verdict
 verdict_rows r x N t e q =
     first_rows r x (is_ephemeral (signed_events.class_of e)) (any (law.has_id signed_events e) t) (any (has_key_newer signed_events e) t) (lacks_slot signed_events N t e) q

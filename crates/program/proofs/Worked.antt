@@ -1,4 +1,5 @@
 -- Worked replies, by computation: the bytes of each kind of reply, and what some refused messages are answered.
+use Rattle.std.specs.Prelude.{Option, Some}
 use mathlib.Core.Path.{◌≡◌, refl, ◌∙◌}
 use mathlib.Core.Bool.{true, false, not, ◌||◌}
 use mathlib.Core.List.{List, [], ◌∷◌, ◌++◌}
@@ -23,8 +24,6 @@ use Rattle.shape.specs.Shape.{any_item, all_items, count_items, name_at, no_name
 use Rattle.shape.specs.Shape.{word_of, is_event, event_member, once}
 use Rattle.shape.specs.Rows.{row6, row7, row8, wrong_filter, filter_number, filter_hex, filter_counts, wrong_list, wrong_hex}
 use Rattle.shape.specs.Rows.{wrong_subscription, tree_row, message_row, event_number, wrong_time, wrong_small}
-use Rattle.shape.specs.declared.Offset.{Offset}
-use Rattle.shape.specs.declared.Offset.TheVariants.{At}
 use Rattle.shape.specs.Offsets.{collect, number_places, hex_places, least_of, offset_of, offset_for}
 use Rattle.message.specs.Parts.{member_of}
 use Rattle.message.specs.declared.Span.{Span}
@@ -158,7 +157,7 @@ unfolding in_class run past one_at token_at word_at literal_at digits_at int_at 
 row = refl
 
 -- the place of the number
-offset : offset_of message ≡ At 94
+offset : offset_of message ≡ Some 94
 unfolding in_class run past one_at token_at word_at literal_at digits_at int_at frac_at exp_at number_at hex_at escaped_at char_at chars_up_to chars_at string_at scalar_at items_at tree_at is_utf8 utf8_from lead_of char_of chars_from char_bytes chars_bytes decode is_refused spell.any refuses same_bytes points character_count spelled_at refused_in any_item count_items name_at no_name_twice is_filter word_of all_items row6 row7 row8 filter_counts wrong_subscription tree_row message_row spell.short_of spell.unicode_of spell.is_pair spell.four_at spell.four spell.hex_val spell.utf8_of is_event event_member once event_number wrong_time wrong_small whole_of whole_answer is_within is_natural all_digits is_digit value_from natural_of negative_of offset_of number_places hex_places collect least_of
 offset = refl
 
@@ -174,9 +173,9 @@ unfolding char_of chars_from char_bytes chars_bytes decode spell.short_of spell.
 spelled = (refl, refl)
 
 -- from the law, so that the checker reads the message a few times only
-named : (b m i : List ℕ) (p : Span) (r : ℕ) (x : Offset) → message_row m ≡ r → offset_of m ≡ x → 6 ≤ r → word_in m ≡ word.event → id_field m ≡ p → is_hex_of 64 (bytes m p) ≡ true
+named : (b m i : List ℕ) (p : Span) (r : ℕ) (x : Option ℕ) → message_row m ≡ r → offset_of m ≡ x → 6 ≤ r → word_in m ≡ word.event → id_field m ≡ p → is_hex_of 64 (bytes m p) ≡ true
     → said m p ≡ i → replies_to b m ≡ ok i false (refusal_reason (record { row = r; offset = x })) ∷ []
 named b m i p r x e o h w f t s = (late_event b m (omega arith) w).0 ∙ rw (f, t, s, e, o)
 
-pub wrong_kind_lem : (b : List ℕ) → replies_to b message ≡ ok (replicate 64 97) false (refusal_reason (record { row = 6; offset = At 94 })) ∷ []
-wrong_kind_lem b = named b message (replicate 64 97) place 6 (At 94) row offset (omega arith) found.0 found.1 spelled.0 spelled.1
+pub wrong_kind_lem : (b : List ℕ) → replies_to b message ≡ ok (replicate 64 97) false (refusal_reason (record { row = 6; offset = Some 94 })) ∷ []
+wrong_kind_lem b = named b message (replicate 64 97) place 6 (Some 94) row offset (omega arith) found.0 found.1 spelled.0 spelled.1

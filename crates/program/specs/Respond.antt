@@ -1,20 +1,17 @@
 -- One message answered into a lent output, over a lent table; and a REQ's answer a reply at a time, for an output that
 -- does not hold it whole.
-use Rattle.std.specs.Prelude.{Bool, false, cond, List, [], ◌∷◌, ◌++◌, map, ℕ, suc, ◌-◌, eqb, ltb, length, take}
+use Rattle.std.specs.Prelude.{Bool, false, cond, List, [], ◌∷◌, ◌++◌, map, ℕ, suc, ◌-◌, eqb, ltb, length, take, Result, Ok, Err}
 use Rattle.text.specs.Event.{all}
 use Rattle.text.specs.Read.{read_text}
 use Rattle.message.specs.declared.Span.{Span}
 use Rattle.event.specs.Lent.{said}
 use Rattle.event.specs.Answer.{or_else, answered}
-use Rattle.event.specs.declared.Written.{Written}
 use Rattle.table.specs.Layout.{count_of, slot_at, text_in}
 use Rattle.table.specs.Sound.{sound}
 use Rattle.table.specs.Format.{shown_row}
 use Rattle.reply.specs.Replies.{Reply, reply_text}
 use Rattle.reply.specs.Lent.{eose_row, short_row, output_after}
 use Rattle.program.specs.Program.{event_replies, replies_to, table_after, written}
-use Rattle.program.specs.declared.Sent.{Sent}
-use Rattle.program.specs.declared.Sent.TheVariants as sending
 use Rattle.wire.specs.Bytes.{Bytes, Row}
 
 -- ---- the message m to the table b, answered to the output: what refuses the message is a reply, so the call is
@@ -25,7 +22,7 @@ response b m = written (replies_to b m)
 unfoldable pub respond_row : (b m out : Bytes) → Row
 respond_row b m out = short_row (response b m) out
 
-unfoldable pub responded : (b m out : Bytes) → Written
+unfoldable pub responded : (b m out : Bytes) → Result ℕ ℕ
 responded b m out = answered (respond_row b m out) (length (response b m))
 
 unfoldable pub responded_out : (b m out : Bytes) → Bytes
@@ -55,7 +52,7 @@ slot_line b sub k = written (slot_replies b sub k)
 unfoldable pub slot_event_row : (b : Bytes) (k : ℕ) (m : Bytes) (s : Span) (out : Bytes) → Row
 slot_event_row b k m s out = or_else (eose_row m s) (or_else (shown_row b k) (short_row (slot_text b (said m s) k) out))
 
-unfoldable pub slot_event : (b : Bytes) (k : ℕ) (m : Bytes) (s : Span) (out : Bytes) → Written
+unfoldable pub slot_event : (b : Bytes) (k : ℕ) (m : Bytes) (s : Span) (out : Bytes) → Result ℕ ℕ
 slot_event b k m s out = answered (slot_event_row b k m s out) (length (slot_text b (said m s) k))
 
 unfoldable pub slot_event_out : (b : Bytes) (k : ℕ) (m : Bytes) (s : Span) (out : Bytes) → Bytes
@@ -93,24 +90,24 @@ unfoldable pub events_row : (b : Bytes) (ks : List ℕ) (m : Bytes) (s : Span) (
 events_row b ks m s out = events_row_if (sound b) b ks m s out
 
 -- how many bytes, and of how many slots
-unfoldable pub sent_events : (b : Bytes) (ks : List ℕ) (m : Bytes) (s : Span) (out : Bytes) → Sent
+unfoldable pub sent_events : (b : Bytes) (ks : List ℕ) (m : Bytes) (s : Span) (out : Bytes) → Result (ℕ × ℕ) ℕ
 sent_events b ks m s out =
     cond (eqb (events_row b ks m s out) 0)
-    (sending.Wrote (length (fitting_text b (said m s) ks out)) (fitting (length out) (slot_lines b (said m s) ks)))
-    (sending.Refused (events_row b ks m s out))
+    (Ok ((length (fitting_text b (said m s) ks out)), (fitting (length out) (slot_lines b (said m s) ks))))
+    (Err (events_row b ks m s out))
 
 unfoldable pub sent_events_out : (b : Bytes) (ks : List ℕ) (m : Bytes) (s : Span) (out : Bytes) → Bytes
 sent_events_out b ks m s out = output_after (events_row b ks m s out) (fitting_text b (said m s) ks out) out
 
 -- the number of 01, and the values
-abbrev pub sent_number : Sent → ℕ
-sent_number (sending.Wrote n k) = 0
-sent_number (sending.Refused r) = r
+abbrev pub sent_number : Result (ℕ × ℕ) ℕ → ℕ
+sent_number (Ok (n, k)) = 0
+sent_number (Err r) = r
 
-abbrev pub sent_bytes : Sent → ℕ
-sent_bytes (sending.Wrote n k) = n
-sent_bytes (sending.Refused r) = 0
+abbrev pub sent_bytes : Result (ℕ × ℕ) ℕ → ℕ
+sent_bytes (Ok (n, k)) = n
+sent_bytes (Err r) = 0
 
-abbrev pub sent_slots : Sent → ℕ
-sent_slots (sending.Wrote n k) = k
-sent_slots (sending.Refused r) = 0
+abbrev pub sent_slots : Result (ℕ × ℕ) ℕ → ℕ
+sent_slots (Ok (n, k)) = k
+sent_slots (Err r) = 0

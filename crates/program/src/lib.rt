@@ -3,12 +3,6 @@
 // refuses.
 #![tactic(auto)]
 
-#[derive(Clone, Copy)]
-pub enum Sent {
-    Wrote(usize, usize),
-    Refused(u8),
-}
-
 // What feeding a piece of the input gives: how many of its bytes were used up, how many the line has then, and how many
 // were written; or the row that refuses.
 #[derive(Clone, Copy)]

@@ -1,4 +1,5 @@
 -- What a REQ's answer means: the claims of specs/Claims, "the answer".
+use Rattle.std.specs.Prelude.{Option, Some, None, ℤ}
 use mathlib.Core.Path.{◌≡◌, refl, sym, ap, ap₂, ◌∙◌}
 use mathlib.Core.Bool.{Bool, true, false, cond, ◌||◌}
 use mathlib.Core.Logic.{◌↔◌, ◌⊎◌, inl, inr, ⊎_elim, ◌≢◌}
@@ -9,8 +10,6 @@ use native.Mathlib.Omega.{arith}
 use borrow.Author.Tests.{eqb-true, eqb-false}
 use lib.Dec.{T, eqb, eqb→eq, eqb_refl}
 use lib.ListN.{length, take, length-take}
-use Rattle.message.specs.declared.Bound.{Bound}
-use Rattle.message.specs.declared.Bound.TheVariants.{Absent, Number}
 use Rattle.event.specs.Lent.{natural}
 use Rattle.law.specs.Lists.{◌∈◌, Pairwise}
 use Rattle.law.proofs.Lists.{any_yes, any_has, count_law}
@@ -142,21 +141,21 @@ module _ (newer : ℕ → ℕ → Bool) (w : Orders newer) where
           self s g t = let u : T (newer a a) = rw g at t in not_both a a u u
 
 -- ---- one filter's matches
-cut_in : {s : ℕ} (b : Bound) (l : List ℕ) → s ∈ cut b l → s ∈ l
-cut_in Absent l m = m
-cut_in (Number z) l m = take_in (natural z) l m
+cut_in : {s : ℕ} (b : Option ℤ) (l : List ℕ) → s ∈ cut b l → s ∈ l
+cut_in None l m = m
+cut_in (Some z) l m = take_in (natural z) l m
 
-cut_none : {s : ℕ} (b : Bound) (l : List ℕ) → b ≡ Absent → s ∈ l → s ∈ cut b l
-cut_none Absent l e m = m
-cut_none (Number z) l e m = absurd (let q : ◌≡◌ {A = ℕ} 0 1 = cc in omega arith)
+cut_none : {s : ℕ} (b : Option ℤ) (l : List ℕ) → b ≡ None → s ∈ l → s ∈ cut b l
+cut_none None l e m = m
+cut_none (Some z) l e m = absurd (let q : ◌≡◌ {A = ℕ} 0 1 = cc in omega arith)
 
-cut-pairwise : (R : ℕ → ℕ → Type 0) (b : Bound) (l : List ℕ) → Pairwise R l → Pairwise R (cut b l)
-cut-pairwise R Absent l o = o
-cut-pairwise R (Number z) l o = take-pairwise R (natural z) l o
+cut-pairwise : (R : ℕ → ℕ → Type 0) (b : Option ℤ) (l : List ℕ) → Pairwise R l → Pairwise R (cut b l)
+cut-pairwise R None l o = o
+cut-pairwise R (Some z) l o = take-pairwise R (natural z) l o
 
-cut-before : (R : ℕ → ℕ → Type 0) {s t : ℕ} (b : Bound) (l : List ℕ) → Pairwise R l → s ∈ cut b l → t ∈ l → (t ∈ cut b l → ⊥) → R s t
-cut-before R Absent l o m k h = absurd (h k)
-cut-before R (Number z) l o m k h = taken-before R (natural z) l o m k h
+cut-before : (R : ℕ → ℕ → Type 0) {s t : ℕ} (b : Option ℤ) (l : List ℕ) → Pairwise R l → s ∈ cut b l → t ∈ l → (t ∈ cut b l → ⊥) → R s t
+cut-before R None l o m k h = absurd (h k)
+cut-before R (Some z) l o m k h = taken-before R (natural z) l o m k h
 
 once-keep : (p : ℕ → Bool) (l : List ℕ) → Distinct l → Distinct (keep p l)
 unfolding keep

@@ -1,5 +1,6 @@
 -- What #e and #p ask for is hex: the claim of specs/Claims, "what a filter may ask". A condition is a member of the
 -- filter's object, named by its letter, and row 7 looks at each string of its list.
+use Rattle.std.specs.Prelude.{Option, Some, None}
 use mathlib.Core.Path.{◌≡◌, refl, sym, ap, ◌∙◌}
 use mathlib.Core.Bool.{Bool, true, false, cond, not, false≢true}
 use mathlib.Core.Logic.{◌⊎◌, inl, inr, ⊎_elim}
@@ -17,8 +18,6 @@ use Rattle.rows.specs.Strings.{part}
 use Rattle.shape.specs.Shape.{any_item, all_items, name_at, is_string, is_condition, filter_member, is_filter}
 use Rattle.shape.specs.Rows.{wrong_hex, wrong_hexes, filter_hex, filter_counts}
 use Rattle.shape.proofs.Names as names
-use Rattle.message.specs.declared.Listed.{Listed}
-use Rattle.message.specs.declared.Listed.TheVariants.{Absent, At}
 use Rattle.message.specs.Parts.{members_got, members_at}
 use Rattle.message.specs.Lent.{on_value, value5}
 use Rattle.message.proofs.Facts.{and_true, or_not, In, here, later, any_in}
@@ -106,6 +105,6 @@ pub hex_asked : HexAsked
 unfolding filter_of
 hex_asked b p e = go p.conditions refl
   where
-    go : (x : Listed) → p.conditions ≡ x → (c : Condition) → c ∈ conditions_in b x → (c.letter ≡ 101) ⊎ (c.letter ≡ 112) → (v : List ℕ) → v ∈ c.members → IsHex64 v
-    go Absent q = λ c m. absurd (Memᴰ.not-nil m)
-    go (At v) q = place_hex b v (conditions_are b p e q)
+    go : (x : Option ℕ) → p.conditions ≡ x → (c : Condition) → c ∈ conditions_in b x → (c.letter ≡ 101) ⊎ (c.letter ≡ 112) → (v : List ℕ) → v ∈ c.members → IsHex64 v
+    go None q = λ c m. absurd (Memᴰ.not-nil m)
+    go (Some v) q = place_hex b v (conditions_are b p e q)

@@ -1,9 +1,10 @@
 -- What matching lent parts and asking for a REQ's answer give: the claims of specs/Claims, "what is answered".
+use Rattle.std.specs.Prelude.{Ok, Err}
 use mathlib.Core.Path.{◌≡◌, refl, sym, ap, ◌∙◌}
 use mathlib.Core.Bool.{Bool, true, false, cond}
 use mathlib.Core.Logic.{◌↔◌, ◌⊎◌, inl, inr, ⊎_elim, ◌≢◌}
 use mathlib.Core.List.{List, ◌++◌}
-use Prim.Native.Nat.{ℕ, ◌+◌, ◌-◌, ◌≤◌, ◌<◌}
+use Prim.Native.Nat.{ℕ, ◌≤◌, ◌<◌}
 use native.Mathlib.Omega.{arith}
 use native.Mathlib.Decide.{dec_lt}
 use borrow.Author.Tests.{eqb-true, eqb-false, eq-eqb, ne_eqb, ltb-true, lt-ltb}
@@ -20,11 +21,8 @@ use Rattle.event.specs.Answer.{or_else, is_large}
 use Rattle.table.specs.Sound.{sound}
 use Rattle.table.proofs.StillSound.{same_sound}
 use Rattle.query.specs.Match.{matches_some}
-use Rattle.query.specs.declared.Matched.TheVariants.{Matches, Differs}
-use Rattle.query.specs.declared.Matched.TheVariants as matching
 use Rattle.query.specs.Answer.{meant, filters_row, answer_to, matched_row, matched, match_number, match_value}
 use Rattle.query.specs.Answer.{listing_row_if, listing_row, listed, listed_row, listing_number, listed_count}
-use Rattle.query.specs.declared.Listing.TheVariants.{Count, Refused}
 use Rattle.query.specs.Claims.{RowHolds, of_filter, miscounted, MatchedHolds, of_event, of_filters, too_large_lem}
 use Rattle.query.specs.Claims.{MatchedRowIs, MatchedMeans, ListingHolds, of_lent, not_sound, too_short}
 use Rattle.query.specs.Claims.{ListingRowIs, ListingIs, ListingMeans, SameListing}
@@ -103,9 +101,8 @@ matched_means b p m fs n =
     record { number = k; value = a }
   where
     go : (r : ℕ) → (eqb r 0 ≡ true) ⊎ (eqb r 0 ≡ false) → (x : Bool)
-        → (match_number (cond (eqb r 0) (cond x Matches Differs) (matching.Refused r)) ≡ r) × (T (match_value (cond (eqb r 0) (cond x Matches Differs) (matching.Refused r))) ↔ ((r ≡ 0) × T x))
-    go r (inl e) true = rw e (sym (eqb-true r 0 e), (λ t. (eqb-true r 0 e, tt), λ h. tt))
-    go r (inl e) false = rw e (sym (eqb-true r 0 e), (λ t. absurd t, λ h. h.1))
+        → (match_number (cond (eqb r 0) (Ok x) (Err r)) ≡ r) × (T (match_value (cond (eqb r 0) (Ok x) (Err r))) ↔ ((r ≡ 0) × T x))
+    go r (inl e) x = rw e (sym (eqb-true r 0 e), (λ t. (eqb-true r 0 e, t), λ h. h.1))
     go r (inr e) x = rw e (refl, (λ t. absurd t, λ h. absurd (eqb-false r 0 e h.0)))
 
 -- ---- the answer
@@ -163,11 +160,11 @@ module _ (b m : List ℕ) (fs : List FilterParts) (n : ℕ) (row : List ℕ) whe
   unfolding listed_row
   left ne = rw (ne_eqb (listing_row b m fs n row) 0 ne)
 
-  is_count : listing_row b m fs n row ≡ 0 → listed b m fs n row ≡ Count (length slots)
+  is_count : listing_row b m fs n row ≡ 0 → listed b m fs n row ≡ Ok (length slots)
   unfolding listed
   is_count e = rw (eq-eqb (listing_row b m fs n row) 0 e)
 
-  is_refused_lem : listing_row b m fs n row ≢ 0 → listed b m fs n row ≡ Refused (listing_row b m fs n row)
+  is_refused_lem : listing_row b m fs n row ≢ 0 → listed b m fs n row ≡ Err (listing_row b m fs n row)
   unfolding listed
   is_refused_lem ne = rw (ne_eqb (listing_row b m fs n row) 0 ne)
 

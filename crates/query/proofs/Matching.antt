@@ -1,8 +1,8 @@
 -- What matching means: the claims of specs/Claims, "matching".
+use Rattle.std.specs.Prelude.{Some, None, Option}
 use mathlib.Core.Path.{◌≡◌, refl, sym, ap}
 use mathlib.Core.Bool.{Bool, not, ◌&&◌}
-use mathlib.Core.Logic.{◌↔◌, ◌⊎◌, ⊎_elim}
-use mathlib.Core.Option.{Option, none, some}
+use mathlib.Core.Logic.{◌↔◌, ⊎_elim}
 use mathlib.Core.List.Memᴰ
 use mathlib.Core.List.{List, [], ◌∷◌, ◌++◌}
 use Prim.Native.Nat.{ℕ}
@@ -13,8 +13,6 @@ use lib.Signed.{◌≤ℤ◌, lt_z_yes, lt_z_no, clash_ℤ, ≤ℤ_refl}
 use lib.ListN.{length, length-append}
 use Rattle.wire.specs.Bytes.{same_bytes}
 use Rattle.text.specs.Event.{Tag, all}
-use Rattle.message.specs.declared.Bound.{Bound}
-use Rattle.message.specs.declared.Bound.TheVariants.{Absent, Number}
 use Rattle.law.specs.Lists.{◌∈◌, any}
 use Rattle.law.specs.Event.{earlier}
 use Rattle.law.proofs.Lists.{and_both, and_left, and_right, any_yes, any_has}
@@ -107,21 +105,21 @@ all_means {A} p l = (to l, from l)
     from [] h = tt
     from (y ∷ l) h = and_both (p y) (all p l) (h y (Memᴰ.head refl)) (from l (λ x m. h x (Memᴰ.tail m)))
 
-listed_means : (o : Strings) (v : List ℕ) → T (is_listed o v) ↔ ((l : List (List ℕ)) → o ≡ some l → v ∈ l)
-listed_means none v = (λ t l e. absurd (let z : ◌≡◌ {A = ℕ} 0 1 = cc in omega arith), λ h. tt)
-listed_means (some m) v = (λ t l e. let z : m ≡ l = cc in rw z at ((exact_member m v).0 t), λ h. (exact_member m v).1 (h m refl))
+listed_means : (o : Strings) (v : List ℕ) → T (is_listed o v) ↔ ((l : List (List ℕ)) → o ≡ Some l → v ∈ l)
+listed_means None v = (λ t l e. absurd (let z : ◌≡◌ {A = ℕ} 0 1 = cc in omega arith), λ h. tt)
+listed_means (Some m) v = (λ t l e. let z : m ≡ l = cc in rw z at ((exact_member m v).0 t), λ h. (exact_member m v).1 (h m refl))
 
-kind_means : (o : Option (List ℤ)) (k : ℕ) → T (kind_listed o k) ↔ ((l : List ℤ) → o ≡ some l → pos k ∈ l)
-kind_means none k = (λ t l e. absurd (let z : ◌≡◌ {A = ℕ} 0 1 = cc in omega arith), λ h. tt)
-kind_means (some m) k = (λ t l e. let z : m ≡ l = cc in rw z at ((exact_kind m k).0 t), λ h. (exact_kind m k).1 (h m refl))
+kind_means : (o : Option (List ℤ)) (k : ℕ) → T (kind_listed o k) ↔ ((l : List ℤ) → o ≡ Some l → pos k ∈ l)
+kind_means None k = (λ t l e. absurd (let z : ◌≡◌ {A = ℕ} 0 1 = cc in omega arith), λ h. tt)
+kind_means (Some m) k = (λ t l e. let z : m ≡ l = cc in rw z at ((exact_kind m k).0 t), λ h. (exact_kind m k).1 (h m refl))
 
-since_means : (o : Bound) (t : ℤ) → T (since_holds o t) ↔ ((s : ℤ) → o ≡ Number s → s ≤ℤ t)
-since_means Absent t = (λ q s e. absurd (let z : ◌≡◌ {A = ℕ} 0 1 = cc in omega arith), λ h. tt)
-since_means (Number s) t = (λ q r e. let z : s ≡ r = cc in rw z at ((since_inclusive s t).0 q), λ h. (since_inclusive s t).1 (h s refl))
+since_means : (o : Option ℤ) (t : ℤ) → T (since_holds o t) ↔ ((s : ℤ) → o ≡ Some s → s ≤ℤ t)
+since_means None t = (λ q s e. absurd (let z : ◌≡◌ {A = ℕ} 0 1 = cc in omega arith), λ h. tt)
+since_means (Some s) t = (λ q r e. let z : s ≡ r = cc in rw z at ((since_inclusive s t).0 q), λ h. (since_inclusive s t).1 (h s refl))
 
-until_means : (o : Bound) (t : ℤ) → T (until_holds o t) ↔ ((u : ℤ) → o ≡ Number u → t ≤ℤ u)
-until_means Absent t = (λ q s e. absurd (let z : ◌≡◌ {A = ℕ} 0 1 = cc in omega arith), λ h. tt)
-until_means (Number u) t = (λ q r e. let z : u ≡ r = cc in rw z at ((until_inclusive u t).0 q), λ h. (until_inclusive u t).1 (h u refl))
+until_means : (o : Option ℤ) (t : ℤ) → T (until_holds o t) ↔ ((u : ℤ) → o ≡ Some u → t ≤ℤ u)
+until_means None t = (λ q s e. absurd (let z : ◌≡◌ {A = ℕ} 0 1 = cc in omega arith), λ h. tt)
+until_means (Some u) t = (λ q r e. let z : u ≡ r = cc in rw z at ((until_inclusive u t).0 q), λ h. (until_inclusive u t).1 (h u refl))
 
 conditions_mean : (cs : List Condition) (ts : List Tag) → T (all (condition_holds ts) cs) ↔ ((c : Condition) → c ∈ cs → Tagged c ts)
 conditions_mean cs ts = (

@@ -1,4 +1,5 @@
 -- A REQ's answer over a table: the claims of specs/Claims, "the answer over the table b".
+use Rattle.std.specs.Prelude.{Some}
 use mathlib.Core.Path.{◌≡◌, refl, sym, ◌∙◌}
 use mathlib.Core.Bool.{Bool, true, not, ◌&&◌}
 use mathlib.Core.Logic.{◌⊎◌, inl, inr, ⊎_elim, ◌≢◌}
@@ -15,7 +16,6 @@ use Rattle.wire.specs.Limits.{most_text, most_slots}
 use Rattle.text.specs.Event.{Event}
 use Rattle.text.specs.Read.{Read, too_large, wrong_shape, read, read_text}
 use Rattle.text.proofs.Pieces.{both}
-use Rattle.message.specs.declared.Bound.TheVariants.{Number}
 use Rattle.event.specs.Answer.{hex_of}
 use Rattle.law.specs.Lists.{◌∈◌, any}
 use Rattle.law.specs.Table.{Laws, regular, has_id}
@@ -205,7 +205,7 @@ limit_zero b f = empty (union (newer_slot b) (matches_slot b) held (g ∷ [])) n
     held = numbers_from 0 (count_of b)
 
     g : Filter
-    g = limited f (Number (pos 0))
+    g = limited f (Some (pos 0))
 
     none : (s : ℕ) → s ∈ union (newer_slot b) (matches_slot b) held (g ∷ []) → ⊥
     none s m =

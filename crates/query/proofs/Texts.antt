@@ -1,6 +1,6 @@
 -- Filters as they stand in a text, by computation.
+use Rattle.std.specs.Prelude.{Some, None}
 use mathlib.Core.Path.{◌≡◌, refl}
-use mathlib.Core.Option.{none, some}
 use mathlib.Core.List.{List, [], ◌∷◌}
 use Prim.Native.Nat.{ℕ}
 use Prim.Native.Char.{code}
@@ -18,7 +18,6 @@ use Rattle.spell.specs.Spell.{char_of, chars_from, char_bytes, chars_bytes, deco
 use Rattle.rows.specs.Strings.{spelled_at, refused_in}
 use Rattle.shape.specs.Shape.{any_item, all_items, count_items, name_at, no_name_twice, filter_member, is_filter, is_condition}
 use Rattle.shape.specs.Rows.{wrong_small, wrong_time, wrong_hex, wrong_list, filter_number, filter_hex, wrong_filter, filter_counts}
-use Rattle.message.specs.declared.Bound.TheVariants.{Absent, Number}
 use Rattle.message.specs.Lists.{next_of, up_to, elements_from}
 use Rattle.message.specs.Parts as parts
 use Rattle.message.specs.Parts.{members_at, filter_at}
@@ -38,12 +37,12 @@ abbrev two : List ℕ
 two = text "{\"kinds\":[1,40],\"#t\":[\"x\"],\"since\":-5,\"limit\":0},{}]"
 
 pub two_filters : filters_meant two 0 ≡ record {
-  ids = none;
-  authors = none;
-  kinds = some (pos 1 ∷ pos 40 ∷ []);
-  since = Number (negsuc 4);
-  until = Absent;
-  limit = Number (pos 0);
+  ids = None;
+  authors = None;
+  kinds = Some (pos 1 ∷ pos 40 ∷ []);
+  since = Some (negsuc 4);
+  until = None;
+  limit = Some (pos 0);
   conditions = record { letter = 116; members = (120 ∷ []) ∷ [] } ∷ [];
 } ∷ everything ∷ []
 unfolding in_class run past one_at token_at word_at literal_at digits_at int_at frac_at exp_at number_at hex_at escaped_at char_at chars_up_to chars_at string_at scalar_at items_at tree_at is_digit all_digits value_from is_natural natural_of negative_of whole_of whole_answer char_of chars_from char_bytes chars_bytes decode spell.any same_bytes spelled_at name_at next_of up_to elements_from parts.filter_parts_of members_at filter_at strings_of filter_of filters_meant parts.member_of is_within is_condition
@@ -51,12 +50,12 @@ two_filters = refl
 
 -- the other names; strings decoded
 pub one_filter : filters_meant (text "{\"until\":7,\"authors\":[\"b\"],\"ids\":[\"a\",\"\\u0062\"]}]") 0 ≡ record {
-  ids = some ((97 ∷ []) ∷ (98 ∷ []) ∷ []);
-  authors = some ((98 ∷ []) ∷ []);
-  kinds = none;
-  since = Absent;
-  until = Number (pos 7);
-  limit = Absent;
+  ids = Some ((97 ∷ []) ∷ (98 ∷ []) ∷ []);
+  authors = Some ((98 ∷ []) ∷ []);
+  kinds = None;
+  since = None;
+  until = Some (pos 7);
+  limit = None;
   conditions = [];
 } ∷ []
 unfolding in_class run past one_at token_at word_at literal_at digits_at int_at frac_at exp_at number_at hex_at escaped_at char_at chars_up_to chars_at string_at scalar_at items_at tree_at is_digit all_digits value_from is_natural natural_of negative_of whole_of whole_answer char_of chars_from char_bytes chars_bytes decode spell.any same_bytes spelled_at name_at next_of up_to elements_from parts.filter_parts_of members_at filter_at strings_of filter_of filters_meant parts.member_of is_within is_condition spell.unicode_of spell.is_pair spell.four_at spell.four spell.hex_val spell.utf8_of

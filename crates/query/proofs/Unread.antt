@@ -1,4 +1,5 @@
 -- 01, "The table": "Bytes after slot N-1 are never read", of a REQ's answer: the last claim of specs/Claims.
+use Rattle.std.specs.Prelude.{Ok, Err}
 use mathlib.Core.Path.{◌≡◌, refl, ap, ap₂, ◌∙◌}
 use mathlib.Core.Bool.{Bool, true, false, cond}
 use mathlib.Core.Logic.{⊎_elim}
@@ -18,7 +19,6 @@ use Rattle.table.specs.Sound.{sound}
 use Rattle.table.proofs.Bytes.{clauses}
 use Rattle.table.proofs.Unread.{count_append, sound_append}
 use Rattle.query.specs.Filter.{Filter}
-use Rattle.query.specs.declared.Listing.TheVariants.{Count, Refused}
 use Rattle.query.specs.Answer.{among, numbers_from, union, newer_slot, matches_in, matches_slot, answer_list, meant}
 use Rattle.query.specs.Answer.{filters_row, listing_row, listed, listed_row}
 use Rattle.query.specs.Claims.{not_sound, ListingNeverRead}
@@ -82,7 +82,7 @@ module _ (b t : List ℕ) (full : length b ≡ table_size (capacity_of b)) where
 
     listed_append : listed (b ++ t) m fs n row ≡ listed b m fs n row
     unfolding listed
-    listed_append = given (λ a. Count (length a)) Refused
+    listed_append = given (λ a. Ok (length a)) Err
 
     written_append : listed_row (b ++ t) m fs n row ≡ listed_row b m fs n row
     unfolding listed_row

@@ -1,8 +1,8 @@
 -- The definitions at work. Slots are numbers, and the higher is the newer, where nothing else is said; a filter is
 -- known by its limit.
+use Rattle.std.specs.Prelude.{Some, None}
 use mathlib.Core.Path.{◌≡◌, refl}
 use mathlib.Core.Bool.{Bool, true, false, ◌&&◌}
-use mathlib.Core.Option.{none}
 use mathlib.Core.List.{List, [], ◌∷◌}
 use Prim.Native.Nat.{ℕ}
 use lib.Dec.{ltb}
@@ -10,7 +10,6 @@ use lib.IntN.{ℤ, pos, negsuc}
 use lib.ListN.{get_or}
 use Rattle.wire.specs.Bytes.{same_bytes}
 use Rattle.text.specs.Event.{Event, all}
-use Rattle.message.specs.declared.Bound.TheVariants.{Absent, Number}
 use Rattle.law.specs.Event as law
 use Rattle.query.specs.Filter.{Filter}
 use Rattle.query.specs.Match.{is_member, since_holds, until_holds, matches, matches_some}
@@ -23,13 +22,13 @@ higher a b = ltb b a
 
 -- `{"limit":n}`; and "since" n, by which the slots from n on match
 abbrev last : ℕ → Filter
-last n = limited everything (Number (pos n))
+last n = limited everything (Some (pos n))
 
 abbrev since : ℤ → Filter → Filter
-since n f = record { ids = f.ids; authors = f.authors; kinds = f.kinds; since = Number n; until = f.until; limit = f.limit; conditions = f.conditions }
+since n f = record { ids = f.ids; authors = f.authors; kinds = f.kinds; since = Some n; until = f.until; limit = f.limit; conditions = f.conditions }
 
 abbrev until : ℤ → Filter → Filter
-until n f = record { ids = f.ids; authors = f.authors; kinds = f.kinds; since = f.since; until = Number n; limit = f.limit; conditions = f.conditions }
+until n f = record { ids = f.ids; authors = f.authors; kinds = f.kinds; since = f.since; until = Some n; limit = f.limit; conditions = f.conditions }
 
 -- a slot's number is its time
 abbrev fits : Filter → ℕ → Bool
@@ -88,7 +87,7 @@ abbrev asked : Filter → Bool
 asked f = matches f (48 ∷ 49 ∷ []) event
 
 abbrev tagged : ℕ → List (List ℕ) → Filter
-tagged x l = record { ids = none; authors = none; kinds = none; since = Absent; until = Absent; limit = Absent; conditions = record { letter = x; members = l } ∷ [] }
+tagged x l = record { ids = None; authors = None; kinds = None; since = None; until = None; limit = None; conditions = record { letter = x; members = l } ∷ [] }
 
 -- "since 0 shuts out -1"; the bound itself passes
 pub since_zero : (asked (since (pos 0) everything) ≡ false) × (asked (since (negsuc 0) everything) ≡ true) × (asked (until (negsuc 0) everything) ≡ true)

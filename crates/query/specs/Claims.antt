@@ -1,14 +1,12 @@
 -- What the definitions of this crate mean, as claims; proofs/Matching, Answers, Tables, Lent, ReadFilters, Asked,
 -- Listings and Unread prove them.
 -- Quotes are from 01, "Filters and replies", where nothing else is said.
-use Rattle.std.specs.Prelude.{◌≡◌, Bool, true, false, cond, ◌↔◌, ◌⊎◌, ◌≢◌, List, [], ◌∷◌, ◌++◌, ℕ, min, ◌≤◌, ◌<◌, T, eqb, ltb, ℤ, pos, ◌≤ℤ◌, length, take, drop}
-use Rattle.std.proofs.Math.Option.{none, some}
+use Rattle.std.specs.Prelude.{◌≡◌, Bool, true, false, cond, ◌↔◌, ◌⊎◌, ◌≢◌, List, [], ◌∷◌, ◌++◌, ℕ, min, ◌≤◌, ◌<◌, T}
+use Rattle.std.specs.Prelude.{eqb, ltb, ℤ, pos, ◌≤ℤ◌, length, take, drop, Option, Some, None}
 use Rattle.json_tree.specs.Tree.{Json, arr, Items, nil, item, got, root}
 use Rattle.shape.specs.Shape.{count}
 use Rattle.text.specs.Event.{Tag, Event}
 use Rattle.text.specs.Read.{read, read_text}
-use Rattle.message.specs.declared.Bound.{Bound}
-use Rattle.message.specs.declared.Bound.TheVariants.{Absent, Number}
 use Rattle.message.specs.declared.EventParts.{EventParts}
 use Rattle.message.specs.declared.ReqParts.{ReqParts}
 use Rattle.message.specs.declared.Message.TheVariants.{Req}
@@ -50,18 +48,18 @@ abbrev pub SameNumber : Type 0
 SameNumber = (a b : ℤ) → T (same_number a b) ↔ (a ≡ b)
 
 abbrev pub ExactKind : Type 0
-ExactKind = (l : List ℤ) (k : ℕ) → T (kind_listed (some l) k) ↔ (pos k ∈ l)
+ExactKind = (l : List ℤ) (k : ℕ) → T (kind_listed (Some l) k) ↔ (pos k ∈ l)
 
 -- "since and until are inclusive."
 abbrev pub SinceInclusive : Type 0
-SinceInclusive = (s t : ℤ) → T (since_holds (Number s) t) ↔ (s ≤ℤ t)
+SinceInclusive = (s t : ℤ) → T (since_holds (Some s) t) ↔ (s ≤ℤ t)
 
 abbrev pub UntilInclusive : Type 0
-UntilInclusive = (u t : ℤ) → T (until_holds (Number u) t) ↔ (t ≤ℤ u)
+UntilInclusive = (u t : ℤ) → T (until_holds (Some u) t) ↔ (t ≤ℤ u)
 
 -- the time that is the bound itself passes both
 abbrev pub AtTheBound : Type 0
-AtTheBound = (t : ℤ) → T (since_holds (Number t) t) × T (until_holds (Number t) t)
+AtTheBound = (t : ℤ) → T (since_holds (Some t) t) × T (until_holds (Some t) t)
 
 -- "`#x` needs a tag named x of at least two strings whose second is in the list"
 pub record Tagged (c : Condition) (ts : List Tag) : Type 0 where
@@ -75,11 +73,11 @@ ConditionMeans = (ts : List Tag) (c : Condition) → T (condition_holds ts c) �
 
 -- "All conditions of a filter hold", of those that it has
 pub record AllHold (f : Filter) (i : List ℕ) (e : Event) : Type 0 where
-  pub ids : (l : List (List ℕ)) → f.ids ≡ some l → i ∈ l
-  pub authors : (l : List (List ℕ)) → f.authors ≡ some l → e.pubkey ∈ l
-  pub kinds : (l : List ℤ) → f.kinds ≡ some l → pos e.kind ∈ l
-  pub since : (s : ℤ) → f.since ≡ Number s → s ≤ℤ e.time
-  pub until : (u : ℤ) → f.until ≡ Number u → e.time ≤ℤ u
+  pub ids : (l : List (List ℕ)) → f.ids ≡ Some l → i ∈ l
+  pub authors : (l : List (List ℕ)) → f.authors ≡ Some l → e.pubkey ∈ l
+  pub kinds : (l : List ℤ) → f.kinds ≡ Some l → pos e.kind ∈ l
+  pub since : (s : ℤ) → f.since ≡ Some s → s ≤ℤ e.time
+  pub until : (u : ℤ) → f.until ≡ Some u → e.time ≤ℤ u
   pub conditions : (c : Condition) → c ∈ f.conditions → Tagged c e.tags
 
 abbrev pub MatchMeans : Type 0
@@ -91,7 +89,7 @@ AnySuffices =
     (fs : List Filter) (i : List ℕ) (e : Event) → T (matches_some fs i e) ↔ ((f : Filter) × (f ∈ fs) × T (matches f i e))
 
 -- the filter f with another limit, which is no condition on an event
-abbrev pub limited : Filter → Bound → Filter
+abbrev pub limited : Filter → Option ℤ → Filter
 limited f l = record {
   ids = f.ids;
   authors = f.authors;
@@ -103,12 +101,12 @@ limited f l = record {
 }
 
 abbrev pub LimitAside : Type 0
-LimitAside = (f : Filter) (l : Bound) (i : List ℕ) (e : Event) → matches (limited f l) i e ≡ matches f i e
+LimitAside = (f : Filter) (l : Option ℤ) (i : List ℕ) (e : Event) → matches (limited f l) i e ≡ matches f i e
 
 -- "`{}` matches all."
 abbrev pub everything : Filter
 everything =
-    record { ids = none; authors = none; kinds = none; since = Absent; until = Absent; limit = Absent; conditions = [] }
+    record { ids = None; authors = None; kinds = None; since = None; until = None; limit = None; conditions = [] }
 
 abbrev pub EmptyMatches : Type 0
 EmptyMatches = (i : List ℕ) (e : Event) → T (matches everything i e)
@@ -148,11 +146,11 @@ module _ (newer : ℕ → ℕ → Bool) (fits : Filter → ℕ → Bool) (held :
     -- no match left out is newer than one picked
     pub left_out : Orders newer → (s t : ℕ) → s ∈ picked newer fits held f → Match f t →
         (t ∈ picked newer fits held f → ⊥) → T (newer t s) → ⊥
-    pub absent : f.limit ≡ Absent → (s : ℕ) → (s ∈ picked newer fits held f) ↔ Match f s
-    pub number : (z : ℤ) → f.limit ≡ Number z → length (picked newer fits held f) ≡ min (natural z)
+    pub absent : f.limit ≡ None → (s : ℕ) → (s ∈ picked newer fits held f) ↔ Match f s
+    pub number : (z : ℤ) → f.limit ≡ Some z → length (picked newer fits held f) ≡ min (natural z)
         (length (keep (fits f) held))
     -- 01, "Errors": "002's "if filter.limit" .. take 0 for absent"
-    pub zero : f.limit ≡ Number (pos 0) → picked newer fits held f ≡ []
+    pub zero : f.limit ≡ Some (pos 0) → picked newer fits held f ≡ []
 
   abbrev pub PickedMeans : Type 0
   PickedMeans = (f : Filter) → NewestMatches f
@@ -226,7 +224,7 @@ pub record AnswerIs (b : List ℕ) (fs : List Filter) : Type 0 where
       ((s < count_of b) × Picked (newer_slot b) (matches_slot b) (numbers_from 0 (count_of b)) fs s)
   pub matching : (s : ℕ) → s ∈ answer_list b fs → (f : Filter) × (f ∈ fs) × T (matches_slot b f s)
   -- with no limit, all that match
-  pub unlimited : ((f : Filter) → f ∈ fs → f.limit ≡ Absent) → (s : ℕ) (f : Filter) → s < count_of b → f ∈ fs →
+  pub unlimited : ((f : Filter) → f ∈ fs → f.limit ≡ None) → (s : ℕ) (f : Filter) → s < count_of b → f ∈ fs →
       T (matches_slot b f s) → s ∈ answer_list b fs
   pub once : Distinct (answer_list b fs)
   pub newest_first_lem : NoneNewer (newer_slot b) (answer_list b fs)
@@ -244,7 +242,7 @@ AnswerMeans = (b : List ℕ) (fs : List Filter) → AnswerIs b fs
 
 -- 01, "Cases": "limit 0 matches nothing stored"
 abbrev pub LimitZero : Type 0
-LimitZero = (b : List ℕ) (f : Filter) → answer_list b (limited f (Number (pos 0)) ∷ []) ≡ []
+LimitZero = (b : List ℕ) (f : Filter) → answer_list b (limited f (Some (pos 0)) ∷ []) ≡ []
 
 -- ---- the filters of a REQ
 -- what some elements of a message's array mean as filters, one each

@@ -1,14 +1,10 @@
 -- 01, "Shape": a filter as it is meant, every string decoded; and the one that lent parts p over the buffer b spell.
-use Rattle.std.specs.Prelude.{cond, List, [], ◌∷◌, ℕ, ℤ, get_or}
-use Rattle.std.proofs.Math.Option.{Option, none, some}
+use Rattle.std.specs.Prelude.{cond, List, [], ◌∷◌, ℕ, ℤ, get_or, Some, None, Option}
 use Rattle.json_tree.specs.Tree.{Json, Items, nil, item, Got, of_array}
 use Rattle.json_tree.specs.Tree as tree
 use Rattle.shape.specs.Shape.{name_at, is_condition}
 use Rattle.message.specs.Parts.{number_spelled, members_at}
 use Rattle.message.specs.Lent.{value_at}
-use Rattle.message.specs.declared.Bound.{Bound}
-use Rattle.message.specs.declared.Listed.{Listed}
-use Rattle.message.specs.declared.Listed.TheVariants as listed
 use Rattle.message.specs.declared.FilterParts.{FilterParts}
 use Rattle.event.specs.Lent.{tag_of}
 use Rattle.wire.specs.Bytes.{Bytes}
@@ -27,9 +23,9 @@ pub record Filter : Type 0 where
   pub ids : Strings
   pub authors : Strings
   pub kinds : Option (List ℤ)
-  pub since : Bound
-  pub until : Bound
-  pub limit : Bound
+  pub since : Option ℤ
+  pub until : Option ℤ
+  pub limit : Option ℤ
   pub conditions : List Condition
 
 -- ---- what is at a place of b: its strings, its numbers; of no array none
@@ -53,13 +49,13 @@ conditions_of b (item p v t ts) =
     (conditions_of b ts)
 
 -- ---- the parts
-abbrev pub if_listed : {A : Type 0} → (ℕ → A) → Listed → Option A
-if_listed f listed.Absent = none
-if_listed f (listed.At v) = some (f v)
+abbrev pub if_listed : {A : Type 0} → (ℕ → A) → Option ℕ → Option A
+if_listed f None = None
+if_listed f (Some v) = Some (f v)
 
-abbrev pub conditions_in : Bytes → Listed → List Condition
-conditions_in b listed.Absent = []
-conditions_in b (listed.At v) = conditions_of b (members_at b v)
+abbrev pub conditions_in : Bytes → Option ℕ → List Condition
+conditions_in b None = []
+conditions_in b (Some v) = conditions_of b (members_at b v)
 
 unfoldable pub filter_of : Bytes → FilterParts → Filter
 filter_of b p = record {

@@ -1,10 +1,7 @@
 -- 01, "Filters and replies": whether an event matches a filter.
-use Rattle.std.specs.Prelude.{Bool, true, false, not, ◌&&◌, List, [], ◌∷◌, ℕ, ℤ, pos}
-use Rattle.std.proofs.Math.Option.{Option, none, some}
+use Rattle.std.specs.Prelude.{Bool, true, false, not, ◌&&◌, List, [], ◌∷◌, ℕ, ℤ, pos, Some, None, Option}
 use Rattle.wire.specs.Bytes.{Bytes, same_bytes}
 use Rattle.text.specs.Event.{Tag, Event, all}
-use Rattle.message.specs.declared.Bound.{Bound}
-use Rattle.message.specs.declared.Bound.TheVariants.{Absent, Number}
 use Rattle.law.specs.Lists.{any}
 use Rattle.law.specs.Event.{earlier}
 use Rattle.query.specs.Filter.{Condition, Filter, Strings}
@@ -19,8 +16,8 @@ same_number a b = not (earlier a b) && not (earlier b a)
 
 -- a condition that is absent holds
 abbrev pub if_given : {A : Type 0} → (A → Bool) → Option A → Bool
-if_given f none = true
-if_given f (some l) = f l
+if_given f None = true
+if_given f (Some l) = f l
 
 abbrev pub is_listed : Strings → Bytes → Bool
 is_listed l v = if_given (λ m. is_member m v) l
@@ -29,13 +26,13 @@ abbrev pub kind_listed : Option (List ℤ) → ℕ → Bool
 kind_listed l k = if_given (λ m. any (same_number (pos k)) m) l
 
 -- "since and until are inclusive."
-abbrev pub since_holds : Bound → ℤ → Bool
-since_holds Absent t = true
-since_holds (Number s) t = not (earlier t s)
+abbrev pub since_holds : Option ℤ → ℤ → Bool
+since_holds None t = true
+since_holds (Some s) t = not (earlier t s)
 
-abbrev pub until_holds : Bound → ℤ → Bool
-until_holds Absent t = true
-until_holds (Number u) t = not (earlier u t)
+abbrev pub until_holds : Option ℤ → ℤ → Bool
+until_holds None t = true
+until_holds (Some u) t = not (earlier u t)
 
 -- "#x needs a tag named x of at least two strings whose second is in the list"
 abbrev pub tag_fits : Condition → Tag → Bool

@@ -26,7 +26,6 @@ ghost use Rattle.std.specs.Prelude.{◌≤◌, length};
 
 use lines::{Input, Output};
 use message::{EventParts, FilterParts, Message};
-use query::{Listing, Matched};
 use std::io;
 use std::io::{Read, Write};
 use table::Offered;
@@ -51,11 +50,11 @@ fn put_sound(out: &mut [u8], table: &[u8]) -> usize {
     wire::put(out, 0, b"unsound")
 }
 
-fn put_matched(out: &mut [u8], x: Matched) -> usize {
+fn put_matched(out: &mut [u8], x: Result<bool, u8>) -> usize {
     match x {
-        Matched::Matches => wire::put(out, 0, b"matches"),
-        Matched::Differs => wire::put(out, 0, b"differs"),
-        Matched::Refused(row) => fields::put_number(out, 0, row as u64),
+        Ok(true) => wire::put(out, 0, b"matches"),
+        Ok(false) => wire::put(out, 0, b"differs"),
+        Err(row) => fields::put_number(out, 0, row as u64),
     }
 }
 
@@ -63,12 +62,10 @@ fn put_matched(out: &mut [u8], x: Matched) -> usize {
 fn changed(row: &[u16], fill: u16) -> usize
     ensures { result ≤ length row.now }
 {
-    let mut n = row.len();
-    while 0 < n {
-        if row[n - 1] != fill {
-            return n;
+    for i in (0..row.len()).rev() {
+        if row[i] != fill {
+            return i + 1;
         }
-        n -= 1;
     }
     0
 }
@@ -82,10 +79,8 @@ fn put_row(out: &mut [u8], at: usize, row: &[u16], n: usize) -> usize
     requires { n ≤ length row.now }
 {
     let mut a = at;
-    let mut i: usize = 0;
-    while i < n {
-        a = put_short(out, a, row[i]);
-        i += 1;
+    for x in &row[..n] {
+        a = put_short(out, a, *x);
     }
     a
 }
@@ -95,14 +90,14 @@ fn put_changed(out: &mut [u8], at: usize, row: &[u16], fill: u16) -> usize {
     put_row(out, at, row, n)
 }
 
-fn put_listing(out: &mut [u8], x: Listing, row: &[u16], fill: u16) -> usize {
+fn put_listing(out: &mut [u8], x: Result<usize, u8>, row: &[u16], fill: u16) -> usize {
     match x {
-        Listing::Count(n) => {
+        Ok(n) => {
             let a = fields::put_number(out, 0, 0);
             let b = fields::put_number(out, a, n as u64);
             put_changed(out, b, row, fill)
         }
-        Listing::Refused(r) => {
+        Err(r) => {
             let a = fields::put_number(out, 0, r as u64);
             put_changed(out, a, row, fill)
         }
@@ -117,9 +112,9 @@ fn list(
     n: usize,
     row: &mut [u16],
     size: usize,
-) -> Listing {
+) -> Result<usize, u8> {
     if row.len() < size {
-        return Listing::Refused(0);
+        return Err(0);
     }
     matching::answer(table, m, fs, n, &mut row[..size])
 }
@@ -147,8 +142,7 @@ fn put_req(out: &mut [u8], line: &[u8], lent: &[u8], table: &[u8]) -> usize {
             put_list(out, line, table, m, fs, f.n)
         }
         Message::Refused(x) => fields::put_refusal(out, 0, x),
-        Message::Event(_) => wire::put(out, 0, b"no REQ"),
-        Message::Close(_) => wire::put(out, 0, b"no REQ"),
+        Message::Event(_) | Message::Close(_) => wire::put(out, 0, b"no REQ"),
     }
 }
 
@@ -160,8 +154,7 @@ fn put_asked(out: &mut [u8], b: &[u8], p: EventParts, m: &[u8]) -> usize {
             put_matched(out, matching::matched(b, p, m, fs, f.n))
         }
         Message::Refused(x) => fields::put_refusal(out, 0, x),
-        Message::Event(_) => wire::put(out, 0, b"no REQ"),
-        Message::Close(_) => wire::put(out, 0, b"no REQ"),
+        Message::Event(_) | Message::Close(_) => wire::put(out, 0, b"no REQ"),
     }
 }
 
@@ -171,18 +164,14 @@ fn put_met(out: &mut [u8], line: &[u8], lent: &[u8]) -> usize {
     match message::read(b) {
         Message::Event(p) => put_asked(out, b, p, m),
         Message::Refused(x) => fields::put_refusal(out, 0, x),
-        Message::Req(_) => wire::put(out, 0, b"no EVENT"),
-        Message::Close(_) => wire::put(out, 0, b"no EVENT"),
+        Message::Req(_) | Message::Close(_) => wire::put(out, 0, b"no EVENT"),
     }
 }
 
 fn put_offered(out: &mut [u8], x: Offered) -> usize {
     match x {
-        Offered::Ephemeral => fields::put_number(out, 0, 0),
-        Offered::Duplicate => fields::put_number(out, 0, 0),
-        Offered::Older => fields::put_number(out, 0, 0),
-        Offered::Stored => fields::put_number(out, 0, 0),
         Offered::Refused(r) => fields::put_refusal(out, 0, r),
+        _ => fields::put_number(out, 0, 0),
     }
 }
 

@@ -1,5 +1,6 @@
 -- A turn leaves the buffers ready, and goes on in the chunk or writes what waits. With the whole output free it is
 -- never refused.
+use Rattle.std.specs.Prelude.{Result, Ok}
 use mathlib.Core.Path.{◌≡◌, refl, sym, ap, ◌∙◌}
 use mathlib.Core.List.{List}
 use Prim.Native.Nat.{ℕ, ◌+◌, ◌-◌, ◌≤◌, ◌<◌}
@@ -9,8 +10,6 @@ use borrow.Author.Tests.{eq-eqb}
 use lib.ListN.{length, replicate, take, drop, length-drop}
 use lib.Seq.{length-take-le}
 use Rattle.event.specs.Answer.{written_number, written_length}
-use Rattle.event.specs.declared.Written.{Written}
-use Rattle.event.specs.declared.Written.TheVariants as sent
 use Rattle.table.specs.Layout.{capacity_of, table_size}
 use Rattle.table.specs.Format.{formatted}
 use Rattle.table.proofs.Formatted.{formatted_capacity}
@@ -107,9 +106,9 @@ module _ (b line chunk out : List ℕ) (p : Place) (piece rest : List ℕ) where
       step_refused e = (stays_ready a t e, (record { used = s.used; waits = omega arith }, omega (arith, some_waits)))
 
 -- ---- the end of the input
-pub finish_room : (b line : List ℕ) (n : ℕ) (out : List ℕ) {w : ℕ} {r : Written} {b' o : List ℕ}
+pub finish_room : (b line : List ℕ) (n : ℕ) (out : List ℕ) {w : ℕ} {r : Result ℕ ℕ} {b' o : List ℕ}
     → (r ≡ feed_finished b line n out) × ((written_number r ≡ finish_row b line n out) × ((b' ≡ finish_table b line n out) × (o ≡ finish_out b line n out)))
-    → r ≡ sent.Wrote w → w ≤ length o
+    → r ≡ Ok w → w ≤ length o
 unfolding finish_row
 finish_room b line n out (x, (y, (t, o))) f =
     let m = (finished_means b line n out).0 in

@@ -8,7 +8,6 @@ ghost use Rattle.program.specs.Feed.{most_line};
 ghost use Rattle.program.specs.Claims.Respond.{enough_for};
 ghost use Rattle.relay.specs.Inner.{Ready, Stands, waiting_from};
 
-use event::Written;
 use program::Turned;
 use std::io;
 use std::io::{Read, Write};
@@ -19,13 +18,6 @@ struct Place {
     at: usize,
     n: usize,
     w: usize,
-}
-
-// Whether there was any input, and how many bytes the line so far has.
-#[derive(Clone, Copy)]
-struct Got {
-    more: bool,
-    n: usize,
 }
 
 fn write<W: Write>(output: &mut W, out: &[u8], w: usize) -> io::Result<()>
@@ -91,7 +83,8 @@ fn feed_chunk<W: Write>(
     Ok(p.n)
 }
 
-// What the input has at the moment, as far as it fits the chunk.
+// What the input has at the moment, as far as it fits the chunk; how many bytes the line so far has then, or none at the
+// input's end.
 fn read_once<R: Read, W: Write>(
     input: &mut R,
     output: &mut W,
@@ -100,19 +93,16 @@ fn read_once<R: Read, W: Write>(
     n: usize,
     chunk: &mut [u8],
     out: &mut [u8],
-) -> io::Result<Got>
+) -> io::Result<Option<usize>>
     requires { Ready table.old line.old out.old }
     ensures { Ready table.new line.new out.new }
 {
     let k = input.read(chunk)?;
     if k == 0 {
-        return Ok(Got { more: false, n });
+        return Ok(None);
     }
     let next = feed_chunk(output, table, line, n, &chunk[..k], out)?;
-    Ok(Got {
-        more: true,
-        n: next,
-    })
+    Ok(Some(next))
 }
 
 // The end of the input.
@@ -124,8 +114,8 @@ fn end<W: Write>(
     out: &mut [u8],
 ) -> io::Result<()> {
     match feed::finish(table, line, n, out) {
-        Written::Wrote(w) => write(output, out, w)?,
-        Written::Refused(_) => {}
+        Ok(w) => write(output, out, w)?,
+        Err(_) => {}
     }
     output.flush()
 }
@@ -143,14 +133,11 @@ fn run<R: Read, W: Write>(
     requires program_slots_in_bounds { enough_for program_slots ≤ length out.old }
 {
     let mut n: usize = 0;
-    let mut turns: u64 = 0;
-    while turns < 0xffff_ffff_ffff {
-        let r = read_once(input, output, table, line, n, chunk, out)?;
-        n = r.n;
-        if !r.more {
+    for _ in 0..0xffff_ffff_ffff_u64 {
+        let Some(next) = read_once(input, output, table, line, n, chunk, out)? else {
             return end(output, table, line, n, out);
-        }
-        turns += 1;
+        };
+        n = next;
     }
     Ok(())
 }

@@ -13,7 +13,6 @@
 ghost use Rattle.std.specs.Prelude.{◌≡◌, ◌≤◌, length};
 ghost use Rattle.program.specs.Feed.{most_line};
 
-use event::Written;
 use lines::{Input, Output};
 use numeral::Whole;
 use program::Turned;
@@ -41,15 +40,6 @@ fn number(p: &[u8]) -> usize {
     }
 }
 
-fn least(a: usize, b: usize) -> usize
-    ensures { (result ≤ a) × (result ≤ b) }
-{
-    if a < b {
-        return a;
-    }
-    b
-}
-
 fn write_out<W: Write>(output: &mut Output<W>, out: &[u8], n: usize) -> io::Result<()> {
     lines::write(output, wire::piece(out, 0, n))
 }
@@ -65,8 +55,7 @@ fn feed_piece<W: Write>(
 ) -> io::Result<usize> {
     let mut k = n;
     let mut at: usize = 0;
-    let mut turns: usize = 0;
-    while turns < piece.len() {
+    for _ in 0..piece.len() {
         if piece.len() <= at {
             return Ok(k);
         }
@@ -74,14 +63,13 @@ fn feed_piece<W: Write>(
         match feed::turn(table, line, k, &piece[at..], out) {
             Turned::Fed(used, m, w) => {
                 write_out(output, out, w)?;
-                at = at + least(used, left);
+                at = at + used.min(left);
                 k = m;
             }
             Turned::Refused(_) => {
                 return Ok(k);
             }
         }
-        turns += 1;
     }
     Ok(k)
 }
@@ -105,12 +93,10 @@ fn feed_all<W: Write>(
     let size = size_of(r.cut, p.len());
     let mut k = r.n;
     let mut rest = p.len();
-    let mut turns: usize = 0;
-    while turns < p.len() {
-        let at = p.len() - least(rest, p.len());
+    for _ in 0..p.len() {
+        let at = p.len() - rest.min(p.len());
         k = feed_piece(output, table, line, k, wire::piece(p, at, size), out)?;
-        rest = rest - least(size, rest);
-        turns += 1;
+        rest = rest - size.min(rest);
     }
     Ok(k)
 }
@@ -131,7 +117,7 @@ fn feed_many<W: Write>(
     let mut k = r.n;
     let mut rest = count;
     while 0 < rest {
-        let size = least(rest, bytes.len());
+        let size = rest.min(bytes.len());
         if size == 0 {
             return Ok(k);
         }
@@ -149,8 +135,8 @@ fn end_run<W: Write>(
     out: &mut [u8],
 ) -> io::Result<()> {
     match feed::finish(table, line, n, out) {
-        Written::Wrote(w) => write_out(output, out, w)?,
-        Written::Refused(_) => {}
+        Ok(w) => write_out(output, out, w)?,
+        Err(_) => {}
     }
     lines::write(output, b"E\n")
 }
@@ -256,14 +242,12 @@ fn read_all<R: Read, W: Write>(
 ) -> io::Result<()> {
     let mut now = Run { n: 0, cut: 0 };
     let mut l = lines::none();
-    let mut k: u64 = 0;
-    while k < 0xffff_ffff_ffff {
+    for _ in 0..0xffff_ffff_ffff_u64 {
         l = lines::next(input, given, chunk, l)?;
         if l.left == 0 {
             return Ok(());
         }
         now = respond(output, table, line, now, given, l.n, out)?;
-        k += 1;
     }
     Ok(())
 }

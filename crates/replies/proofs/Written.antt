@@ -1,4 +1,5 @@
 -- The pieces of a reply in a row, how long it is, its rows, and what is answered.
+use Rattle.std.specs.Prelude.{Result, Ok, Err}
 use mathlib.Core.Path.{◌≡◌, refl, sym, ap, ◌∙◌}
 use mathlib.Core.Bool.{Bool, true, false, ◌||◌, or-false}
 use mathlib.Core.List.{List, ◌++◌, append_assoc}
@@ -34,8 +35,6 @@ use Rattle.message.proofs.Ranks.{lowest_lower}
 use Rattle.event.specs.Lent.{said, natural, lent_tags_at, event_of, text_of}
 use Rattle.event.specs.Answer.{is_large, written_number}
 use Rattle.event.specs.Lent.{most_length, length_of}
-use Rattle.event.specs.declared.Written.{Written}
-use Rattle.event.specs.declared.Written.TheVariants.{Wrote, Refused}
 use Rattle.event.proofs.Answers.{refused, passed, too_short, room_for}
 use Rattle.wire.specs.Ascii.{ascii}
 use Rattle.reply.specs.Replies.{event, truth, string_json, tags_json, object_text, reply_text}
@@ -255,22 +254,22 @@ module _ (b : List ℕ) (s : Span) (p : EventParts) (z : parts_row b (event_part
       (cut_room 266 (length (json_of (text_of b p.body))) (length (json_of (escape (said b s)))) n m room (omega arith) l e f x)
 
 -- ---- what is answered
-abbrev pub AsReplied : List ℕ → ReplyParts → List ℕ → Written → List ℕ → Type 0
+abbrev pub AsReplied : List ℕ → ReplyParts → List ℕ → Result ℕ ℕ → List ℕ → Type 0
 AsReplied b p out w o = (w ≡ replied b p out) × ((written_number w ≡ reply_row b p out) × (o ≡ replied_out b p out))
 
 module _ (b : List ℕ) (p : ReplyParts) (out : List ℕ) {x : ℕ} (e : x ≡ parts_row b p) where
-  pub reply_refused : (x ≡ 0 → ⊥) → AsReplied b p out (Refused x) out
+  pub reply_refused : (x ≡ 0 → ⊥) → AsReplied b p out (Err x) out
   unfolding replied replied_out reply_row
   reply_refused n = refused (reply_text (reply_of b p)) out (parts_row b p) (short_row (reply_text (reply_of b p)) out) e n
 
   module _ (z : x ≡ 0) {f : Bool} (m : Room (length (reply_text (reply_of b p))) (length out) f) where
-    pub reply_short : f ≡ false → AsReplied b p out (Refused 13) out
+    pub reply_short : f ≡ false → AsReplied b p out (Err 13) out
     unfolding replied replied_out reply_row
     reply_short q =
         let (g, h) = too_short (reply_text (reply_of b p)) out (m.no q) in
         passed (reply_text (reply_of b p)) out (parts_row b p) (short_row (reply_text (reply_of b p)) out) (sym e ∙ z) g h
 
-    pub reply_put : f ≡ true → {r : ℕ} {o : List ℕ} → Puts out 0 (reply_text (reply_of b p)) r o → AsReplied b p out (Wrote r) o
+    pub reply_put : f ≡ true → {r : ℕ} {o : List ℕ} → Puts out 0 (reply_text (reply_of b p)) r o → AsReplied b p out (Ok r) o
     unfolding replied replied_out reply_row
     reply_put q y =
         let (g, h) = room_for (reply_text (reply_of b p)) out (m.yes q) y in

@@ -11,7 +11,6 @@ ghost use Rattle.reply.specs.Lent.{reply_of, parts_row, reply_row, replied, repl
 ghost use Rattle.replies.specs.Inner.{front_text, middle_text, back_text, ok_parts, event_parts, eose_parts};
 ghost use Rattle.replies.specs.Inner.{closed_parts, notice_parts, Room};
 
-use event::Written;
 use message::{Body, EventParts, Span};
 use reply::ReplyParts;
 
@@ -237,17 +236,17 @@ fn reply_fits(b: &[u8], p: ReplyParts, room: usize) -> bool
 }
 
 // The reply that the parts spell, from the start of `out`.
-pub fn reply(b: &[u8], p: ReplyParts, out: &mut [u8]) -> Written
+pub fn reply(b: &[u8], p: ReplyParts, out: &mut [u8]) -> Result<usize, u8>
     ensures value { result ≡ replied b.now p out.old }
     ensures result_value { written_number result ≡ reply_row b.now p out.old }
     ensures out_after { out.new ≡ replied_out b.now p out.old }
 {
     let row = parts_row(b, p);
     if row != 0 {
-        return Written::Refused(row);
+        return Err(row);
     }
     if reply_fits(b, p, out.len()) {
-        return Written::Wrote(put_reply(out, b, p));
+        return Ok(put_reply(out, b, p));
     }
-    Written::Refused(13)
+    Err(13)
 }

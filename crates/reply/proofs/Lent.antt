@@ -1,5 +1,6 @@
 -- A reply given as lent parts: its row, its answer and the output; and the number of other answers. The last claims of
 -- specs/Claims/Replies.
+use Rattle.std.specs.Prelude.{Ok, Err}
 use mathlib.Core.Path.{◌≡◌, refl, sym, ap, ◌∙◌}
 use mathlib.Core.Bool.{Bool, true, false, cond, ◌||◌, false≢true}
 use mathlib.Core.Logic.{◌⊎◌, inl, inr, ⊎_elim, ◌≢◌}
@@ -16,7 +17,6 @@ use Rattle.message.specs.declared.EventParts.{EventParts}
 use Rattle.message.specs.Lent.{string2, string4, string5, string7, event2, event4, event5, event7, body6, body8}
 use Rattle.message.specs.Inner.{lowest_by}
 use Rattle.event.specs.Answer.{or_else, is_large, answered, serialised, serialised_row, written_number, written_length}
-use Rattle.event.specs.declared.Written.TheVariants as sent
 use Rattle.wire.specs.Lowest.{Lowest}
 use Rattle.wire.proofs.Cases.{bool, clash, or_cases, or_right}
 use Rattle.wire.proofs.Lowest.{alike}
@@ -52,10 +52,10 @@ writes_or row t out fits = record {
     left : row ≢ 0 → output_after row t out ≡ out
     left ne = rw (ne_eqb row 0 ne)
 
-    is_wrote : row ≡ 0 → answered row (length t) ≡ sent.Wrote (length t)
+    is_wrote : row ≡ 0 → answered row (length t) ≡ Ok (length t)
     is_wrote e = rw (eq-eqb row 0 e)
 
-    is_refused_lem : row ≢ 0 → answered row (length t) ≡ sent.Refused row
+    is_refused_lem : row ≢ 0 → answered row (length t) ≡ Err row
     is_refused_lem ne = rw (ne_eqb row 0 ne)
 
 -- ---- the lowest_by of rows that are tested one after the other

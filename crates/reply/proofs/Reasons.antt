@@ -1,4 +1,5 @@
 -- The reason of a refusal: no byte of it is escaped, and between its quotes it has at most 29 bytes.
+use Rattle.std.specs.Prelude.{Option, Some, None}
 use mathlib.Core.Path.{◌≡◌, refl, ap, ◌∙◌}
 use mathlib.Core.Bool.{Bool, true, false, not, ◌&&◌}
 use mathlib.Core.List.{List, [], ◌∷◌, ◌++◌, append_assoc}
@@ -14,8 +15,6 @@ use Rattle.wire.proofs.Escapes.{control_high}
 use Rattle.wire.proofs.Json.{json_same}
 use Rattle.numeral.specs.Decimal.{digits}
 use Rattle.numeral.proofs.Digits.{digits_one, digits_split, by_digits, digits_few}
-use Rattle.shape.specs.declared.Offset.{Offset}
-use Rattle.shape.specs.declared.Offset.TheVariants.{Absent, At}
 use Rattle.shape.specs.declared.Refusal.{Refusal}
 use Rattle.shape.specs.Offsets.{offset_for, refusal_for}
 use Rattle.shape.proofs.Offsets.{offset_plain, offset_for_within}
@@ -87,10 +86,10 @@ unfolding reason_of all
 row_short r = leb-true (length (reason_of r)) 27 (entry (λ l. leb (length l) 27) reasons r refl refl)
 
 -- ---- a reason
-offset_verbatim : (x : Offset) → all is_verbatim (offset_text x) ≡ true
+offset_verbatim : (x : Option ℕ) → all is_verbatim (offset_text x) ≡ true
 unfolding all letter_of
-offset_verbatim Absent = refl
-offset_verbatim (At p) = verbatim_append (ascii " at ") (digits p) refl (digits_verbatim p)
+offset_verbatim None = refl
+offset_verbatim (Some p) = verbatim_append (ascii " at ") (digits p) refl (digits_verbatim p)
 
 module _ (x : Refusal) where
   pub reason_json : string_json (refusal_reason x) ≡ (34 ∷ reason_of x.row) ++ (offset_text x.offset ++ (34 ∷ []))
@@ -106,17 +105,17 @@ pub reason_short : (m : List ℕ) (r : ℕ) → length (string_json (refusal_rea
 unfolding reason_of
 reason_short m r = go (offset_for m r) refl
   where
-    digits_5 : {p : ℕ} → offset_for m r ≡ At p → length (digits p) ≤ 5
+    digits_5 : {p : ℕ} → offset_for m r ≡ Some p → length (digits p) ≤ 5
     digits_5 {p} e = let (h, k) = offset_for_within m r e in digits_few 5 p (lit< tt) (omega arith)
 
-    short : {p : ℕ} → offset_for m r ≡ At p → (six seven : Bool) → eqb r 6 ≡ six → eqb r 7 ≡ seven → length (reason_of r) ≤ 15
+    short : {p : ℕ} → offset_for m r ≡ Some p → (six seven : Bool) → eqb r 6 ≡ six → eqb r 7 ≡ seven → length (reason_of r) ≤ 15
     short e true seven a b = rw (eqb-true r 6 a) (omega arith)
     short e false true a b = rw (eqb-true r 7 b) (omega arith)
     short e false false a b = absurd (let y = offset_plain m r (eqb-false r 6 a) (eqb-false r 7 b) in let z : ◌≡◌ {A = ℕ} 0 1 = cc in omega arith)
 
-    go : (x : Offset) → offset_for m r ≡ x → length (string_json (refusal_reason (refusal_for m r))) ≤ 29
-    go Absent e = omega (arith, reason_length (refusal_for m r), ap (λ y. length (offset_text y)) e, row_short r)
-    go (At p) e =
+    go : (x : Option ℕ) → offset_for m r ≡ x → length (string_json (refusal_reason (refusal_for m r))) ≤ 29
+    go None e = omega (arith, reason_length (refusal_for m r), ap (λ y. length (offset_text y)) e, row_short r)
+    go (Some p) e =
         omega (
           arith,
           reason_length (refusal_for m r),

@@ -1,6 +1,6 @@
 -- What specs/Replies and Lent mean, in the sentences of 01: proved in proofs/Plain and Lent, each under its own name in
 -- small letters (PartsPass: parts-pass).
-use Rattle.std.specs.Prelude.{◌≡◌, Bool, true, false, ◌↔◌, ◌≢◌, List, ℕ, ◌≤◌, ◌<◌, eqb, ltb, length, take, drop}
+use Rattle.std.specs.Prelude.{◌≡◌, Bool, true, false, ◌↔◌, ◌≢◌, List, ℕ, ◌≤◌, ◌<◌, eqb, ltb, length, take, drop, Result, Ok, Err}
 use Rattle.wire.specs.Limits.{hex_length}
 use Rattle.message.specs.Lent.{string2, string4, string5, string7, event2, event4, event5, event7, body6, body8}
 use Rattle.message.specs.declared.Span.{Span}
@@ -8,8 +8,6 @@ use Rattle.message.specs.declared.Body.{Body}
 use Rattle.message.specs.declared.EventParts.{EventParts}
 use Rattle.event.specs.Lent.{text_of}
 use Rattle.event.specs.Answer.{is_large, serialised, serialised_row, written_number, written_length}
-use Rattle.event.specs.declared.Written.{Written}
-use Rattle.event.specs.declared.Written.TheVariants as sent
 use Rattle.law.specs.Lists.{any}
 use Rattle.wire.specs.Lowest.{Lowest}
 use Rattle.reply.specs.Replies.{Reply, reply_text}
@@ -108,14 +106,14 @@ ReplyFits =
 -- what a call answers, and the output o afterwards, that row r refuses or that writes the text t: "Output is written
 -- from its start, and its rest stays. A refusal carries its number and no other value .., and every lent buffer stays
 -- as found."
-pub record WritesOr (row : ℕ) (t out : List ℕ) (w : Written) (o : List ℕ) : Type 0 where
+pub record WritesOr (row : ℕ) (t out : List ℕ) (w : Result ℕ ℕ) (o : List ℕ) : Type 0 where
   pub number : written_number w ≡ row
-  pub wrote : row ≡ 0 → w ≡ sent.Wrote (length t)
+  pub wrote : row ≡ 0 → w ≡ Ok (length t)
   pub value : row ≡ 0 → written_length w ≡ length t
   pub begins : row ≡ 0 → take (length t) o ≡ t
   pub rest : row ≡ 0 → drop (length t) o ≡ drop (length t) out
   pub as_long : length o ≡ length out
-  pub refused : row ≢ 0 → (w ≡ sent.Refused row) × (written_length w ≡ 0) × (o ≡ out)
+  pub refused : row ≢ 0 → (w ≡ Err row) × (written_length w ≡ 0) × (o ≡ out)
 
 abbrev pub RepliedMeans : Type 0
 RepliedMeans =

@@ -1,9 +1,8 @@
 -- Worked replies, by computation: the bytes of each kind of reply, and of every reason.
-use Rattle.std.specs.Prelude.{◌≡◌, refl, true, false, [], ◌∷◌, ◌++◌, map, ℕ, negsuc}
+use Rattle.std.specs.Prelude.{◌≡◌, refl, true, false, [], ◌∷◌, ◌++◌, map, ℕ, negsuc, Some, None}
 use Rattle.wire.specs.Ascii.{ascii}
 use Rattle.wire.specs.Escape.{letter_of, esc_one, escape, json_one, json_of}
 use Rattle.numeral.specs.Decimal.{digits_in, digits, decimal}
-use Rattle.shape.specs.declared.Offset.TheVariants.{Absent, At}
 use Rattle.shape.specs.declared.Refusal.{Refusal}
 use Rattle.text.specs.Event.{Event, quoted, members_text, tag_text, tags_text}
 use Rattle.reply.specs.Replies.{ok, event, eose, closed, notice, string_json, tags_json, object_text}
@@ -68,10 +67,10 @@ reason_texts = refl
 
 -- 02, Wish 9: `invalid: number at 57`; the first byte of a message, and the last of the longest; no offset
 abbrev by_number : ℕ → Refusal
-by_number p = record { row = 6; offset = At p }
+by_number p = record { row = 6; offset = Some p }
 
 abbrev by_hex : ℕ → Refusal
-by_hex p = record { row = 7; offset = At p }
+by_hex p = record { row = 7; offset = Some p }
 
 pub offset_texts :
     (reply_text (ok (ascii "0f") false (refusal_reason (by_number 57)))
@@ -82,7 +81,7 @@ pub offset_texts :
     × (reply_text (closed (ascii "s") (refusal_reason (by_hex 12))) ≡ ascii "[\"CLOSED\",\"s\",\"invalid: hex at 12\"]")
     × (reply_text (notice (refusal_reason (by_number 0))) ≡ ascii "[\"NOTICE\",\"invalid: number at 0\"]")
     × (reply_text (notice (refusal_reason (by_hex 12))) ≡ ascii "[\"NOTICE\",\"invalid: hex at 12\"]")
-    × (reply_text (notice (refusal_reason (record { row = 8; offset = Absent })))
+    × (reply_text (notice (refusal_reason (record { row = 8; offset = None })))
     ≡ ascii "[\"NOTICE\",\"invalid: count or length\"]")
 unfolding reply_text string_json json_of json_one reason_of quoted letter_of esc_one escape digits_in digits
 offset_texts = (refl, refl, refl, refl, refl, refl, refl)

@@ -1,7 +1,7 @@
 -- A reply given as lent parts over the buffer b: "Parts of an event, filter or reply are tested by rows 2 and 4 to 8
 -- .., an event by 9 too"; then 13, "lent output .. too short". The reason is any string; ids are "Hex", subscription
 -- ids are bounded by "Counts".
-use Rattle.std.specs.Prelude.{Bool, false, cond, ◌||◌, length}
+use Rattle.std.specs.Prelude.{Bool, false, cond, ◌||◌, length, Result, ℕ}
 use Rattle.wire.specs.Limits.{hex_length}
 pub use Rattle.wire.specs.Put.{short_row, output_after}
 use Rattle.message.specs.declared.Span.{Span}
@@ -10,7 +10,6 @@ unfoldable pub use Rattle.message.specs.Lent.{subscription8}
 use Rattle.message.specs.Lent.{string2, string4, string5, string7, lowest, event2, event4, event5, event7, body6, body8}
 use Rattle.event.specs.Lent.{said, event_of}
 use Rattle.event.specs.Answer.{or_else, is_large, answered}
-use Rattle.event.specs.declared.Written.{Written}
 use Rattle.reply.specs.Replies.{Reply, ok, event, eose, closed, notice, reply_text}
 use Rattle.reply.specs.declared.ReplyParts.{ReplyParts}
 use Rattle.reply.specs.declared.ReplyParts.TheVariants as parts
@@ -89,7 +88,7 @@ parts_row b (parts.Notice r) = notice_row b r
 unfoldable pub reply_row : (b : Bytes) (p : ReplyParts) (out : Bytes) → Row
 reply_row b p out = or_else (parts_row b p) (short_row (reply_text (reply_of b p)) out)
 
-unfoldable pub replied : (b : Bytes) (p : ReplyParts) (out : Bytes) → Written
+unfoldable pub replied : (b : Bytes) (p : ReplyParts) (out : Bytes) → Result ℕ ℕ
 replied b p out = answered (reply_row b p out) (length (reply_text (reply_of b p)))
 
 unfoldable pub replied_out : (b : Bytes) (p : ReplyParts) (out : Bytes) → Bytes

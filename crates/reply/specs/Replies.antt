@@ -1,10 +1,8 @@
 -- 01, "Filters and replies": the five replies. "Each reply begins with fixed bytes, copied exactly .. No white space;
 -- strings escaped as above; event fields in the order listed under Shape." 001, "From relay to client", says what
 -- follows the fixed bytes.
-use Rattle.std.specs.Prelude.{Bool, true, false, List, [], ◌∷◌, ◌++◌, ℕ, get_or}
+use Rattle.std.specs.Prelude.{Bool, true, false, List, [], ◌∷◌, ◌++◌, ℕ, get_or, Option, Some, None}
 use Rattle.numeral.specs.Decimal.{digits, decimal}
-use Rattle.shape.specs.declared.Offset.{Offset}
-use Rattle.shape.specs.declared.Offset.TheVariants.{Absent, At}
 use Rattle.shape.specs.declared.Refusal.{Refusal}
 use Rattle.text.specs.Event.{Tag, Event, quoted, tags_text}
 use Rattle.wire.specs.Ascii.{ascii}
@@ -78,9 +76,9 @@ unfoldable pub reason_of : ℕ → Bytes
 reason_of r = get_or reasons r []
 
 -- 02, Wish 9: "The reply text gains ` at ` and the decimal offset"
-abbrev pub offset_text : Offset → Bytes
-offset_text Absent = []
-offset_text (At p) = ascii " at " ++ digits p
+abbrev pub offset_text : Option ℕ → Bytes
+offset_text None = []
+offset_text (Some p) = ascii " at " ++ digits p
 
 abbrev pub refusal_reason : Refusal → Bytes
 refusal_reason r = reason_of r.row ++ offset_text r.offset

@@ -1,4 +1,5 @@
 -- The pieces of a short reply in a row, and how long it is.
+use Rattle.std.specs.Prelude.{Option, Some, None}
 use mathlib.Core.Path.{◌≡◌, refl, sym, ap, ap₂, ◌∙◌}
 use mathlib.Core.Bool.{Bool, true, false, cond}
 use mathlib.Core.List.{List, [], ◌∷◌, ◌++◌, map, append_assoc}
@@ -14,8 +15,6 @@ use Rattle.text.specs.Event.{quoted}
 use Rattle.numeral.specs.Decimal.{digits}
 use Rattle.numeral.proofs.Digits.{digits_20}
 use Rattle.shape.specs.Rows.{message_row}
-use Rattle.shape.specs.declared.Offset.{Offset}
-use Rattle.shape.specs.declared.Offset.TheVariants.{Absent, At}
 use Rattle.shape.specs.declared.Refusal.{Refusal}
 use Rattle.shape.specs.Offsets.{plain_refusal, refusal_for}
 use Rattle.shape.proofs.Offsets.{refusal_own, offset_other, offset_plain}
@@ -92,14 +91,14 @@ unfolding reason_of
 rest_length row h = (rw (no_entry reasons row h), lit≤ tt)
 
 -- the offset and the quote behind it
-pub absent_put : {x : Offset} {d o : List ℕ} {i r : ℕ} → x ≡ Absent → Puts d i (34 ∷ []) r o → Puts d i (end_text x) r o
+pub absent_put : {x : Option ℕ} {d o : List ℕ} {i r : ℕ} → x ≡ None → Puts d i (34 ∷ []) r o → Puts d i (end_text x) r o
 absent_put e p = rw e p
 
-pub offset_put : {x : Offset} (p : ℕ) {d o₁ o₂ o₃ : List ℕ} {i a b r : ℕ} → x ≡ At p → Puts d i (ascii " at ") a o₁ → Puts o₁ a (digits p) b o₂ → Puts o₂ b (34 ∷ []) r o₃
+pub offset_put : {x : Option ℕ} (p : ℕ) {d o₁ o₂ o₃ : List ℕ} {i a b r : ℕ} → x ≡ Some p → Puts d i (ascii " at ") a o₁ → Puts o₁ a (digits p) b o₂ → Puts o₂ b (34 ∷ []) r o₃
     → Puts d i (end_text x) r o₃
 offset_put p e y₁ y₂ y₃ = rw (e, append_assoc (ascii " at ") (digits p) (34 ∷ [])) (puts_then y₁ (puts_then y₂ y₃))
 
-pub offset_length : {x : Offset} (p : ℕ) {n : ℕ} → x ≡ At p → p < 2 ^ 64 → n ≡ length (digits p) → (4 + n ≡ length (offset_text x)) × (4 + n ≤ 24)
+pub offset_length : {x : Option ℕ} (p : ℕ) {n : ℕ} → x ≡ Some p → p < 2 ^ 64 → n ≡ length (digits p) → (4 + n ≡ length (offset_text x)) × (4 + n ≤ 24)
 offset_length p e h f = (rw e (omega (arith, f, length-append (ascii " at ") (digits p))), omega (arith, f, digits_20 p h))
 
 -- ---- a reason

@@ -1,18 +1,16 @@
 -- What private functions hand on: the replies by what the code has of them, and what is answered where a text is to be
 -- written.
-use Rattle.std.specs.Prelude.{◌≡◌, true, cond, List, [], ◌∷◌, ◌++◌, ℕ, ◌<◌, leb, length}
+use Rattle.std.specs.Prelude.{◌≡◌, true, cond, List, [], ◌∷◌, ◌++◌, ℕ, ◌<◌, leb, length, Option, Result}
 use Rattle.message.specs.Read.{named_of}
 use Rattle.message.specs.declared.Named.{Named}
 use Rattle.message.specs.declared.Naming.{Naming}
 use Rattle.message.specs.declared.Named.TheVariants.{Nothing}
 use Rattle.event.specs.Answer.{answered}
-use Rattle.event.specs.declared.Written.{Written}
 use Rattle.law.specs.Lists.{◌∈◌}
 use Rattle.table.specs.Layout.{count_of}
 use Rattle.table.specs.Sound.{sound}
 use Rattle.table.specs.declared.Offered.{Offered}
 use Rattle.wire.specs.Ascii.{ascii}
-use Rattle.shape.specs.declared.Offset.{Offset}
 use Rattle.shape.specs.declared.Refusal.{Refusal}
 use Rattle.shape.specs.Offsets.{refusal_for}
 use Rattle.reply.specs.Replies.{ok, eose, closed, notice, string_json, reply_text, truth, reason_of, offset_text}
@@ -26,7 +24,7 @@ use Rattle.wire.specs.Bytes.{Bytes, Row}
 abbrev pub open_text : Row → Bytes
 open_text row = 34 ∷ reason_of row
 
-abbrev pub end_text : Offset → Bytes
+abbrev pub end_text : Option ℕ → Bytes
 end_text x = offset_text x ++ (34 ∷ [])
 
 -- ---- the replies
@@ -72,6 +70,6 @@ pub record AllHeld (b ks : List ℕ) : Type 0 where
   pub held : (k : ℕ) → k ∈ ks → k < count_of b
 
 -- ---- the text t that is to be written to an output: the answer, and the output at exit
-pub record Said (t out : List ℕ) (r : Written) (o : List ℕ) : Type 0 where
+pub record Said (t out : List ℕ) (r : Result ℕ ℕ) (o : List ℕ) : Type 0 where
   pub answer : r ≡ answered (short_row t out) (length t)
   pub bytes : o ≡ output_after (short_row t out) t out

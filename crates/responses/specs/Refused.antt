@@ -1,8 +1,7 @@
 -- The reply to the message m that a row of 01 refuses, alone and without 0A, to a lent output: `refusal` of
 -- program/specs/Program. The call is refused by row 13 alone.
-use Rattle.std.specs.Prelude.{List, ℕ, length}
+use Rattle.std.specs.Prelude.{List, ℕ, length, Result}
 use Rattle.event.specs.Answer.{answered}
-use Rattle.event.specs.declared.Written.{Written}
 use Rattle.reply.specs.Replies.{reply_text}
 use Rattle.reply.specs.Lent.{short_row, output_after}
 use Rattle.program.specs.Program.{refusal}
@@ -14,7 +13,7 @@ refused_text m row = reply_text (refusal m row)
 unfoldable pub refused_row : (m : Bytes) (row : Row) (out : Bytes) → Row
 refused_row m row out = short_row (refused_text m row) out
 
-unfoldable pub refused_reply : (m : Bytes) (row : Row) (out : Bytes) → Written
+unfoldable pub refused_reply : (m : Bytes) (row : Row) (out : Bytes) → Result ℕ ℕ
 refused_reply m row out = answered (refused_row m row out) (length (refused_text m row))
 
 unfoldable pub refused_out : (m : Bytes) (row : Row) (out : Bytes) → Bytes

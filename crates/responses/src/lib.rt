@@ -15,12 +15,9 @@ ghost use Rattle.responses.specs.Refused.{refused_reply, refused_row, refused_ou
 ghost use Rattle.responses.specs.Inner.{open_text, end_text, verdict_text, ok_text, closed_text, notice_text};
 ghost use Rattle.responses.specs.Inner.{naming_for, naming_text, ended, eose_line, answer_text, AllHeld, Said};
 
-use event::Written;
 use message::{EventParts, Message, Named, Naming, ReqParts, Span};
 use offers::Taken;
-use query::Listing;
-use shape::{Offset, Refusal};
-use slot_replies::Left;
+use shape::Refusal;
 use table::Offered;
 
 // How long the reply text of each row is, between quotes, from row 0 on.
@@ -62,12 +59,12 @@ fn row_len(row: u8) -> usize
 }
 
 // ` at ` and the decimal offset, where there is one, and the quote behind the reply text.
-fn put_offset(out: &mut [u8], at: usize, x: Offset) -> usize
+fn put_offset(out: &mut [u8], at: usize, x: Option<usize>) -> usize
     ensures { Puts out.old at (end_text x) result out.new }
 {
     match x {
-        Offset::Absent => wire::put(out, at, b"\""),
-        Offset::At(p) => {
+        None => wire::put(out, at, b"\""),
+        Some(p) => {
             let a = wire::put(out, at, b" at ");
             let b = numeral::put_natural(out, a, p as u64);
             wire::put(out, b, b"\"")
@@ -76,12 +73,12 @@ fn put_offset(out: &mut [u8], at: usize, x: Offset) -> usize
 }
 
 // How much longer the reply text is by it.
-fn offset_len(x: Offset) -> usize
+fn offset_len(x: Option<usize>) -> usize
     ensures { (result ≡ length (offset_text x)) × (result ≤ 24) }
 {
     match x {
-        Offset::Absent => 0,
-        Offset::At(p) => 4 + numeral::natural_len(p as u64),
+        None => 0,
+        Some(p) => 4 + numeral::natural_len(p as u64),
     }
 }
 
@@ -235,32 +232,32 @@ fn refusal_fits(m: &[u8], x: Naming, room: usize) -> bool
 }
 
 // The reply that a refused message gets, without 0A (NOTICE, OK with false, or CLOSED), for a row of 01's table.
-pub fn refused(m: &[u8], row: u8, out: &mut [u8]) -> Written
+pub fn refused(m: &[u8], row: u8, out: &mut [u8]) -> Result<usize, u8>
     ensures value { result ≡ refused_reply m.now row out.old }
     ensures result_value { written_number result ≡ refused_row m.now row out.old }
     ensures out_after { out.new ≡ refused_out m.now row out.old }
 {
     let x = naming_for(m, row);
     if refusal_fits(m, x, out.len()) {
-        return Written::Wrote(put_refusal(out, m, x));
+        return Ok(put_refusal(out, m, x));
     }
-    Written::Refused(13)
+    Err(13)
 }
 
 // ---- one message
 // The same reply, with 0A, where what it says is known.
-fn respond_refused(m: &[u8], x: Naming, out: &mut [u8]) -> Written
+fn respond_refused(m: &[u8], x: Naming, out: &mut [u8]) -> Result<usize, u8>
     ensures { Said (ended (naming_text m.now x)) out.old result out.new }
 {
     let room = out.len();
     if room == 0 {
-        return Written::Refused(13);
+        return Err(13);
     }
     if refusal_fits(m, x, room - 1) {
         let a = put_refusal(out, m, x);
-        return Written::Wrote(wire::put(out, a, b"\n"));
+        return Ok(wire::put(out, a, b"\n"));
     }
-    Written::Refused(13)
+    Err(13)
 }
 
 // Whether the OK to an EVENT that was read has room. Its length depends on the verdict, which is asked for before the
@@ -276,7 +273,7 @@ fn ok_fits(table: &[u8], m: &[u8], p: EventParts, room: usize) -> bool
 }
 
 // An EVENT that was read: the table stays as found where the reply has no room.
-fn respond_event(table: &mut [u8], m: &[u8], p: EventParts, out: &mut [u8]) -> Written
+fn respond_event(table: &mut [u8], m: &[u8], p: EventParts, out: &mut [u8]) -> Result<usize, u8>
     requires { read_of m.now ≡ message.Event p }
     ensures said { Said (response table.old m.now) out.old result out.new }
     ensures table_after { table.new ≡ responded_table table.old m.now out.old }
@@ -285,32 +282,30 @@ fn respond_event(table: &mut [u8], m: &[u8], p: EventParts, out: &mut [u8]) -> W
         let id = p.id;
         let a = offers::offer_parts(table, m, p);
         let n = put_ok(out, m, id, a);
-        return Written::Wrote(wire::put(out, n, b"\n"));
+        return Ok(wire::put(out, n, b"\n"));
     }
-    Written::Refused(13)
+    Err(13)
 }
 
 // The EVENTs of held slots, then EOSE.
-fn put_answer(table: &[u8], m: &[u8], sub: Span, ks: &[u16], out: &mut [u8]) -> Written
+fn put_answer(table: &[u8], m: &[u8], sub: Span, ks: &[u16], out: &mut [u8]) -> Result<usize, u8>
     requires { AllHeld table.now ks.now }
     ensures { Said (answer_text table.now (said m.now sub) ks.now)
         out.old result out.new }
 {
     let id = wire::piece(m, sub.start, sub.len);
-    match slot_replies::events_left(table, id, ks, out.len()) {
-        Left::Room(room) => {
-            if has_room(room, 12, event::string_len(id)) {
-                let a = slot_replies::put_events(out, 0, table, id, ks);
-                return Written::Wrote(put_eose(out, a, m, sub));
-            }
-            Written::Refused(13)
-        }
-        Left::Short => Written::Refused(13),
+    let Some(room) = slot_replies::events_left(table, id, ks, out.len()) else {
+        return Err(13);
+    };
+    if has_room(room, 12, event::string_len(id)) {
+        let a = slot_replies::put_events(out, 0, table, id, ks);
+        return Ok(put_eose(out, a, m, sub));
     }
+    Err(13)
 }
 
 // A REQ that was read.
-fn respond_request(table: &[u8], m: &[u8], q: ReqParts, out: &mut [u8]) -> Written
+fn respond_request(table: &[u8], m: &[u8], q: ReqParts, out: &mut [u8]) -> Result<usize, u8>
     requires { read_of m.now ≡ message.Req q }
     ensures { Said (response table.now m.now) out.old result out.new }
 {
@@ -320,8 +315,8 @@ fn respond_request(table: &[u8], m: &[u8], q: ReqParts, out: &mut [u8]) -> Writt
     let n = fs.n;
     let mut row = [0u16; wire::MOST_SLOTS];
     match matching::answer(table, m, parts, n, &mut row) {
-        Listing::Count(k) => put_answer(table, m, sub, &row[..k], out),
-        Listing::Refused(k) => {
+        Ok(k) => put_answer(table, m, sub, &row[..k], out),
+        Err(k) => {
             let refusal = shape::plain_refusal(k);
             let named = Named::Subscription(sub);
             respond_refused(m, Naming { refusal, named }, out)
@@ -344,7 +339,7 @@ fn taken_first(m: &[u8], room: usize) -> bool
 }
 
 // One message, where the longest OK has room: an EVENT is offered as it is read, and its parts are tested once.
-fn respond_taken(table: &mut [u8], m: &[u8], out: &mut [u8]) -> Written
+fn respond_taken(table: &mut [u8], m: &[u8], out: &mut [u8]) -> Result<usize, u8>
     requires { 116 ≤ length out.old }
     ensures value { result ≡ responded table.old m.now out.old }
     ensures result_value { written_number result ≡ respond_row table.old m.now out.old }
@@ -354,17 +349,17 @@ fn respond_taken(table: &mut [u8], m: &[u8], out: &mut [u8]) -> Written
     match offers::take(table, m) {
         Taken::Event(id, a) => {
             let n = put_ok(out, m, id, a);
-            Written::Wrote(wire::put(out, n, b"\n"))
+            Ok(wire::put(out, n, b"\n"))
         }
         Taken::Req(q) => respond_request(table, m, q, out),
-        Taken::Close(_) => Written::Wrote(0),
+        Taken::Close(_) => Ok(0),
         Taken::Refused(x) => respond_refused(m, naming_for(m, x.row), out),
     }
 }
 
 // One message answered, each reply ended with 0A, and the table updated. 13 is the only refusal; table and output then
 // stay as found.
-pub fn respond(table: &mut [u8], m: &[u8], out: &mut [u8]) -> Written
+pub fn respond(table: &mut [u8], m: &[u8], out: &mut [u8]) -> Result<usize, u8>
     ensures value { result ≡ responded table.old m.now out.old }
     ensures result_value { written_number result ≡ respond_row table.old m.now out.old }
     ensures out_after { out.new ≡ responded_out table.old m.now out.old }
@@ -376,7 +371,7 @@ pub fn respond(table: &mut [u8], m: &[u8], out: &mut [u8]) -> Written
     match message::read(m) {
         Message::Event(p) => respond_event(table, m, p, out),
         Message::Req(q) => respond_request(table, m, q, out),
-        Message::Close(_) => Written::Wrote(0),
+        Message::Close(_) => Ok(0),
         Message::Refused(x) => respond_refused(m, naming_for(m, x.row), out),
     }
 }

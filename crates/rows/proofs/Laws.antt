@@ -1,20 +1,20 @@
 -- A walk's answer a step at a time: what stands between a string's quotes, what a name says of its item, and what a
 -- turn of the walk does.
+use Rattle.std.specs.Prelude.{Some, None, Option}
 use mathlib.Core.Path.{◌≡◌, refl, sym, ap, ◌∙◌}
 use mathlib.Core.List.{List}
+use mathlib.Core.Logic.{◌⊎◌, inl, inr}
 use mathlib.Core.Bool.{Bool, true, false, cond, not, ◌&&◌, ◌||◌, or-false}
 use Prim.Native.Nat.{ℕ, ◌+◌, ◌-◌, ◌<◌, ◌≤◌}
 use native.Mathlib.Nat.{sub-zero}
-use native.Mathlib.Omega.{arith}
 use lib.ListN.{length}
 use lib.Dec.{eqb}
 use borrow.Author.Tests.{lt-ltb, le-ltb}
-use Rattle.json_tree.specs.Grammar.{case, string_at, number_at, literal_at, scalar_at, start_at, head_at, next_at}
-use Rattle.json_tree.specs.Tree.{Json, Items, nil, item, fold_items, Got, none, got, end_of, bind, node, items_at, tree_at}
+use Rattle.json_tree.specs.Grammar.{case, ws_at, string_at, number_at, literal_at, scalar_at, start_at, head_at, next_at}
+use Rattle.json_tree.specs.Tree.{Json, Items, nil, item, fold_items, Got, none, got, end_of, bind, node, on_leaf, items_at, tree_at}
 use Rattle.json_tree.specs.Tree.{ends_at, root}
-use Rattle.json_tree.specs.declared.Out.{Out}
-use Rattle.json_tree.specs.declared.Out.TheVariants.{End, Bad}
-use Rattle.json_tree.specs.declared.Kind.TheVariants.{Str, Num, Word, None}
+use Rattle.json_tree.specs.declared.Kind.{Kind}
+use Rattle.json_tree.specs.declared.Kind.TheVariants.{Str, Num, Word}
 use Rattle.json_tree.specs.declared.Start.TheVariants.{Empty, Many}
 use Rattle.json_tree.specs.declared.Next.{Next}
 use Rattle.json_tree.proofs.Spelled.{string_parts}
@@ -22,74 +22,63 @@ use Rattle.json_tree.proofs.Trees.{value_open, fold_to, turned, fold_gone, fold_
 use Rattle.utf8.specs.Utf8.{is_utf8}
 use Rattle.spell.specs.Spell.{refuses}
 use Rattle.rows.specs.declared.Seen.{Seen}
-use Rattle.rows.specs.declared.Seen.TheVariants.{Clean, Missing}
 use Rattle.rows.specs.Strings.{spelled_at, refused_in, refused_items}
 use Rattle.wire.specs.Limits.{most_message}
 use Rattle.wire.specs.Bytes.{has_control}
 use Rattle.rows.specs.Rows.{on_root, row4, text_row}
-use Rattle.rows.specs.Inner.{made, seen_of, name_seen, seen_end, seen_refused, seen_told}
+use Rattle.rows.specs.Inner.{made, seen_of, name_seen, seen_told}
 
 -- ---- strings
 module _ (s : List ℕ) where
   -- a string has two quotes, and lies within the text
-  pub string_within : (at n : ℕ) → string_at s at ≡ End n → (at + 2 ≤ n) × (n ≤ length s)
+  pub string_within : (at n : ℕ) → string_at s at ≡ Some n → (at + 2 ≤ n) × (n ≤ length s)
   string_within at n e = let r = string_parts s at n e in (r.3, r.4)
 
-  pub scalar_string : (at n : ℕ) → scalar_at s at ≡ Str n → string_at s at ≡ End n
+  pub scalar_string : (at n : ℕ) → scalar_at s at ≡ Some (Str n) → string_at s at ≡ Some n
   unfolding scalar_at
   scalar_string at n e = go (string_at s at) (number_at s at) (literal_at s at) e
     where
-      go : (o p q : Out) → case o Str (case p Num (case q Word None)) ≡ Str n → o ≡ End n
-      go (End m) p q e = cc
-      go Bad (End m) q e = absurd (let z : ◌≡◌ {A = ℕ} 0 1 = cc in omega arith)
-      go Bad Bad (End m) e = absurd (let z : ◌≡◌ {A = ℕ} 0 1 = cc in omega arith)
-      go Bad Bad Bad e = absurd (let z : ◌≡◌ {A = ℕ} 0 1 = cc in omega arith)
+      go : (o p q : Option ℕ) → case o (λ n. Some (Str n)) (case p (λ n. Some (Num n)) (case q (λ n. Some (Word n)) None)) ≡ Some (Str n) → o ≡ Some n
+      go (Some m) p q e = cc
+      go None (Some m) q e = cc
+      go None None (Some m) e = cc
+      go None None None e = cc
 
 -- ---- answers
-pub made_place : (n : ℕ) (b : Bool) → seen_end (made n b) ≡ End n
-unfolding made
-made_place n true = refl
-made_place n false = refl
-
-pub made_refused : (n : ℕ) (b : Bool) → seen_refused (made n b) ≡ b
-unfolding made
-made_refused n true = refl
-made_refused n false = refl
+-- a leaf that is no string
+pub leaf_other : (s : List ℕ) (at n : ℕ) (k : Kind) → (k ≡ Num n) ⊎ (k ≡ Word n) → seen_of s (on_leaf s at (Some k)) ≡ made (ws_at s n) false
+unfolding refused_in
+leaf_other s at n k (inl e) = rw e
+leaf_other s at n k (inr e) = rw e
 
 -- a name, by the place of its value
-module _ (s : List ℕ) (at : ℕ) (named : Bool) (x : Seen) (e : x ≡ name_seen s at named) where
-  pub name_bad : seen_end x ≡ Bad → head_at s at named ≡ Bad
-  name_bad p = go (head_at s at named) e
+module _ (s : List ℕ) (at : ℕ) (named : Bool) where
+  pub name_bad : None ≡ name_seen s at named → head_at s at named ≡ None
+  name_bad e = go (head_at s at named) e
     where
-      go : (o : Out) → x ≡ case o (λ v. made v (named && refuses (spelled_at s at))) Missing → o ≡ Bad
-      go (End v) q = absurd (let z : End v ≡ Bad = sym (made_place _ _) ∙ ap seen_end (sym q) ∙ p in let w : ◌≡◌ {A = ℕ} 0 1 = cc in omega arith)
-      go Bad q = refl
+      go : (o : Option ℕ) → None ≡ case o (λ v. made v (named && refuses (spelled_at s at))) None → o ≡ None
+      go (Some v) q = cc
+      go None q = refl
 
-  pub name_end : (v : ℕ) → seen_end x ≡ End v → (head_at s at named ≡ End v) × (seen_refused x ≡ (named && refuses (spelled_at s at)))
-  name_end v p = go (head_at s at named) e
+  pub name_end : (x : Seen) → Some x ≡ name_seen s at named → (head_at s at named ≡ Some x.end) × (x.refused ≡ (named && refuses (spelled_at s at)))
+  name_end x e = go (head_at s at named) e
     where
-      go : (o : Out) → x ≡ case o (λ v. made v (named && refuses (spelled_at s at))) Missing → (o ≡ End v) × (seen_refused x ≡ (named && refuses (spelled_at s at)))
-      go (End w) q = (sym (made_place _ _) ∙ ap seen_end (sym q) ∙ p, ap seen_refused q ∙ made_refused _ _)
-      go Bad q = absurd (let z : Bad ≡ End v = ap seen_end (sym q) ∙ p in let w : ◌≡◌ {A = ℕ} 0 1 = cc in omega arith)
+      go : (o : Option ℕ) → Some x ≡ case o (λ v. made v (named && refuses (spelled_at s at))) None → (o ≡ Some x.end) × (x.refused ≡ (named && refuses (spelled_at s at)))
+      go (Some v) q = let z : x ≡ record { end = v; refused = named && refuses (spelled_at s at) } = cc in (ap (λ y. Some y.end) (sym z), ap (λ y. y.refused) z)
+      go None q = cc
 
 -- a value, by its end
-module _ (s : List ℕ) (g : Got Json) (x : Seen) (e : x ≡ seen_of s g) where
-  pub seen_bad : seen_end x ≡ Bad → end_of g ≡ Bad
-  seen_bad p = go g e
-    where
-      go : (g : Got Json) → x ≡ seen_of s g → end_of g ≡ Bad
-      go none q = refl
-      go (got t n) q = absurd (let z : End n ≡ Bad = sym (made_place _ _) ∙ ap seen_end (sym q) ∙ p in let w : ◌≡◌ {A = ℕ} 0 1 = cc in omega arith)
+module _ (s : List ℕ) where
+  pub seen_bad : (g : Got Json) → None ≡ seen_of s g → end_of g ≡ None
+  seen_bad none e = refl
+  seen_bad (got t n) e = cc
 
-  pub seen_end_lem : (n : ℕ) → seen_end x ≡ End n → end_of g ≡ End n
-  seen_end_lem n p = go g e
-    where
-      go : (g : Got Json) → x ≡ seen_of s g → end_of g ≡ End n
-      go none q = absurd (let z : Bad ≡ End n = ap seen_end (sym q) ∙ p in let w : ◌≡◌ {A = ℕ} 0 1 = cc in omega arith)
-      go (got t m) q = sym (made_place _ _) ∙ ap seen_end (sym q) ∙ p
+  pub seen_end : (g : Got Json) (x : Seen) → Some x ≡ seen_of s g → end_of g ≡ Some x.end
+  seen_end none x e = cc
+  seen_end (got t n) x e = let z : x ≡ record { end = n; refused = refused_in s t } = cc in ap (λ y. Some y.end) (sym z)
 
-  pub seen_refused_lem : (t : Json) (n : ℕ) → g ≡ got t n → seen_refused x ≡ refused_in s t
-  seen_refused_lem t n q = ap seen_refused e ∙ rw q (made_refused n (refused_in s t))
+  pub seen_refused : (g : Got Json) (x : Seen) (t : Json) (n : ℕ) → Some x ≡ seen_of s g → g ≡ got t n → x.refused ≡ refused_in s t
+  seen_refused g x t n e q = let z : x ≡ record { end = n; refused = refused_in s t } = cc in ap (λ y. y.refused) z
 
 -- ---- items
 -- an item more: its name, where it has one, and its value
@@ -97,8 +86,8 @@ abbrev pub joined : List ℕ → Bool → Bool → ℕ → ℕ → Json → Bool
 joined s named a p v t = a || ((named && refuses (spelled_at s p)) || refused_in s t)
 
 -- the items from a place on, after what was found before
-abbrev pub seen_items : List ℕ → Bool → Bool → Got Items → Seen
-seen_items s named a g = fold_to (joined s named) Missing (λ b n. made n b) a g
+abbrev pub seen_items : List ℕ → Bool → Bool → Got Items → Option Seen
+seen_items s named a g = fold_to (joined s named) None (λ b n. made n b) a g
 
 or_four : (a x y z : Bool) → ((a || (x || y)) || z) ≡ (a || (x || (y || z)))
 or_four true x y z = refl
@@ -117,8 +106,7 @@ seen_items_lem s named none = refl
 seen_items_lem s true (got ts n) = ap (made n) (fold_refused s true false ts)
 seen_items_lem s false (got ts n) = ap (made n) (fold_refused s false false ts)
 
-pub seen_empty : (s : List ℕ) (d at n : ℕ) (named : Bool) → (d ≡ 0 → ⊥) → Empty n named ≡ start_at s at → Clean n ≡ seen_of s (tree_at s d at)
-unfolding made
+pub seen_empty : (s : List ℕ) (d at n : ℕ) (named : Bool) → (d ≡ 0 → ⊥) → Empty n named ≡ start_at s at → made n false ≡ seen_of s (tree_at s d at)
 seen_empty s d at n named ne e = seen_items_lem s named (got nil n) ∙ ap (seen_of s) (value_open s d at (Empty n named) ne e)
 
 pub seen_many : (s : List ℕ) (d at first : ℕ) (named : Bool) → (d ≡ 0 → ⊥) → Many first named ≡ start_at s at
@@ -127,47 +115,36 @@ seen_many s d at first named ne e =
     rw sub-zero (seen_items_lem s named (items_at (tree_at s (d - 1)) s named (length s) first) ∙ ap (seen_of s) (value_open s d at (Many first named) ne e))
 
 module _ (value : ℕ → Got Json) (s : List ℕ) (named : Bool) (k i : ℕ) (a : Bool) where
-  pub seen_gone : length s ≤ k → seen_items s named a (items_at value s named (length s - k) i) ≡ Missing
-  seen_gone h = fold_gone (joined s named) Missing (λ b n. made n b) a value s named k i h
+  pub seen_gone : length s ≤ k → seen_items s named a (items_at value s named (length s - k) i) ≡ None
+  seen_gone h = fold_gone (joined s named) None (λ b n. made n b) a value s named k i h
 
-  module _ (x : Seen) (h : k < length s) (ex : x ≡ name_seen s i named) where
-    pub seen_unnamed : seen_end x ≡ Bad → seen_items s named a (items_at value s named (length s - k) i) ≡ Missing
-    seen_unnamed p = fold_unnamed (joined s named) Missing (λ b n. made n b) a value s named k i h (name_bad s i named x ex p)
+  module _ (h : k < length s) where
+    pub seen_unnamed : None ≡ name_seen s i named → seen_items s named a (items_at value s named (length s - k) i) ≡ None
+    seen_unnamed e = fold_unnamed (joined s named) None (λ b n. made n b) a value s named k i h (name_bad s i named e)
 
-    module _ (v : ℕ) (y : Seen) (p : seen_end x ≡ End v) (ey : y ≡ seen_of s (value v)) where
-      pub seen_no_value : seen_end y ≡ Bad → seen_items s named a (items_at value s named (length s - k) i) ≡ Missing
-      seen_no_value q = fold_bad (joined s named) Missing (λ b n. made n b) a value s named k i v h (name_end s i named x ex v p).0 (seen_bad s (value v) y ey q)
+    module _ (x : Seen) (ex : Some x ≡ name_seen s i named) where
+      pub seen_no_value : None ≡ seen_of s (value x.end) → seen_items s named a (items_at value s named (length s - k) i) ≡ None
+      seen_no_value e = fold_bad (joined s named) None (λ b n. made n b) a value s named k i x.end h (name_end s i named x ex).0 (seen_bad s (value x.end) e)
 
-      pub seen_next : (n : ℕ) (z : Next) (b : Bool) {f g : Bool} → seen_end y ≡ End n → next_at s n named ≡ z
-          → f ≡ seen_refused x → g ≡ seen_refused y → b ≡ (a || (f || g))
+      pub seen_next : (y : Seen) (z : Next) (b : Bool) → Some y ≡ seen_of s (value x.end) → next_at s y.end named ≡ z
+          → b ≡ (a || (x.refused || y.refused))
           → seen_items s named a (items_at value s named (length s - k) i)
-          ≡ turned z Missing (λ e. made e b) (λ j. seen_items s named b (items_at value s named (length s - (k + 1)) j))
-      seen_next n z b q w ef eg eb =
-          let d = name_end s i named x ex v p in
-          fold_next (joined s named) Missing (λ b n. made n b) a value s named k i v n z b h d.0 (seen_end_lem s (value v) y ey n q) w
-          λ t r. eb ∙ rw (ef, eg, d.1, seen_refused_lem s (value v) y ey t n r)
+          ≡ turned z None (λ e. made e b) (λ j. seen_items s named b (items_at value s named (length s - (k + 1)) j))
+      seen_next y z b ey w eb =
+          let d = name_end s i named x ex in
+          fold_next (joined s named) None (λ b n. made n b) a value s named k i x.end y.end z b h d.0 (seen_end s (value x.end) y ey) w
+          λ t r. eb ∙ rw (d.1, seen_refused s (value x.end) y t y.end ey r)
 
 -- ---- the text
 module _ (s : List ℕ) where
-  pub refused_text_lem : (x : Seen) → x ≡ seen_of s (root s) → seen_refused x ≡ row4 s
-  unfolding row4
-  refused_text_lem x e = ap seen_refused e ∙ go (root s)
-    where
-      go : (g : Got Json) → seen_refused (seen_of s g) ≡ on_root (refused_in s) g
-      go none = refl
-      go (got t n) = made_refused n (refused_in s t)
-
   -- rows 3 and 4, by the answer at the root
   told_root : (k : ℕ) (g : Got Json) → seen_told (seen_of s g) k ≡ cond (not (ends_at k (end_of g))) 3 (cond (on_root (refused_in s) g) 4 0)
-  unfolding made
   told_root k none = refl
-  told_root k (got t n) = go (refused_in s t) (eqb n k) refl
+  told_root k (got t n) = go (eqb n k)
     where
-      go : (b e : Bool) → eqb n k ≡ e → seen_told (made n b) k ≡ cond (not e) 3 (cond b 4 0)
-      go true true q = rw q
-      go true false q = rw q
-      go false true q = rw q
-      go false false q = rw q
+      go : (e : Bool) → ◌≡◌ {A = ℕ} (cond e (cond (refused_in s t) 4 0) 3) (cond (not e) 3 (cond (refused_in s t) 4 0))
+      go true = refl
+      go false = refl
 
   -- the ways out of text_row
   pub row_long : most_message < length s → 1 ≡ text_row s
@@ -175,14 +152,14 @@ module _ (s : List ℕ) where
   row_long h = rw (lt-ltb most_message (length s) h)
 
   module _ (h : length s ≤ most_message) where
-    pub row_bytes : (b : Bool) → b ≡ is_utf8 s → not b ≡ true → 2 ≡ text_row s
+    pub row_bytes : is_utf8 s ≡ false → 2 ≡ text_row s
     unfolding text_row
-    row_bytes b e q = rw (le-ltb most_message (length s) h, ← e, q)
+    row_bytes e = rw (le-ltb most_message (length s) h, e)
 
-    pub row_raw : (b t : Bool) → b ≡ is_utf8 s → not b ≡ false → t ≡ has_control s → t ≡ true → 3 ≡ text_row s
+    pub row_raw : is_utf8 s ≡ true → has_control s ≡ true → 3 ≡ text_row s
     unfolding text_row
-    row_raw b t e q f g = rw (le-ltb most_message (length s) h, ← e, q, ← f, g)
+    row_raw e f = rw (le-ltb most_message (length s) h, e, f)
 
-    pub row_told_lem : (b t : Bool) (x : Seen) (r : ℕ) → b ≡ is_utf8 s → not b ≡ false → t ≡ has_control s → t ≡ false → x ≡ seen_of s (root s) → r ≡ seen_told x (length s) → r ≡ text_row s
+    pub row_told_lem : (x : Option Seen) (r : ℕ) → is_utf8 s ≡ true → has_control s ≡ false → x ≡ seen_of s (root s) → r ≡ seen_told x (length s) → r ≡ text_row s
     unfolding text_row row4
-    row_told_lem b t x r e q f g ex er = er ∙ rw (ex, le-ltb most_message (length s) h, ← e, q, ← f, g) (told_root (length s) (root s))
+    row_told_lem x r e f ex er = er ∙ rw (ex, le-ltb most_message (length s) h, e, f) (told_root (length s) (root s))

@@ -4,63 +4,25 @@
 ghost use Rattle.std.specs.Prelude.{◌≡◌, ◌||◌, ◌+◌, ◌-◌, ◌≤◌, length};
 ghost use Rattle.json_tree.specs.Grammar.{scalar_at, token_at};
 ghost use Rattle.json_tree.specs.Tree.{on_leaf, tree_at, root};
-ghost use Rattle.spell.specs.Spell.{refuses};
 ghost use Rattle.rows.specs.Strings.{part, spelled_at};
 ghost use Rattle.rows.specs.Rows.{row4, text_row};
-ghost use Rattle.rows.specs.Inner.{made, seen_of, name_seen, seen_end, seen_refused, seen_told};
+ghost use Rattle.rows.specs.Inner.{seen_of, name_seen, seen_told};
 
-use json_tree::{Kind, Next, Out, Start};
+use json_tree::{Kind, Next, Start};
 
-// Where a value ends, by whether row 4 refuses some string in it; or that no value stands there.
+// Where a value ends, and whether row 4 refuses some string in it.
 #[derive(Clone, Copy)]
-pub enum Seen {
-    Clean(usize),
-    Refused(usize),
-    Missing,
+pub struct Seen {
+    pub end: usize,
+    pub refused: bool,
 }
 
-fn make(n: usize, bad: bool) -> Seen
-    ensures { result ≡ made n bad }
-{
-    if bad {
-        Seen::Refused(n)
-    } else {
-        Seen::Clean(n)
-    }
-}
-
-fn place(x: Seen) -> Out
-    ensures { result ≡ seen_end x }
-{
-    match x {
-        Seen::Clean(n) => Out::End(n),
-        Seen::Refused(n) => Out::End(n),
-        Seen::Missing => Out::Bad,
-    }
-}
-
-fn is_refused(x: Seen) -> bool
-    ensures { result ≡ seen_refused x }
-{
-    match x {
-        Seen::Clean(_) => false,
-        Seen::Refused(_) => true,
-        Seen::Missing => false,
-    }
-}
-
-fn any(a: bool, b: bool, c: bool) -> bool
-    ensures { result ≡ (a || (b || c)) }
-{
-    a || (b || c)
-}
-
-// Row 4 of the string whose quotes stand at `at` and before `end`.
-fn quoted(s: &[u8], at: usize, end: usize) -> bool
+// The string whose quotes stand at `at` and before `end`.
+fn inner(s: &[u8], at: usize, end: usize) -> &[u8]
     requires { (at + 2 ≤ end) × (end ≤ length s.now) }
-    ensures { result ≡ refuses (part s.now (at + 1) (end - at - 2)) }
+    ensures { result.now ≡ part s.now (at + 1) (end - at - 2) }
 {
-    spell::refused(&s[at + 1..end - 1])
+    &s[at + 1..end - 1]
 }
 
 // The string that begins at a place, between its quotes.
@@ -68,54 +30,56 @@ pub fn spelled(s: &[u8], at: usize) -> &[u8]
     ensures { result.now ≡ spelled_at s.now at }
 {
     match json_tree::string(s, at) {
-        Out::End(n) => wire::piece(s, at + 1, n - at - 2),
-        Out::Bad => wire::piece(s, 0, 0),
+        Some(n) => inner(s, at, n),
+        None => &[],
     }
 }
 
 // A value that holds no value.
-fn leaf(s: &[u8], at: usize) -> Seen
+fn leaf(s: &[u8], at: usize) -> Option<Seen>
     ensures { result ≡ seen_of s.now (on_leaf s.now at (scalar_at s.now at)) }
 {
-    match json_tree::scalar(s, at) {
-        Kind::Str(n) => make(json_tree::space(s, n), quoted(s, at, n)),
-        Kind::Num(n) => Seen::Clean(json_tree::space(s, n)),
-        Kind::Word(n) => Seen::Clean(json_tree::space(s, n)),
-        Kind::None => Seen::Missing,
-    }
+    let (n, refused) = match json_tree::scalar(s, at)? {
+        Kind::Str(n) => (n, spell::refused(inner(s, at, n))),
+        Kind::Num(n) | Kind::Word(n) => (n, false),
+    };
+    Some(Seen {
+        end: json_tree::space(s, n),
+        refused,
+    })
 }
 
 // A colon, and the white space after it.
-fn colon(s: &[u8], at: usize) -> Out
+fn colon(s: &[u8], at: usize) -> Option<usize>
     ensures { result ≡ token_at s.now 0x3A at }
 {
-    if at < s.len() {
-        if s[at] == b':' {
-            return Out::End(json_tree::space(s, at + 1));
-        }
+    if at < s.len() && s[at] == b':' {
+        Some(json_tree::space(s, at + 1))
+    } else {
+        None
     }
-    Out::Bad
 }
 
 // The place of an item's value, and row 4 of its name.
-fn name(s: &[u8], at: usize, named: bool) -> Seen
+fn name(s: &[u8], at: usize, named: bool) -> Option<Seen>
     ensures { result ≡ name_seen s.now at named }
 {
-    if named {
-        match json_tree::string(s, at) {
-            Out::End(n) => match colon(s, json_tree::space(s, n)) {
-                Out::End(v) => make(v, quoted(s, at, n)),
-                Out::Bad => Seen::Missing,
-            },
-            Out::Bad => Seen::Missing,
-        }
-    } else {
-        Seen::Clean(at)
+    if !named {
+        return Some(Seen {
+            end: at,
+            refused: false,
+        });
     }
+    let n = json_tree::string(s, at)?;
+    let end = colon(s, json_tree::space(s, n))?;
+    Some(Seen {
+        end,
+        refused: spell::refused(inner(s, at, n)),
+    })
 }
 
 // A value, with at most d brackets and braces open at once, and the white space after it.
-fn walk(s: &[u8], at: usize, d: usize) -> Seen
+fn walk(s: &[u8], at: usize, d: usize) -> Option<Seen>
     ensures { result ≡ seen_of s.now (tree_at s.now d at) }
 {
     if d == 0 {
@@ -123,41 +87,31 @@ fn walk(s: &[u8], at: usize, d: usize) -> Seen
     }
     match json_tree::begin(s, at) {
         Start::Leaf => leaf(s, at),
-        Start::Empty(n, _) => Seen::Clean(n),
+        Start::Empty(end, _) => Some(Seen {
+            end,
+            refused: false,
+        }),
         Start::Many(first, named) => {
-            let mut bad = false;
+            let mut refused = false;
             let mut i = first;
-            let mut k: usize = 0;
-            while k < s.len() {
-                let x = name(s, i, named);
-                let Out::End(v) = place(x) else {
-                    return Seen::Missing;
-                };
-                let y = walk(s, v, d - 1);
-                let Out::End(n) = place(y) else {
-                    return Seen::Missing;
-                };
-                bad = any(bad, is_refused(x), is_refused(y));
-                match json_tree::after(s, n, named) {
-                    Next::More(j) => {
-                        i = j;
-                    }
-                    Next::Done(e) => {
-                        return make(e, bad);
-                    }
-                    Next::Wrong => {
-                        return Seen::Missing;
-                    }
+            // An item takes a byte at least, so these turns are enough.
+            for _turn in 0..s.len() {
+                let x = name(s, i, named)?;
+                let y = walk(s, x.end, d - 1)?;
+                refused |= x.refused | y.refused;
+                match json_tree::after(s, y.end, named) {
+                    Next::More(j) => i = j,
+                    Next::Done(end) => return Some(Seen { end, refused }),
+                    Next::Wrong => return None,
                 }
-                k += 1;
             }
-            Seen::Missing
+            None
         }
     }
 }
 
 // The value of a text.
-fn whole(s: &[u8]) -> Seen
+fn whole(s: &[u8]) -> Option<Seen>
     ensures { result ≡ seen_of s.now (root s.now) }
 {
     walk(s, json_tree::space(s, 0), json_tree::DEPTH)
@@ -165,20 +119,20 @@ fn whole(s: &[u8]) -> Seen
 
 // Row 4: whether some string of a text, names included, decodes to what no string may have; false where the text has no
 // value.
+#[tactic(auto, unfolding(crate::specs::Rows::row4))]
 pub fn refused(s: &[u8]) -> bool
     ensures { result ≡ row4 s.now }
 {
-    is_refused(whole(s))
+    whole(s).is_some_and(|x| x.refused)
 }
 
 // Rows 3 and 4 of a text of `size` bytes, by what its value came to.
-fn told(x: Seen, size: usize) -> u8
+fn told(x: Option<Seen>, size: usize) -> u8
     ensures { result ≡ seen_told x size }
 {
     match x {
-        Seen::Clean(n) => if n == size { 0 } else { 3 },
-        Seen::Refused(n) => if n == size { 4 } else { 3 },
-        Seen::Missing => 3,
+        Some(x) if x.end == size => if x.refused { 4 } else { 0 },
+        _ => 3,
     }
 }
 

@@ -11,9 +11,6 @@ use lib.Bits.{bit_or, or_shr, or_mod, or_zero_r}
 use Rattle.shape.specs.Inner.{is_in, is_full}
 use Rattle.shape.proofs.Names.{and_left, and_right, both_ways}
 
-pub bit_fits : (k : ℕ) → k < 64 → 2 ^ k < 18446744073709551616
-bit_fits k h = let p : 2 ^ k ≤ 2 ^ 63 = pow-le-pow_right {n = 2} (omega arith) {i = k} {j = 63} (omega arith) in omega (arith, p)
-
 positive : (k : ℕ) → 1 ≤ 2 ^ k
 positive k = pow-le-pow_right {n = 2} (omega arith) {i = 0} {j = k} (omega arith)
 

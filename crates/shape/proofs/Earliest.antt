@@ -1,4 +1,5 @@
 -- The offset is the least member of the places that break the row; these are places of numbers, or of strings.
+use Rattle.std.specs.Prelude.{Some, None, Option}
 use mathlib.Core.Path.{◌≡◌, refl, sym, ap, ◌∙◌}
 use mathlib.Core.List.Memᴰ
 use mathlib.Core.List.{List, [], ◌∷◌, Memᴰ}
@@ -10,11 +11,8 @@ use borrow.Author.Tests.{ltb-true, ltb-false}
 use lib.Dec.{eqb, ltb}
 use Rattle.json_tree.specs.Grammar.{case, number_at, string_at, literal_at, scalar_at}
 use Rattle.json_tree.specs.Tree.{Json, Got, none, got, root}
-use Rattle.json_tree.specs.declared.Out.{Out}
-use Rattle.json_tree.specs.declared.Out.TheVariants.{End, Bad}
-use Rattle.json_tree.specs.declared.Kind.TheVariants.{Str, Num, Word, None}
+use Rattle.json_tree.specs.declared.Kind.TheVariants.{Str, Num, Word}
 use Rattle.rows.specs.Rows.{on_root}
-use Rattle.shape.specs.declared.Offset.TheVariants.{Absent, At}
 use Rattle.shape.specs.Rows.{row6, row7, message_row}
 use Rattle.shape.specs.Lowest.{holds}
 use Rattle.shape.specs.Offsets.{least_of, earliest, number_places, hex_places, root_offset, offset_of}
@@ -47,22 +45,22 @@ record Least (l : List ℕ) (p : ℕ) : Type 0 where
   member : Memᴰ p l
   none_less : (q : ℕ) → Memᴰ q l → p ≤ q
 
-earliest_least : (l : List ℕ) (p : ℕ) → (earliest l ≡ At p) ↔ Least l p
+earliest_least : (l : List ℕ) (p : ℕ) → (earliest l ≡ Some p) ↔ Least l p
 earliest_least [] p = (λ e. no cc, λ w. absurd (Memᴰ.not-nil w.member))
 earliest_least (q ∷ qs) p = (there, back)
   where
-    there : At (least_of q qs) ≡ At p → Least (q ∷ qs) p
+    there : Some (least_of q qs) ≡ Some p → Least (q ∷ qs) p
     there e = let z : least_of q qs ≡ p = cc in rw (← z) record { member = least_in q qs; none_less = least_most q qs }
 
-    back : Least (q ∷ qs) p → At (least_of q qs) ≡ At p
-    back w = let a = w.none_less (least_of q qs) (least_in q qs) in let b = least_most q qs p w.member in ap At (omega arith)
+    back : Least (q ∷ qs) p → Some (least_of q qs) ≡ Some p
+    back w = let a = w.none_less (least_of q qs) (least_in q qs) in let b = least_most q qs p w.member in ap Some (omega arith)
 
 -- ---- the offset, by the places that break the row
 by_places : (row : ℕ) (s : List ℕ) (g : Got Json) → root_offset row s g ≡ earliest (root_places row s g)
 by_places row s none = refl
 by_places row s (got t n) = go (eqb row 6) (eqb row 7)
   where
-    go : (x y : Bool) → cond x (earliest (number_places s t)) (cond y (earliest (hex_places s t)) Absent) ≡ earliest (cond x (number_places s t) (cond y (hex_places s t) []))
+    go : (x y : Bool) → cond x (earliest (number_places s t)) (cond y (earliest (hex_places s t)) None) ≡ earliest (cond x (number_places s t) (cond y (hex_places s t) []))
     go true y = refl
     go false true = refl
     go false false = refl
@@ -77,24 +75,24 @@ offset_earliest s p =
     )
 
 -- a row that holds has a place
-some_earliest : (c : List ℕ) → some c ≡ true → (p : ℕ) × (earliest c ≡ At p)
+some_earliest : (c : List ℕ) → some c ≡ true → (p : ℕ) × (earliest c ≡ Some p)
 some_earliest [] e = no cc
 some_earliest (p ∷ ps) e = (least_of p ps, refl)
 
 module _ (s : List ℕ) where
-  six : message_row s ≡ 6 → (p : ℕ) × (offset_of s ≡ At p)
+  six : message_row s ≡ 6 → (p : ℕ) × (offset_of s ≡ Some p)
   unfolding offset_of holds
   six e = rw e (go (root s) ((row_given s 6 (omega arith)).0 e).held)
     where
-      go : (g : Got Json) → on_root (row6 s) g ≡ true → (p : ℕ) × (root_offset 6 s g ≡ At p)
+      go : (g : Got Json) → on_root (row6 s) g ≡ true → (p : ℕ) × (root_offset 6 s g ≡ Some p)
       go none h = no cc
       go (got t n) h = some_earliest (number_places s t) (sym (number_some s t) ∙ h)
 
-  seven : message_row s ≡ 7 → (p : ℕ) × (offset_of s ≡ At p)
+  seven : message_row s ≡ 7 → (p : ℕ) × (offset_of s ≡ Some p)
   unfolding offset_of holds
   seven e = rw e (go (root s) ((row_given s 7 (omega arith)).0 e).held)
     where
-      go : (g : Got Json) → on_root (row7 s) g ≡ true → (p : ℕ) × (root_offset 7 s g ≡ At p)
+      go : (g : Got Json) → on_root (row7 s) g ≡ true → (p : ℕ) × (root_offset 7 s g ≡ Some p)
       go none h = no cc
       go (got t n) h = some_earliest (hex_places s t) (sym (hex_some s t) ∙ h)
 
@@ -106,15 +104,15 @@ pub other_rows : OtherRows
 other_rows s a b = offset_absent s a b
 
 -- ---- what stands there
-scalar_number : (s : List ℕ) (at n : ℕ) → scalar_at s at ≡ Num n → number_at s at ≡ End n
+scalar_number : (s : List ℕ) (at n : ℕ) → scalar_at s at ≡ Some (Num n) → number_at s at ≡ Some n
 unfolding scalar_at
 scalar_number s at n e = go (string_at s at) (number_at s at) (literal_at s at) e
   where
-    go : (o p q : Out) → case o Str (case p Num (case q Word None)) ≡ Num n → p ≡ End n
-    go (End m) p q e = no cc
-    go Bad (End m) q e = cc
-    go Bad Bad (End m) e = no cc
-    go Bad Bad Bad e = no cc
+    go : (o p q : Option ℕ) → case o (λ n. Some (Str n)) (case p (λ n. Some (Num n)) (case q (λ n. Some (Word n)) None)) ≡ Some (Num n) → p ≡ Some n
+    go (Some m) p q e = no cc
+    go None (Some m) q e = cc
+    go None None (Some m) e = no cc
+    go None None None e = no cc
 
 pub number_there : NumberThere
 number_there s p r e = ⊎_elim (λ (q, w). (w.0, scalar_number s p w.0 w.1)) (λ (q, w). absurd (omega arith)) (offset_stands s e)

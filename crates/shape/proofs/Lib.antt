@@ -1,5 +1,4 @@
--- Tests and Places serve the code's proofs. Names, on equal names, and Low, on the least of rows, are for others too.
-mod Tests
+-- Places serves the code's proofs. Names, on equal names, and Low, on the least of rows, are for others too.
 mod Places
 pub mod Names
 mod Bits

@@ -134,8 +134,5 @@ module _ (w : List ℕ) (event : Bool) (x : ℕ) {k : ℕ} (e : k ≡ among w ev
       (six_or (same_bytes w (cond event id_name ids_name)) (same_bytes w (cond event pubkey_name authors_name)) (same_bytes w (cond event created_at_name kinds_name))
       (same_bytes w (cond event kind_name since_name)) (same_bytes w (cond event tags_name until_name)) (same_bytes w (cond event content_name limit_name)) x)
 
-  pub among_one : (k ≡ 6 → ⊥) → k ≡ among w event x
-  among_one n = sym (are ∙ rw (ne_eqb k 6 n))
-
   pub among_none : k ≡ 6 → x ≡ among w event x
   among_none z = sym (are ∙ rw (eq-eqb k 6 z))

@@ -1,5 +1,6 @@
 -- What a refusal carries: nothing with rows other than 6 and 7; with these the place of a number, or of a string, of
 -- the message.
+use Rattle.std.specs.Prelude.{Some, None}
 use mathlib.Core.Path.{◌≡◌, refl, ◌∙◌}
 use mathlib.Core.List.{List, [], ◌∷◌}
 use mathlib.Core.Bool.{Bool, true, false, cond}
@@ -14,7 +15,6 @@ use Rattle.json_tree.specs.Tree.{Json, word, num, str, arr, obj, nil, item, Got,
 use Rattle.json_tree.specs.Tree.{of_array}
 use Rattle.json_tree.specs.declared.Kind.TheVariants.{Str, Num}
 use Rattle.wire.specs.Limits.{most_message, hex_length, sig_length}
-use Rattle.shape.specs.declared.Offset.TheVariants.{Absent, At}
 use Rattle.shape.specs.Shape.{any_item, named, is_number, is_string, id_name, pubkey_name, created_at_name, kind_name}
 use Rattle.shape.specs.Shape.{sig_name, ids_name, authors_name, kinds_name, since_name, until_name, limit_name}
 use Rattle.shape.specs.Shape.{e_condition_name, p_condition_name, opened}
@@ -30,10 +30,10 @@ use Rattle.shape.proofs.Exact.{row_given}
 
 -- ---- the places are those of numbers, of strings
 abbrev pub NumberStands : List ℕ → ℕ → Type 0
-NumberStands s v = (k : ℕ) × (scalar_at s v ≡ Num k)
+NumberStands s v = (k : ℕ) × (scalar_at s v ≡ Some (Num k))
 
 abbrev pub StringStands : List ℕ → ℕ → Type 0
-StringStands s v = (k : ℕ) × (scalar_at s v ≡ Str k)
+StringStands s v = (k : ℕ) × (scalar_at s v ≡ Some (Str k))
 
 -- x, a test of t, holds of a leaf or a list only
 record Only (leaf : Json → Bool) (t : Json) (x : Bool) : Type 0 where
@@ -178,32 +178,32 @@ unfolding least_of
 least_holds P q [] (a, z) = a
 least_holds P q (r ∷ rs) (a, z) = lesser_holds P q (least_of r rs) a (least_holds P r rs z)
 
-pub earliest_holds : (P : ℕ → Type 0) (c : List ℕ) {p : ℕ} → Each P c → earliest c ≡ At p → P p
+pub earliest_holds : (P : ℕ → Type 0) (c : List ℕ) {p : ℕ} → Each P c → earliest c ≡ Some p → P p
 earliest_holds P [] h e = no cc
 earliest_holds P (q ∷ qs) {p} h e = let z : least_of q qs ≡ p = cc in rw z at (least_holds P q qs h)
 
 module _ (s : List ℕ) where
   -- ---- rows other than 6 and 7
-  pub offset_absent : (message_row s ≡ 6 → ⊥) → (message_row s ≡ 7 → ⊥) → offset_of s ≡ Absent
+  pub offset_absent : (message_row s ≡ 6 → ⊥) → (message_row s ≡ 7 → ⊥) → offset_of s ≡ None
   unfolding offset_of
   offset_absent a b = go (root s)
     where
-      go : (g : Got Json) → root_offset (message_row s) s g ≡ Absent
+      go : (g : Got Json) → root_offset (message_row s) s g ≡ None
       go none = refl
       go (got t n) = rw (ne_eqb (message_row s) 6 a, ne_eqb (message_row s) 7 b)
 
   -- ---- rows 6 and 7: a number stands there, or a string
-  module _ {p : ℕ} (e : offset_of s ≡ At p) where
+  module _ {p : ℕ} (e : offset_of s ≡ Some p) where
     pub offset_stands : ((message_row s ≡ 6) × NumberStands s p) ⊎ ((message_row s ≡ 7) × StringStands s p)
     unfolding offset_of
     offset_stands = go (root s) refl e
       where
-        go : (g : Got Json) → root s ≡ g → root_offset (message_row s) s g ≡ At p → ((message_row s ≡ 6) × NumberStands s p) ⊎ ((message_row s ≡ 7) × StringStands s p)
+        go : (g : Got Json) → root s ≡ g → root_offset (message_row s) s g ≡ Some p → ((message_row s ≡ 6) × NumberStands s p) ⊎ ((message_row s ≡ 7) × StringStands s p)
         go none q w = no cc
         go (got t n) q w = six (eqb (message_row s) 6) refl (eqb (message_row s) 7) refl w
           where
             six : (x : Bool) → eqb (message_row s) 6 ≡ x → (y : Bool) → eqb (message_row s) 7 ≡ y
-                → cond x (earliest (number_places s t)) (cond y (earliest (hex_places s t)) Absent) ≡ At p → ((message_row s ≡ 6) × NumberStands s p) ⊎ ((message_row s ≡ 7) × StringStands s p)
+                → cond x (earliest (number_places s t)) (cond y (earliest (hex_places s t)) None) ≡ Some p → ((message_row s ≡ 6) × NumberStands s p) ⊎ ((message_row s ≡ 7) × StringStands s p)
             six true a y b w = inl (eqb-true (message_row s) 6 a, earliest_holds (NumberStands s) (number_places s t) (numbers_stand s q) w)
             six false a true b w = inr (eqb-true (message_row s) 7 b, earliest_holds (StringStands s) (hex_places s t) (hexes_stand s q) w)
             six false a false b w = no cc
@@ -226,23 +226,23 @@ module _ (s : List ℕ) where
   unfolding offset_for
   refusal_own = rw (eq-eqb (message_row s) (message_row s) refl)
 
-  pub offset_other : (row : ℕ) → (row ≡ message_row s → ⊥) → offset_for s row ≡ Absent
+  pub offset_other : (row : ℕ) → (row ≡ message_row s → ⊥) → offset_for s row ≡ None
   unfolding offset_for
   offset_other row n = rw (ne_eqb row (message_row s) n)
 
-  pub offset_plain : (row : ℕ) → (row ≡ 6 → ⊥) → (row ≡ 7 → ⊥) → offset_for s row ≡ Absent
+  pub offset_plain : (row : ℕ) → (row ≡ 6 → ⊥) → (row ≡ 7 → ⊥) → offset_for s row ≡ None
   unfolding offset_for
   offset_plain row a b = go (eqb row (message_row s)) refl
     where
-      go : (x : Bool) → eqb row (message_row s) ≡ x → cond x (offset_of s) Absent ≡ Absent
+      go : (x : Bool) → eqb row (message_row s) ≡ x → cond x (offset_of s) None ≡ None
       go true q = let e = eqb-true row (message_row s) q in offset_absent (λ z. a (e ∙ z)) (λ z. b (e ∙ z))
       go false q = refl
 
-  pub offset_for_within : (row : ℕ) {p : ℕ} → offset_for s row ≡ At p → (p < length s) × (length s ≤ most_message)
+  pub offset_for_within : (row : ℕ) {p : ℕ} → offset_for s row ≡ Some p → (p < length s) × (length s ≤ most_message)
   unfolding offset_for
   offset_for_within row e = go (eqb row (message_row s)) e
     where
-      go : (x : Bool) {p : ℕ} → cond x (offset_of s) Absent ≡ At p → (p < length s) × (length s ≤ most_message)
+      go : (x : Bool) {p : ℕ} → cond x (offset_of s) None ≡ Some p → (p < length s) × (length s ≤ most_message)
       go true e = offset_within e
       go false e = no cc
 

@@ -1,5 +1,6 @@
 -- The first word as the code finds it, by its place, is the first word of the tree; and the ways out of
 -- message_refusal.
+use Rattle.std.specs.Prelude.{Option, Some, None}
 use mathlib.Core.Path.{◌≡◌, refl, sym, ap, ◌∙◌}
 use mathlib.Core.List.{List, [], ◌∷◌}
 use mathlib.Core.Bool.{Bool, true, false, cond, not}
@@ -12,10 +13,8 @@ use Rattle.json_tree.specs.Grammar.{case, ws_at, in_class, one_at, token_at, str
 use Rattle.json_tree.specs.Grammar.{start_at, next_at}
 use Rattle.json_tree.specs.Tree.{Json, word, num, str, arr, obj, Items, nil, item, Got, none, got, bind, follow, node}
 use Rattle.json_tree.specs.Tree.{on_leaf, items_at, group_at, tree_at, root, depth, end_of, ends_at}
-use Rattle.json_tree.specs.declared.Out.{Out}
-use Rattle.json_tree.specs.declared.Out.TheVariants.{End, Bad}
 use Rattle.json_tree.specs.declared.Kind.{Kind}
-use Rattle.json_tree.specs.declared.Kind.TheVariants.{Str, Num, Word, None}
+use Rattle.json_tree.specs.declared.Kind.TheVariants.{Str, Num, Word}
 use Rattle.json_tree.specs.declared.Start.{Start}
 use Rattle.json_tree.specs.declared.Start.TheVariants.{Leaf, Empty, Many}
 use Rattle.json_tree.specs.declared.Next.{Next}
@@ -30,11 +29,10 @@ use Rattle.rows.specs.Strings.{part, spelled_at}
 use Rattle.shape.specs.Shape.{name_at, other, word_of, opened}
 use Rattle.shape.specs.Shape.{Word as TheWord}
 use Rattle.utf8.specs.Utf8.{is_utf8}
-use Rattle.shape.specs.declared.Judged.TheVariants.{Ends, Wrong}
-use Rattle.shape.specs.declared.Offset.{Offset}
 use Rattle.shape.specs.Rows.{row4, row5, row8, tree_row, root_row, message_row}
 use Rattle.shape.specs.Offsets.{number_places, hex_places, offset_of, refusal_of, plain_refusal}
-use Rattle.shape.specs.Inner.{places, fault_row, fault_offset, word_form, opening_of, fault_of, judged_of}
+use Rattle.shape.specs.Inner.{ends, places, fault_row, fault_offset, word_form, opening_of, fault_of, judged_of}
+use Rattle.shape.proofs.Walks.{same_end, same_fault}
 use Rattle.shape.proofs.Names.{no}
 use Rattle.shape.proofs.Low.{Lowest}
 use Rattle.shape.proofs.Placed.{number_some, hex_some}
@@ -64,11 +62,11 @@ first_opened s (item p v (arr us) ts) = refl
 first_opened s (item p v (obj us) ts) = refl
 
 module _ (s : List ℕ) (p : ℕ) where
-  no_string : string_at s p ≡ Bad → other ≡ word_of (name_at s p)
+  no_string : string_at s p ≡ None → other ≡ word_of (name_at s p)
   unfolding name_at spelled_at decode chars_bytes chars_from word_of same_bytes
   no_string e = rw e
 
-  a_string : (n : ℕ) → string_at s p ≡ End n → word_of (decode (part s (p + 1) (n - p - 2))) ≡ word_of (name_at s p)
+  a_string : (n : ℕ) → string_at s p ≡ Some n → word_of (decode (part s (p + 1) (n - p - 2))) ≡ word_of (name_at s p)
   unfolding name_at spelled_at
   a_string n e = rw e
 
@@ -77,32 +75,32 @@ module _ (s : List ℕ) (p : ℕ) where
   unfolding scalar_at
   leaf_word t m e = go (string_at s p) (number_at s p) (literal_at s p) refl e
     where
-      go : (o q r : Out) → string_at s p ≡ o → on_leaf s p (case o Str (case q Num (case r Word None))) ≡ got t m → word_in s t ≡ word_of (name_at s p)
-      go (End n) q r e w = let z : str (p + 1) (n - p - 2) ≡ t = cc in rw (← z) (a_string n e)
-      go Bad (End n) r e w = let z : num p (n - p) ≡ t = cc in rw (← z) (no_string e)
-      go Bad Bad (End n) e w = let z : word p (n - p) ≡ t = cc in rw (← z) (no_string e)
-      go Bad Bad Bad e w = no cc
+      go : (o q r : Option ℕ) → string_at s p ≡ o → on_leaf s p (case o (λ n. Some (Str n)) (case q (λ n. Some (Num n)) (case r (λ n. Some (Word n)) None))) ≡ got t m → word_in s t ≡ word_of (name_at s p)
+      go (Some n) q r e w = let z : str (p + 1) (n - p - 2) ≡ t = cc in rw (← z) (a_string n e)
+      go None (Some n) r e w = let z : num p (n - p) ≡ t = cc in rw (← z) (no_string e)
+      go None None (Some n) e w = let z : word p (n - p) ≡ t = cc in rw (← z) (no_string e)
+      go None None None e w = no cc
 
   -- ---- brackets and braces are no quotes
-  token_byte : (b n : ℕ) → token_at s b p ≡ End n → get_or s p 0 ≡ b
+  token_byte : (b n : ℕ) → token_at s b p ≡ Some n → get_or s p 0 ≡ b
   unfolding token_at one_at in_class
   token_byte b n e = go (eqb (get_or s p 0) b) refl e
     where
-      go : (x : Bool) → eqb (get_or s p 0) b ≡ x → case (cond x (End (p + 1)) Bad) (λ n. End (ws_at s n)) Bad ≡ End n → get_or s p 0 ≡ b
+      go : (x : Bool) → eqb (get_or s p 0) b ≡ x → case (cond x (Some (p + 1)) None) (λ n. Some (ws_at s n)) None ≡ Some n → get_or s p 0 ≡ b
       go true q w = eqb-true _ _ q
       go false q w = ends_bad w
 
-  not_quote : (b : ℕ) → get_or s p 0 ≡ b → eqb b 0x22 ≡ false → string_at s p ≡ Bad
+  not_quote : (b : ℕ) → get_or s p 0 ≡ b → eqb b 0x22 ≡ false → string_at s p ≡ None
   unfolding string_at one_at in_class
   not_quote b e f = rw (e, f)
 
   group_word : (r : Start) → start_at s p ≡ r → (r ≡ Leaf → ⊥) → other ≡ word_of (name_at s p)
   group_word r e n = go (token_at s 0x5B p) refl (token_at s 0x7B p) refl e
     where
-      go : (x : Out) → token_at s 0x5B p ≡ x → (y : Out) → token_at s 0x7B p ≡ y → case x (λ n. opened_at s n false) (case y (λ n. opened_at s n true) Leaf) ≡ r → other ≡ word_of (name_at s p)
-      go (End m) q y w z = no_string (not_quote 0x5B (token_byte 0x5B m q) refl)
-      go Bad q (End m) w z = no_string (not_quote 0x7B (token_byte 0x7B m w) refl)
-      go Bad q Bad w z = absurd (n (sym z))
+      go : (x : Option ℕ) → token_at s 0x5B p ≡ x → (y : Option ℕ) → token_at s 0x7B p ≡ y → case x (λ n. opened_at s n false) (case y (λ n. opened_at s n true) Leaf) ≡ r → other ≡ word_of (name_at s p)
+      go (Some m) q y w z = no_string (not_quote 0x5B (token_byte 0x5B m q) refl)
+      go None q (Some m) w z = no_string (not_quote 0x7B (token_byte 0x7B m w) refl)
+      go None q None w z = absurd (n (sym z))
 
   -- ---- any value
   value_word : (d : ℕ) (t : Json) (m : ℕ) → tree_at s d p ≡ got t m → word_in s t ≡ word_of (name_at s p)
@@ -143,10 +141,10 @@ module _ (s : List ℕ) (p : ℕ) where
 
 -- ---- the form of a message
 module _ (s : List ℕ) (d at : ℕ) where
-  leaf_other : (t : Json) (m : ℕ) (k : Kind) → on_leaf s at k ≡ got t m → (opened s t).first ≡ other
-  leaf_other t m (Str n) w = let z : str (at + 1) (n - at - 2) ≡ t = cc in rw (← z)
-  leaf_other t m (Num n) w = let z : num at (n - at) ≡ t = cc in rw (← z)
-  leaf_other t m (Word n) w = let z : word at (n - at) ≡ t = cc in rw (← z)
+  leaf_other : (t : Json) (m : ℕ) (k : Option Kind) → on_leaf s at k ≡ got t m → (opened s t).first ≡ other
+  leaf_other t m (Some (Str n)) w = let z : str (at + 1) (n - at - 2) ≡ t = cc in rw (← z)
+  leaf_other t m (Some (Num n)) w = let z : num at (n - at) ≡ t = cc in rw (← z)
+  leaf_other t m (Some (Word n)) w = let z : word at (n - at) ≡ t = cc in rw (← z)
   leaf_other t m None w = no cc
 
   empty_other : (t : Json) (m : ℕ) (b : Bool) (n : ℕ) → group_at (tree_at s d) s at (Empty n b) ≡ got t m → (opened s t).first ≡ other
@@ -190,26 +188,26 @@ module _ (s : List ℕ) {f : ℕ} {at : ℕ} (short : length s ≤ most_message)
   unfolding message_row
   by_root e = rw (le-ltb most_message (length s) short, utf, clean) e
 
-  pub message_wrong : Wrong ≡ judged_of s f at (tree_at s depth at) → plain_refusal 3 ≡ refusal_of s
+  pub message_wrong : None ≡ judged_of s f at (tree_at s depth at) → plain_refusal 3 ≡ refusal_of s
   unfolding judged_of
   message_wrong e = plain_refusal_lem s 3 (omega arith) (by_root (go (root s) (rw place at e)))
     where
-      go : (g : Got Json) → Wrong ≡ judged_of s f (ws_at s 0) g → 3 ≡ cond (not (ends_at (length s) (end_of g))) 3 (root_row s g)
+      go : (g : Got Json) → None ≡ judged_of s f (ws_at s 0) g → 3 ≡ cond (not (ends_at (length s) (end_of g))) 3 (root_row s g)
       go none w = refl
       go (got t n) w = no cc
 
-  module _ (n : ℕ) {x : ℕ} (e : Ends n x ≡ judged_of s f at (tree_at s depth at)) where
+  module _ (n : ℕ) {x : ℕ} (e : ends n x ≡ judged_of s f at (tree_at s depth at)) where
     -- the tree that was judged, and its fault
     judged : (t : Json) × (root s ≡ got t n) × Lowest x (row4 s t) (row5 s t) (number_places s t) (hex_places s t) (row8 s t)
     unfolding judged_of
     judged = go (root s) refl (rw place at e)
       where
-        go : (g : Got Json) → root s ≡ g → Ends n x ≡ judged_of s f (ws_at s 0) g
+        go : (g : Got Json) → root s ≡ g → ends n x ≡ judged_of s f (ws_at s 0) g
             → (t : Json) × (root s ≡ got t n) × Lowest x (row4 s t) (row5 s t) (number_places s t) (hex_places s t) (row8 s t)
         go none q w = no cc
         go (got t m) q w =
-            let a : m ≡ n = cc in
-            let b : fault_of s f (ws_at s 0) t ≡ x = cc in
+            let a : m ≡ n = sym (same_end w) in
+            let b : fault_of s f (ws_at s 0) t ≡ x = sym (same_fault w) in
             let o : f ≡ word_form (opened s t).first = rw place at form ∙ sym (opening_is s 7 (ws_at s 0) t m q) in
             (t, q ∙ ap (got t) a, rw (← b, o) (lowest s (ws_at s 0) t))
 
@@ -218,7 +216,7 @@ module _ (s : List ℕ) {f : ℕ} {at : ℕ} (short : length s ≤ most_message)
     rows h t q w =
         by_root (rw (q, eq-eqb n (length s) h, number_some s t, hex_some s t) (told_row_lem w))
 
-    pub message_told : n ≡ length s → {row : ℕ} {o : Offset} → row ≡ fault_row x → o ≡ fault_offset x → record { row = row; offset = o } ≡ refusal_of s
+    pub message_told : n ≡ length s → {row : ℕ} {o : Option ℕ} → row ≡ fault_row x → o ≡ fault_offset x → record { row = row; offset = o } ≡ refusal_of s
     unfolding offset_of
     message_told h r o =
         let (t, q, w) = judged in

@@ -1,5 +1,6 @@
 -- Every number and string of a tree stands in the text where its item says: so the places that break a row are places
 -- of numbers, or of strings, and lie within the text.
+use Rattle.std.specs.Prelude.{Option, Some, None}
 use mathlib.Core.Path.{◌≡◌, refl, sym, ◌∙◌}
 use mathlib.Core.List.{List, [], ◌∷◌, ◌++◌}
 use mathlib.Core.Bool.{Bool, true, false, cond}
@@ -14,10 +15,8 @@ use Rattle.json_tree.specs.Tree.{Json, word, num, str, arr, obj, Items, nil, ite
 use Rattle.json_tree.specs.Tree.{of_array, of_object, items_at, group_at, tree_at}
 use Rattle.json_tree.specs.declared.Class.{Class}
 use Rattle.json_tree.specs.declared.Class.TheVariants.{Digit, Byte}
-use Rattle.json_tree.specs.declared.Out.{Out}
-use Rattle.json_tree.specs.declared.Out.TheVariants.{End, Bad}
 use Rattle.json_tree.specs.declared.Kind.{Kind}
-use Rattle.json_tree.specs.declared.Kind.TheVariants.{Str, Num, Word, None}
+use Rattle.json_tree.specs.declared.Kind.TheVariants.{Str, Num, Word}
 use Rattle.json_tree.specs.declared.Start.{Start}
 use Rattle.json_tree.specs.declared.Start.TheVariants.{Leaf, Empty, Many}
 use Rattle.json_tree.specs.declared.Next.{Next}
@@ -30,11 +29,11 @@ use Rattle.shape.proofs.Names.{no}
 
 -- ---- what begins with a byte that a rule takes begins within the text
 module _ (s : List ℕ) (at : ℕ) where
-  past_end : length s ≤ at → (class : Class) → in_class class 0 ≡ false → one_at s class at ≡ Bad
+  past_end : length s ≤ at → (class : Class) → in_class class 0 ≡ false → one_at s class at ≡ None
   unfolding one_at
   past_end h class z = go (in_class class (get_or s at 0)) refl
     where
-      go : (b : Bool) → in_class class (get_or s at 0) ≡ b → cond b (End (at + 1)) Bad ≡ Bad
+      go : (b : Bool) → in_class class (get_or s at 0) ≡ b → cond b (Some (at + 1)) None ≡ None
       go true q = let w = class_within class s at z q in absurd (omega arith)
       go false q = refl
 
@@ -51,7 +50,7 @@ module _ (s : List ℕ) (at : ℕ) where
         past_end h (Byte 0x74) refl,
       )
 
-  pub scalar_within : {k : Kind} → scalar_at s at ≡ k → (k ≡ None → ⊥) → at < length s
+  pub scalar_within : {k : Option Kind} → scalar_at s at ≡ k → (k ≡ None → ⊥) → at < length s
   scalar_within {k} e n = go (ltb at (length s)) refl
     where
       go : (b : Bool) → ltb at (length s) ≡ b → at < length s
@@ -63,8 +62,8 @@ mutual
   -- t, which is read at v
   pub data Stands (s : List ℕ) : ℕ → Json → Type 0 where
     a_word : {v a n : ℕ} → Stands s v (word a n)
-    a_number : {v a n k : ℕ} → scalar_at s v ≡ Num k → Stands s v (num a n)
-    a_string : {v a n k : ℕ} → scalar_at s v ≡ Str k → Stands s v (str a n)
+    a_number : {v a n k : ℕ} → scalar_at s v ≡ Some (Num k) → Stands s v (num a n)
+    a_string : {v a n k : ℕ} → scalar_at s v ≡ Some (Str k) → Stands s v (str a n)
     an_array : {v : ℕ} {ts : Items} → AllStand s ts → Stands s v (arr ts)
     an_object : {v : ℕ} {ts : Items} → AllStand s ts → Stands s v (obj ts)
 
@@ -76,10 +75,10 @@ module _ (s : List ℕ) where
   leaf_stands : (at : ℕ) {t : Json} {n : ℕ} → on_leaf s at (scalar_at s at) ≡ got t n → Stands s at t
   leaf_stands at {t} {n} e = go (scalar_at s at) refl e
     where
-      go : (k : Kind) → scalar_at s at ≡ k → on_leaf s at k ≡ got t n → Stands s at t
-      go (Str m) q w = let z : str (at + 1) (m - at - 2) ≡ t = cc in rw (← z) (a_string q)
-      go (Num m) q w = let z : num at (m - at) ≡ t = cc in rw (← z) (a_number q)
-      go (Word m) q w = let z : word at (m - at) ≡ t = cc in rw (← z) a_word
+      go : (k : Option Kind) → scalar_at s at ≡ k → on_leaf s at k ≡ got t n → Stands s at t
+      go (Some (Str m)) q w = let z : str (at + 1) (m - at - 2) ≡ t = cc in rw (← z) (a_string q)
+      go (Some (Num m)) q w = let z : num at (m - at) ≡ t = cc in rw (← z) (a_number q)
+      go (Some (Word m)) q w = let z : word at (m - at) ≡ t = cc in rw (← z) a_word
       go None q w = no cc
 
   module _ (value : ℕ → Got Json) (inner : (v : ℕ) (t : Json) (n : ℕ) → value v ≡ got t n → Stands s v t) where
@@ -103,10 +102,10 @@ module _ (s : List ℕ) where
         body ih v none q w = no cc
         body ih v (got t m) q w = next ih v t (inner v t m q) (next_at s m named) w
 
-        head : (o : Out) → ((j : ℕ) (us : Items) (m : ℕ) → items_at value s named f j ≡ got us m → AllStand s us)
+        head : (o : Option ℕ) → ((j : ℕ) (us : Items) (m : ℕ) → items_at value s named f j ≡ got us m → AllStand s us)
             → case o (λ v. bind (value v) λ t m. follow (item i v t) (next_at s m named) (items_at value s named f)) none ≡ got ts n → AllStand s ts
-        head (End v) ih w = body ih v (value v) refl w
-        head Bad ih w = no cc
+        head (Some v) ih w = body ih v (value v) refl w
+        head None ih w = no cc
 
   pub tree_stands : (d at : ℕ) {t : Json} {n : ℕ} → tree_at s d at ≡ got t n → Stands s at t
   tree_stands zero at e = leaf_stands at (value_flat s zero at refl ∙ e)

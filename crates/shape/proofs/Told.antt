@@ -1,4 +1,5 @@
 -- The row and the offset that a fault tells: the lowest row that holds, and the earliest of its places.
+use Rattle.std.specs.Prelude.{Option, Some, None}
 use mathlib.Core.Path.{◌≡◌, refl, ap, ◌∙◌}
 use mathlib.Core.List.{List, [], ◌∷◌}
 use mathlib.Core.Bool.{Bool, true, false, cond}
@@ -6,8 +7,6 @@ use Prim.Native.Nat.{ℕ, ◌+◌, ◌%◌, ◌≤◌, ◌<◌, min}
 use native.Mathlib.Omega.{arith}
 use borrow.Author.Tests.{ne_eqb, lt-ltb, le-ltb}
 use lib.Dec.{eqb}
-use Rattle.shape.specs.declared.Offset.{Offset}
-use Rattle.shape.specs.declared.Offset.TheVariants.{Absent, At}
 use Rattle.shape.specs.Offsets.{least_of, earliest}
 use Rattle.shape.specs.Inner.{places, last_place, NUMBER, HEX, COUNT, no_fault, fault_row, fault_offset}
 use Rattle.shape.proofs.Low.{placed_at, low, Lowest}
@@ -27,13 +26,13 @@ module _ (q : ℕ) where
   hex_row_lem = rw (ne_eqb (HEX + min q last_place) no_fault (λ z. omega arith)) (omega arith)
 
   module _ (h : q < places) where
-    number_offset : fault_offset (NUMBER + min q last_place) ≡ At q
+    number_offset : fault_offset (NUMBER + min q last_place) ≡ Some q
     unfolding fault_offset
     number_offset =
         let z : (NUMBER + min q last_place) % places ≡ q = omega arith in
         rw (le-ltb (NUMBER + min q last_place) NUMBER (omega arith), lt-ltb (NUMBER + min q last_place) COUNT (omega arith), z)
 
-    hex_offset : fault_offset (HEX + min q last_place) ≡ At q
+    hex_offset : fault_offset (HEX + min q last_place) ≡ Some q
     unfolding fault_offset
     hex_offset =
         let z : (HEX + min q last_place) % places ≡ q = omega arith in
@@ -61,8 +60,8 @@ unfolding least_of
 least_first p [] = omega arith
 least_first p (q ∷ qs) = omega arith
 
-abbrev pub offset_by : (row : ℕ) (c d : List ℕ) → Offset
-offset_by row c d = cond (eqb row 6) (earliest c) (cond (eqb row 7) (earliest d) Absent)
+abbrev pub offset_by : (row : ℕ) (c d : List ℕ) → Option ℕ
+offset_by row c d = cond (eqb row 6) (earliest c) (cond (eqb row 7) (earliest d) None)
 
 offset_of_lem : (a b : Bool) (c d : List ℕ) (e : Bool) → Told c → Told d → fault_offset (low a b c d e) ≡ offset_by (row_by a b c d e) c d
 unfolding fault_offset low placed_at

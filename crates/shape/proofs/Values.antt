@@ -1,6 +1,7 @@
 -- The walk over a value by itself answers its lowest row of 4 to 8, the law of its form, and where it ends: so row 2 is
 -- tested on its text.
-use mathlib.Core.Path.{◌≡◌, refl}
+use Rattle.std.specs.Prelude.{None}
+use mathlib.Core.Path.{◌≡◌, refl, sym}
 use mathlib.Core.List.{List, []}
 use mathlib.Core.Bool.{true, false, cond, not}
 use Prim.Native.Nat.{ℕ, ◌-◌}
@@ -9,9 +10,9 @@ use Rattle.json_tree.specs.Tree.{Json, Got, none, got, depth, tree_at, of_object
 use Rattle.rows.specs.Strings.{part, refused_in}
 use Rattle.shape.specs.declared.Sort.{Sort}
 use Rattle.shape.specs.declared.Sort.TheVariants.{Tags, Hexes, Smalls, Filter}
-use Rattle.shape.specs.declared.Judged.TheVariants.{Ends, Wrong}
-use Rattle.shape.specs.Inner.{fault_of, judged_of, fault_row}
+use Rattle.shape.specs.Inner.{ends, fault_of, judged_of, fault_row}
 use Rattle.shape.specs.Values.{fits, sort6, sort7, sort8, own_text, sort_row, got_row, value_row, form_of}
+use Rattle.shape.proofs.Walks.{same_end, same_fault}
 use Rattle.shape.proofs.Names.{no}
 use Rattle.shape.proofs.Low.{Lowest}
 use Rattle.wire.specs.Limits.{hex_length}
@@ -62,30 +63,30 @@ module _ (s : List ℕ) where
   sort_told k v t = rw (numbers_some k t, hexes_are k t) (told_row_lem (sort_lowest k v t))
 
   module _ (at : ℕ) (k : Sort) {f : ℕ} (form : f ≡ form_of k) where
-    module _ {n r : ℕ} (e : Ends n r ≡ judged_of s f at (tree_at s depth at)) {w : List ℕ} (q : w ≡ part s at (n - at)) where
+    module _ {n r : ℕ} (e : ends n r ≡ judged_of s f at (tree_at s depth at)) {w : List ℕ} (q : w ≡ part s at (n - at)) where
       pub value_told : is_utf8 w ≡ true → fault_row r ≡ value_row s at k
       unfolding judged_of value_row
       value_told u = go (tree_at s depth at) e
         where
-          go : (g : Got Json) → Ends n r ≡ judged_of s f at g → fault_row r ≡ cond (own_text s at g) 2 (got_row s k g)
+          go : (g : Got Json) → ends n r ≡ judged_of s f at g → fault_row r ≡ cond (own_text s at g) 2 (got_row s k g)
           go none e = no cc
           go (got t m) e =
-              let y : m ≡ n = cc in
-              let z : r ≡ fault_of s f at t = cc in
+              let y : m ≡ n = sym (same_end e) in
+              let z : r ≡ fault_of s f at t = same_fault e in
               rw (y, ← q, u, z, form) (sort_told k at t)
 
       pub value_bytes : is_utf8 w ≡ false → 2 ≡ value_row s at k
       unfolding judged_of value_row
       value_bytes u = go (tree_at s depth at) e
         where
-          go : (g : Got Json) → Ends n r ≡ judged_of s f at g → 2 ≡ cond (own_text s at g) 2 (got_row s k g)
+          go : (g : Got Json) → ends n r ≡ judged_of s f at g → 2 ≡ cond (own_text s at g) 2 (got_row s k g)
           go none e = no cc
-          go (got t m) e = let y : m ≡ n = cc in rw (y, ← q, u)
+          go (got t m) e = let y : m ≡ n = sym (same_end e) in rw (y, ← q, u)
 
-    pub value_wrong : Wrong ≡ judged_of s f at (tree_at s depth at) → 5 ≡ value_row s at k
+    pub value_wrong : None ≡ judged_of s f at (tree_at s depth at) → 5 ≡ value_row s at k
     unfolding judged_of value_row
     value_wrong e = go (tree_at s depth at) e
       where
-        go : (g : Got Json) → Wrong ≡ judged_of s f at g → 5 ≡ cond (own_text s at g) 2 (got_row s k g)
+        go : (g : Got Json) → None ≡ judged_of s f at g → 5 ≡ cond (own_text s at g) 2 (got_row s k g)
         go none e = refl
         go (got t m) e = no cc

@@ -1,7 +1,7 @@
 -- The walk behind the code: a form for each place of a message, a slot for each member, and the least fault of a part
 -- where its form must stand, no_fault for none. Only private contracts speak of it; the proofs join it to Rows and
 -- Offsets.
-use Rattle.std.specs.Prelude.{ℕ, ◌+◌, ◌-◌, ◌/◌, ◌%◌, ◌^◌, min, List, Bool, true, false, cond, get_or, eqb, leb, ltb, ℤ, pos, neg_ℤ}
+use Rattle.std.specs.Prelude.{ℕ, ◌+◌, ◌-◌, ◌/◌, ◌%◌, ◌^◌, min, List, Bool, true, false, cond, get_or, eqb, leb, ltb, ℤ, pos, neg_ℤ, Option, Some, None}
 use Rattle.std.specs.Int.Bits.{bit_or}
 use Rattle.json_tree.specs.Grammar.{is_between}
 use Rattle.json_tree.specs.Tree.{Json, word, num, str, arr, obj, Items, nil, item, Got, none, got}
@@ -14,10 +14,7 @@ use Rattle.wire.specs.Bytes.{Bytes, Place, Row, same_bytes}
 use Rattle.spell.specs.Spell.{decode, refuses, character_count, is_hex_of}
 use Rattle.numeral.specs.Whole.{whole_of, whole_answer, is_within}
 use Rattle.shape.specs.declared.Judged.{Judged}
-use Rattle.shape.specs.declared.Judged.TheVariants.{Ends, Wrong}
 use Rattle.shape.specs.declared.Item.{Item}
-use Rattle.shape.specs.declared.Offset.{Offset}
-use Rattle.shape.specs.declared.Offset.TheVariants.{Absent, At}
 use Rattle.shape.specs.declared.Tally.{Tally}
 use Rattle.shape.specs.Shape.{name_at, id_name, pubkey_name, created_at_name, kind_name, tags_name, content_name, sig_name}
 use Rattle.shape.specs.Shape.{ids_name, authors_name, kinds_name, since_name, until_name, limit_name, is_condition, Word}
@@ -60,8 +57,8 @@ placed row v = row + min v last_place
 unfoldable pub fault_row : Fault → Row
 fault_row x = cond (eqb x no_fault) 0 (x / places % 256)
 
-unfoldable pub fault_offset : Fault → Offset
-fault_offset x = cond (ltb x NUMBER) Absent (cond (ltb x COUNT) (At (x % places)) Absent)
+unfoldable pub fault_offset : Fault → Option ℕ
+fault_offset x = cond (ltb x NUMBER) None (cond (ltb x COUNT) (Some (x % places)) None)
 
 -- ---- the forms. NEVER: nothing may stand there, nor in it
 abbrev pub NEVER : ℕ
@@ -348,9 +345,12 @@ unfoldable mutual
       (fault_of s (item_of s f named k p).form v t)) ts
 
 -- where a value ends, and the least fault in it
-unfoldable pub judged_of : (s : Bytes) (f : ℕ) (v : Place) (g : Got Json) → Judged
-judged_of s f v none = Wrong
-judged_of s f v (got t n) = Ends n (fault_of s f v t)
+abbrev pub ends : (n : Place) (fault : Fault) → Option Judged
+ends n fault = Some (record { end = n; fault = fault })
+
+unfoldable pub judged_of : (s : Bytes) (f : ℕ) (v : Place) (g : Got Json) → Option Judged
+judged_of s f v none = None
+judged_of s f v (got t n) = ends n (fault_of s f v t)
 
 -- ---- the form of a whole message, by its first word
 unfoldable pub word_form : Word → ℕ

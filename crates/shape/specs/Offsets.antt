@@ -1,14 +1,12 @@
 -- 02, Wish 9: "Refusals by rows 6 and 7 also carry the byte offset, in the message, from 0, of the earliest number (row
 -- 6) or string's opening quote (row 7) that breaks that row". A value's place in the tree is that of its first byte: of
 -- a number its minus or its first digit, of a string its opening quote.
-use Rattle.std.specs.Prelude.{ℕ, min, List, [], ◌∷◌, ◌++◌, Bool, cond, eqb}
+use Rattle.std.specs.Prelude.{ℕ, min, List, [], ◌∷◌, ◌++◌, Bool, cond, eqb, Option, Some, None}
 use Rattle.json_tree.specs.Tree.{Json, Items, nil, item, Got, none, got, root, of_array, of_object}
 use Rattle.wire.specs.Limits.{hex_length}
 use Rattle.wire.specs.Bytes.{Bytes, Place, Row}
 use Rattle.shape.specs.Shape.{Word, event, req, close, other, opened}
 use Rattle.shape.specs.Rows.{wrong_small, wrong_hex, event_number, filter_number, event_hex, filter_hex, message_row}
-use Rattle.shape.specs.declared.Offset.{Offset}
-use Rattle.shape.specs.declared.Offset.TheVariants.{Absent, At}
 use Rattle.shape.specs.declared.Refusal.{Refusal}
 
 -- ---- the places of the values that break a row
@@ -50,34 +48,34 @@ unfoldable pub least_of : ℕ → List ℕ → ℕ
 least_of p [] = p
 least_of p (q ∷ qs) = min p (least_of q qs)
 
-abbrev pub earliest : List Place → Offset
-earliest [] = Absent
-earliest (p ∷ ps) = At (least_of p ps)
+abbrev pub earliest : List Place → Option ℕ
+earliest [] = None
+earliest (p ∷ ps) = Some (least_of p ps)
 
 -- what a refusal by a row carries: "other rows carry none"
-abbrev pub tree_offset : (row : Row) (s : Bytes) (t : Json) → Offset
+abbrev pub tree_offset : (row : Row) (s : Bytes) (t : Json) → Option ℕ
 tree_offset row s t =
-    cond (eqb row 6) (earliest (number_places s t)) (cond (eqb row 7) (earliest (hex_places s t)) Absent)
+    cond (eqb row 6) (earliest (number_places s t)) (cond (eqb row 7) (earliest (hex_places s t)) None)
 
-abbrev pub root_offset : (row : Row) (s : Bytes) (g : Got Json) → Offset
-root_offset row s none = Absent
+abbrev pub root_offset : (row : Row) (s : Bytes) (g : Got Json) → Option ℕ
+root_offset row s none = None
 root_offset row s (got t n) = tree_offset row s t
 
 -- ---- refusals
 -- of a message by its lowest row of 1 to 8
-unfoldable pub offset_of : Bytes → Offset
+unfoldable pub offset_of : Bytes → Option ℕ
 offset_of s = root_offset (message_row s) s (root s)
 
 abbrev pub refusal_of : Bytes → Refusal
 refusal_of s = record { row = message_row s; offset = offset_of s }
 
 -- by any row: the offset goes with the message's own row
-unfoldable pub offset_for : Bytes → Row → Offset
-offset_for s row = cond (eqb row (message_row s)) (offset_of s) Absent
+unfoldable pub offset_for : Bytes → Row → Option ℕ
+offset_for s row = cond (eqb row (message_row s)) (offset_of s) None
 
 abbrev pub refusal_for : Bytes → Row → Refusal
 refusal_for s row = record { row = row; offset = offset_for s row }
 
 -- "Calls lent parts and no message give no place"
 abbrev pub plain_refusal : Row → Refusal
-plain_refusal row = record { row = row; offset = Absent }
+plain_refusal row = record { row = row; offset = None }

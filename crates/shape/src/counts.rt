@@ -12,6 +12,7 @@ pub(crate) fn bit(slot: u8) -> u64
     1u64 << (slot % 64)
 }
 
+#[tactic(auto, unfolding(crate::specs::Inner::is_in))]
 pub(crate) fn is_in(slot: u8, seen: u64) -> bool
     ensures { result ≡ is_in (bit_of slot) seen }
 {
@@ -19,32 +20,29 @@ pub(crate) fn is_in(slot: u8, seen: u64) -> bool
 }
 
 // A member may stand once.
+#[tactic(auto, unfolding(crate::specs::Inner::once_fault))]
 pub(crate) fn once_fault(named: bool, slot: u8, seen: u64) -> u64
     ensures { result ≡ once_fault named slot seen }
 {
-    if named {
-        if is_in(slot, seen) {
-            forms::SHAPE
-        } else {
-            forms::NO_FAULT
-        }
+    if named && is_in(slot, seen) {
+        forms::SHAPE
     } else {
         forms::NO_FAULT
     }
 }
 
+#[tactic(auto, unfolding(crate::specs::Inner::marks_after))]
 pub(crate) fn marks_after(slot: u8, marks: u8) -> u8
     ensures { result ≡ marks_after slot marks }
 {
     if slot < forms::LOWER {
         marks
-    } else if marks < 5 {
-        marks + 1
     } else {
-        5
+        marks.min(4) + 1
     }
 }
 
+#[tactic(auto, unfolding(crate::specs::Inner::fresh))]
 pub(crate) fn start() -> Tally
     ensures { result ≡ fresh }
 {
@@ -56,23 +54,23 @@ pub(crate) fn start() -> Tally
 }
 
 // One item more, in whose value the least fault is x.
+#[tactic(auto, unfolding(crate::specs::Inner::stepped))]
 pub(crate) fn step(named: bool, a: Tally, it: Item, x: u64) -> Tally
     ensures { result ≡ stepped named a it x }
 {
     Tally {
-        fault: forms::least(
-            a.fault,
-            forms::least(
-                it.fault,
-                forms::least(x, once_fault(named, it.slot, a.seen)),
-            ),
-        ),
+        fault: a
+            .fault
+            .min(it.fault)
+            .min(x)
+            .min(once_fault(named, it.slot, a.seen)),
         seen: a.seen | bit(it.slot),
         marks: marks_after(it.slot, a.marks),
     }
 }
 
 // Whether an event's seven members are there.
+#[tactic(auto, unfolding(crate::specs::Inner::is_full))]
 pub(crate) fn is_full(seen: u64) -> bool
     ensures { result ≡ is_full seen }
 {
@@ -80,40 +78,27 @@ pub(crate) fn is_full(seen: u64) -> bool
 }
 
 // The fault of k items in all.
+#[tactic(auto, unfolding(crate::specs::Inner::end_fault))]
 pub(crate) fn end_fault(form: u8, k: usize, a: Tally) -> u64
     ensures { result ≡ end_fault form k a }
 {
-    if form == forms::EVENT {
-        if is_full(a.seen) {
-            forms::NO_FAULT
-        } else {
-            forms::SHAPE
-        }
-    } else if form == forms::FILTER {
-        scalar::bounded(0, wire::MOST_CONDITIONS, a.marks as usize)
-    } else if form == forms::TAGLIST {
-        scalar::bounded(0, wire::MOST_TAGS, k)
-    } else if form == forms::TAG {
-        scalar::bounded(1, wire::MOST_STRINGS, k)
-    } else if form == forms::NEVER {
-        forms::SHAPE
-    } else if form < forms::OFFER {
-        scalar::bounded(1, wire::MOST_MEMBERS, k)
-    } else if form == forms::REQUEST {
-        if k < 2 {
-            forms::SHAPE
-        } else {
-            scalar::bounded(3, 2 + wire::MOST_FILTERS, k)
-        }
-    } else if k == 2 {
-        forms::NO_FAULT
-    } else {
-        forms::SHAPE
+    match form {
+        forms::EVENT if is_full(a.seen) => forms::NO_FAULT,
+        forms::EVENT | forms::NEVER => forms::SHAPE,
+        forms::FILTER => scalar::bounded(0, wire::MOST_CONDITIONS, usize::from(a.marks)),
+        forms::TAGLIST => scalar::bounded(0, wire::MOST_TAGS, k),
+        forms::TAG => scalar::bounded(1, wire::MOST_STRINGS, k),
+        ..forms::OFFER => scalar::bounded(1, wire::MOST_MEMBERS, k),
+        forms::REQUEST if k < 2 => forms::SHAPE,
+        forms::REQUEST => scalar::bounded(3, 2 + wire::MOST_FILTERS, k),
+        _ if k == 2 => forms::NO_FAULT,
+        _ => forms::SHAPE,
     }
 }
 
+#[tactic(auto, unfolding(crate::specs::Inner::closed))]
 pub(crate) fn close(form: u8, k: usize, a: Tally) -> u64
     ensures { result ≡ closed form k a }
 {
-    forms::least(a.fault, end_fault(form, k, a))
+    a.fault.min(end_fault(form, k, a))
 }

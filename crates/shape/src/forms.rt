@@ -1,6 +1,6 @@
 // What must stand at a place is its form, a small number; a member has a slot, an element its number. Faults, forms and
 // slots, and the form of each member and element.
-ghost use Rattle.std.specs.Prelude.{◌≡◌, ◌≤◌, min};
+ghost use Rattle.std.specs.Prelude.{◌≡◌, ◌≤◌};
 ghost use Rattle.spell.specs.Spell.{decode};
 ghost use Rattle.shape.specs.Shape.{word_of};
 ghost use Rattle.shape.specs.Inner.{placed, group_form, message_form, element_form, event_form, filter_form};
@@ -104,138 +104,96 @@ pub(crate) const LETTER_P: u8 = LOWER + 15;
 // None of six names.
 pub(crate) const NONE: u8 = 6;
 
-// The lesser of two faults.
-pub(crate) fn least(x: u64, y: u64) -> u64
-    ensures { result ≡ min x y }
-{
-    if x <= y { x } else { y }
-}
-
 // A row that is broken at a place.
 pub(crate) fn at_place(row: u64, v: usize) -> u64
     requires { row ≤ no_fault }
     ensures { result ≡ placed row v }
 {
-    row + least(v as u64, LAST_PLACE)
+    row + (v as u64).min(LAST_PLACE)
 }
 
 // The form inside of brackets or braces.
+#[tactic(auto, unfolding(crate::specs::Inner::group_form))]
 pub(crate) fn group_form(form: u8, named: bool) -> u8
     ensures { result ≡ group_form form named }
 {
-    if named {
-        if form == EVENT {
-            EVENT
-        } else if form == FILTER {
-            FILTER
-        } else {
-            NEVER
-        }
-    } else if form < TAGLIST {
-        NEVER
-    } else {
-        form
+    match form {
+        EVENT | FILTER if named => form,
+        TAGLIST.. if !named => form,
+        _ => NEVER,
     }
 }
 
+#[tactic(auto, unfolding(crate::specs::Inner::event_form))]
 pub(crate) fn event_form(slot: u8) -> u8
     ensures { result ≡ event_form slot }
 {
-    if slot == ID {
-        HEX64
-    } else if slot == PUBKEY {
-        HEX64
-    } else if slot == CREATED {
-        TIME
-    } else if slot == KIND {
-        SMALL
-    } else if slot == TAGS {
-        TAGLIST
-    } else if slot == CONTENT {
-        TEXT
-    } else if slot == SIG {
-        HEX128
-    } else {
-        NEVER
+    match slot {
+        ID | PUBKEY => HEX64,
+        CREATED => TIME,
+        KIND => SMALL,
+        TAGS => TAGLIST,
+        CONTENT => TEXT,
+        SIG => HEX128,
+        _ => NEVER,
     }
 }
 
+#[tactic(auto, unfolding(crate::specs::Inner::filter_form))]
 pub(crate) fn filter_form(slot: u8) -> u8
     ensures { result ≡ filter_form slot }
 {
-    if slot == LETTER_E {
-        HEXES
-    } else if slot == LETTER_P {
-        HEXES
-    } else if LOWER <= slot {
-        TEXTS
-    } else if slot == IDS {
-        HEXES
-    } else if slot == AUTHORS {
-        HEXES
-    } else if slot == KINDS {
-        SMALLS
-    } else if slot == SINCE {
-        TIME
-    } else if slot == UNTIL {
-        TIME
-    } else if slot == LIMIT {
-        SMALL
-    } else {
-        NEVER
+    match slot {
+        LETTER_E | LETTER_P | IDS | AUTHORS => HEXES,
+        LOWER.. => TEXTS,
+        KINDS => SMALLS,
+        SINCE | UNTIL => TIME,
+        LIMIT => SMALL,
+        _ => NEVER,
     }
 }
 
+#[tactic(auto, unfolding(crate::specs::Inner::member_form))]
 pub(crate) fn member_form(form: u8, slot: u8) -> u8
     ensures { result ≡ member_form form slot }
 {
-    if form == EVENT {
-        event_form(slot)
-    } else if form == FILTER {
-        filter_form(slot)
-    } else {
-        NEVER
+    match form {
+        EVENT => event_form(slot),
+        FILTER => filter_form(slot),
+        _ => NEVER,
     }
 }
 
 // Element k of a message: its word, the second, and those after it.
+#[tactic(auto, unfolding(crate::specs::Inner::message_form))]
 pub(crate) fn message_form(k: usize, second: u8, later: u8) -> u8
     ensures { result ≡ message_form k second later }
 {
-    if k == 0 {
-        TEXT
-    } else if k == 1 {
-        second
-    } else {
-        later
+    match k {
+        0 => TEXT,
+        1 => second,
+        _ => later,
     }
 }
 
 // Element k of an array.
+#[tactic(auto, unfolding(crate::specs::Inner::element_form))]
 pub(crate) fn element_form(form: u8, k: usize) -> u8
     ensures { result ≡ element_form form k }
 {
-    if form == TAGLIST {
-        TAG
-    } else if form == TAG {
-        TEXT
-    } else if form == TEXTS {
-        TEXT
-    } else if form == HEXES {
-        HEX64
-    } else if form == SMALLS {
-        SMALL
-    } else if form == OFFER {
-        message_form(k, EVENT, NEVER)
-    } else if form == REQUEST {
-        message_form(k, LABEL, FILTER)
-    } else if form == CLOSING {
-        message_form(k, LABEL, NEVER)
-    } else {
-        NEVER
+    match form {
+        TAGLIST => TAG,
+        TAG | TEXTS => TEXT,
+        HEXES => HEX64,
+        SMALLS => SMALL,
+        OFFER => message_form(k, EVENT, NEVER),
+        REQUEST => message_form(k, LABEL, FILTER),
+        CLOSING => message_form(k, LABEL, NEVER),
+        _ => NEVER,
     }
 }
 
+#[tactic(auto, unfolding(crate::specs::Inner::word_form, crate::specs::Shape::word_of))]
 pub(crate) fn word_form(p: &[u8]) -> u8
     ensures { result ≡ word_form (word_of (decode p.now)) }
 {
@@ -250,6 +208,7 @@ pub(crate) fn word_form(p: &[u8]) -> u8
     }
 }
 
+#[tactic(auto, unfolding(crate::specs::Values::form_of))]
 pub(crate) fn sort_form(k: Sort) -> u8
     ensures { result ≡ form_of k }
 {

@@ -13,7 +13,8 @@ pub(crate) fn either<'a>(first: bool, x: &'a [u8], y: &'a [u8]) -> &'a [u8]
     if first { x } else { y }
 }
 
-// Which of six names of an event, or of a filter, is spelled, from 0 on, or NONE.
+// Which of six names of an event, or of a filter, is spelled, from 0 on, or NONE. One test after another: of `position`
+// over an array of the names, the proof did not close.
 pub(crate) fn among(p: &[u8], event: bool) -> u8
     ensures { result ≡ among (decode p.now) event 6 }
 {
@@ -34,87 +35,80 @@ pub(crate) fn among(p: &[u8], event: bool) -> u8
     }
 }
 
+#[tactic(auto, unfolding(crate::specs::Inner::event_slot))]
 pub(crate) fn event_slot(p: &[u8]) -> u8
     ensures { result ≡ event_slot (decode p.now) }
 {
-    let slot = among(p, true);
-    if slot != forms::NONE {
-        return slot;
-    }
-    if spell::spells(p, b"sig") {
-        forms::SIG
-    } else {
-        forms::UNKNOWN
+    match among(p, true) {
+        forms::NONE if spell::spells(p, b"sig") => forms::SIG,
+        forms::NONE => forms::UNKNOWN,
+        slot => slot,
     }
 }
 
+#[tactic(auto, unfolding(crate::specs::Inner::letter_slot))]
 pub(crate) fn letter_slot(b: u8) -> u8
     ensures { result ≡ letter_slot b }
 {
-    if json_tree::between(b'a', b'z', b) {
-        b - b'a' + forms::LOWER
-    } else if json_tree::between(b'A', b'Z', b) {
-        b - b'A' + forms::UPPER
-    } else {
-        forms::UNKNOWN
+    match b {
+        b'a'..=b'z' => b - b'a' + forms::LOWER,
+        b'A'..=b'Z' => b - b'A' + forms::UPPER,
+        _ => forms::UNKNOWN,
     }
 }
 
 // # and a letter, spelled in any way: every letter is tried.
+#[tactic(auto, unfolding(crate::specs::Inner::condition_slot))]
 pub(crate) fn escaped_condition(p: &[u8]) -> u8
     ensures { result ≡ condition_slot (decode p.now) }
 {
     if spell::decoded_len(p) != 2 {
         return forms::UNKNOWN;
     }
-    let mut b = b'A';
-    while b <= b'z' {
-        let name = [b'#', b];
-        if spell::spells(p, &name) {
+    for b in b'A'..=b'z' {
+        if spell::spells(p, &[b'#', b]) {
             return letter_slot(b);
         }
-        b += 1;
     }
     forms::UNKNOWN
 }
 
 // # and a letter.
+#[tactic(auto, unfolding(crate::specs::Inner::condition_slot))]
 pub(crate) fn condition_slot(p: &[u8]) -> u8
     ensures { result ≡ condition_slot (decode p.now) }
 {
-    if p.len() == 2 {
-        if p[0] == b'#' {
-            let slot = letter_slot(p[1]);
-            if slot != forms::UNKNOWN {
-                return slot;
-            }
+    if let [b'#', b] = *p {
+        let slot = letter_slot(b);
+        if slot != forms::UNKNOWN {
+            return slot;
         }
     }
     escaped_condition(p)
 }
 
+#[tactic(auto, unfolding(crate::specs::Inner::filter_slot))]
 pub(crate) fn filter_slot(p: &[u8]) -> u8
     ensures { result ≡ filter_slot (decode p.now) }
 {
-    let field = among(p, false);
-    if field == forms::NONE {
-        return condition_slot(p);
+    match among(p, false) {
+        forms::NONE => condition_slot(p),
+        field => field + forms::IDS,
     }
-    field + forms::IDS
 }
 
+#[tactic(auto, unfolding(crate::specs::Inner::name_slot))]
 pub(crate) fn name_slot(form: u8, p: &[u8]) -> u8
     ensures { result ≡ name_slot form (decode p.now) }
 {
-    if form == forms::EVENT {
-        event_slot(p)
-    } else if form == forms::FILTER {
-        filter_slot(p)
-    } else {
-        forms::UNKNOWN
+    match form {
+        forms::EVENT => event_slot(p),
+        forms::FILTER => filter_slot(p),
+        _ => forms::UNKNOWN,
     }
 }
 
+#[tactic(auto, unfolding(crate::specs::Inner::name_fault))]
 pub(crate) fn name_fault(p: &[u8]) -> u64
     ensures { result ≡ name_fault p.now }
 {
@@ -125,6 +119,7 @@ pub(crate) fn name_fault(p: &[u8]) -> u64
     }
 }
 
+#[tactic(auto, unfolding(crate::specs::Inner::member_item))]
 pub(crate) fn member(form: u8, p: &[u8]) -> Item
     ensures { result ≡ member_item form p.now }
 {
@@ -137,6 +132,7 @@ pub(crate) fn member(form: u8, p: &[u8]) -> Item
 }
 
 // Item k, which begins at p.
+#[tactic(auto, unfolding(crate::specs::Inner::item_of))]
 pub(crate) fn item_of(s: &[u8], form: u8, named: bool, k: usize, p: usize) -> Item
     ensures { result ≡ item_of s.now form named k p }
 {

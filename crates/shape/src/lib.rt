@@ -15,38 +15,28 @@ mod forms;
 mod items;
 mod scalar;
 
-use json_tree::{Next, Out, Start};
-
-// The byte offset in a message, from 0, that a refusal carries with it.
-#[derive(Clone, Copy)]
-pub enum Offset {
-    Absent,
-    At(usize),
-}
+use json_tree::{Next, Start};
 
 // What refuses a message: a row, 0 where none does, and with rows 6 and 7 the offset of the earliest number, or opening
 // quote of a string, that breaks that row.
 #[derive(Clone, Copy)]
 pub struct Refusal {
     pub row: u8,
-    pub offset: Offset,
+    pub offset: Option<usize>,
 }
 
 // A refusal that carries its number and no offset.
 pub fn plain_refusal(row: u8) -> Refusal
     ensures { result ≡ plain_refusal row }
 {
-    Refusal {
-        row,
-        offset: Offset::Absent,
-    }
+    Refusal { row, offset: None }
 }
 
-// Where a value ends, and the least fault in it; or that no value stands there.
+// Where a value ends, and the least fault in it.
 #[derive(Clone, Copy)]
-enum Judged {
-    Ends(usize, u64),
-    Wrong,
+struct Judged {
+    end: usize,
+    fault: u64,
 }
 
 // A member's slot, the form that its value must have, and the fault of its name.
@@ -67,7 +57,7 @@ struct Tally {
 }
 
 // A value where the form must stand, with at most d brackets and braces open at once, and the white space after it.
-fn judge(s: &[u8], at: usize, d: usize, form: u8) -> Judged
+fn judge(s: &[u8], at: usize, d: usize, form: u8) -> Option<Judged>
     ensures { result ≡ judged_of s.now form at (tree_at s.now d at) }
 {
     if d == 0 {
@@ -75,38 +65,30 @@ fn judge(s: &[u8], at: usize, d: usize, form: u8) -> Judged
     }
     match json_tree::begin(s, at) {
         Start::Leaf => scalar::leaf(s, at, form),
-        Start::Empty(n, named) => Judged::Ends(
-            n,
-            counts::close(forms::group_form(form, named), 0, counts::start()),
-        ),
+        Start::Empty(end, named) => Some(Judged {
+            end,
+            fault: counts::close(forms::group_form(form, named), 0, counts::start()),
+        }),
         Start::Many(first, named) => {
             let inner = forms::group_form(form, named);
             let mut a = counts::start();
             let mut i = first;
-            let mut k: usize = 0;
-            while k < s.len() {
-                let Out::End(v) = json_tree::head(s, i, named) else {
-                    return Judged::Wrong;
-                };
+            // An item takes a byte at least, so these turns are enough.
+            for k in 0..s.len() {
+                let v = json_tree::head(s, i, named)?;
                 let it = items::item_of(s, inner, named, k, i);
-                let Judged::Ends(n, x) = judge(s, v, d - 1, it.form) else {
-                    return Judged::Wrong;
-                };
-                a = counts::step(named, a, it, x);
-                match json_tree::after(s, n, named) {
-                    Next::More(j) => {
-                        i = j;
+                let x = judge(s, v, d - 1, it.form)?;
+                a = counts::step(named, a, it, x.fault);
+                match json_tree::after(s, x.end, named) {
+                    Next::More(j) => i = j,
+                    Next::Done(end) => {
+                        let fault = counts::close(inner, k + 1, a);
+                        return Some(Judged { end, fault });
                     }
-                    Next::Done(e) => {
-                        return Judged::Ends(e, counts::close(inner, k + 1, a));
-                    }
-                    Next::Wrong => {
-                        return Judged::Wrong;
-                    }
+                    Next::Wrong => return None,
                 }
-                k += 1;
             }
-            Judged::Wrong
+            None
         }
     }
 }
@@ -116,19 +98,13 @@ fn opening(s: &[u8], at: usize) -> u8
     ensures { result ≡ opening_of s.now (start_at s.now at) }
 {
     match json_tree::begin(s, at) {
-        Start::Leaf => forms::NEVER,
-        Start::Empty(_, _) => forms::NEVER,
-        Start::Many(first, named) => {
-            if named {
-                forms::NEVER
-            } else {
-                forms::word_form(rows::spelled(s, first))
-            }
-        }
+        Start::Many(first, false) => forms::word_form(rows::spelled(s, first)),
+        _ => forms::NEVER,
     }
 }
 
 // The row of a fault, 0 where there is none.
+#[tactic(auto, unfolding(crate::specs::Inner::fault_row))]
 fn row_of(x: u64) -> u8
     ensures { result ≡ fault_row x }
 {
@@ -139,16 +115,14 @@ fn row_of(x: u64) -> u8
 }
 
 // Its offset: the place of rows 6 and 7.
-fn offset_of(x: u64) -> Offset
+#[tactic(auto, unfolding(crate::specs::Inner::fault_offset))]
+fn offset_of(x: u64) -> Option<usize>
     ensures { result ≡ fault_offset x }
 {
-    if x < forms::NUMBER {
-        return Offset::Absent;
+    match x {
+        forms::NUMBER..forms::COUNT => Some((x % forms::PLACES) as usize),
+        _ => None,
     }
-    if x < forms::COUNT {
-        return Offset::At((x % forms::PLACES) as usize);
-    }
-    Offset::Absent
 }
 
 // The lowest of rows 1 to 8 that holds of a message, 0 where none does, and the offset that goes with it.
@@ -166,17 +140,11 @@ pub fn message_refusal(s: &[u8]) -> Refusal
     }
     let at = json_tree::space(s, 0);
     match judge(s, at, json_tree::DEPTH, opening(s, at)) {
-        Judged::Ends(n, x) => {
-            if n == s.len() {
-                Refusal {
-                    row: row_of(x),
-                    offset: offset_of(x),
-                }
-            } else {
-                plain_refusal(3)
-            }
-        }
-        Judged::Wrong => plain_refusal(3),
+        Some(x) if x.end == s.len() => Refusal {
+            row: row_of(x.fault),
+            offset: offset_of(x.fault),
+        },
+        _ => plain_refusal(3),
     }
 }
 
@@ -195,14 +163,12 @@ pub enum Sort {
 pub fn value_row(s: &[u8], at: usize, k: Sort) -> u8
     ensures { result ≡ value_row s.now at k }
 {
-    match judge(s, at, json_tree::DEPTH, forms::sort_form(k)) {
-        Judged::Ends(n, x) => {
-            if utf8::is_utf8(scalar::cut(s, at, n)) {
-                row_of(x)
-            } else {
-                2
-            }
-        }
-        Judged::Wrong => 5,
+    let Some(x) = judge(s, at, json_tree::DEPTH, forms::sort_form(k)) else {
+        return 5;
+    };
+    if utf8::is_utf8(scalar::cut(s, at, x.end)) {
+        row_of(x.fault)
+    } else {
+        2
     }
 }

@@ -1,4 +1,5 @@
 -- How long the EVENT of a slot is, and what is answered.
+use Rattle.std.specs.Prelude.{Result, Ok, Err}
 use mathlib.Core.Path.{◌≡◌, sym, ap, ◌∙◌}
 use mathlib.Core.Bool.{Bool, true, false, false≢true}
 use mathlib.Core.List.{List}
@@ -17,14 +18,11 @@ use Rattle.message.specs.declared.Span.{Span}
 use Rattle.message.specs.Lent.{subscription_row}
 use Rattle.event.specs.Lent.{said, most_length}
 use Rattle.event.specs.Answer.{or_else, written_number}
-use Rattle.event.specs.declared.Written.{Written}
-use Rattle.event.specs.declared.Written.TheVariants.{Wrote, Refused}
 use Rattle.event.proofs.Answers.{Outcome, refused, passed, too_short, room_for}
 use Rattle.table.specs.Layout.{count_of, slot_at, length_in, text_in}
 use Rattle.table.specs.Format.{shown_row}
 use Rattle.table.proofs.Shown.{shown_if}
 use Rattle.slots.specs.Shown.{shown_number}
-use Rattle.slots.specs.declared.Shown.{Shown}
 use Rattle.reply.specs.Lent.{eose_row, short_row}
 use Rattle.program.specs.Respond.{slot_text, slot_event_row, slot_event, slot_event_out}
 use Rattle.program.proofs.Sizes.{slot_length}
@@ -53,11 +51,11 @@ module _ (s : List ℕ) {n k : ℕ} (m : ℕ) {room : ℕ} (f : k ≡ length (js
   }
 
 -- ---- the row of a slot that is shown
-pub shown-number : (r : ℕ) (x y : Shown) → x ≡ y → shown_number x ≡ r → shown_number y ≡ r
+pub shown-number : (r : ℕ) (x y : Result (ℕ × ℕ) ℕ) → x ≡ y → shown_number x ≡ r → shown_number y ≡ r
 shown-number r x y e q = ap shown_number (sym e) ∙ q
 
 -- ---- what is answered
-abbrev pub AsSent : List ℕ → ℕ → List ℕ → Span → List ℕ → Written → List ℕ → Type 0
+abbrev pub AsSent : List ℕ → ℕ → List ℕ → Span → List ℕ → Result ℕ ℕ → List ℕ → Type 0
 AsSent b k m s out w o = (w ≡ slot_event b k m s out) × ((written_number w ≡ slot_event_row b k m s out) × (o ≡ slot_event_out b k m s out))
 
 held-text : (b sub : List ℕ) (k : ℕ) → k < count_of b → slot_text b sub k ≡ held_text sub (slot_at b k)
@@ -71,16 +69,16 @@ module _ (b : List ℕ) (k : ℕ) (m : List ℕ) (s : Span) (out : List ℕ) {x 
   abbrev rest : ℕ
   rest = or_else (shown_row b k) (short_row text out)
 
-  pub id-refused : (x ≡ 0 → ⊥) → AsSent b k m s out (Refused x) out
+  pub id-refused : (x ≡ 0 → ⊥) → AsSent b k m s out (Err x) out
   unfolding slot_event slot_event_row slot_event_out
   id-refused n = refused text out (eose_row m s) rest (eose_row_lem m s e) n
 
   module _ (z : x ≡ 0) {y : ℕ} (f : y ≡ shown_row b k) where
-    later : {w : Written} {o : List ℕ} → Outcome rest text out w o → AsSent b k m s out w o
+    later : {w : Result ℕ ℕ} {o : List ℕ} → Outcome rest text out w o → AsSent b k m s out w o
     unfolding slot_event slot_event_row slot_event_out
     later q = passed text out (eose_row m s) rest (sym (eose_row_lem m s e) ∙ z) q.0 q.1.1
 
-    pub not-shown : (y ≡ 0 → ⊥) → AsSent b k m s out (Refused y) out
+    pub not-shown : (y ≡ 0 → ⊥) → AsSent b k m s out (Err y) out
     not-shown n = later (refused text out (shown_row b k) (short_row text out) f n)
 
     module _ (v : y ≡ 0) {t id : List ℕ} (et : t ≡ slot_at b k) (ei : id ≡ part m s.start s.len) {r : Bool}
@@ -88,12 +86,12 @@ module _ (b : List ℕ) (k : ℕ) (m : List ℕ) (s : Span) (out : List ℕ) {x 
       size : length text ≡ length (json_of (text_in t)) + length (json_of (escape (decode id))) + 266
       size = let (a, h) = shown_if b k (sym f ∙ v) in slot_length b k a h (said m s) ∙ rw (et, ei)
 
-      pub no_room_lem : r ≡ false → AsSent b k m s out (Refused 13) out
+      pub no_room_lem : r ≡ false → AsSent b k m s out (Err 13) out
       no_room_lem q =
           let (g, h) = too_short text out (let n = room.no q in omega (arith, size)) in
           later (passed text out (shown_row b k) (short_row text out) (sym f ∙ v) g h)
 
-      pub slot-sent : r ≡ true → {n : ℕ} {o : List ℕ} → Puts out 0 (held_text (decode id) t) n o → AsSent b k m s out (Wrote n) o
+      pub slot-sent : r ≡ true → {n : ℕ} {o : List ℕ} → Puts out 0 (held_text (decode id) t) n o → AsSent b k m s out (Ok n) o
       slot-sent q {n} {o} p =
           let i : held_text (decode id) t ≡ text = rw (et, ei) (sym (held-text b (said m s) k (shown_if b k (sym f ∙ v)).1)) in
           let (g, h) = room_for text out (let n = room.yes q in omega (arith, size)) (rw i at p) in

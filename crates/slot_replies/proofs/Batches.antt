@@ -1,4 +1,5 @@
 -- As many lines as fit, of a sound table: how many slots are held, the row, the text, and what is answered.
+use Rattle.std.specs.Prelude.{Result, Ok, Err}
 use mathlib.Core.Path.{◌≡◌, refl, sym, ap, ap₂, ◌∙◌}
 use mathlib.Core.Bool.{Bool, true, false, cond, ◌&&◌}
 use mathlib.Core.List.{List, [], ◌∷◌, ◌++◌}
@@ -27,8 +28,6 @@ use Rattle.reply.specs.Lent.{eose_row, output_after}
 use Rattle.program.specs.Program.{event_replies, events_of, written}
 use Rattle.program.specs.Respond.{slot_line, joined, fitting, slot_lines, fitting_text, none_fits, all_held, events_row}
 use Rattle.program.specs.Respond.{sent_events, sent_events_out, sent_number}
-use Rattle.program.specs.declared.Sent.{Sent}
-use Rattle.program.specs.declared.Sent.TheVariants.{Wrote, Refused}
 use Rattle.program.proofs.Lines.{written_append}
 use Rattle.program.proofs.Sizes.{line_length}
 use Rattle.program.proofs.Streamed.{batches}
@@ -210,11 +209,11 @@ module _ (b sub ks out : List ℕ) (s : sound b ≡ true) {m held : ℕ} {f : Fi
   fit_row_lem : row ≡ lines_row b sub ks out
   fit_row_lem = er ∙ ap₂ (λ x y. fit_row x.lines y (length ks)) fit_is eh ∙ row_is b sub s out ks
 
-  pub lines_refused : (row ≡ 0 → ⊥) → (Refused row ≡ sent_lines b sub ks out) × (out ≡ sent_lines_out b sub ks out)
+  pub lines_refused : (row ≡ 0 → ⊥) → (Err row ≡ sent_lines b sub ks out) × (out ≡ sent_lines_out b sub ks out)
   unfolding sent_lines sent_lines_out
   lines_refused z =
       let h = ne_eqb (lines_row b sub ks out) 0 (λ q. z (fit_row_lem ∙ q)) in
-      (rw h (ap Refused fit_row_lem), rw h)
+      (rw h (ap Err fit_row_lem), rw h)
 
   module _ (z : row ≡ 0) where
     held_all : all_held b ks ≡ true
@@ -235,25 +234,25 @@ module _ (b sub ks out : List ℕ) (s : sound b ≡ true) {m held : ℕ} {f : Fi
     text_fits = (batches (length out) (slot_lines b sub ks)).fits
 
     pub lines_sent : {r : ℕ} {o : List ℕ} → Puts out 0 (written (events_of b sub (take f.lines ks))) r o
-        → (Wrote r f.lines ≡ sent_lines b sub ks out) × (o ≡ sent_lines_out b sub ks out)
+        → (Ok (r, f.lines) ≡ sent_lines b sub ks out) × (o ≡ sent_lines_out b sub ks out)
     unfolding sent_lines sent_lines_out
     lines_sent p =
         let h = eq-eqb (lines_row b sub ks out) 0 (sym fit_row_lem ∙ z) in
         let (x, y) = puts_whole text_fits (rw text_is at p) in
-        (rw h (ap₂ Wrote x count_is_fitting), rw h y)
+        (rw h (ap₂ {C = Result (ℕ × ℕ) ℕ} (λ i j. Ok (i, j)) x count_is_fitting), rw h y)
 
 -- ---- what is answered
-abbrev pub AsEvents : (b ks m : List ℕ) → Span → List ℕ → Sent → List ℕ → Type 0
+abbrev pub AsEvents : (b ks m : List ℕ) → Span → List ℕ → Result (ℕ × ℕ) ℕ → List ℕ → Type 0
 AsEvents b ks m s out w o = (w ≡ sent_events b ks m s out) × ((sent_number w ≡ events_row b ks m s out) × (o ≡ sent_events_out b ks m s out))
 
 module _ (b ks m : List ℕ) (s : Span) (out : List ℕ) {x : ℕ} (e : x ≡ subscription_row m s) where
-  as_sent : (row : ℕ) {w : Sent} {o : List ℕ} → events_row b ks m s out ≡ row
+  as_sent : (row : ℕ) {w : Result (ℕ × ℕ) ℕ} {o : List ℕ} → events_row b ks m s out ≡ row
       → w ≡ sent_by row (length (fitting_text b (said m s) ks out)) (fitting (length out) (slot_lines b (said m s) ks))
       → o ≡ output_after row (fitting_text b (said m s) ks out) out → AsEvents b ks m s out w o
   unfolding sent_events sent_events_out
   as_sent row q f g = (rw q f, (ap sent_number f ∙ sent_number_lem row _ _ ∙ sym q, rw q g))
 
-  pub name_refused : (x ≡ 0 → ⊥) → AsEvents b ks m s out (Refused x) out
+  pub name_refused : (x ≡ 0 → ⊥) → AsEvents b ks m s out (Err x) out
   unfolding events_row
   name_refused ne =
       let q = eose_row_lem m s e in
@@ -264,10 +263,10 @@ module _ (b ks m : List ℕ) (s : Span) (out : List ℕ) {x : ℕ} (e : x ≡ su
     unfolding events_row
     later = rw (eq-eqb (eose_row m s) 0 (sym (eose_row_lem m s e) ∙ z), f) refl
 
-    pub table_refused : y ≡ false → AsEvents b ks m s out (Refused 11) out
+    pub table_refused : y ≡ false → AsEvents b ks m s out (Err 11) out
     table_refused q = as_sent 11 (later ∙ ap (λ v. cond v (lines_row b (said m s) ks out) 11) q) refl refl
 
-    pub events_sent : y ≡ true → {id : List ℕ} → id ≡ part m s.start s.len → {w : Sent} {o : List ℕ}
+    pub events_sent : y ≡ true → {id : List ℕ} → id ≡ part m s.start s.len → {w : Result (ℕ × ℕ) ℕ} {o : List ℕ}
         → (w ≡ sent_lines b (decode id) ks out) × (o ≡ sent_lines_out b (decode id) ks out) → AsEvents b ks m s out w o
     unfolding sent_lines sent_lines_out
     events_sent q i (g, h) =

@@ -1,4 +1,5 @@
 -- The EVENTs of slots in a row, each a line: how they are written, how long they are, and how many of them a room has.
+use Rattle.std.specs.Prelude.{Some, None}
 use mathlib.Core.Path.{◌≡◌, refl, sym, ap, ap₂, ◌∙◌}
 use mathlib.Core.Bool.{Bool, true, false, cond}
 use mathlib.Core.List.Memᴰ
@@ -25,7 +26,6 @@ use Rattle.program.proofs.Lines.{written_append}
 use Rattle.program.proofs.Sizes.{line_length}
 use Rattle.slot_replies.specs.Inner.{held_text, held_line, line_size, sizes, stopped, fitted_in}
 use Rattle.slot_replies.specs.Left.{lines_size, left_in}
-use Rattle.slot_replies.specs.declared.Left.TheVariants.{Room, Short}
 use Rattle.slot_replies.specs.declared.Fitted.{Fitted}
 
 -- ---- one line
@@ -93,52 +93,52 @@ lines_size_lem b sub (k ∷ ks) s h =
     ∙ ap₂ ◌+◌ (one_size b sub k s (h k (Memᴰ.head refl))) (lines_size_lem b sub ks s (λ j i. h j (Memᴰ.tail i)))
 
 -- ---- what is left of a room
-left_none : (l : ℕ) → Room l ≡ left_in l 0
+left_none : (l : ℕ) → Some l ≡ left_in l 0
 unfolding left_in
-left_none l = let z : l ≡ l - 0 = omega arith in rw (le-ltb l 0 (omega arith)) (ap Room z)
+left_none l = let z : l ≡ l - 0 = omega arith in rw (le-ltb l 0 (omega arith)) (ap Some z)
 
 left_turn : (l m n : ℕ) → m ≤ l → left_in l (m + n) ≡ left_in (l - m) n
 unfolding left_in
 left_turn l m n h = go (ltb l (m + n)) refl
   where
-    go : (t : Bool) → ltb l (m + n) ≡ t → cond t Short (Room (l - (m + n))) ≡ cond (ltb (l - m) n) Short (Room (l - m - n))
+    go : (t : Bool) → ltb l (m + n) ≡ t → cond t None (Some (l - (m + n))) ≡ cond (ltb (l - m) n) None (Some (l - m - n))
     go true e = let k = ltb-true l (m + n) e in rw (lt-ltb (l - m) n (omega arith)) refl
     go false e = let k = ltb-false l (m + n) e in let z : l - (m + n) ≡ l - m - n = omega arith in rw (le-ltb (l - m) n (omega arith), z) refl
 
-left_short : (l m : ℕ) → l < m → Short ≡ left_in l m
+left_short : (l m : ℕ) → l < m → None ≡ left_in l m
 unfolding left_in
 left_short l m h = rw (lt-ltb l m h) refl
 
-left_room : (l m x : ℕ) → m ≤ l → x ≡ l - m → Room x ≡ left_in l m
+left_room : (l m x : ℕ) → m ≤ l → x ≡ l - m → Some x ≡ left_in l m
 unfolding left_in
 left_room l m x h e = rw (le-ltb l m h, e) refl
 
 -- what an answer says of the sizes
-pub short_is : (l m : ℕ) → Short ≡ left_in l m → l < m
+pub short_is : (l m : ℕ) → None ≡ left_in l m → l < m
 unfolding left_in
 short_is l m = go (ltb l m) refl
   where
-    go : (t : Bool) → ltb l m ≡ t → Short ≡ cond t Short (Room (l - m)) → l < m
+    go : (t : Bool) → ltb l m ≡ t → None ≡ cond t None (Some (l - m)) → l < m
     go true e q = ltb-true l m e
     go false e q = absurd (let y : ◌≡◌ {A = ℕ} 0 1 = cc in omega arith)
 
-pub room_is : (l m x : ℕ) → Room x ≡ left_in l m → (m ≤ l) × (x ≡ l - m)
+pub room_is : (l m x : ℕ) → Some x ≡ left_in l m → (m ≤ l) × (x ≡ l - m)
 unfolding left_in
 room_is l m x = go (ltb l m) refl
   where
-    go : (t : Bool) → ltb l m ≡ t → Room x ≡ cond t Short (Room (l - m)) → (m ≤ l) × (x ≡ l - m)
+    go : (t : Bool) → ltb l m ≡ t → Some x ≡ cond t None (Some (l - m)) → (m ≤ l) × (x ≡ l - m)
     go true e q = absurd (let y : ◌≡◌ {A = ℕ} 0 1 = cc in omega arith)
     go false e q = (ltb-false l m e, cc)
 
 -- one line, by what its text takes
 module _ (s : List ℕ) (n room : ℕ) {t : ℕ} (f : t ≡ length (json_of (text_in s))) where
-  pub no_head : room < t + 267 → Short ≡ left_in room (length (json_of (text_in s)) + n + 267)
+  pub no_head : room < t + 267 → None ≡ left_in room (length (json_of (text_in s)) + n + 267)
   no_head h = left_short room _ (omega (arith, f))
 
-  pub no_name : t + 267 ≤ room → room - (t + 267) < n → Short ≡ left_in room (length (json_of (text_in s)) + n + 267)
+  pub no_name : t + 267 ≤ room → room - (t + 267) < n → None ≡ left_in room (length (json_of (text_in s)) + n + 267)
   no_name g h = left_short room _ (omega (arith, f))
 
-  pub rest_left : t + 267 ≤ room → n ≤ room - (t + 267) → Room (room - (t + 267) - n) ≡ left_in room (length (json_of (text_in s)) + n + 267)
+  pub rest_left : t + 267 ≤ room → n ≤ room - (t + 267) → Some (room - (t + 267) - n) ≡ left_in room (length (json_of (text_in s)) + n + 267)
   rest_left g h = left_room room _ _ (omega (arith, f)) (omega (arith, f))
 
 -- ---- how many fit
@@ -151,11 +151,11 @@ module _ (b ks : List ℕ) (n i l : ℕ) where
     size : length (json_of (text_in s)) + n + 267 ≡ length (json_of (text_in (slot_at b (get_or ks i 0)))) + n + 267
     size = ap (λ v. length (json_of (text_in v)) + n + 267) (es ∙ ap (slot_at b) ek)
 
-    pub fitted_stop : Short ≡ left_in l (length (json_of (text_in s)) + n + 267) → stopped i l ≡ fitted_in i l (sizes b n (drop i ks))
+    pub fitted_stop : None ≡ left_in l (length (json_of (text_in s)) + n + 267) → stopped i l ≡ fitted_in i l (sizes b n (drop i ks))
     unfolding fitted_in
     fitted_stop q = rw (drop-cons ks i 0 h, lt-ltb l (length (json_of (text_in (slot_at b (get_or ks i 0)))) + n + 267) (omega (arith, size, short_is l _ q))) refl
 
-    pub fitted_turn : {x : ℕ} → Room x ≡ left_in l (length (json_of (text_in s)) + n + 267) → fitted_in i l (sizes b n (drop i ks)) ≡ fitted_in (i + 1) x (sizes b n (drop (i + 1) ks))
+    pub fitted_turn : {x : ℕ} → Some x ≡ left_in l (length (json_of (text_in s)) + n + 267) → fitted_in i l (sizes b n (drop i ks)) ≡ fitted_in (i + 1) x (sizes b n (drop (i + 1) ks))
     unfolding fitted_in
     fitted_turn {x} q =
         let (g, e) = room_is l _ x q in
@@ -185,27 +185,27 @@ module _ (b sub : List ℕ) where
   abbrev each : List ℕ → List ℕ
   each ks = sizes b (length (json_of (escape sub))) ks
 
-  all_left : (i room : ℕ) (ks : List ℕ) → i + length ks ≤ (fitted_in i room (each ks)).lines → Room (fitted_in i room (each ks)).left ≡ left_in room (lines_size b sub ks)
+  all_left : (i room : ℕ) (ks : List ℕ) → i + length ks ≤ (fitted_in i room (each ks)).lines → Some (fitted_in i room (each ks)).left ≡ left_in room (lines_size b sub ks)
   unfolding fitted_in lines_size
   all_left i room [] h = left_none room
   all_left i room (k ∷ ks) h = go (ltb room (size_of k)) refl (all_left (i + 1) (room - size_of k) ks) h
     where
       go : (t : Bool) → ltb room (size_of k) ≡ t
-          → (i + 1 + length ks ≤ (fitted_in (i + 1) (room - size_of k) (each ks)).lines → Room (fitted_in (i + 1) (room - size_of k) (each ks)).left ≡ left_in (room - size_of k) (lines_size b sub ks))
+          → (i + 1 + length ks ≤ (fitted_in (i + 1) (room - size_of k) (each ks)).lines → Some (fitted_in (i + 1) (room - size_of k) (each ks)).left ≡ left_in (room - size_of k) (lines_size b sub ks))
           → i + suc (length ks) ≤ (cond t (stopped i room) (fitted_in (i + 1) (room - size_of k) (each ks))).lines
-          → Room (cond t (stopped i room) (fitted_in (i + 1) (room - size_of k) (each ks))).left ≡ left_in room (size_of k + lines_size b sub ks)
+          → Some (cond t (stopped i room) (fitted_in (i + 1) (room - size_of k) (each ks))).left ≡ left_in room (size_of k + lines_size b sub ks)
       go true e ih q = absurd (omega arith)
       go false e ih q = ih (omega arith) ∙ sym (left_turn room (size_of k) (lines_size b sub ks) (ltb-false room (size_of k) e))
 
-  too_many : (i room : ℕ) (ks : List ℕ) → (fitted_in i room (each ks)).lines < i + length ks → Short ≡ left_in room (lines_size b sub ks)
+  too_many : (i room : ℕ) (ks : List ℕ) → (fitted_in i room (each ks)).lines < i + length ks → None ≡ left_in room (lines_size b sub ks)
   unfolding fitted_in lines_size
   too_many i room [] h = absurd (omega arith)
   too_many i room (k ∷ ks) h = go (ltb room (size_of k)) refl (too_many (i + 1) (room - size_of k) ks) h
     where
       go : (t : Bool) → ltb room (size_of k) ≡ t
-          → ((fitted_in (i + 1) (room - size_of k) (each ks)).lines < i + 1 + length ks → Short ≡ left_in (room - size_of k) (lines_size b sub ks))
+          → ((fitted_in (i + 1) (room - size_of k) (each ks)).lines < i + 1 + length ks → None ≡ left_in (room - size_of k) (lines_size b sub ks))
           → (cond t (stopped i room) (fitted_in (i + 1) (room - size_of k) (each ks))).lines < i + suc (length ks)
-          → Short ≡ left_in room (size_of k + lines_size b sub ks)
+          → None ≡ left_in room (size_of k + lines_size b sub ks)
       go true e ih q = left_short room (size_of k + lines_size b sub ks) (omega (arith, ltb-true room (size_of k) e))
       go false e ih q = ih (omega arith) ∙ sym (left_turn room (size_of k) (lines_size b sub ks) (ltb-false room (size_of k) e))
 
@@ -213,8 +213,8 @@ module _ (b sub : List ℕ) where
     fitted_is : f ≡ fitted_in 0 room (each ks)
     fitted_is = ef ∙ cut_fitted b n (length (json_of (escape sub))) en 0 room h ks
 
-    pub all_fit : length ks ≤ f.lines → Room f.left ≡ left_in room (lines_size b sub ks)
-    all_fit g = ap (λ v. Room v.left) fitted_is ∙ all_left 0 room ks (omega (arith, ap (λ v. v.lines) fitted_is))
+    pub all_fit : length ks ≤ f.lines → Some f.left ≡ left_in room (lines_size b sub ks)
+    all_fit g = ap (λ v. Some v.left) fitted_is ∙ all_left 0 room ks (omega (arith, ap (λ v. v.lines) fitted_is))
 
-    pub not_all_fit : f.lines < length ks → Short ≡ left_in room (lines_size b sub ks)
+    pub not_all_fit : f.lines < length ks → None ≡ left_in room (lines_size b sub ks)
     not_all_fit g = too_many 0 room ks (omega (arith, ap (λ v. v.lines) fitted_is))

@@ -1,4 +1,5 @@
 -- The pieces of a slot's EVENT in a row.
+use Rattle.std.specs.Prelude.{Ok, Err}
 use mathlib.Core.Path.{◌≡◌, refl, sym, ap, ◌∙◌}
 use mathlib.Core.Bool.{true, false}
 use mathlib.Core.List.{List, [], ◌∷◌, ◌++◌, append_assoc}
@@ -17,12 +18,12 @@ use Rattle.wire.proofs.Laws.{puts_then}
 use Rattle.numeral.specs.Decimal.{digits, decimal}
 use Rattle.numeral.proofs.Ways.{back}
 use Rattle.rows.specs.Strings.{part}
+use Rattle.text.specs.declared.Unread.{Unread}
 use Rattle.text.specs.Event.{Event, quoted, tags_text}
 use Rattle.text.proofs.Limits.{limits_of}
 use Rattle.text.specs.Read.{Read, too_large, wrong_shape, read, read_text}
 use Rattle.text.specs.Answer.{text_answer_of}
 use Rattle.text.specs.declared.Text.{Text}
-use Rattle.text.specs.declared.TextAnswer.TheVariants as answer
 use Rattle.text.proofs.RoundTrip.{read_same}
 use Rattle.text.proofs.Places.{key_part, tags_part, content_part_lem, read_told}
 use Rattle.event.specs.Answer.{hex_of}
@@ -98,22 +99,13 @@ module _ (s : List ℕ) {t : List ℕ} {n : ℕ} (f : Field s 106 2 n) (q : t �
   unfolding held_text
   slot_is sub r e = ap (λ v. first_text (event_replies sub s (read_text v))) text_is ∙ ap (λ v. first_text (event_replies sub s v)) e
 
-  none_large : (sub : List ℕ) (r : Read) → read_text t ≡ r → answer.TooLarge ≡ text_answer_of r → held_text sub s ≡ []
-  none_large sub too_large e z = slot_is sub too_large e
-  none_large sub wrong_shape e z = absurd (let y : ◌≡◌ {A = ℕ} 0 1 = cc in omega arith)
-  none_large sub (read x) e z = absurd (let y : ◌≡◌ {A = ℕ} 0 1 = cc in omega arith)
+  none_read : (sub : List ℕ) (u : Unread) (r : Read) → read_text t ≡ r → Err u ≡ text_answer_of r → held_text sub s ≡ []
+  none_read sub u too_large e z = slot_is sub too_large e
+  none_read sub u wrong_shape e z = slot_is sub wrong_shape e
+  none_read sub u (read x) e z = absurd (let y : ◌≡◌ {A = ℕ} 0 1 = cc in omega arith)
 
-  none_shape : (sub : List ℕ) (r : Read) → read_text t ≡ r → answer.WrongShape ≡ text_answer_of r → held_text sub s ≡ []
-  none_shape sub too_large e z = absurd (let y : ◌≡◌ {A = ℕ} 0 1 = cc in omega arith)
-  none_shape sub wrong_shape e z = slot_is sub wrong_shape e
-  none_shape sub (read x) e z = absurd (let y : ◌≡◌ {A = ℕ} 0 1 = cc in omega arith)
-
-  module _ (sub : List ℕ) {d o : List ℕ} {i r : ℕ} where
-    pub slot_large : answer.TooLarge ≡ text_answer_of (read_text t) → Puts d i [] r o → Puts d i (held_text sub s) r o
-    slot_large z x = rw (none_large sub (read_text t) refl z) x
-
-    pub slot_shape : answer.WrongShape ≡ text_answer_of (read_text t) → Puts d i [] r o → Puts d i (held_text sub s) r o
-    slot_shape z x = rw (none_shape sub (read_text t) refl z) x
+  pub slot_none : (sub : List ℕ) {u : Unread} {d o : List ℕ} {i r : ℕ} → Err u ≡ text_answer_of (read_text t) → Puts d i [] r o → Puts d i (held_text sub s) r o
+  slot_none sub {u} z x = rw (none_read sub u (read_text t) refl z) x
 
   slot_halves : (sub i g : List ℕ) (e : Event) → i ≡ hex_of (id_in s) → g ≡ hex_of (sig_in s) → read_text t ≡ read e → held_text sub s ≡ ((front_text sub i ++ numbers_text e) ++ held_strings e) ++ back_text g
   unfolding reply_text object_text front_text back_text
@@ -123,7 +115,7 @@ module _ (s : List ℕ) {t : List ℕ} {n : ℕ} (f : Field s 106 2 n) (q : t �
       (decimal e.time) (ascii ",\"kind\":") (digits e.kind) (ascii ",\"tags\":") (tags_json e.tags) (ascii ",\"content\":") (string_json e.content) (ascii ",\"sig\":")
       (string_json (hex_of (sig_in s))) (ascii "}") (ascii "]"))
 
-  pub slot_put : (sub : List ℕ) {x : Text} {i g : List ℕ} {d o₁ o₂ o₃ o₄ : List ℕ} {j a₁ a₂ a₃ r : ℕ} → answer.Read x ≡ text_answer_of (read_text t) → i ≡ part s 0 32 → g ≡ part s 32 64
+  pub slot_put : (sub : List ℕ) {x : Text} {i g : List ℕ} {d o₁ o₂ o₃ o₄ : List ℕ} {j a₁ a₂ a₃ r : ℕ} → Ok x ≡ text_answer_of (read_text t) → i ≡ part s 0 32 → g ≡ part s 32 64
       → Puts d j (front_text sub (hex_of i)) a₁ o₁ → Puts o₁ a₁ (number_bytes t) a₂ o₂ → Puts o₂ a₂ (string_bytes t) a₃ o₃ → Puts o₃ a₃ (back_text (hex_of g)) r o₄ → Puts d j (held_text sub s) r o₄
   unfolding number_bytes string_bytes id_in sig_in
   slot_put sub {x} {i} {g} w ei eg x₁ x₂ x₃ x₄ =

@@ -1,6 +1,6 @@
 -- What private functions hand on: the EVENT of a slot's bytes in pieces. Id and signature in hex, the rest as the
 -- slot's text spells it, but for the control characters that stand raw there.
-use Rattle.std.specs.Prelude.{◌≡◌, cond, ◌&&◌, List, [], ◌∷◌, ◌++◌, map, ℕ, suc, ◌+◌, ◌-◌, eqb, ltb, length}
+use Rattle.std.specs.Prelude.{◌≡◌, cond, ◌&&◌, List, [], ◌∷◌, ◌++◌, map, ℕ, suc, ◌+◌, ◌-◌, eqb, ltb, length, Result, Ok, Err}
 use Rattle.wire.specs.Escape.{json_of}
 use Rattle.numeral.specs.Decimal.{digits, decimal}
 use Rattle.text.specs.Event.{Event}
@@ -8,14 +8,11 @@ use Rattle.reply.specs.Replies.{string_json, tags_json}
 use Rattle.text.specs.Read.{Read, too_large, wrong_shape, read, read_text}
 use Rattle.text.specs.Answer.{text_answer_of}
 use Rattle.text.specs.declared.Text.{Text}
-use Rattle.text.specs.declared.TextAnswer.TheVariants as answer
 use Rattle.table.specs.Layout.{count_of, slot_at, text_in}
 use Rattle.wire.specs.Ascii.{ascii}
 use Rattle.program.specs.Program.{event_replies, written}
 use Rattle.reply.specs.Lent.{output_after}
 use Rattle.program.specs.Respond.{first_text, fitting, slot_lines, fitting_text, none_fits, all_held}
-use Rattle.program.specs.declared.Sent.{Sent}
-use Rattle.program.specs.declared.Sent.TheVariants.{Wrote, Refused}
 use Rattle.slot_replies.specs.declared.Fitted.{Fitted}
 use Rattle.wire.specs.Bytes.{Bytes, Row}
 
@@ -47,7 +44,7 @@ string_bytes t = of_read held_strings (read_text t)
 
 -- the text t was read, and x is what was answered
 pub record ReadAs (t : List ℕ) (x : Text) : Type 0 where
-  pub is : answer.Read x ≡ text_answer_of (read_text t)
+  pub is : Ok x ≡ text_answer_of (read_text t)
 
 -- the EVENT of the slot s; nothing where its text does not read
 unfoldable pub held_text : (sub s : Bytes) → Bytes
@@ -86,10 +83,10 @@ fit_row lines held all = cond (ltb 0 held && eqb lines 0) 13 (cond (ltb held all
 abbrev pub lines_row : (b sub ks out : Bytes) → Row
 lines_row b sub ks out = cond (none_fits (length out) (slot_lines b sub ks)) 13 (cond (all_held b ks) 0 14)
 
-abbrev pub sent_by : (row n k : Row) → Sent
-sent_by row n k = cond (eqb row 0) (Wrote n k) (Refused row)
+abbrev pub sent_by : (row n k : Row) → Result (ℕ × ℕ) ℕ
+sent_by row n k = cond (eqb row 0) (Ok (n, k)) (Err row)
 
-unfoldable pub sent_lines : (b sub ks out : Bytes) → Sent
+unfoldable pub sent_lines : (b sub ks out : Bytes) → Result (ℕ × ℕ) ℕ
 sent_lines b sub ks out =
     sent_by (lines_row b sub ks out) (length (fitting_text b sub ks out)) (fitting (length out) (slot_lines b sub ks))
 

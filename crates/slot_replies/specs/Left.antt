@@ -1,11 +1,9 @@
 -- The EVENTs of the slots ks, each a line, whatever bytes are lent (`written (events_of b sub ks)` of
 -- program/specs/Program): how many bytes they take, and what these leave of a room.
-use Rattle.std.specs.Prelude.{cond, List, [], ◌∷◌, ℕ, ◌+◌, ◌-◌, ltb, length}
+use Rattle.std.specs.Prelude.{cond, List, [], ◌∷◌, ℕ, ◌+◌, ◌-◌, ltb, length, Option, Some, None}
 use Rattle.wire.specs.Bytes.{Bytes}
 use Rattle.wire.specs.Escape.{escape, json_of}
 use Rattle.table.specs.Layout.{slot_at, text_in}
-use Rattle.slot_replies.specs.declared.Left.{Left}
-use Rattle.slot_replies.specs.declared.Left.TheVariants.{Room, Short}
 
 -- if the table is sound and holds the slots: each line is 267 bytes longer than the slot's text and the subscription id
 -- escaped, both as they stand in a reply
@@ -15,5 +13,5 @@ lines_size b sub (k ∷ ks) =
     length (json_of (text_in (slot_at b k))) + length (json_of (escape sub)) + 267 + lines_size b sub ks
 
 -- what n bytes leave of a room
-unfoldable pub left_in : (room n : ℕ) → Left
-left_in room n = cond (ltb room n) Short (Room (room - n))
+unfoldable pub left_in : (room n : ℕ) → Option ℕ
+left_in room n = cond (ltb room n) None (Some (room - n))

@@ -19,18 +19,8 @@ ghost use Rattle.slot_replies.specs.Inner.{number_bytes, string_bytes, ReadAs, f
 ghost use Rattle.slot_replies.specs.Inner.{held_line, sizes, fitted_in, held_len, fit_row, sent_lines, sent_lines_out};
 ghost use Rattle.slot_replies.specs.Left.{lines_size, left_in};
 
-use event::Written;
 use message::Span;
-use program::Sent;
-use slots::Shown;
-use text::{Text, TextAnswer};
-
-// What lines leave of a room: so many bytes, or there are too few.
-#[derive(Clone, Copy)]
-pub enum Left {
-    Room(usize),
-    Short,
-}
+use text::Text;
 
 // Bytes in hex, between quotes.
 fn put_hex(out: &mut [u8], at: usize, s: &[u8]) -> usize
@@ -101,7 +91,7 @@ fn put_slot(out: &mut [u8], at: usize, sub: &[u8], s: &[u8]) -> usize
     let n = wire::le_at(s, slots::LENGTH_PLACE, 2) as usize;
     let t = wire::piece(s, slots::TEXT_PLACE, n);
     match text::read_text(t) {
-        TextAnswer::Read(x) => {
+        Ok(x) => {
             let a = put_front(
                 out,
                 at,
@@ -112,8 +102,7 @@ fn put_slot(out: &mut [u8], at: usize, sub: &[u8], s: &[u8]) -> usize
             let c = put_strings(out, b, t, x);
             put_back(out, c, wire::piece(s, slots::SIG_PLACE, slots::SIG_SIZE))
         }
-        TextAnswer::TooLarge => wire::put(out, at, b""),
-        TextAnswer::WrongShape => wire::put(out, at, b""),
+        Err(_) => wire::put(out, at, b""),
     }
 }
 
@@ -145,31 +134,37 @@ fn shown_row(table: &[u8], slot: usize) -> u8
     ensures { result ≡ shown_row table.now slot }
 {
     match slots::shown_at(table, slot) {
-        Shown::At(_, _) => 0,
-        Shown::Refused(row) => row,
+        Ok((_, _)) => 0,
+        Err(row) => row,
     }
 }
 
 // The EVENT of a held slot, for the subscription id that stands at `sub` in m, from the start of `out`.
-pub fn slot_event(table: &[u8], slot: usize, m: &[u8], sub: Span, out: &mut [u8]) -> Written
+pub fn slot_event(
+    table: &[u8],
+    slot: usize,
+    m: &[u8],
+    sub: Span,
+    out: &mut [u8],
+) -> Result<usize, u8>
     ensures value { result ≡ slot_event table.now slot m.now sub out.old }
     ensures result_value { written_number result ≡ slot_event_row table.now slot m.now sub out.old }
     ensures out_after { out.new ≡ slot_event_out table.now slot m.now sub out.old }
 {
     let row = message::subscription_row(m, sub);
     if row != 0 {
-        return Written::Refused(row);
+        return Err(row);
     }
     let later = shown_row(table, slot);
     if later != 0 {
-        return Written::Refused(later);
+        return Err(later);
     }
     let s = slots::slot(table, slot);
     let id = wire::piece(m, sub.start, sub.len);
     if slot_fits(s, id, out.len()) {
-        return Written::Wrote(put_slot(out, 0, id, s));
+        return Ok(put_slot(out, 0, id, s));
     }
-    Written::Refused(13)
+    Err(13)
 }
 
 // ---- the EVENTs of many slots, each a line
@@ -178,16 +173,6 @@ pub fn slot_event(table: &[u8], slot: usize, m: &[u8], sub: Span, out: &mut [u8]
 struct Fitted {
     lines: usize,
     left: usize,
-}
-
-// A slot number of a row; 0 past its end.
-fn number(ks: &[u16], i: usize) -> usize
-    ensures { result ≡ get_or ks.now i 0 }
-{
-    if i < ks.len() {
-        return ks[i] as usize;
-    }
-    0
 }
 
 // The EVENT of a slot, ended with 0A; nothing where its text does not read.
@@ -212,30 +197,27 @@ pub fn put_events(out: &mut [u8], at: usize, table: &[u8], sub: &[u8], ks: &[u16
         return out.len();
     }
     let mut o = at;
-    let mut i = 0;
-    while i < ks.len() {
-        let k = number(ks, i);
-        let s = slots::slot(table, k);
+    for k in ks {
+        let s = slots::slot(table, *k as usize);
         o = put_line(out, o, sub, s);
-        i += 1;
     }
     o
 }
 
 // What the line of a sound slot leaves of a room: it is 267 bytes longer than the slot's text and the subscription id,
 // which takes n bytes. By subtraction: the sum may be more than a number holds.
-fn line_left(s: &[u8], n: usize, room: usize) -> Left
+fn line_left(s: &[u8], n: usize, room: usize) -> Option<usize>
     ensures { result ≡ left_in room (length (json_of (text_in s.now)) + n + 267) }
 {
     let size = text_size(s) + 267;
     if room < size {
-        return Left::Short;
+        return None;
     }
     let rest = room - size;
     if rest < n {
-        return Left::Short;
+        return None;
     }
-    Left::Room(rest - n)
+    Some(rest - n)
 }
 
 // The lines of the slots ks that fit, for a subscription id that takes n bytes.
@@ -243,29 +225,29 @@ fn fit_lines(table: &[u8], n: usize, ks: &[u16], room: usize) -> Fitted
     ensures { result ≡ fitted_in 0 room (sizes table.now n ks.now) }
 {
     let mut left = room;
-    let mut i = 0;
-    while i < ks.len() {
-        let k = number(ks, i);
-        let s = slots::slot(table, k);
-        let Left::Room(x) = line_left(s, n, left) else {
+    for (i, k) in ks.iter().enumerate() {
+        let s = slots::slot(table, *k as usize);
+        let Some(x) = line_left(s, n, left) else {
             return Fitted { lines: i, left };
         };
         left = x;
-        i += 1;
     }
-    Fitted { lines: i, left }
+    Fitted {
+        lines: ks.len(),
+        left,
+    }
 }
 
 // What the lines of the slots ks leave of a room, if the table is sound and holds the slots.
-pub fn events_left(table: &[u8], sub: &[u8], ks: &[u16], room: usize) -> Left
+pub fn events_left(table: &[u8], sub: &[u8], ks: &[u16], room: usize) -> Option<usize>
     ensures { result ≡ left_in room (lines_size table.now (decode sub.now) ks.now) }
 {
     let n = event::string_len(sub);
     let f = fit_lines(table, n, ks, room);
     if f.lines < ks.len() {
-        return Left::Short;
+        return None;
     }
-    Left::Room(f.left)
+    Some(f.left)
 }
 
 // How many of the slots ks are held, from the first on.
@@ -273,15 +255,12 @@ fn held_len(table: &[u8], ks: &[u16]) -> usize
     ensures { result ≡ held_len table.now ks.now }
 {
     let c = wire::le_at(table, slots::COUNT_PLACE, 4) as usize;
-    let mut i = 0;
-    while i < ks.len() {
-        let k = number(ks, i);
-        if c <= k {
+    for (i, k) in ks.iter().enumerate() {
+        if c <= *k as usize {
             return i;
         }
-        i += 1;
     }
-    i
+    ks.len()
 }
 
 // Row 13 where slots are held and the line of none fits; then 14 where not all are held; else 0.
@@ -304,7 +283,7 @@ fn fit_row(lines: usize, held: usize, all: usize) -> u8
 }
 
 // As many lines as fit, of a sound table. `sub` is the subscription id as spelled.
-fn send(table: &[u8], ks: &[u16], sub: &[u8], out: &mut [u8]) -> Sent
+fn send(table: &[u8], ks: &[u16], sub: &[u8], out: &mut [u8]) -> Result<(usize, usize), u8>
     requires { sound table.now ≡ true }
     ensures value { result ≡ sent_lines table.now (decode sub.now) ks.now out.old }
     ensures out_after { out.new ≡ sent_lines_out table.now (decode sub.now) ks.now
@@ -316,14 +295,20 @@ fn send(table: &[u8], ks: &[u16], sub: &[u8], out: &mut [u8]) -> Sent
     let lines = f.lines;
     let row = fit_row(lines, held, ks.len());
     if row != 0 {
-        return Sent::Refused(row);
+        return Err(row);
     }
-    Sent::Wrote(put_events(out, 0, table, sub, &ks[..lines]), lines)
+    Ok((put_events(out, 0, table, sub, &ks[..lines]), lines))
 }
 
 // As many whole EVENTs of the slots ks as fit, each ended with 0A, from the start of `out`; for the subscription id
 // that stands at `sub` in m. The table is tested once.
-pub fn events(table: &[u8], ks: &[u16], m: &[u8], sub: Span, out: &mut [u8]) -> Sent
+pub fn events(
+    table: &[u8],
+    ks: &[u16],
+    m: &[u8],
+    sub: Span,
+    out: &mut [u8],
+) -> Result<(usize, usize), u8>
     ensures value { result ≡ sent_events table.now ks.now m.now sub out.old }
     ensures result_value { sent_number result ≡ events_row table.now ks.now m.now sub
         out.old }
@@ -332,11 +317,11 @@ pub fn events(table: &[u8], ks: &[u16], m: &[u8], sub: Span, out: &mut [u8]) -> 
 {
     let row = message::subscription_row(m, sub);
     if row != 0 {
-        return Sent::Refused(row);
+        return Err(row);
     }
     if slots::sound(table) {
         let id = wire::piece(m, sub.start, sub.len);
         return send(table, ks, id, out);
     }
-    Sent::Refused(11)
+    Err(11)
 }

@@ -1,4 +1,6 @@
 -- One slot: its fields against what its text answers, and a law for each way out of the code that tests it.
+use Rattle.std.specs.Prelude.{Result, Ok, Err}
+use Rattle.text.specs.declared.Unread.{Unread}
 use mathlib.Core.Path.{◌≡◌, refl, sym, ap, ap₂, ◌∙◌}
 use mathlib.Core.Bool.{Bool, true, false, not, ◌&&◌, and_assoc, and_comm, and-false}
 use mathlib.Core.List.{List}
@@ -18,8 +20,6 @@ use Rattle.text.specs.Answer.{text_parts, text_answer_of}
 use Rattle.text.specs.declared.Class.{Class}
 use Rattle.text.specs.declared.Class.TheVariants.{Regular, Replaceable, Ephemeral, Addressable}
 use Rattle.text.specs.declared.Text.{Text}
-use Rattle.text.specs.declared.TextAnswer.{TextAnswer}
-use Rattle.text.specs.declared.TextAnswer.TheVariants as answer
 use Rattle.law.specs.Table as law
 use Rattle.table.specs.Layout.{time_in, kind_in, length_in, d_in, text_in, rest_in, d_place, d_if_addressable}
 use Rattle.table.specs.Events.{class_for}
@@ -85,7 +85,7 @@ module _ (s : List ℕ) {n : ℕ} (l : n ≡ field_at s 106 2) where
   unfolding slot_sound text_reads length_in
   long_text h = sym (rw (lt-leb (field_at s 106 2) most_text (omega arith)))
 
-  module _ {p : List ℕ} {x : TextAnswer} (q : p ≡ part s 112 n) (a : x ≡ text_answer_of (read_text p)) where
+  module _ {p : List ℕ} {x : Result Text Unread} (q : p ≡ part s 112 n) (a : x ≡ text_answer_of (read_text p)) where
     answers : x ≡ text_answer_of (read_text (text_in s))
     unfolding text_in length_in
     answers = a ∙ ap (λ t. text_answer_of (read_text t)) (q ∙ ap (part s 112) l)
@@ -96,23 +96,15 @@ module _ (s : List ℕ) {n : ℕ} (l : n ≡ field_at s 106 2) where
         ap (λ t. (leb (length_in s) most_text && is_read t) && rest s) e ∙ ap (λ t. (leb (length_in s) most_text && t) && rest s) f
         ∙ ap (◌&& rest s) (and-false (leb (length_in s) most_text))
 
-    pub too_large_lem : x ≡ answer.TooLarge → false ≡ slot_sound s
-    too_large_lem e = sym (go (read_text (text_in s)) refl (sym e ∙ answers))
+    pub unread_lem : {u : Unread} → x ≡ Err u → false ≡ slot_sound s
+    unread_lem {u} e = sym (go (read_text (text_in s)) refl (sym e ∙ answers))
       where
-        go : (r : Read) → read_text (text_in s) ≡ r → answer.TooLarge ≡ text_answer_of r → slot_sound s ≡ false
+        go : (r : Read) → read_text (text_in s) ≡ r → Err u ≡ text_answer_of r → slot_sound s ≡ false
         go too_large h f = no_text too_large h refl
         go wrong_shape h f = no_text wrong_shape h refl
         go (read v) h f = absurd (let z : ◌≡◌ {A = ℕ} 0 1 = cc in omega arith)
 
-    pub wrong_shape_lem : x ≡ answer.WrongShape → false ≡ slot_sound s
-    wrong_shape_lem e = sym (go (read_text (text_in s)) refl (sym e ∙ answers))
-      where
-        go : (r : Read) → read_text (text_in s) ≡ r → answer.WrongShape ≡ text_answer_of r → slot_sound s ≡ false
-        go too_large h f = no_text too_large h refl
-        go wrong_shape h f = no_text wrong_shape h refl
-        go (read v) h f = absurd (let z : ◌≡◌ {A = ℕ} 0 1 = cc in omega arith)
-
-    module _ {t : Text} (m : n ≤ 4096) (e : x ≡ answer.Read t) where
+    module _ {t : Text} (m : n ≤ 4096) (e : x ≡ Ok t) where
       short : length_in s ≤ most_text
       unfolding length_in
       short = omega arith
@@ -123,7 +115,7 @@ module _ (s : List ℕ) {n : ℕ} (l : n ≡ field_at s 106 2) where
           ap (λ b. (b && is_read (read_text (text_in s))) && rest s) (le-leb (length_in s) most_text short)
           ∙ go (read_text (text_in s)) refl (sym e ∙ answers)
         where
-          go : (r : Read) → read_text (text_in s) ≡ r → answer.Read t ≡ text_answer_of r
+          go : (r : Read) → read_text (text_in s) ≡ r → Ok t ≡ text_answer_of r
               → (is_read (read_text (text_in s)) && rest s) ≡ (agrees_text s t && zero_after_text s)
           go too_large h f = absurd (let z : ◌≡◌ {A = ℕ} 0 1 = cc in omega arith)
           go wrong_shape h f = absurd (let z : ◌≡◌ {A = ℕ} 0 1 = cc in omega arith)

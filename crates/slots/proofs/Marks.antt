@@ -1,4 +1,4 @@
--- Marks: stored one after another, and that slots whose marks differ have neither one id nor one key.
+-- Marks: that slots whose marks differ have neither one id nor one key.
 use mathlib.Core.Path.{◌≡◌, refl, sym, ap, ap₂, ◌∙◌}
 use mathlib.Core.Bool.{Bool, true, false, ◌||◌}
 use mathlib.Core.Logic.{◌⊎◌, inl, inr, ⊎_elim}
@@ -17,38 +17,11 @@ use Rattle.wire.proofs.Bytes.{same_equal}
 use Rattle.text.specs.Kinds.{class_of}
 use Rattle.text.proofs.Pieces.{both}
 use Rattle.law.specs.Lists.{any}
-use Rattle.event.proofs.Decoded.{or_neither}
 use Rattle.table.specs.Layout.{slot_at, kind_in, id_in}
 use Rattle.slots.specs.Slots.{has_key_in, pubkey_bytes, d_bytes_in, same_id_in, same_key_in, clash, slots_from}
 use Rattle.slots.specs.Marks.{id_mark, key_number, key_mark, Marked, Unlike, bucket_count, bucket_of, Noted}
 use Rattle.slots.proofs.Bytes.{is_false}
 use Rattle.slots.proofs.Walk.{any_none}
-
--- ---- a row of numbers, one more of them stored
-pub set_more : (f : ℕ → ℕ) (l : List ℕ) (i v : ℕ) → ((k : ℕ) → k < i → get_or l k 0 ≡ f k) → i < length l → v ≡ f i → (k : ℕ) → k < i + 1
-    → get_or (set l i v) k 0 ≡ f k
-set_more f l i v h n e k q = go (dec_lt k i)
-  where
-    go : Dec (k < i) → get_or (set l i v) k 0 ≡ f k
-    go (yes y) = get_or-set_other l i k v 0 (λ z. omega arith) ∙ h k y
-    go (no y) = let z : k ≡ i = omega arith in rw z (get_or-set_same l i v 0 n ∙ e)
-
--- ---- no later mark equals that of slot i
-
-pub unlike_more : {ids keys : List ℕ} {i j : ℕ} (h : Bool) → (h ≡ false → Unlike ids keys i j)
-    → ((h || eqb (get_or ids j 0) (get_or ids i 0)) || eqb (get_or keys j 0) (get_or keys i 0)) ≡ false → Unlike ids keys i (j + 1)
-unlike_more {ids} {keys} {i} {j} h u e =
-    let (a, f) = or_neither (h || eqb (get_or ids j 0) (get_or ids i 0)) (eqb (get_or keys j 0) (get_or keys i 0)) e in
-    let (g, d) = or_neither h (eqb (get_or ids j 0) (get_or ids i 0)) a in
-    record { ids_differ = λ x p q. more ids (u g).ids_differ d x p q; keys_differ = λ x p q. more keys (u g).keys_differ f x p q }
-  where
-    more : (l : List ℕ) → ((x : ℕ) → i < x → x < j → get_or l i 0 ≡ get_or l x 0 → ⊥) → eqb (get_or l j 0) (get_or l i 0) ≡ false → (x : ℕ) → i < x
-        → x < j + 1 → get_or l i 0 ≡ get_or l x 0 → ⊥
-    more l o w x p q z = go (dec_lt x j)
-      where
-        go : Dec (x < j) → ⊥
-        go (yes y) = o x p y z
-        go (no y) = let k : x ≡ j = omega arith in eqb-false (get_or l j 0) (get_or l i 0) w (ap (λ m. get_or l m 0) (sym k) ∙ sym z)
 
 -- ---- the mark of a slot whose kind is x, with a key and without
 module _ (s : List ℕ) {x : ℕ} (k : x ≡ kind_in s) where
@@ -92,9 +65,9 @@ module _ (s t : List ℕ) where
   unfolding clash
   clash_id e = ap (◌|| same_key_in s t) e
 
-  pub clash_key : same_id_in s t ≡ false → same_key_in s t ≡ true → clash s t ≡ true
+  pub clash_other : same_id_in s t ≡ false → clash s t ≡ same_key_in s t
   unfolding clash
-  clash_key e f = ap₂ ◌||◌ e f
+  clash_other e = ap (◌|| same_key_in s t) e
 
   pub clash_none : same_id_in s t ≡ false → same_key_in s t ≡ false → clash s t ≡ false
   unfolding clash

@@ -1,6 +1,7 @@
 -- The header and the whole table: a law for each way out of the code that tests them.
 use mathlib.Core.Path.{◌≡◌, refl, sym, ap, ap₂, ◌∙◌}
-use mathlib.Core.Bool.{Bool, true, false, ◌&&◌, and_assoc}
+use mathlib.Core.Bool.{Bool, true, false, ◌&&◌, and_assoc, and_comm}
+use mathlib.Core.Logic.{◌⊎◌, inl, inr}
 use mathlib.Core.List.{List}
 use Prim.Native.Nat.{ℕ, ◌+◌, ◌-◌, ◌*◌, ◌≤◌, ◌<◌}
 use native.Mathlib.Omega.{arith}
@@ -25,13 +26,10 @@ module _ (b : List ℕ) where
   no_header h = sym (rw (lt-leb header_size (length b) h))
 
   module _ {n : ℕ} (l : 16 ≤ length b) (a : n ≡ field_at b 0 4) where
-    pub no_slot : n < 1 → false ≡ header_sound b
+    pub outside : (n < 1) ⊎ (most_slots < n) → false ≡ header_sound b
     unfolding header_sound has_header capacity_fits capacity_of
-    no_slot h = sym (rw (le-leb header_size (length b) l, ← a, lt-leb 1 n h))
-
-    pub too_many : 1 ≤ n → most_slots < n → false ≡ header_sound b
-    unfolding header_sound has_header capacity_fits capacity_of
-    too_many g h = sym (rw (le-leb header_size (length b) l, ← a, le-leb 1 n g, lt-leb n most_slots h))
+    outside (inl h) = sym (rw (le-leb header_size (length b) l, ← a, lt-leb 1 n h))
+    outside (inr h) = sym (rw (le-leb header_size (length b) l, ← a, lt-leb n most_slots h, and_comm (leb 1 n) false))
 
     module _ (g : 1 ≤ n) (h : n ≤ most_slots) where
       pub cut_off : length b < 16 + n * 4208 → false ≡ header_sound b

@@ -23,22 +23,12 @@ pub(crate) fn header_sound(table: &[u8]) -> bool
         return false;
     }
     let n = wire::le_at(table, CAPACITY_PLACE, 4) as usize;
-    if n < 1 {
+    if !(1..=wire::MOST_SLOTS).contains(&n) || table.len() < HEADER_SIZE + n * SLOT_SIZE {
         return false;
     }
-    if wire::MOST_SLOTS < n {
-        return false;
-    }
-    if table.len() < HEADER_SIZE + n * SLOT_SIZE {
-        return false;
-    }
-    if n < wire::le_at(table, COUNT_PLACE, 4) as usize {
-        return false;
-    }
-    if wire::le_at(table, SLOT_SIZE_PLACE, 4) != SLOT_SIZE_FIELD {
-        return false;
-    }
-    wire::le_at(table, FIRST_SLOT_PLACE, 4) == FIRST_SLOT_FIELD
+    wire::le_at(table, COUNT_PLACE, 4) as usize <= n
+        && wire::le_at(table, SLOT_SIZE_PLACE, 4) == SLOT_SIZE_FIELD
+        && wire::le_at(table, FIRST_SLOT_PLACE, 4) == FIRST_SLOT_FIELD
 }
 
 // The header of a table of n slots that holds none, and its slots.

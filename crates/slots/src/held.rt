@@ -1,5 +1,5 @@
 // One held slot: its text and its d, and whether its bytes are sound.
-ghost use Rattle.std.specs.Prelude.{◌≡◌, ◌&&◌, eqb};
+ghost use Rattle.std.specs.Prelude.{◌≡◌};
 ghost use Rattle.text.specs.Event.{all};
 ghost use Rattle.text.specs.Kinds.{class_of};
 ghost use Rattle.table.specs.Layout.{text_in};
@@ -26,24 +26,14 @@ pub(crate) fn d_of(s: &[u8]) -> &[u8]
     wire::piece(text_of(s), at, len)
 }
 
-fn both_are(a: u64, b: u64, c: u64, d: u64) -> bool
-    ensures { result ≡ eqb a b && eqb c d }
-{
-    if a != b {
-        return false;
-    }
-    c == d
-}
-
 // Whether d's place in a slot is the one that the kind asks for. No ephemeral kind is held.
 fn d_agrees(at: u64, len: u64, kind: u16, d: u64, d_len: u64) -> bool
     ensures { result ≡ d_agrees (class_of kind) at len d d_len }
 {
     match text::class_of(kind) {
-        text::Class::Addressable => both_are(at, d, len, d_len),
+        text::Class::Addressable => (at, len) == (d, d_len),
         text::Class::Ephemeral => false,
-        text::Class::Regular => both_are(at, 0, len, 0),
-        text::Class::Replaceable => both_are(at, 0, len, 0),
+        text::Class::Regular | text::Class::Replaceable => (at, len) == (0, 0),
     }
 }
 
@@ -51,19 +41,15 @@ fn d_agrees(at: u64, len: u64, kind: u16, d: u64, d_len: u64) -> bool
 fn agrees(s: &[u8], t: text::Text) -> bool
     ensures { result ≡ agrees_text s.now t }
 {
-    if wire::le_at(s, TIME_PLACE, 8) != wire::to_unsigned(t.time) {
-        return false;
-    }
-    if wire::le_at(s, KIND_PLACE, 2) != t.kind as u64 {
-        return false;
-    }
-    d_agrees(
-        wire::le_at(s, D_OFFSET_PLACE, 2),
-        wire::le_at(s, D_LENGTH_PLACE, 2),
-        t.kind,
-        t.d as u64,
-        t.d_len as u64,
-    )
+    wire::le_at(s, TIME_PLACE, 8) == wire::to_unsigned(t.time)
+        && wire::le_at(s, KIND_PLACE, 2) == t.kind as u64
+        && d_agrees(
+            wire::le_at(s, D_OFFSET_PLACE, 2),
+            wire::le_at(s, D_LENGTH_PLACE, 2),
+            t.kind,
+            t.d as u64,
+            t.d_len as u64,
+        )
 }
 
 // Whether the bytes of a held slot are sound.
@@ -75,26 +61,18 @@ fn slot_sound(s: &[u8]) -> bool
         return false;
     }
     match text::read_text(wire::piece(s, TEXT_PLACE, n)) {
-        text::TextAnswer::Read(t) => {
-            if !agrees(s, t) {
-                return false;
-            }
-            plain::is_zero(wire::piece(s, TEXT_PLACE + n, s.len()))
-        }
-        text::TextAnswer::TooLarge => false,
-        text::TextAnswer::WrongShape => false,
+        Ok(t) => { agrees(s, t) && plain::is_zero(wire::piece(s, TEXT_PLACE + n, s.len())) }
+        Err(_) => false,
     }
 }
 
 pub(crate) fn slots_sound(table: &[u8], c: usize) -> bool
     ensures { result ≡ all slot_sound (slots_from table.now 0 c) }
 {
-    let mut k = 0;
-    while k < c {
+    for k in 0..c {
         if !slot_sound(slot(table, k)) {
             return false;
         }
-        k += 1;
     }
     true
 }

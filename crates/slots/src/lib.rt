@@ -52,22 +52,12 @@ pub const TEXT_PLACE: usize = D_LENGTH_PLACE + 2;
 // A slot's text begins [0,"PUBKEY": where the public key begins in it.
 pub const PUBKEY_PLACE: usize = 4;
 
-// What showing a slot answers: where its text begins in the table and how many bytes it has, or row 11 or 14.
-#[derive(Clone, Copy)]
-pub enum Shown {
-    At(usize, usize),
-    Refused(u8),
-}
-
 // The bytes of slot k, as far as they lie in the buffer.
 pub fn slot(table: &[u8], k: usize) -> &[u8]
     ensures { result.now ≡ slot_at table.now k }
 {
-    if table.len() < HEADER_SIZE {
-        return &table[..0];
-    }
-    if (table.len() - HEADER_SIZE) / SLOT_SIZE < k {
-        return &table[..0];
+    if table.len() < HEADER_SIZE || (table.len() - HEADER_SIZE) / SLOT_SIZE < k {
+        return &[];
     }
     wire::piece(table, HEADER_SIZE + k * SLOT_SIZE, SLOT_SIZE)
 }
@@ -76,10 +66,7 @@ pub fn slot(table: &[u8], k: usize) -> &[u8]
 pub fn same_id(s: &[u8], t: &[u8]) -> bool
     ensures { result ≡ same_id_in s.now t.now }
 {
-    plain::same(
-        wire::piece(t, ID_PLACE, ID_SIZE),
-        wire::piece(s, ID_PLACE, ID_SIZE),
-    )
+    wire::piece(t, ID_PLACE, ID_SIZE) == wire::piece(s, ID_PLACE, ID_SIZE)
 }
 
 // Whether slot t has the key of slot s: kind, pubkey, and d's bytes, of which a replaceable event has none.
@@ -87,19 +74,11 @@ pub fn same_key(s: &[u8], t: &[u8]) -> bool
     ensures { result ≡ same_key_in s.now t.now }
 {
     let k = wire::le_at(t, KIND_PLACE, 2);
-    if k != wire::le_at(s, KIND_PLACE, 2) {
-        return false;
-    }
-    if !twice::keyed(k as u16) {
-        return false;
-    }
-    if !plain::same(
-        wire::piece(held::text_of(t), PUBKEY_PLACE, wire::HEX_LENGTH),
-        wire::piece(held::text_of(s), PUBKEY_PLACE, wire::HEX_LENGTH),
-    ) {
-        return false;
-    }
-    plain::same(held::d_of(t), held::d_of(s))
+    k == wire::le_at(s, KIND_PLACE, 2)
+        && twice::keyed(k as u16)
+        && wire::piece(held::text_of(t), PUBKEY_PLACE, wire::HEX_LENGTH)
+            == wire::piece(held::text_of(s), PUBKEY_PLACE, wire::HEX_LENGTH)
+        && held::d_of(t) == held::d_of(s)
 }
 
 // 01: "Sound: the buffer has at least 16 bytes, N is 1 to 64 and its slots fit the buffer, .."; 02, Wish 6: to 1,024.
@@ -111,13 +90,9 @@ pub fn sound(table: &[u8]) -> bool
     }
     let n = wire::le_at(table, CAPACITY_PLACE, 4) as usize;
     let c = wire::le_at(table, COUNT_PLACE, 4) as usize;
-    if !held::slots_sound(table, c) {
-        return false;
-    }
-    if !twice::apart(table, c) {
-        return false;
-    }
-    plain::is_zero(wire::piece(table, HEADER_SIZE + c * SLOT_SIZE, (n - c) * SLOT_SIZE))
+    held::slots_sound(table, c)
+        && twice::apart(table, c)
+        && plain::is_zero(wire::piece(table, HEADER_SIZE + c * SLOT_SIZE, (n - c) * SLOT_SIZE))
 }
 
 // A fresh table of so many slots: row 14, then 13, or 0. "Formatting writes all N slots and the header".
@@ -125,10 +100,7 @@ pub fn format(table: &mut [u8], capacity: usize) -> u8
     ensures value { result ≡ format_row capacity table.old }
     ensures table_after { table.new ≡ formatted capacity table.old }
 {
-    if capacity < 1 {
-        return 14;
-    }
-    if wire::MOST_SLOTS < capacity {
+    if !(1..=wire::MOST_SLOTS).contains(&capacity) {
         return 14;
     }
     if table.len() < HEADER_SIZE + capacity * SLOT_SIZE {
@@ -139,20 +111,20 @@ pub fn format(table: &mut [u8], capacity: usize) -> u8
 }
 
 // Where the text of a held slot stands in the table: row 11, then 14.
-pub fn shown_at(table: &[u8], slot: usize) -> Shown
+pub fn shown_at(table: &[u8], slot: usize) -> Result<(usize, usize), u8>
     ensures value { result ≡ shown_at table.now slot }
     ensures result_value { shown_number result ≡ shown_row table.now slot }
     ensures result_value_2 { bytes_in table.now result ≡ shown table.now slot }
 {
     if !sound(table) {
-        return Shown::Refused(11);
+        return Err(11);
     }
     if wire::le_at(table, COUNT_PLACE, 4) as usize <= slot {
-        return Shown::Refused(14);
+        return Err(14);
     }
     let a = HEADER_SIZE + slot * SLOT_SIZE;
     let n = wire::le_at(wire::piece(table, a, SLOT_SIZE), LENGTH_PLACE, 2) as usize;
-    Shown::At(a + TEXT_PLACE, n)
+    Ok((a + TEXT_PLACE, n))
 }
 
 // "Showing a slot hands back the very bytes of its text, inside the table"; no bytes where it is refused.
@@ -160,7 +132,7 @@ pub fn show(table: &[u8], slot: usize) -> &[u8]
     ensures { result.now ≡ shown table.now slot }
 {
     match shown_at(table, slot) {
-        Shown::At(at, len) => wire::piece(table, at, len),
-        Shown::Refused(_) => &table[..0],
+        Ok((at, len)) => wire::piece(table, at, len),
+        Err(_) => &[],
     }
 }

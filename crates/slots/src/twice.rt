@@ -5,7 +5,7 @@ ghost use Rattle.text.specs.Kinds.{class_of};
 ghost use Rattle.law.specs.Lists.{any};
 ghost use Rattle.table.specs.Layout.{slot_at};
 ghost use Rattle.table.specs.Sound.{none_twice};
-ghost use Rattle.slots.specs.Slots.{has_key_in, same_id_in, same_key_in, clash, slots_from};
+ghost use Rattle.slots.specs.Slots.{has_key_in, clash, slots_from};
 ghost use Rattle.wire.specs.Field.{field_at};
 ghost use Rattle.slots.specs.Marks.{id_mark, word_from, last_words, first_words, key_number, key_mark, Marked};
 ghost use Rattle.slots.specs.Marks.{Unlike, bucket_count, bucket_of, Noted};
@@ -16,12 +16,10 @@ use crate::{ID_PLACE, ID_SIZE, KIND_PLACE, PUBKEY_PLACE, held, same_id, same_key
 pub(crate) fn keyed(kind: u16) -> bool
     ensures { result ≡ has_key_in (class_of kind) }
 {
-    match text::class_of(kind) {
-        text::Class::Addressable => true,
-        text::Class::Replaceable => true,
-        text::Class::Ephemeral => false,
-        text::Class::Regular => false,
-    }
+    matches!(
+        text::class_of(kind),
+        text::Class::Addressable | text::Class::Replaceable
+    )
 }
 
 // A number that slots with one id have alike.
@@ -35,10 +33,7 @@ fn id_mark(s: &[u8]) -> u16
 fn word(d: &[u8], k: usize) -> u32
     ensures { result ≡ word_from k d.now }
 {
-    if d.len() < k {
-        return wire::le_at(d, 0, 4) as u32;
-    }
-    wire::le_at(d, d.len() - k, 4) as u32
+    wire::le_at(d, d.len().saturating_sub(k), 4) as u32
 }
 
 // The four bytes at a place, as a number; 0 for those past the end.
@@ -98,34 +93,20 @@ fn mark(table: &[u8], c: usize, ids: &mut [u16], keys: &mut [u16])
     requires { (c ≤ most_slots) × (length ids.old ≡ most_slots) × (length keys.old ≡ most_slots) }
     ensures { Marked table.now c ids.new keys.new }
 {
-    let mut k = 0;
-    while k < c {
+    for k in 0..c {
         ids[k] = id_mark(slot(table, k));
         keys[k] = key_mark(slot(table, k));
-        k += 1;
     }
 }
 
-fn same_id_at(table: &[u8], c: usize, ids: &[u16], keys: &[u16], i: usize, j: usize) -> bool
+// Whether slots i and j have one id or one key: compared only where their marks are alike.
+fn alike(table: &[u8], c: usize, ids: &[u16], keys: &[u16], i: usize, j: usize) -> bool
     requires marked { Marked table.now c ids.now keys.now }
     requires c_le_most_slots { (c ≤ most_slots) × (i < c) × (j < c) }
-    ensures { result ≡ same_id_in (slot_at table.now i) (slot_at table.now j) }
+    ensures { result ≡ clash (slot_at table.now i) (slot_at table.now j) }
 {
-    if ids[i] != ids[j] {
-        return false;
-    }
-    same_id(slot(table, i), slot(table, j))
-}
-
-fn same_key_at(table: &[u8], c: usize, ids: &[u16], keys: &[u16], i: usize, j: usize) -> bool
-    requires marked { Marked table.now c ids.now keys.now }
-    requires c_le_most_slots { (c ≤ most_slots) × (i < c) × (j < c) }
-    ensures { result ≡ same_key_in (slot_at table.now i) (slot_at table.now j) }
-{
-    if keys[i] != keys[j] {
-        return false;
-    }
-    same_key(slot(table, i), slot(table, j))
+    (ids[i] == ids[j] && same_id(slot(table, i), slot(table, j)))
+        || (keys[i] == keys[j] && same_key(slot(table, i), slot(table, j)))
 }
 
 // Whether a later slot has a mark of slot i. No way out of the loop, so that the compiler takes many marks at a time.
@@ -136,10 +117,8 @@ fn maybe(ids: &[u16], keys: &[u16], c: usize, i: usize) -> bool
     let m = ids[i];
     let k = keys[i];
     let mut hit = false;
-    let mut j = i + 1;
-    while j < c {
-        hit = hit | (ids[j] == m) | (keys[j] == k);
-        j += 1;
+    for j in i + 1..c {
+        hit |= (ids[j] == m) | (keys[j] == k);
     }
     hit
 }
@@ -154,15 +133,10 @@ fn again(table: &[u8], c: usize, ids: &[u16], keys: &[u16], i: usize) -> bool
     if !maybe(ids, keys, c, i) {
         return false;
     }
-    let mut j = i + 1;
-    while j < c {
-        if same_id_at(table, c, ids, keys, i, j) {
+    for j in i + 1..c {
+        if alike(table, c, ids, keys, i, j) {
             return true;
         }
-        if same_key_at(table, c, ids, keys, i, j) {
-            return true;
-        }
-        j += 1;
     }
     false
 }
@@ -185,10 +159,7 @@ fn met(seen: &[u8], id: u16, key: u16) -> bool
 {
     let i = bucket(id);
     let k = bucket(key);
-    if seen[i] != 0 {
-        return true;
-    }
-    seen[k] != 0
+    seen[i] != 0 || seen[k] != 0
 }
 
 // Two marks fall into their buckets.
@@ -211,13 +182,11 @@ fn repeated(table: &[u8], c: usize, ids: &[u16], keys: &[u16], seen: &[u8], i: u
     ensures { result ≡ any (clash (slot_at table.now i))
         (slots_from table.now (i + 1) (c - (i + 1))) }
 {
-    if !met(seen, ids[i], keys[i]) {
-        return false;
-    }
-    again(table, c, ids, keys, i)
+    met(seen, ids[i], keys[i]) && again(table, c, ids, keys, i)
 }
 
 // Whether slots 0 to c-1 have no id and no key twice. From the last slot down, each is looked for among the later ones.
+// Ids and keys have a row of marks each, and no row of pairs, so that `maybe` compares many at a time; fixed memory.
 pub(crate) fn apart(table: &[u8], c: usize) -> bool
     requires { c ≤ most_slots }
     ensures { result ≡ none_twice clash (slots_from table.now 0 c) }
@@ -226,9 +195,7 @@ pub(crate) fn apart(table: &[u8], c: usize) -> bool
     let mut keys = [0u16; wire::MOST_SLOTS];
     let mut seen = [0u8; BUCKETS];
     mark(table, c, &mut ids, &mut keys);
-    let mut i = c;
-    while 0 < i {
-        i -= 1;
+    for i in (0..c).rev() {
         if repeated(table, c, &ids, &keys, &seen, i) {
             return false;
         }

@@ -164,9 +164,6 @@ module _ (p : List ℕ) (i k : ℕ) where
 pub at_index : {l m : List ℕ} (k j : ℕ) {x : ℕ} → l ≡ m → k ≡ j → x ≡ get_or m j 0 → x ≡ get_or l k 0
 at_index k j e q f = f ∙ rw (e, q)
 
-pub left_some : (p : List ℕ) (i k : ℕ) → i < length p → Within p i k → left_of p i k ≡ get_or (char_bytes (char_of (drop i p))) k 0 ∷ drop (suc k) (char_bytes (char_of (drop i p))) ++ decode (drop (i + (char_of (drop i p)).width) p)
-left_some p i k h w = left_turn p i k (char_of (drop i p)) refl h w
-
 raw_bytes : (c : Char) → c.raw ≡ true → char_bytes c ≡ c.code ∷ []
 unfolding char_bytes
 raw_bytes c e = rw e

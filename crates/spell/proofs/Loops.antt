@@ -1,15 +1,17 @@
 -- What a loop over the decoded bytes knows of the list left, an element a turn: a comparison, a count of characters,
 -- hex, escapes, pairs of hex digits.
-use mathlib.Core.Bool.{Bool, true, false, cond, ◌&&◌, and-true, and-false}
-use mathlib.Core.Path.{◌≡◌, refl, ◌∙◌, ap}
+use mathlib.Core.Bool.{Bool, true, false, cond, not, ◌&&◌, and-true, and-false}
+use mathlib.Core.Path.{◌≡◌, refl, sym, ◌∙◌, ap}
 use mathlib.Core.List.{List, [], ◌∷◌, ◌++◌}
 use Prim.Native.Nat.{ℕ, zero, suc, ◌+◌, ◌-◌, ◌*◌, ◌≤◌, ◌<◌}
 use native.Mathlib.Omega.{arith}
 use native.Mathlib.Numerals.{add-one, sub-one}
-use borrow.Author.Tests.{eq-eqb, ne_eqb}
-use lib.Dec.{eqb, eqb-suc-suc, eqb-suc-zero}
-use lib.ListN.{length, get_or, drop, length-append, length-drop}
+use borrow.Author.Tests.{eq-eqb, ne_eqb, eqb-true, eqb-false, not-true, not-false}
+use lib.Dec.{eqb, eqb-suc-suc, eqb-suc-zero, eqb-zero-suc}
+use lib.ListN.{length, get_or, drop, length-append}
 use lib.Seq.{drop-cons}
+use Rattle.std.specs.Prelude.{Option, None, Some, MatchOption, IfSome}
+use Rattle.std.specs.Option.{is_some, option_eq}
 use Rattle.wire.specs.Escape.{esc_one, escape, json_of, control_count}
 use Rattle.wire.proofs.Escapes.{esc_two}
 use Rattle.wire.proofs.Json.{count_cons, count_escape, none_has, json_append, json_same}
@@ -43,6 +45,28 @@ module _ {b : Bool} {k l : List ℕ} (inv : b ≡ same_bytes k l) where
     unfolding same_bytes
     agree e = inv ∙ rw (p, q, same_bytes, eq-eqb x y e)
 
+-- one turn of a comparison where an iterator gives the first list: o is what it gave, and k' what it has left
+module _ {b : Bool} (k l k' : List ℕ) (inv : b ≡ same_bytes k l) where
+  pub given_end : l ≡ [] → (o : Option ℕ) → MatchOption o ((k ≡ []) × (k' ≡ [])) (λ x. k ≡ x ∷ k') → (r : Bool) → is_some o ≡ not r → r ≡ b
+  given_end q None s true e = sym (both_end inv s.0 q)
+  given_end q None s false e = absurd (let z : ◌≡◌ {A = ℕ} 0 1 = cc in omega arith)
+  given_end q (Some x) s true e = absurd (let z : ◌≡◌ {A = ℕ} 0 1 = cc in omega arith)
+  given_end q (Some x) s false e = sym (second_ends inv s q)
+
+  module _ {y : ℕ} {l' : List ℕ} (q : l ≡ y ∷ l') where
+    pub given_other : (o : Option ℕ) → MatchOption o ((k ≡ []) × (k' ≡ [])) (λ x. k ≡ x ∷ k') → not (option_eq eqb o (Some y)) ≡ true → false ≡ b
+    given_other None s e = sym (first_ends inv s.0 q)
+    given_other (Some x) s e = sym (differ inv s q (eqb-false x y (not-true _ e)))
+
+    pub given_same : (o : Option ℕ) → MatchOption o ((k ≡ []) × (k' ≡ [])) (λ x. k ≡ x ∷ k') → not (option_eq eqb o (Some y)) ≡ false → b ≡ same_bytes k' l'
+    given_same None s e = absurd (let z : ◌≡◌ {A = ℕ} 0 1 = cc in omega arith)
+    given_same (Some x) s e = agree inv s q (eqb-true x y (not-false _ e))
+
+-- and that the iterator may be asked again
+pub given_some : (P : Type 0) (o : Option ℕ) (y : ℕ) → IfSome o (λ _. P) → not (option_eq eqb o (Some y)) ≡ false → P
+given_some P None y s e = absurd (let z : ◌≡◌ {A = ℕ} 0 1 = cc in omega arith)
+given_some P (Some x) y s e = s
+
 -- one turn of the count of characters
 pub points_few : (l : List ℕ) → points l ≤ length l
 unfolding points
@@ -68,9 +92,13 @@ point_end e = rw e
 
 -- one turn of the test for n characters of hex
 module _ {b : Bool} (n : ℕ) {k : List ℕ} (inv : b ≡ (eqb (length k) n && all is_hex k)) where
-  pub hex_end : k ≡ [] → b ≡ eqb 0 n
+  pub hex_end : k ≡ [] → b ≡ eqb n 0
   unfolding all
-  hex_end p = inv ∙ rw p (and-true (eqb 0 n))
+  hex_end p = inv ∙ rw p (and-true (eqb 0 n)) ∙ swap n
+    where
+      swap : (n : ℕ) → eqb 0 n ≡ eqb n 0
+      swap zero = refl
+      swap (suc n) = eqb-zero-suc n ∙ sym (eqb-suc-zero n)
 
   module _ {x : ℕ} {l : List ℕ} (p : k ≡ x ∷ l) where
     pub hex_long : n ≡ 0 → b ≡ false
@@ -123,19 +151,19 @@ json_end e = rw e
 pub json_plain : (l : List ℕ) → control_count l ≡ 0 → json_of (escape l) ≡ escape l
 json_plain l e = json_same (escape l) (none_has (escape l) (count_escape l ∙ e))
 
--- one turn over pairs of hex digits
-module _ (s : List ℕ) (i : ℕ) where
-  pub unhex_turn : i + 1 < length s → unhex (drop i s) ≡ ((hex_val (get_or s i 0) * 16 + hex_val (get_or s (i + 1) 0)) ∷ []) ++ unhex (drop (i + 2) s)
-  unfolding unhex
-  unhex_turn h =
-      let e : i + 1 + 1 ≡ i + 2 = omega arith in
-      rw (byte_turn s i (omega arith), byte_turn s (i + 1) h, e)
+-- one turn over pairs of hex digits: x is the pair, and l what follows it
+pub unhex_turn : {k : List ℕ} (x l : List ℕ) → k ≡ x ++ l → length x ≡ 2 → unhex k ≡ ((hex_val (get_or x 0 0) * 16 + hex_val (get_or x 1 0)) ∷ []) ++ unhex l
+unfolding unhex
+unhex_turn x l e h = rw e (go x h)
+  where
+    go : (x : List ℕ) → length x ≡ 2 → unhex (x ++ l) ≡ ((hex_val (get_or x 0 0) * 16 + hex_val (get_or x 1 0)) ∷ []) ++ unhex l
+    go [] h = absurd (omega arith)
+    go (a ∷ []) h = absurd (omega arith)
+    go (a ∷ b ∷ []) h = refl
+    go (a ∷ b ∷ c ∷ x) h = absurd (omega arith)
 
-  pub unhex_none : length s ≤ i + 1 → unhex (drop i s) ≡ []
-  unfolding unhex
-  unhex_none h = go (drop i s) (omega (arith, length-drop i s))
-    where
-      go : (l : List ℕ) → length l ≤ 1 → unhex l ≡ []
-      go [] k = refl
-      go (x ∷ []) k = refl
-      go (x ∷ y ∷ l) k = absurd (omega arith)
+pub unhex_none : (l : List ℕ) → length l < 2 → unhex l ≡ []
+unfolding unhex
+unhex_none [] h = refl
+unhex_none (x ∷ []) h = refl
+unhex_none (x ∷ y ∷ l) h = absurd (omega arith)

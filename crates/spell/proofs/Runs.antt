@@ -1,5 +1,6 @@
 -- Runs of characters that stand in the escaped text as in the spelling.
 use mathlib.Core.Bool.{Bool, true, false, cond, not}
+use mathlib.Core.Logic.{◌⊎◌, inl, inr}
 use mathlib.Core.Path.{◌≡◌, refl, sym, ◌∙◌, ap}
 use mathlib.Core.List.{List, [], ◌∷◌, ◌++◌, append_assoc}
 use Prim.Native.Nat.{ℕ, suc, ◌+◌, ◌-◌, ◌≤◌, ◌<◌}
@@ -8,8 +9,8 @@ use native.Mathlib.Omega.{arith}
 use native.Mathlib.Numerals.{add-one}
 use borrow.Author.Tests.{ne_eqb}
 use lib.Dec.{eqb, lit≤}
-use lib.ListN.{length, get_or, take, drop, length-append, length-drop, get_or-eq_default}
-use lib.Seq.{drop-cons, drop-drop, take-add, length-take-le}
+use lib.ListN.{length, get_or, take, drop, length-append, get_or-eq_default}
+use lib.Seq.{drop-cons, drop-drop, take-add}
 use Rattle.wire.specs.Escape.{letter_of, esc_one, escape}
 use Rattle.wire.proofs.Escapes.{plain}
 use Rattle.spell.specs.Spell.{short_of}
@@ -26,6 +27,16 @@ stays_no y = record { other = λ e. absurd (no e); some = λ e. absurd (no e); p
   where
     no : false ≡ true → ⊥
     no e = let z : ◌≡◌ {A = ℕ} 0 1 = cc in omega arith
+
+pub stays_yes : (y : ℕ) → (y ≡ 34) ⊎ ((y ≡ 92) ⊎ ((y ≡ 98) ⊎ ((y ≡ 102) ⊎ ((y ≡ 110) ⊎ ((y ≡ 114) ⊎ (y ≡ 116)))))) → Stays y true
+unfolding esc_one short_of letter_of
+stays_yes y (inl e) = rw e (record { other = λ _ e. omega arith; some = λ _. omega arith; pair = λ _. refl })
+stays_yes y (inr (inl e)) = rw e (record { other = λ _ e. omega arith; some = λ _. omega arith; pair = λ _. refl })
+stays_yes y (inr (inr (inl e))) = rw e (record { other = λ _ e. omega arith; some = λ _. omega arith; pair = λ _. refl })
+stays_yes y (inr (inr (inr (inl e)))) = rw e (record { other = λ _ e. omega arith; some = λ _. omega arith; pair = λ _. refl })
+stays_yes y (inr (inr (inr (inr (inl e))))) = rw e (record { other = λ _ e. omega arith; some = λ _. omega arith; pair = λ _. refl })
+stays_yes y (inr (inr (inr (inr (inr (inl e)))))) = rw e (record { other = λ _ e. omega arith; some = λ _. omega arith; pair = λ _. refl })
+stays_yes y (inr (inr (inr (inr (inr (inr e)))))) = rw e (record { other = λ _ e. omega arith; some = λ _. omega arith; pair = λ _. refl })
 
 -- a byte that has no letter
 pub no_letter : (b : ℕ) → 0x20 ≤ b → (b ≡ 0x22 → ⊥) → (b ≡ 0x5c → ⊥) → letter_of b ≡ 0
@@ -85,12 +96,6 @@ esc_some b = go (eqb (letter_of b) 0)
     go true = lit≤ tt
     go false = lit≤ tt
 
--- a run and a byte leave less
-pub run_less : {p : List ℕ} {i n : ℕ} (k : ℕ) → Same p i n → i < n → Within p i k → length (escape (left_of p n k)) < length (escape (left_of p i k))
-run_less {p} {i} {n} k s h w =
-    let t : length (take (n - i) (drop i p)) ≡ n - i = length-take-le (n - i) (drop i p) (simp length-drop (omega (arith, s.inside))) in
-    let e = simp length-append at (ap length (s.is k w)) in
-    omega arith
-
+-- a byte leaves less
 pub byte_less : {k l : List ℕ} {x : ℕ} → k ≡ x ∷ l → length (escape l) < length (escape k)
 byte_less {k} {l} {x} q = let e = simp length-append at (ap length (escape_turn q)) in omega (arith, esc_some x)

@@ -3,6 +3,7 @@ use Rattle.std.specs.Prelude.{Bool, true, cond, ◌≡◌, List, [], ◌∷◌, 
 use Rattle.wire.specs.Escape.{esc_one, escape}
 use Rattle.spell.specs.declared.Char.{Char}
 use Rattle.spell.specs.declared.Step.{Step}
+use Rattle.spell.specs.declared.steps.Decoded.{Decoded}
 use Rattle.spell.specs.Spell.{short_of, char_of, char_bytes, decode}
 use Rattle.wire.specs.Bytes.{Bytes}
 
@@ -29,6 +30,13 @@ pub record Within (p : List ℕ) (i k : ℕ) : Type 0 where
 pub record Stepped (p : List ℕ) (i k : ℕ) (r : Step) : Type 0 where
   pub left : left_of p i k ≡ r.byte ∷ left_of p r.at r.taken
   pub within : Within p r.at r.taken
+
+-- what an iterator over the decoded bytes has left, and that it stands within a character or before one
+unfoldable pub bytes_left : Decoded → Bytes
+bytes_left d = left_of d.text.now d.at d.taken
+
+abbrev pub Stands : Decoded → Type 0
+Stands d = Within d.text.now d.at d.taken
 
 -- where r is true, a backslash and y are escaped to themselves
 pub record Stays (y : ℕ) (r : Bool) : Type 0 where

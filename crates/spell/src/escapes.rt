@@ -6,20 +6,16 @@ ghost use Rattle.spell.specs.Inner.{Sized, Begins};
 use crate::Char;
 
 // The number of a hex digit, and 0 of any other byte: the digits are told first, then a-f, which most texts spell.
+#[tactic(auto, unfolding(crate::specs::Spell::hex_val))]
 pub(crate) fn hex_val(x: u8) -> u32
     ensures value { result ≡ hex_val x }
     ensures upper_bound { result ≤ 15 }
 {
-    if x <= 0x39 {
-        if x < 0x30 { 0 } else { (x - 0x30) as u32 }
-    } else if 0x61 <= x {
-        if x <= 0x66 { (x - 0x61 + 10) as u32 } else { 0 }
-    } else if x < 0x41 {
-        0
-    } else if x <= 0x46 {
-        (x - 0x41 + 10) as u32
-    } else {
-        0
+    match x {
+        b'0'..=b'9' => (x - b'0') as u32,
+        b'a'..=b'f' => (x - b'a' + 10) as u32,
+        b'A'..=b'F' => (x - b'A' + 10) as u32,
+        _ => 0,
     }
 }
 
@@ -57,22 +53,11 @@ pub(crate) fn short(y: u8) -> u8
 }
 
 // Whether \u with the digits of u, the bytes x and y, and the digits of v are a pair of surrogates.
+#[tactic(auto, unfolding(crate::specs::Spell::is_pair))]
 pub(crate) fn is_pair(u: u32, x: u8, y: u8, v: u32) -> bool
     ensures { result ≡ is_pair u x y v }
 {
-    if u < 0xd800 {
-        return false;
-    }
-    if 0xdbff < u {
-        return false;
-    }
-    if x != b'\\' {
-        return false;
-    }
-    if y != b'u' {
-        return false;
-    }
-    0xdc00 <= v && v <= 0xdfff
+    0xd800 <= u && u <= 0xdbff && x == b'\\' && y == b'u' && 0xdc00 <= v && v <= 0xdfff
 }
 
 // The code point of a pair of surrogates.

@@ -11,6 +11,8 @@ ghost use Rattle.wire.specs.Escape.{escape, json_of, control_count};
 mod escapes;
 mod steps;
 
+use steps::Decoded;
+
 // One character of a spelling, and how many bytes spell it: a byte of the decoded string (raw), which stands as it is
 // or after a backslash, or the code point of an escape with u.
 #[derive(Clone, Copy)]
@@ -70,69 +72,26 @@ pub fn refused(p: &[u8]) -> bool
 pub fn same(p: &[u8], q: &[u8]) -> bool
     ensures { result ≡ same_bytes (decode p.now) (decode q.now) }
 {
-    let mut i = 0;
-    let mut k = 0;
-    let mut j = 0;
-    let mut m = 0;
-    while i < p.len() {
-        if q.len() <= j {
+    let mut left = Decoded::new(p);
+    for b in Decoded::new(q) {
+        if left.next() != Some(b) {
             return false;
         }
-        let a = p[i];
-        let b = q[j];
-        if a != b'\\' {
-            if b != b'\\' {
-                if a != b {
-                    return false;
-                }
-                i += 1;
-                j += 1;
-                continue;
-            }
-        }
-        let x = steps::advance(p, i, k);
-        let y = steps::advance(q, j, m);
-        if x.byte != y.byte {
-            return false;
-        }
-        i = x.at;
-        k = x.taken;
-        j = y.at;
-        m = y.taken;
     }
-    if j < q.len() { false } else { true }
+    left.next().is_none()
 }
 
 // Whether a spelling decodes to the bytes of `word`.
 pub fn spells(p: &[u8], word: &[u8]) -> bool
     ensures { result ≡ same_bytes (decode p.now) word.now }
 {
-    let mut i = 0;
-    let mut k = 0;
-    let mut j = 0;
-    while i < p.len() {
-        if word.len() <= j {
+    let mut rest = Decoded::new(p);
+    for b in word {
+        if rest.next() != Some(*b) {
             return false;
         }
-        let w = word[j];
-        let b = p[i];
-        if b != b'\\' {
-            if b != w {
-                return false;
-            }
-            i += 1;
-            j += 1;
-            continue;
-        }
-        let x = steps::advance(p, i, k);
-        if x.byte != w {
-            return false;
-        }
-        i = x.at;
-        k = x.taken;
-        j += 1;
     }
-    if j < word.len() { false } else { true }
+    rest.next().is_none()
 }
 
 fn is_tail(x: u8) -> bool
@@ -145,22 +104,9 @@ fn is_tail(x: u8) -> bool
 pub fn characters(p: &[u8]) -> usize
     ensures { result ≡ character_count p.now }
 {
-    let mut i = 0;
-    let mut k = 0;
     let mut n: usize = 0;
-    while i < p.len() {
-        let b = p[i];
-        if b != b'\\' {
-            i += 1;
-            if !is_tail(b) {
-                n += 1;
-            }
-            continue;
-        }
-        let x = steps::advance(p, i, k);
-        i = x.at;
-        k = x.taken;
-        if !is_tail(x.byte) {
+    for b in Decoded::new(p) {
+        if !is_tail(b) {
             n += 1;
         }
     }
@@ -171,50 +117,21 @@ pub fn characters(p: &[u8]) -> usize
 pub fn is_hex(p: &[u8], n: usize) -> bool
     ensures { result ≡ is_hex_of n p.now }
 {
-    let mut i = 0;
-    let mut k = 0;
     let mut left = n;
-    while i < p.len() {
-        if left == 0 {
+    for b in Decoded::new(p) {
+        if left == 0 || !wire::is_hex_digit(b) {
             return false;
         }
         left -= 1;
-        let b = p[i];
-        if b != b'\\' {
-            if !wire::is_hex_digit(b) {
-                return false;
-            }
-            i += 1;
-            continue;
-        }
-        let x = steps::advance(p, i, k);
-        if !wire::is_hex_digit(x.byte) {
-            return false;
-        }
-        i = x.at;
-        k = x.taken;
     }
-    0 == left
+    left == 0
 }
 
 // How many bytes a spelling decodes to.
 pub fn decoded_len(p: &[u8]) -> usize
     ensures { result ≡ length (decode p.now) }
 {
-    let mut i = 0;
-    let mut k = 0;
-    let mut n: usize = 0;
-    while i < p.len() {
-        n += 1;
-        if p[i] != b'\\' {
-            i += 1;
-            continue;
-        }
-        let x = steps::advance(p, i, k);
-        i = x.at;
-        k = x.taken;
-    }
-    n
+    Decoded::new(p).count()
 }
 
 // The bytes that a spelling decodes to, into `out` from `at` on; the index after them.
@@ -225,24 +142,15 @@ pub fn put_decoded(out: &mut [u8], at: usize, p: &[u8]) -> usize
         return out.len();
     }
     let mut o = at;
-    let mut i = 0;
-    let mut k = 0;
-    while i < p.len() {
-        let b = p[i];
-        if b != b'\\' {
-            o = wire::put_byte(out, o, b);
-            i += 1;
-            continue;
-        }
-        let x = steps::advance(p, i, k);
-        o = wire::put_byte(out, o, x.byte);
-        i = x.at;
-        k = x.taken;
+    for b in Decoded::new(p) {
+        o = wire::put_byte(out, o, b);
     }
     o
 }
 
 // How long a spelling is once it is decoded and escaped. It fits: a slice has fewer than 2^63 bytes.
+// A `for` over `Decoded` takes twice the time on plain text: the two ways to a byte meet there, and each byte is tested
+// for a backslash again.
 pub fn escaped_len(p: &[u8]) -> usize
     ensures { result ≡ length (escape (decode p.now)) }
 {
@@ -271,20 +179,11 @@ pub fn put_escaped(out: &mut [u8], at: usize, p: &[u8]) -> usize
     if out.len() < at {
         return out.len();
     }
-    let mut o = at;
-    let mut i = 0;
-    let mut k = 0;
-    while i < p.len() {
-        let n = steps::past_same(p, i);
-        if i < n {
-            o = wire::put(out, o, &p[i..n]);
-            i = n;
-            continue;
-        }
-        let x = steps::advance(p, i, k);
-        o = wire::put_escaped_byte(out, o, x.byte);
-        i = x.at;
-        k = x.taken;
+    let mut rest = Decoded::new(p);
+    let mut o = wire::put(out, at, rest.pass_same());
+    while let Some(b) = rest.next() {
+        o = wire::put_escaped_byte(out, o, b);
+        o = wire::put(out, o, rest.pass_same());
     }
     o
 }
@@ -293,20 +192,9 @@ pub fn put_escaped(out: &mut [u8], at: usize, p: &[u8]) -> usize
 pub fn control_count(p: &[u8]) -> usize
     ensures { result ≡ control_count (decode p.now) }
 {
-    let mut i = 0;
-    let mut k = 0;
     let mut n: usize = 0;
-    while i < p.len() {
-        let b = p[i];
-        if b != b'\\' {
-            i += 1;
-            n += wire::one_if_control(b);
-            continue;
-        }
-        let x = steps::advance(p, i, k);
-        i = x.at;
-        k = x.taken;
-        n += wire::one_if_control(x.byte);
+    for b in Decoded::new(p) {
+        n += wire::one_if_control(b);
     }
     n
 }
@@ -319,13 +207,8 @@ fn put_spelled(out: &mut [u8], at: usize, p: &[u8]) -> usize
         return out.len();
     }
     let mut o = at;
-    let mut i = 0;
-    let mut k = 0;
-    while i < p.len() {
-        let x = steps::advance(p, i, k);
-        o = wire::put_json_escaped_byte(out, o, x.byte);
-        i = x.at;
-        k = x.taken;
+    for b in Decoded::new(p) {
+        o = wire::put_json_escaped_byte(out, o, b);
     }
     o
 }
@@ -350,12 +233,10 @@ pub fn put_unhex(out: &mut [u8], at: usize, s: &[u8]) -> usize
         return out.len();
     }
     let mut o = at;
-    let mut i = 0;
-    while i + 1 < s.len() {
-        let h = escapes::hex_val(s[i]);
-        let l = escapes::hex_val(s[i + 1]);
+    for pair in s.chunks_exact(2) {
+        let h = escapes::hex_val(pair[0]);
+        let l = escapes::hex_val(pair[1]);
         o = wire::put_byte(out, o, (h * 16 + l) as u8);
-        i += 2;
     }
     o
 }

@@ -1,5 +1,6 @@
 -- The tags as the text spells them are JSON: an array of arrays of strings, that say just these tags. Members one after
 -- the other, once for strings and once for tags; no white space stands anywhere, so each thing ends where its bytes do.
+use Rattle.std.specs.Prelude.{Some, None}
 use mathlib.Core.Bool.{Bool, true, false}
 use mathlib.Core.Path.{◌≡◌, refl, sym, ap, ◌∙◌}
 use mathlib.Core.List.{List, [], ◌∷◌, ◌++◌}
@@ -15,7 +16,6 @@ use Rattle.utf8.proofs.States.{lead_low, utf8_append}
 use Rattle.json_tree.specs.Grammar.{in_class, one_at, token_at, start_at, next_at}
 use Rattle.json_tree.specs.Tree.{Json, arr, Items, nil, item, Got, got, items_at, tree_at}
 use Rattle.json_tree.specs.declared.Class.TheVariants.{Space}
-use Rattle.json_tree.specs.declared.Out.TheVariants.{End, Bad}
 use Rattle.json_tree.specs.declared.Start.TheVariants.{Empty, Many}
 use Rattle.json_tree.specs.declared.Next.TheVariants.{More, Done}
 use Rattle.json_tree.proofs.Trees.{tree_open}
@@ -40,11 +40,11 @@ Tight s n = in_class Space (get_or s n 0) ≡ false
 
 -- ---- brackets and commas
 module _ (s : List ℕ) where
-  pub token_is : (b at : ℕ) → get_or s at 0 ≡ b → Tight s (at + 1) → token_at s b at ≡ End (at + 1)
+  pub token_is : (b at : ℕ) → get_or s at 0 ≡ b → Tight s (at + 1) → token_at s b at ≡ Some (at + 1)
   unfolding token_at one_at in_class
-  token_is b at e w = rw (eq-eqb (get_or s at 0) b e) (ap End (ws_none s (at + 1) w))
+  token_is b at e w = rw (eq-eqb (get_or s at 0) b e) (ap Some (ws_none s (at + 1) w))
 
-  pub token_not : (b at : ℕ) → eqb (get_or s at 0) b ≡ false → token_at s b at ≡ Bad
+  pub token_not : (b at : ℕ) → eqb (get_or s at 0) b ≡ false → token_at s b at ≡ None
   unfolding token_at one_at in_class
   token_not b at e = rw e
 

@@ -1,7 +1,6 @@
 -- A full table of two slots at work, by computation. 01: "Full table: a held id is duplicate, a newer event of a held
 -- key is stored, any other regular event gives 12."
-use Rattle.std.specs.Prelude.{◌≡◌, refl, true, false, List, [], ◌∷◌, ℕ, ◌+◌, ℤ, pos, negsuc, length, replicate}
-use Rattle.std.proofs.Math.Option.{some}
+use Rattle.std.specs.Prelude.{◌≡◌, refl, true, false, List, [], ◌∷◌, ℕ, ◌+◌, ℤ, pos, negsuc, length, replicate, Some}
 use Rattle.wire.specs.Limits.{most_slots}
 use Rattle.wire.specs.Bytes.{same_bytes, is_hex}
 use Rattle.wire.specs.Escape.{letter_of, esc_one, escape}
@@ -55,12 +54,12 @@ held = entry 5 1 (made 1 (pos 9) 65) ∷ entry 7 1 (made 30000 (negsuc 7199) 66)
 -- the same event with another signature; a newer tile of the held key; an older one; another regular event; another
 -- key; an ephemeral one
 verdicts :
-    (verdict signed_events 2 held (some (entry 5 2 (made 1 (pos 9) 65))) ≡ duplicate)
-    × (verdict signed_events 2 held (some (entry 8 1 (made 30000 (negsuc 0) 66))) ≡ stored)
-    × (verdict signed_events 2 held (some (entry 8 1 (made 30000 (negsuc 7200) 66))) ≡ older)
-    × (verdict signed_events 2 held (some (entry 8 1 (made 1 (pos 9) 66))) ≡ no_room)
-    × (verdict signed_events 2 held (some (entry 8 1 (made 30000 (pos 9) 67))) ≡ no_room)
-    × (verdict signed_events 2 held (some (entry 8 1 (made 20000 (pos 9) 66))) ≡ was_ephemeral)
+    (verdict signed_events 2 held (Some (entry 5 2 (made 1 (pos 9) 65))) ≡ duplicate)
+    × (verdict signed_events 2 held (Some (entry 8 1 (made 30000 (negsuc 0) 66))) ≡ stored)
+    × (verdict signed_events 2 held (Some (entry 8 1 (made 30000 (negsuc 7200) 66))) ≡ older)
+    × (verdict signed_events 2 held (Some (entry 8 1 (made 1 (pos 9) 66))) ≡ no_room)
+    × (verdict signed_events 2 held (Some (entry 8 1 (made 30000 (pos 9) 67))) ≡ no_room)
+    × (verdict signed_events 2 held (Some (entry 8 1 (made 20000 (pos 9) 66))) ≡ was_ephemeral)
 unfolding verdict same_bytes letter_of esc_one escape digits_in digits decimal quoted members_text tag_text tags_text serialise
     all is_pubkey is_time class_of_event class_of_text time_of_text stands_at closed_at pair_at escaped_byte is_raw
     body_from string_at text_members_at tag_at tags_at run_of time_at kind_at pubkey_at fields_at opened_text read_text class_of d_of
@@ -70,7 +69,7 @@ verdicts = (refl, refl, refl, refl, refl, refl)
 
 -- the newer tile takes the slot with its key
 replaced :
-    after signed_events 2 held (some (entry 8 1 (made 30000 (negsuc 0) 66)))
+    after signed_events 2 held (Some (entry 8 1 (made 30000 (negsuc 0) 66)))
     ≡ entry 5 1 (made 1 (pos 9) 65) ∷ entry 8 1 (made 30000 (negsuc 0) 66) ∷ []
 unfolding after verdict same_bytes letter_of esc_one escape digits_in digits decimal quoted members_text tag_text tags_text
     serialise all is_pubkey is_time class_of_event class_of_text time_of_text stands_at closed_at pair_at escaped_byte
@@ -81,9 +80,9 @@ replaced = refl
 
 -- of two tiles of one time the lower id is newer, in three slots with room for one more event
 ties :
-    (verdict signed_events 3 held (some (entry 6 1 (made 30000 (negsuc 7199) 66))) ≡ stored)
-    × (verdict signed_events 3 held (some (entry 8 1 (made 30000 (negsuc 7199) 66))) ≡ older)
-    × (verdict signed_events 3 held (some (entry 8 1 (made 1 (pos 9) 66))) ≡ stored)
+    (verdict signed_events 3 held (Some (entry 6 1 (made 30000 (negsuc 7199) 66))) ≡ stored)
+    × (verdict signed_events 3 held (Some (entry 8 1 (made 30000 (negsuc 7199) 66))) ≡ older)
+    × (verdict signed_events 3 held (Some (entry 8 1 (made 1 (pos 9) 66))) ≡ stored)
 unfolding verdict same_bytes letter_of esc_one escape digits_in digits decimal quoted members_text tag_text tags_text serialise
     all is_pubkey is_time class_of_event class_of_text time_of_text stands_at closed_at pair_at escaped_byte is_raw
     body_from string_at text_members_at tag_at tags_at run_of time_at kind_at pubkey_at fields_at opened_text read_text class_of d_of

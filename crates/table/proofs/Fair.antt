@@ -1,9 +1,9 @@
 -- That specs/Demand3's `Tells` is neither too narrow nor empty: parts that rows 2 to 10 let pass, and that have the id,
 -- text and signature of s, tell s; and of what a list of offers leaves there are offers that tell all of it and nothing
 -- else, so exchanges exist.
+use Rattle.std.specs.Prelude.{None, Some}
 use mathlib.Core.Bool.{Bool, true, false, cond}
 use mathlib.Core.Path.{◌≡◌, refl, sym, ap, ◌∙◌}
-use mathlib.Core.Option.{none, some}
 use mathlib.Core.List.{List, [], ◌∷◌}
 use Prim.Native.Nat.{ℕ, zero, suc, ◌+◌, ◌-◌, ◌*◌, ◌/◌, ◌%◌, ◌<◌}
 use native.Mathlib.Omega.{arith}
@@ -116,11 +116,11 @@ module _ (b : List ℕ) (p : EventParts) (e : offered_row b p ≡ 0) where
       }
 
 -- parts that are judged s tell s: the converse of `passes`
-pub judged_tells : (b : List ℕ) (p : EventParts) (s : SignedEvent) → judge (as_parts b p) ≡ some s → Tells b p s
+pub judged_tells : (b : List ℕ) (p : EventParts) (s : SignedEvent) → judge (as_parts b p) ≡ Some s → Tells b p s
 unfolding judge
 judged_tells b p s e = go (is_valid (as_parts b p)) refl e
   where
-    go : (t : Bool) → is_valid (as_parts b p) ≡ t → cond t (some (of_held (held_of b p))) none ≡ some s → Tells b p s
+    go : (t : Bool) → is_valid (as_parts b p) ≡ t → cond t (Some (of_held (held_of b p))) None ≡ Some s → Tells b p s
     go true v z = let y : of_held (held_of b p) ≡ s = cc in rw y at (tells_own b p (parts_pass (as_parts b p) v))
     go false v z = absurd (let y : ◌≡◌ {A = ℕ} 0 1 = cc in omega arith)
 

@@ -1,9 +1,9 @@
 -- One offer does at the table's bytes what the law says of the events that they hold, and writes no byte but those of
 -- one slot and the count.
+use Rattle.std.specs.Prelude.{None, Some}
 use mathlib.Core.Path.{◌≡◌, refl, sym, ap, ◌∙◌}
 use mathlib.Core.Bool.{Bool, true, false, cond, not, false≢true}
 use mathlib.Core.Logic.{◌⊎◌, inl, inr, ⊎_elim}
-use mathlib.Core.Option.{none, some}
 use mathlib.Core.List.{List}
 use Prim.Native.Nat.{ℕ}
 use native.Mathlib.Omega.{arith}
@@ -97,15 +97,15 @@ module _ (b : List ℕ) (o : Offering) where
   unfolding answer
   answer_unsound e s = rw (e, s)
 
-  pub answer_valid : is_valid o ≡ true → sound b ≡ true → answer b o ≡ offered_by (offering_refusal o) (verdict signed_events (capacity_of b) (view b) (some offered))
+  pub answer_valid : is_valid o ≡ true → sound b ≡ true → answer b o ≡ offered_by (offering_refusal o) (verdict signed_events (capacity_of b) (view b) (Some offered))
   unfolding answer verdict_on judge
   answer_valid e s = rw (e, s)
 
-  judge_invalid : is_valid o ≡ false → judge o ≡ none
+  judge_invalid : is_valid o ≡ false → judge o ≡ None
   unfolding judge
   judge_invalid e = rw e
 
-  judge_valid : is_valid o ≡ true → judge o ≡ some offered
+  judge_valid : is_valid o ≡ true → judge o ≡ Some offered
   unfolding judge
   judge_valid e = rw e
 
@@ -113,7 +113,7 @@ module _ (b : List ℕ) (o : Offering) where
   pub record Stores : Type 0 where
     pub valid : is_valid o ≡ true
     pub is_sound : sound b ≡ true
-    pub stores : verdict signed_events (capacity_of b) (view b) (some offered) ≡ stored
+    pub stores : verdict signed_events (capacity_of b) (view b) (Some offered) ≡ stored
 
   pub stores_if : is_stored (answer b o) ≡ true → Stores
   stores_if e = go (is_valid o) (sound b) refl refl
@@ -124,7 +124,7 @@ module _ (b : List ℕ) (o : Offering) where
       go true true p q = record {
         valid = p;
         is_sound = q;
-        stores = answer_stored (offering_refusal o) (verdict signed_events (capacity_of b) (view b) (some offered)) (sym (ap is_stored (answer_valid p q)) ∙ e);
+        stores = answer_stored (offering_refusal o) (verdict signed_events (capacity_of b) (view b) (Some offered)) (sym (ap is_stored (answer_valid p q)) ∙ e);
       }
 
   module _ (s : Stores) where
@@ -163,7 +163,7 @@ module _ (b : List ℕ) (o : Offering) where
         let c = sound_parts in
         stored_sound b (offered_of o) c fits leaves (slot_sound_lem (offered_of o) fits lasts)
         (rw (after_stored signed_events (capacity_of b) (view b) offered s.stores) at
-        (distinct_after signed_events signed_event_laws (capacity_of b) (view b) (some offered) (distinct b c.slots c.ids c.keys)))
+        (distinct_after signed_events signed_event_laws (capacity_of b) (view b) (Some offered) (distinct b c.slots c.ids c.keys)))
 
     view_from : (x : SignedEvent) → x ∈ view (stored_in b (offered_of o)) → (x ≡ offered) ⊎ (x ∈ view b)
     view_from x m = store_from (shares b (offered_of o)) offered (view b) (rw leaves.holds at m)

@@ -1,9 +1,9 @@
 -- What a table holds passes rows 2 to 10 when it is offered again as parts, and is judged the very event and signature
 -- held. Its text is read back to an event within the limits, and the parts spell that event: so rows 2 and 5 hold of no
 -- part, and rows 4 and 6 to 9 of nothing that it says; its id is its text's hash, so row 10 does not hold.
+use Rattle.std.specs.Prelude.{Some}
 use mathlib.Core.Bool.{true, false}
 use mathlib.Core.Path.{◌≡◌, sym, ap, ◌∙◌}
-use mathlib.Core.Option.{some}
 use mathlib.Core.List.{List}
 use Prim.Native.Nat.{ℕ, ◌≤◌}
 use native.Mathlib.Omega.{arith}
@@ -117,7 +117,7 @@ module _ (b : List ℕ) (p : EventParts) (s : SignedEvent) (hashed : s.0.id ≡ 
   unfolding held_of
   held_again = rw (t.id.says, t.sig.says, unhex_hex s.0.id id_bytes, unhex_hex s.1 sig_bytes, told_event, is_text_lem.same)
 
-  pub judged_again : judge (as_parts b p) ≡ some s
+  pub judged_again : judge (as_parts b p) ≡ Some s
   unfolding judge
   judged_again = rw (eq-eqb (offered_row b p) 0 offered_again, held_again)
 

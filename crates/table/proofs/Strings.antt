@@ -1,5 +1,6 @@
 -- A string as the text spells it, between quotes, is a JSON string that decodes to itself: its escapes are characters
 -- of RFC 8259, a byte at a time by the view `Seven`.
+use Rattle.std.specs.Prelude.{Some}
 use mathlib.Core.Bool.{Bool, true, false, cond, or-true}
 use mathlib.Core.Path.{◌≡◌, refl, sym, ap, ◌∙◌}
 use mathlib.Core.List.{List, [], ◌∷◌, ◌++◌}
@@ -16,7 +17,6 @@ use Rattle.wire.proofs.Escapes.{allowed_escaped}
 use Rattle.json_tree.specs.Grammar.{is_unescaped, in_class, one_at, chars_at, is_spelling, string_at, ws_at}
 use Rattle.json_tree.specs.Tree.{str, got, tree_at}
 use Rattle.json_tree.specs.declared.Class.TheVariants.{Plain, Short, Byte, Space}
-use Rattle.json_tree.specs.declared.Out.TheVariants.{End}
 use Rattle.json_tree.proofs.Bytes.{past_none}
 use Rattle.json_tree.proofs.Ends.{one_of, char_quote, chars_none, chars_past}
 use Rattle.json_tree.proofs.Spelled.{Char, plain, short, Chars, stop, more, chars_taken}
@@ -64,7 +64,7 @@ module _ (s : List ℕ) where
   lettered k i n h a =
       let e = one_of s (Byte 0x5C) i (eq-eqb (get_or s i 0) 92 (byte_is a)) in
       let z : i + 1 + 1 ≡ n = omega (arith, a.end) in
-      short e (one_of s Short (i + 1) (rw (byte_is (tail a)) h) ∙ ap End z)
+      short e (one_of s Short (i + 1) (rw (byte_is (tail a)) h) ∙ ap Some z)
 
   one_char : (b k i n : ℕ) → Seven b k → k ≡ letter_of b → Spelt s i (cond (eqb k 0) (b ∷ []) (92 ∷ k ∷ [])) n → Char s i n
   unfolding in_class
@@ -78,7 +78,7 @@ module _ (s : List ℕ) where
   one_char b k i n (other p q) z a =
       let y : i + 1 ≡ n = omega (arith, a.end) in
       let h : i < length s = omega (arith, spelt_inside s i (b ∷ []) n a (omega arith)) in
-      plain h (one_of s Plain i (rw (byte_is a) (plain_class b z p q)) ∙ ap End y)
+      plain h (one_of s Plain i (rw (byte_is a) (plain_class b z p q)) ∙ ap Some y)
 
   pub escaped_char : (b i n : ℕ) → Spelt s i (esc_one b) n → Char s i n
   unfolding esc_one
@@ -91,7 +91,7 @@ module _ (s : List ℕ) where
       more (escaped_char b i (i + length (esc_one b)) (left (esc_one b) (escape v) a)) (escape_chars v (i + length (esc_one b)) n (right (esc_one b) (escape v) a))
 
   -- ---- with its quotes
-  pub chars_between : (w : List ℕ) (at n : ℕ) → ((i k : ℕ) → Spelt s i w k → Chars s i k) → Spelt s at (34 ∷ (w ++ (34 ∷ []))) n → string_at s at ≡ End n
+  pub chars_between : (w : List ℕ) (at n : ℕ) → ((i k : ℕ) → Spelt s i w k → Chars s i k) → Spelt s at (34 ∷ (w ++ (34 ∷ []))) n → string_at s at ≡ Some n
   unfolding string_at in_class one_at
   chars_between w at n f a =
       let m = at + 1 + length w in
@@ -100,9 +100,9 @@ module _ (s : List ℕ) where
       let q = byte_is d in
       let z : m + 1 ≡ n = omega (arith, d.end) in
       let e : chars_at s (at + 1) ≡ m = sym (chars_taken s (at + 1) m (f (at + 1) m c)) ∙ chars_none s m (char_quote s m q) in
-      rw (byte_is a, e, q) (ap End z)
+      rw (byte_is a, e, q) (ap Some z)
 
-  pub string_here : (v : List ℕ) (at n : ℕ) → Spelt s at (quoted v) n → string_at s at ≡ End n
+  pub string_here : (v : List ℕ) (at n : ℕ) → Spelt s at (quoted v) n → string_at s at ≡ Some n
   unfolding quoted
   string_here v at n a = chars_between (escape v) at n (escape_chars v) a
 

@@ -1,8 +1,8 @@
 -- 01: "Bytes after slot N-1 are never read or written." Whatever stands behind the last slot, an offer is answered the
 -- same and it stays.
+use Rattle.std.specs.Prelude.{Some}
 use mathlib.Core.Path.{◌≡◌, refl, sym, ap, ap₂, ◌∙◌}
 use mathlib.Core.Bool.{Bool, true, false, cond}
-use mathlib.Core.Option.{some}
 use mathlib.Core.List.{List, [], ◌∷◌, ◌++◌, map}
 use Prim.Native.Nat.{ℕ, zero, suc, ◌+◌, ◌-◌, ◌*◌, ◌≤◌}
 use native.Mathlib.Omega.{arith}
@@ -131,7 +131,7 @@ module _ (b t : List ℕ) (full : length b ≡ table_size (capacity_of b)) where
         go true false p q = answer_unsound (b ++ t) o p (sound_append ∙ q) ∙ sym (answer_unsound b o p q)
         go true true p q =
             answer_valid (b ++ t) o p (sound_append ∙ q)
-            ∙ ap₂ (λ N v. offered_by (offering_refusal o) (verdict signed_events N v (some (of_held (offered_of o))))) capacity_append (view_append (clauses b q).count)
+            ∙ ap₂ (λ N v. offered_by (offering_refusal o) (verdict signed_events N v (Some (of_held (offered_of o))))) capacity_append (view_append (clauses b q).count)
             ∙ sym (answer_valid b o p q)
 
     stored_append : is_stored (answer b o) ≡ true → stored_in (b ++ t) (offered_of o) ≡ stored_in b (offered_of o) ++ t

@@ -1,9 +1,9 @@
 -- Relays over the same table, offers and judge that do not meet the claims of demand 3, and that this one does: 01,
 -- "How far each promise must reach". Law's WrongRelays, with two events and a fresh table in bytes.
+use Rattle.std.specs.Prelude.{Some}
 use mathlib.Core.Path.{◌≡◌, refl, sym, ap, ◌∙◌}
 use mathlib.Core.Bool.{false}
 use mathlib.Core.Logic.{◌≢◌}
-use mathlib.Core.Option.{some}
 use mathlib.Core.List.{List, []}
 use Prim.Native.Nat.{ℕ, ◌≤◌}
 use native.Mathlib.Omega.{arith}
@@ -116,7 +116,7 @@ module _ (answer' : List ℕ → Offering → Offered) (next' : List ℕ → Off
 
     -- one that stores another signature than the offer's, and so one that stores 64 zero bytes for every signature
     pub other_signature : SignatureStoredOn table_events Signature another
-        → ((b : List ℕ) (o : Offering) (s : SignedEvent) → judge o ≡ some s → s ∈ view (next' b o) → ⊥) → ⊥
+        → ((b : List ℕ) (o : Offering) (s : SignedEvent) → judge o ≡ Some s → s ∈ view (next' b o) → ⊥) → ⊥
     other_signature sigs other =
         let (o, v, _) = offer_of 0 suits₀ in
         wrong.other_signature table_events Signature another held room table table_fresh sigs o (named (noted 0)) (of_regular v)
@@ -142,7 +142,7 @@ takes_something = refuses_all answer next demand_3.held_set demand_3.room_law un
 pub stores_later : ((b : List ℕ) (o : Offering) → view b ≢ [] → view (next b o) ≡ view b) → ⊥
 stores_later = stores_first_only answer next demand_3.held_set demand_3.room_law
 
-pub keeps_signatures : ((b : List ℕ) (o : Offering) (s : SignedEvent) → judge o ≡ some s → s ∈ view (next b o) → ⊥) → ⊥
+pub keeps_signatures : ((b : List ℕ) (o : Offering) (s : SignedEvent) → judge o ≡ Some s → s ∈ view (next b o) → ⊥) → ⊥
 keeps_signatures = other_signature answer next demand_3.held_set demand_3.room_law demand_3.signature_stored
 
 pub counts : ((b : List ℕ) (o : Offering) → count_of (next b o) ≡ count_of b) → ⊥

@@ -1,7 +1,7 @@
 -- What is claimed of a table beside demand 3 (specs/Demand3). Quotes are from 01. Proofs: Formatted, Rows, Faithful,
 -- Unread, Texts, Clauses, StillSound, SoundBytes, DPlaces, Shown, Tellable, Fair.
-use Rattle.std.specs.Prelude.{◌≡◌, true, false, ◌↔◌, ◌⊎◌, ◌≢◌, List, [], ◌++◌, ℕ, ◌+◌, ◌*◌, ◌<◌, ◌≤◌, length, get_or, drop}
-use Rattle.std.proofs.Math.Option.{some}
+use Rattle.std.specs.Prelude.{◌≡◌, true, false, ◌↔◌, ◌⊎◌, ◌≢◌, List, [], ◌++◌, ℕ, ◌+◌, ◌*◌, ◌<◌, ◌≤◌, length, get_or}
+use Rattle.std.specs.Prelude.{drop, Some}
 use Rattle.wire.specs.Limits.{most_text, most_slots}
 use Rattle.wire.specs.Escape.{escape}
 use Rattle.wire.specs.Field.{unsigned}
@@ -63,7 +63,7 @@ pub record OfferRows (b : List ℕ) (o : Offering) : Type 0 where
   pub unsound : is_valid o ≡ true → sound b ≡ false → answer b o ≡ Refused (plain_refusal 11)
   pub judged : is_valid o ≡ true → sound b ≡ true →
       answer b o
-      ≡ offered_by (plain_refusal 0) (verdict signed_events (capacity_of b) (view b) (some (of_held (offered_of o))))
+      ≡ offered_by (plain_refusal 0) (verdict signed_events (capacity_of b) (view b) (Some (of_held (offered_of o))))
 
 -- "Reading a message tests rows 1 to 8; offering one tests 1 to 12, .. and gives 5 also if it isn't an EVENT": 5 before
 -- 6 to 8, after 1 to 4
@@ -242,7 +242,7 @@ Tellable =
 abbrev pub ToldExactly : Type 0
 ToldExactly =
     (b : List ℕ) (os : List Offering) (s : SignedEvent) → Fresh b → s ∈ view (run_on table_events Signature relay b os) →
-    (c : List ℕ) (p : EventParts) → Tells c p s ↔ (judge (as_parts c p) ≡ some s)
+    (c : List ℕ) (p : EventParts) → Tells c p s ↔ (judge (as_parts c p) ≡ Some s)
 
 -- "Then each list goes on with offers, as parts, of what the other relay holds": whatever the histories, such offers
 -- exist
@@ -256,4 +256,4 @@ Offerable =
     (e : Event) (sig : List ℕ) → is_fit e ≡ true → length (serialise e) ≤ most_text → length sig ≡ 64 →
     all is_byte sig ≡ true →
     (c : List ℕ) × (p : EventParts) ×
-    (judge (as_parts c p) ≡ some (of_held (record { id = digest (serialise e); sig = sig; event = e })))
+    (judge (as_parts c p) ≡ Some (of_held (record { id = digest (serialise e); sig = sig; event = e })))

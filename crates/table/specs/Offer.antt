@@ -1,7 +1,6 @@
 -- 01, "The table": what an offer is answered, and the table's bytes afterwards. "Valid is judged from what is offered,
 -- whatever the table holds."
-use Rattle.std.specs.Prelude.{Bool, true, false, cond, not, ◌&&◌, List, ℕ, ◌+◌, eqb, ltb, pos}
-use Rattle.std.proofs.Math.Option.{none, some}
+use Rattle.std.specs.Prelude.{Bool, true, false, cond, not, ◌&&◌, List, ℕ, ◌+◌, eqb, ltb, pos, None, Some}
 use Rattle.wire.specs.Put.{put}
 use Rattle.wire.specs.Field.{le_bytes}
 use Rattle.rows.specs.Rows.{text_row}
@@ -76,7 +75,7 @@ offered_of (as_message m) = held_of m (parts_of m)
 offered_of (as_parts b p) = held_of b p
 
 unfoldable pub judge : Offering → Offer signed_events
-judge o = cond (is_valid o) (some (of_held (offered_of o))) none
+judge o = cond (is_valid o) (Some (of_held (offered_of o))) None
 
 -- ---- the answer
 -- 01's number of a verdict that has one, and what refused the offer

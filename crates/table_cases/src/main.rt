@@ -17,7 +17,6 @@
 #![tactic(auto)]
 
 use lines::{Input, Output};
-use slots::Shown;
 use std::io;
 use std::io::{Read, Write};
 use table::Offered;
@@ -41,13 +40,13 @@ fn put_sound(out: &mut [u8], table: &[u8]) -> usize {
 fn put_shown(out: &mut [u8], table: &[u8], slot: usize) -> usize {
     let text = slots::show(table, slot);
     match slots::shown_at(table, slot) {
-        Shown::At(at, len) => {
+        Ok((at, len)) => {
             let a = fields::put_number(out, 0, 0);
             let b = fields::put_number(out, a, at as u64);
             let c = fields::put_number(out, b, len as u64);
             put_print(out, c, text)
         }
-        Shown::Refused(row) => {
+        Err(row) => {
             let a = fields::put_number(out, 0, row as u64);
             put_print(out, a, text)
         }

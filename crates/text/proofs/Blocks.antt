@@ -3,7 +3,6 @@ use mathlib.Core.Path.{◌≡◌, refl, sym, ap, ◌∙◌}
 use mathlib.Core.Bool.{Bool, true, false, cond, not, ◌&&◌, ◌||◌, false≢true}
 use mathlib.Core.List.{List}
 use Prim.Native.Nat.{ℕ, zero, suc, ◌+◌, ◌<◌, ◌≤◌}
-use native.Mathlib.Decide.{dec_lt}
 use native.Mathlib.Omega.{arith}
 use lib.Dec.{eqb, ltb}
 use lib.ListN.{length, get_or, drop}
@@ -57,20 +56,6 @@ pass_on {s} {at} {i} {n} p r h m l = record {
 pub record Tested (s : List ℕ) (i n k : ℕ) : Type 0 where
   pub few : n ≤ 32
   pub all : (j : ℕ) → j < n → j < k → is_raw (get_or s (i + j) 0) ≡ true
-
-pub tested_none : (s : List ℕ) (i : ℕ) → Tested s i 32 0
-tested_none s i = record { few = omega arith; all = λ j h l. absurd (omega arith) }
-
-pub tested_more : {s : List ℕ} {i n k : ℕ} → Tested s i n k → (m o : ℕ) (raw : Bool) → raw ≡ is_raw (get_or s (i + k) 0) → o ≡ cond raw 32 k → m ≤ n → m ≤ o → Tested s i m (k + 1)
-tested_more {s} {i} {n} {k} t m o raw e z h l = record { few = omega (arith, t.few); all = λ j u v. go raw e (rw z at l) j u (dec_lt j k) v }
-  where
-    go : (b : Bool) → b ≡ is_raw (get_or s (i + k) 0) → m ≤ cond b 32 k → (j : ℕ) → j < m → Dec (j < k) → j < k + 1 → is_raw (get_or s (i + j) 0) ≡ true
-    go b e l j u (yes y) v = t.all j (omega arith) y
-    go true e l j u (no y) v = let z : j ≡ k = omega arith in rw z (sym e)
-    go false e l j u (no y) v = absurd (omega arith)
-
-pub tested_all : {s : List ℕ} {i n k : ℕ} → Tested s i n k → 32 ≤ k → Raws s i n
-tested_all t h = record { few = t.few; all = λ j u. t.all j u (omega (arith, t.few)) }
 
 -- ---- ASCII
 pub or_false : (a b : Bool) → (a || b) ≡ false → (a ≡ false) × (b ≡ false)

@@ -1,4 +1,7 @@
 -- A way out at a time: numbers up to their comma, the opening with the pubkey, the rest, and the whole text.
+use Rattle.std.specs.Prelude.{Some, None, Result, Ok, Err, unsigned_abs}
+use Rattle.std.specs.Result.{OkIff, result_ok}
+use Rattle.std.specs.Int.{FitsUnsignedBits}
 use mathlib.Core.Path.{◌≡◌, refl, sym, ap, ◌∙◌}
 use mathlib.Core.Bool.{Bool, true, false, cond, ◌&&◌, and-false}
 use mathlib.Core.List.{List, [], ◌∷◌}
@@ -12,18 +15,15 @@ use lib.Signed.{mag}
 use mir.Syntax.{w64}
 use mir.Val.{to_z, of_z}
 use mir.ValLaws.{to_z-of_z}
-use borrow.Author.Tests.{le-leb, lt-leb, eq-eqb, ne_eqb, eqb-true, ltb-true, not-false}
-use Rattle.wire.specs.Field.{unsigned}
+use borrow.Author.Tests.{le-leb, lt-leb, eq-eqb, ne_eqb, eqb-true, ltb-true, ltb-false, not-false}
 use Rattle.numeral.specs.Whole.{whole_of, is_within, whole_answer}
 use Rattle.numeral.specs.Whole as numeral
 use Rattle.numeral.specs.declared.Whole.{Whole}
-use Rattle.numeral.specs.declared.Whole.TheVariants.{Value, Large, Malformed}
+use Rattle.numeral.specs.declared.Whole.TheVariants.{Value, Large}
 use Rattle.text.specs.Event.{opening, closing, comma, is_pubkey, is_time, is_kind}
 use Rattle.text.specs.Read.{Got, none, got, bind, stands_at, closed_at, run_of, time_of, kind_of, time_at, kind_at}
 use Rattle.text.specs.Read.{pubkey_at}
-use Rattle.text.specs.Inner.Parts.{time_got, kind_got, is_got, opens}
-use Rattle.text.specs.declared.Time.TheVariants as time
-use Rattle.text.specs.declared.Kind.TheVariants as kind
+use Rattle.text.specs.Inner.Parts.{time_got, kind_got, is_got, opens, comma_after}
 use Rattle.text.proofs.Numbers.{run_split}
 
 -- ---- one byte
@@ -46,31 +46,18 @@ value_told (numeral.whole y) z e = go (is_time y) refl e
     go true h e = let k : y ≡ z = cc in (ap numeral.whole k, (rw k at h))
     go false h e = absurd (let z : ◌≡◌ {A = ℕ} 0 1 = cc in omega arith)
 
-large_kind : (k n : ℕ) → is_time (pos k) ≡ false → cond (is_kind k) (got k n) none ≡ none
-unfolding is_time is_within
-large_kind k n h = let l = ltb-true 9007199254740991 k (not-false (ltb 9007199254740991 k) h) in rw (lt-leb k 65535 (omega arith))
-
-large_told : (w : numeral.Spelled) (n : ℕ) → whole_answer w ≡ Large → (time_of w n ≡ none) × (kind_of w n ≡ none)
-unfolding whole_answer is_time
-large_told numeral.malformed n e = (refl, refl)
-large_told (numeral.whole y) n e = go (is_time y) refl e
+value_none : (w : numeral.Spelled) (n : ℕ) → ((z : ℤ) → whole_answer w ≡ Value z → ⊥) → (time_of w n ≡ none) × (kind_of w n ≡ none)
+unfolding whole_answer is_time is_within
+value_none numeral.malformed n h = (refl, refl)
+value_none (numeral.whole y) n h = go (is_time y) refl h
   where
-    kind_none : (y : ℤ) → is_time y ≡ false → kind_of (numeral.whole y) n ≡ none
-    kind_none (negsuc k) h = refl
-    kind_none (pos k) h = large_kind k n h
+    large_kind : (y : ℤ) → is_time y ≡ false → kind_of (numeral.whole y) n ≡ none
+    large_kind (negsuc k) e = refl
+    large_kind (pos k) e = let l = ltb-true 9007199254740991 k (not-false (ltb 9007199254740991 k) e) in rw (lt-leb k 65535 (omega arith))
 
-    go : (t : Bool) → is_time y ≡ t → cond t (Value y) Large ≡ Large → (time_of (numeral.whole y) n ≡ none) × (kind_of (numeral.whole y) n ≡ none)
-    go true h e = absurd (let z : ◌≡◌ {A = ℕ} 0 1 = cc in omega arith)
-    go false h e = (rw h, kind_none y h)
-
-malformed_told : (w : numeral.Spelled) (n : ℕ) → whole_answer w ≡ Malformed → (time_of w n ≡ none) × (kind_of w n ≡ none)
-unfolding whole_answer is_time
-malformed_told numeral.malformed n e = (refl, refl)
-malformed_told (numeral.whole y) n e = go (is_time y) e
-  where
-    go : (t : Bool) → cond t (Value y) Large ≡ Malformed → (time_of (numeral.whole y) n ≡ none) × (kind_of (numeral.whole y) n ≡ none)
-    go true e = absurd (let z : ◌≡◌ {A = ℕ} 0 1 = cc in omega arith)
-    go false e = absurd (let z : ◌≡◌ {A = ℕ} 0 1 = cc in omega arith)
+    go : (t : Bool) → is_time y ≡ t → ((z : ℤ) → cond t (Value y) Large ≡ Value z → ⊥) → (time_of (numeral.whole y) n ≡ none) × (kind_of (numeral.whole y) n ≡ none)
+    go true e h = absurd (h y refl)
+    go false e h = (rw e, large_kind y e)
 
 -- ---- up to the comma
 run_then : (l : List ℕ) → length (run_of l) < length l → get_or l (length (run_of l)) 0 ≡ 44
@@ -96,6 +83,22 @@ module _ {A : Type 0} (s : List ℕ) (at n : ℕ) (f : ℕ → Got A) where
   unfolding closed_at stands_at
   closed_past x e h = rw (e, get_or-eq_default s 0 h)
 
+pub comma_told : (s : List ℕ) (at n : ℕ) → Some n ≡ comma_after s at → (n ≡ at + length (run_of (drop at s))) × (n < length s)
+comma_told s at n e = go (ltb (at + length (run_of (drop at s))) (length s)) refl e
+  where
+    go : (b : Bool) → ltb (at + length (run_of (drop at s))) (length s) ≡ b → Some n ≡ cond b (Some (at + length (run_of (drop at s)))) None
+        → (n ≡ at + length (run_of (drop at s))) × (n < length s)
+    go true q e = let z : n ≡ at + length (run_of (drop at s)) = cc in (z, omega (arith, ltb-true _ _ q))
+    go false q e = absurd (let z : ◌≡◌ {A = ℕ} 0 1 = cc in omega arith)
+
+pub no_comma : (s : List ℕ) (at : ℕ) → None ≡ comma_after s at → length s ≤ at + length (run_of (drop at s))
+no_comma s at e = go (ltb (at + length (run_of (drop at s))) (length s)) refl e
+  where
+    go : (b : Bool) → ltb (at + length (run_of (drop at s))) (length s) ≡ b → None ≡ cond b (Some (at + length (run_of (drop at s)))) None
+        → length s ≤ at + length (run_of (drop at s))
+    go true q e = absurd (let z : ◌≡◌ {A = ℕ} 0 1 = cc in omega arith)
+    go false q e = ltb-false _ _ q
+
 -- n is the place of the comma
 module _ (s : List ℕ) (at n : ℕ) (e : n ≡ at + length (run_of (drop at s))) where
   here : n < length s → stands_at s comma n ≡ true
@@ -113,7 +116,7 @@ module _ (s : List ℕ) (at n : ℕ) (e : n ≡ at + length (run_of (drop at s))
 
   -- no comma
   module _ (h : length s ≤ n) where
-    pub time_past : time.Not ≡ time_got (closed_at s comma (time_at s) at)
+    pub time_past : None ≡ time_got (closed_at s comma (time_at s) at)
     time_past = ap time_got (sym (go (whole_of (run_of (drop at s))) time_told))
       where
         small : (z : ℤ) (t : Bool) → time_at s at ≡ cond t (got z n) none → closed_at s comma (time_at s) at ≡ none
@@ -124,7 +127,7 @@ module _ (s : List ℕ) (at n : ℕ) (e : n ≡ at + length (run_of (drop at s))
         go numeral.malformed q = closed_none s at n (time_at s) q
         go (numeral.whole z) q = small z (is_time z) q
 
-    pub kind_past : kind.Not ≡ kind_got (closed_at s comma (kind_at s) at)
+    pub kind_past : None ≡ kind_got (closed_at s comma (kind_at s) at)
     kind_past = ap kind_got (sym (go (whole_of (run_of (drop at s))) kind_told))
       where
         small : (k : ℕ) (t : Bool) → kind_at s at ≡ cond t (got k n) none → closed_at s comma (kind_at s) at ≡ none
@@ -147,47 +150,42 @@ module _ (s : List ℕ) (at n : ℕ) (e : n ≡ at + length (run_of (drop at s))
     read : whole_answer (whole_of (run_of (drop at s))) ≡ r
     read = sym (f ∙ ap (λ (l : List ℕ). whole_answer (whole_of l)) run_taken)
 
-    pub time_large : r ≡ Large → time.Not ≡ time_got (closed_at s comma (time_at s) at)
-    time_large g = ap time_got (sym (closed_none s at n (time_at s) (time_told ∙ (large_told (whole_of (run_of (drop at s))) n (read ∙ g)).0)))
+    module _ (g : (z : ℤ) → r ≡ Value z → ⊥) where
+      no_value : (time_of (whole_of (run_of (drop at s))) n ≡ none) × (kind_of (whole_of (run_of (drop at s))) n ≡ none)
+      no_value = value_none (whole_of (run_of (drop at s))) n (λ z q. g z (sym read ∙ q))
 
-    pub time_malformed : r ≡ Malformed → time.Not ≡ time_got (closed_at s comma (time_at s) at)
-    time_malformed g = ap time_got (sym (closed_none s at n (time_at s) (time_told ∙ (malformed_told (whole_of (run_of (drop at s))) n (read ∙ g)).0)))
+      pub time_no : None ≡ time_got (closed_at s comma (time_at s) at)
+      time_no = ap time_got (sym (closed_none s at n (time_at s) (time_told ∙ no_value.0)))
 
-    pub kind_large : r ≡ Large → kind.Not ≡ kind_got (closed_at s comma (kind_at s) at)
-    kind_large g = ap kind_got (sym (closed_none s at n (kind_at s) (kind_told ∙ (large_told (whole_of (run_of (drop at s))) n (read ∙ g)).1)))
-
-    pub kind_malformed : r ≡ Malformed → kind.Not ≡ kind_got (closed_at s comma (kind_at s) at)
-    kind_malformed g = ap kind_got (sym (closed_none s at n (kind_at s) (kind_told ∙ (malformed_told (whole_of (run_of (drop at s))) n (read ∙ g)).1)))
+      pub kind_no : None ≡ kind_got (closed_at s comma (kind_at s) at)
+      kind_no = ap kind_got (sym (closed_none s at n (kind_at s) (kind_told ∙ no_value.1)))
 
     module _ (z : ℤ) (g : r ≡ Value z) where
       value : (whole_of (run_of (drop at s)) ≡ numeral.whole z) × (is_time z ≡ true)
       value = value_told (whole_of (run_of (drop at s))) z (read ∙ g)
 
-      pub time_is : mag z < 2 ^ 63 → time.Is (to_z w64 (of_z w64 z)) (n + 1) ≡ time_got (closed_at s comma (time_at s) at)
+      pub time_is : mag z < 2 ^ 63 → Some ((to_z w64 (of_z w64 z)), (n + 1)) ≡ time_got (closed_at s comma (time_at s) at)
       time_is l =
           let q : time_at s at ≡ got z n = time_told ∙ rw (value.0, value.1) in
           rw (to_z-of_z w64 z (record { sfits = l })) (ap time_got (sym (closed_got s at n (time_at s) z q (here h))))
 
-      -- u is z as a number of 64 bits
-      module _ (l : mag z < 2 ^ 63) (u : ℕ) (k : u ≡ unsigned (to_z w64 (of_z w64 z))) where
-        bits : u ≡ unsigned z
-        bits = k ∙ ap unsigned (to_z-of_z w64 z (record { sfits = l }))
-
-        pub kind_over : 65535 < u → kind.Not ≡ kind_got (closed_at s comma (kind_at s) at)
-        unfolding unsigned
-        kind_over o = ap kind_got (sym (closed_none s at n (kind_at s) (kind_told ∙ ap (λ (w : numeral.Spelled). kind_of w n) value.0 ∙ go z bits o)))
+      -- u is z as a number of 16 bits, if it is one
+      module _ {E : Type 0} (u : Result ℕ E) (o : OkIff u (FitsUnsignedBits 16 z) (unsigned_abs z)) where
+        pub kind_over : result_ok u ≡ None → None ≡ kind_got (closed_at s comma (kind_at s) at)
+        kind_over k = ap kind_got (sym (closed_none s at n (kind_at s) (kind_told ∙ ap (λ (w : numeral.Spelled). kind_of w n) value.0 ∙ go z u o k)))
           where
-            go : (z : ℤ) → u ≡ unsigned z → 65535 < u → kind_of (numeral.whole z) n ≡ none
-            go (negsuc j) b o = refl
-            go (pos j) b o = let c : u ≡ j = b in rw (lt-leb j 65535 (omega arith))
+            go : (z : ℤ) (u : Result ℕ E) → OkIff u (FitsUnsignedBits 16 z) (unsigned_abs z) → result_ok u ≡ None → kind_of (numeral.whole z) n ≡ none
+            go (negsuc j) u o k = refl
+            go (pos j) (Ok x) o k = absurd (let z : ◌≡◌ {A = ℕ} 0 1 = cc in omega arith)
+            go (pos j) (Err x) o k = rw (lt-leb j 65535 (omega arith))
 
-        pub kind_is : u ≤ 65535 → kind.Is u (n + 1) ≡ kind_got (closed_at s comma (kind_at s) at)
-        unfolding unsigned
-        kind_is o = ap kind_got (sym (closed_got s at n (kind_at s) u (kind_told ∙ ap (λ (w : numeral.Spelled). kind_of w n) value.0 ∙ go z l bits o) (here h)))
+        pub kind_is : (k : ℕ) → result_ok u ≡ Some k → Some (k, n + 1) ≡ kind_got (closed_at s comma (kind_at s) at)
+        kind_is k e = ap kind_got (sym (closed_got s at n (kind_at s) k (kind_told ∙ ap (λ (w : numeral.Spelled). kind_of w n) value.0 ∙ go z u o e) (here h)))
           where
-            go : (z : ℤ) → mag z < 2 ^ 63 → u ≡ unsigned z → u ≤ 65535 → kind_of (numeral.whole z) n ≡ got u n
-            go (negsuc j) l b o = absurd (omega arith)
-            go (pos j) l b o = let c : u ≡ j = b in rw (c, le-leb j 65535 (omega arith))
+            go : (z : ℤ) (u : Result ℕ E) → OkIff u (FitsUnsignedBits 16 z) (unsigned_abs z) → result_ok u ≡ Some k → kind_of (numeral.whole z) n ≡ got k n
+            go z (Err x) o e = absurd (let z : ◌≡◌ {A = ℕ} 0 1 = cc in omega arith)
+            go (negsuc j) (Ok x) o e = absurd o.0
+            go (pos j) (Ok x) o e = let c : x ≡ k = cc in rw (le-leb j 65535 (omega (arith, o.0))) (ap (λ (i : ℕ). got i n) (sym o.1 ∙ c))
 
 -- ---- [0,"PUBKEY",
 module _ (t : List ℕ) where

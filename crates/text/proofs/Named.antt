@@ -1,5 +1,6 @@
 -- d: the text is canonical, so a tag is named d exactly where `["d"` stands, and its second string stands six bytes
 -- after its bracket.
+use Rattle.std.specs.Prelude.{Some, None, Option, is_some, unwrap_or}
 use mathlib.Core.Path.{◌≡◌, refl, sym, ap, ◌∙◌}
 use mathlib.Core.Bool.{Bool, true, false, cond, ◌&&◌, and-true, and-false, false≢true}
 use mathlib.Core.List.{List, [], ◌∷◌, ◌++◌, append_assoc}
@@ -15,11 +16,8 @@ use Rattle.text.specs.Event.{Tag, quoted, members_text, tag_text, is_tag}
 use Rattle.text.specs.Read.{Got, none, got, stands_at, body_from, cons, text_members_at, tag_at, tags_at}
 use Rattle.text.specs.Kinds.{is_named_d, second}
 use Rattle.text.specs.Answer.{span_behind, d_span}
-use Rattle.text.specs.Inner.Parts.{got_end, found_of, look_of, span_after, tagged_of}
-use Rattle.text.specs.declared.Out.TheVariants.{End, Bad}
+use Rattle.text.specs.Inner.Parts.{got_end, found, look_of, found_after, tagged_of}
 use Rattle.text.specs.declared.Found.{Found}
-use Rattle.text.specs.declared.Found.TheVariants as found
-use Rattle.text.specs.declared.Tagged.TheVariants as tagged
 use Rattle.text.proofs.Pieces.{first_of}
 use Rattle.text.proofs.Strings.{Seven, bs, tab, lf, ff, cr, quote, slash, other, seven, body_back}
 use Rattle.text.proofs.Lists.{tag_exact}
@@ -126,87 +124,96 @@ module _ (s : List ℕ) (i n : ℕ) where
   second_told ((x ∷ []) ∷ t) e d = let z = eqb-true x 100 d in rw z (after_name t ((tag_exact s).same i ((100 ∷ []) ∷ t) n (rw z at e)).is.is)
 
 -- ---- the ways out of `second_at`
-span_none : (j : ℕ) (l : List ℕ) → length l ≡ 0 → found.At 0 0 ≡ found_of (span_behind j l)
-span_none j [] e = refl
-span_none j (x ∷ l) e = absurd (omega arith)
+abbrev pub nowhere : Found
+nowhere = record { at = 0; len = 0 }
 
-span_some : (j k : ℕ) (l : List ℕ) → k ≡ length l → (k ≡ 0 → ⊥) → found.At j k ≡ found_of (span_behind j l)
-span_some j k [] f h = absurd (h f)
-span_some j k (x ∷ l) f h = rw f
+found_none : (j : ℕ) (l : List ℕ) → length l ≡ 0 → nowhere ≡ found (span_behind j l)
+found_none j [] e = refl
+found_none j (x ∷ l) e = absurd (omega arith)
 
-gone : {s : List ℕ} {b : ℕ} {t : Tag} {x : Bool} (j : ℕ) → Second s b t x → x ≡ false → found.At 0 0 ≡ found_of (span_behind j (escape (second t)))
+found_some : (j k : ℕ) (l : List ℕ) → k ≡ length l → (k ≡ 0 → ⊥) → record { at = j; len = k } ≡ found (span_behind j l)
+found_some j k [] f h = absurd (h f)
+found_some j k (x ∷ l) f h = rw f
+
+gone : {s : List ℕ} {b : ℕ} {t : Tag} {x : Bool} (j : ℕ) → Second s b t x → x ≡ false → nowhere ≡ found (span_behind j (escape (second t)))
 unfolding escape
 gone j (absent e) q = rw e
 gone j (present w e f) q = absurd (let z : ◌≡◌ {A = ℕ} 0 1 = cc in omega arith)
 
-there : {s : List ℕ} {b : ℕ} {t : Tag} {x : Bool} → Second s b t x → x ≡ true → got_end (body_from false (b + 2) (drop (b + 2) s)) ≡ End (b + 2 + length (escape (second t)) + 1)
+there : {s : List ℕ} {b : ℕ} {t : Tag} {x : Bool} → Second s b t x → x ≡ true → got_end (body_from false (b + 2) (drop (b + 2) s)) ≡ Some (b + 2 + length (escape (second t)) + 1)
 there (absent e) q = absurd (let z : ◌≡◌ {A = ℕ} 0 1 = cc in omega arith)
 there (present w e f) q = rw (f, e)
 
-ends : {a b : ℕ} → End a ≡ End b → a ≡ b
+ends : {a b : ℕ} → Some a ≡ Some b → a ≡ b
 ends e = cc
 
 module _ (s : List ℕ) (i : ℕ) where
   abbrev Is : Found → Type 0
-  Is r = (t : Tag) (n : ℕ) → tag_at s i ≡ got t n → is_named_d t ≡ true → r ≡ found_of (span_behind (i + 6) (escape (second t)))
+  Is r = (t : Tag) (n : ℕ) → tag_at s i ≡ got t n → is_named_d t ≡ true → r ≡ found (span_behind (i + 6) (escape (second t)))
 
-  pub second_none : stands_at s (44 ∷ 34 ∷ []) (i + 4) ≡ false → Is (found.At 0 0)
+  pub second_none : stands_at s (44 ∷ 34 ∷ []) (i + 4) ≡ false → Is nowhere
   second_none h t n e d = gone (i + 6) (second_told s i n t e d) h
 
   module _ (h : stands_at s (44 ∷ 34 ∷ []) (i + 4) ≡ true) where
-    pub second_bad : got_end (body_from false (i + 4 + 2) (drop (i + 4 + 2) s)) ≡ Bad → Is (found.At 0 0)
-    second_bad b t n e d = let z : End _ ≡ Bad = sym (there (second_told s i n t e d) h) ∙ b in absurd (let y : ◌≡◌ {A = ℕ} 0 1 = cc in omega arith)
+    pub second_bad : got_end (body_from false (i + 4 + 2) (drop (i + 4 + 2) s)) ≡ None → Is nowhere
+    second_bad b t n e d = let z : Some _ ≡ None = sym (there (second_told s i n t e d) h) ∙ b in absurd (let y : ◌≡◌ {A = ℕ} 0 1 = cc in omega arith)
 
-    module _ (m : ℕ) (b : got_end (body_from false (i + 4 + 2) (drop (i + 4 + 2) s)) ≡ End m) where
+    module _ (m : ℕ) (b : got_end (body_from false (i + 4 + 2) (drop (i + 4 + 2) s)) ≡ Some m) where
       size : (t : Tag) (n : ℕ) → tag_at s i ≡ got t n → is_named_d t ≡ true → m - 1 - (i + 4 + 2) ≡ length (escape (second t))
       size t n e d = let z = ends (sym (there (second_told s i n t e d) h) ∙ b) in omega arith
 
-      pub second_empty : m - 1 - (i + 4 + 2) ≡ 0 → Is (found.At 0 0)
-      second_empty q t n e d = span_none (i + 6) (escape (second t)) (sym (size t n e d) ∙ q)
+      pub second_empty : m - 1 - (i + 4 + 2) ≡ 0 → Is nowhere
+      second_empty q t n e d = found_none (i + 6) (escape (second t)) (sym (size t n e d) ∙ q)
 
-      pub second_is : (m - 1 - (i + 4 + 2) ≡ 0 → ⊥) → Is (found.At (i + 4 + 2) (m - 1 - (i + 4 + 2)))
+      pub second_is : (m - 1 - (i + 4 + 2) ≡ 0 → ⊥) → Is (record { at = i + 4 + 2; len = m - 1 - (i + 4 + 2) })
       second_is q t n e d =
           let z : i + 4 + 2 ≡ i + 6 = omega arith in
-          rw z (span_some (i + 6) (m - 1 - (i + 6)) (escape (second t)) (rw z at (size t n e d)) (rw z at q))
+          rw z (found_some (i + 6) (m - 1 - (i + 6)) (escape (second t)) (rw z at (size t n e d)) (rw z at q))
 
 -- ---- the ways out of `look`
-module _ (s : List ℕ) (i : ℕ) (d : Found) where
-  abbrev Looked : Found → Type 0
-  Looked r = (t : Tag) (n : ℕ) → tag_at s i ≡ got t n → r ≡ look_of i d t
+module _ (s : List ℕ) (i : ℕ) where
+  abbrev Looked : (d r : Option Found) → Type 0
+  Looked d r = (t : Tag) (n : ℕ) → tag_at s i ≡ got t n → r ≡ look_of i d t
 
-  pub look_known : (a l : ℕ) → d ≡ found.At a l → Looked (found.At a l)
-  look_known a l q t n e = rw q
+  pub look_known : (d : Option Found) → is_some d ≡ true → Looked d d
+  look_known None q t n e = absurd (false≢true q)
+  look_known (Some x) q t n e = refl
 
-  module _ (q : d ≡ found.Not) where
-    pub look_d : stands_at s (91 ∷ 34 ∷ 100 ∷ 34 ∷ []) i ≡ true → (r : Found) → Is s i r → Looked r
-    look_d h r f t n e = let z = sym (stands_d s i t n e) ∙ h in rw (q, z) (f t n e z)
+  pub look_d : (d : Option Found) → is_some d ≡ false → stands_at s (91 ∷ 34 ∷ 100 ∷ 34 ∷ []) i ≡ true → (r : Found) → Is s i r → Looked d (Some r)
+  look_d None q h r f t n e = let z = sym (stands_d s i t n e) ∙ h in rw z (ap Some (f t n e z))
+  look_d (Some x) q h r f t n e = absurd (false≢true (sym q))
 
-    pub look_other : stands_at s (91 ∷ 34 ∷ 100 ∷ 34 ∷ []) i ≡ false → Looked found.Not
-    look_other h t n e = rw (q, sym (stands_d s i t n e) ∙ h)
+  pub look_other : (d : Option Found) → is_some d ≡ false → stands_at s (91 ∷ 34 ∷ 100 ∷ 34 ∷ []) i ≡ false → Looked d d
+  look_other None q h t n e = rw (sym (stands_d s i t n e) ∙ h)
+  look_other (Some x) q h t n e = absurd (false≢true (sym q))
 
 -- ---- the loop over the tags: what is known of d goes on
-pass : (i n : ℕ) (d : Found) (t : Tag) (ts : List Tag) → n ≡ i + length (tag_text t) → span_after d i (t ∷ ts) ≡ span_after (look_of i d t) (n + 1) ts
+pass : (i n : ℕ) (d : Option Found) (t : Tag) (ts : List Tag) → n ≡ i + length (tag_text t) → found_after d i (t ∷ ts) ≡ found_after (look_of i d t) (n + 1) ts
 unfolding d_span
-pass i n (found.At a l) t ts e = refl
-pass i n found.Not t ts e = rw e (go (is_named_d t))
+pass i n (Some d) t ts e = refl
+pass i n None t ts e = rw e (go (is_named_d t))
   where
-    go : (b : Bool) → cond b (span_behind (i + 6) (escape (second t))) (d_span (i + length (tag_text t) + 1) ts)
-        ≡ span_after (cond b (found_of (span_behind (i + 6) (escape (second t)))) found.Not) (i + length (tag_text t) + 1) ts
+    go : (b : Bool) → found (cond b (span_behind (i + 6) (escape (second t))) (d_span (i + length (tag_text t) + 1) ts))
+        ≡ found_after (cond b (Some (found (span_behind (i + 6) (escape (second t))))) None) (i + length (tag_text t) + 1) ts
     go true = refl
     go false = refl
 
-module _ (s : List ℕ) (k i : ℕ) (d : Found) where
-  pub tags_out : k ≤ 0 → tagged_of d i (text_members_at (tag_at s) s k i) ≡ tagged.Bad
+-- the tags end before n, and r is what is known of d
+abbrev pub ended : (n : ℕ) (r : Option Found) → Option (ℕ × Found)
+ended n r = Some (n + 1, unwrap_or r nowhere)
+
+module _ (s : List ℕ) (k i : ℕ) (d : Option Found) where
+  pub tags_out : k ≤ 0 → tagged_of d i (text_members_at (tag_at s) s k i) ≡ None
   tags_out h = ap (tagged_of d i) (members_out (tag_at s) s k i h)
 
-  pub tags_bad : Bad ≡ got_end (tag_at s i) → tagged_of d i (text_members_at (tag_at s) s k i) ≡ tagged.Bad
+  pub tags_bad : None ≡ got_end (tag_at s i) → tagged_of d i (text_members_at (tag_at s) s k i) ≡ None
   tags_bad q = ap (tagged_of d i) (members_bad (tag_at s) s k i (end_bad (tag_at s i) q))
 
-  module _ (n b : ℕ) (h : 0 < k) (q : End n ≡ got_end (tag_at s i)) (e : b ≡ get_or s n 0) where
-    pub tags_wrong : (b ≡ 44 → ⊥) → (b ≡ 93 → ⊥) → tagged_of d i (text_members_at (tag_at s) s k i) ≡ tagged.Bad
+  module _ (n b : ℕ) (h : 0 < k) (q : Some n ≡ got_end (tag_at s i)) (e : b ≡ get_or s n 0) where
+    pub tags_wrong : (b ≡ 44 → ⊥) → (b ≡ 93 → ⊥) → tagged_of d i (text_members_at (tag_at s) s k i) ≡ None
     tags_wrong f g = let x = end_got (tag_at s i) n q in ap (tagged_of d i) (members_wrong (tag_at s) s k i n x.it h x.is b e f g)
 
-    module _ (r : Found) (look : Looked s i d r) where
+    module _ (r : Option Found) (look : Looked s i d r) where
       pub tags_more : b ≡ 44 → tagged_of d i (text_members_at (tag_at s) s k i) ≡ tagged_of r (n + 1) (text_members_at (tag_at s) s (k - 1) (n + 1))
       tags_more f =
           let x = end_got (tag_at s i) n q in
@@ -217,27 +224,28 @@ module _ (s : List ℕ) (k i : ℕ) (d : Found) where
           go t z none = refl
           go t z (got ts m) = rw (pass i n d t ts z)
 
-      pub tags_done : (b ≡ 44 → ⊥) → b ≡ 93 → tagged_of d i (text_members_at (tag_at s) s k i) ≡ tagged_of r 0 (got [] (n + 1))
+      pub tags_done : b ≡ 93 → tagged_of d i (text_members_at (tag_at s) s k i) ≡ ended n r
       unfolding d_span
-      tags_done f g =
+      tags_done g =
           let x = end_got (tag_at s i) n q in
           let z = ((tag_exact s).same i x.it n x.is).is.end in
+          let f : b ≡ 44 → ⊥ = λ y. omega arith in
           ap (tagged_of d i) (members_done (tag_at s) s k i n x.it h x.is b e f g) ∙ rw (look x.it n x.is, pass i n d x.it [] z) (none_left (look_of i d x.it))
         where
-          none_left : (r : Found) → tagged_of r (n + 1) (got [] (n + 1)) ≡ tagged_of r 0 (got [] (n + 1))
-          none_left (found.At a l) = refl
-          none_left found.Not = refl
+          none_left : (r : Option Found) → tagged_of r (n + 1) (got [] (n + 1)) ≡ ended n r
+          none_left (Some x) = refl
+          none_left None = refl
 
 module _ (s : List ℕ) (at b : ℕ) (e : b ≡ get_or s at 0) where
-  pub tags_other : (b ≡ 91 → ⊥) → tagged.Bad ≡ tagged_of found.Not (at + 1) (tags_at s at)
+  pub tags_other : (b ≡ 91 → ⊥) → None ≡ tagged_of None (at + 1) (tags_at s at)
   unfolding tags_at
   tags_other h = rw (← e, ne_eqb b 91 h)
 
   module _ (h : b ≡ 91) (c : ℕ) (f : c ≡ get_or s (at + 1) 0) where
-    pub tags_empty : c ≡ 93 → tagged.End (at + 1 + 1) 0 0 ≡ tagged_of found.Not (at + 1) (tags_at s at)
+    pub tags_empty : c ≡ 93 → ended (at + 1) None ≡ tagged_of None (at + 1) (tags_at s at)
     unfolding tags_at d_span
     tags_empty g = let z : at + 1 + 1 ≡ at + 2 = omega arith in rw (← e, h, ← f, g, z)
 
-    pub tags_open : (c ≡ 93 → ⊥) → tagged_of found.Not (at + 1) (text_members_at (tag_at s) s most_tags (at + 1)) ≡ tagged_of found.Not (at + 1) (tags_at s at)
+    pub tags_open : (c ≡ 93 → ⊥) → tagged_of None (at + 1) (text_members_at (tag_at s) s most_tags (at + 1)) ≡ tagged_of None (at + 1) (tags_at s at)
     unfolding tags_at
     tags_open g = rw (← e, h, ← f, ne_eqb c 93 g)

@@ -1,5 +1,6 @@
 -- The places that a text is answered with hold what they are named for: pubkey, tags, content and d. The strings stand
 -- there escaped, so that a part of the text can be copied to where the event is written again.
+use Rattle.std.specs.Prelude.{Ok}
 use mathlib.Core.Path.{◌≡◌, refl, sym, ap, ◌∙◌}
 use mathlib.Core.Bool.{Bool, true, false, cond, ◌&&◌, ◌||◌, false≢true}
 use mathlib.Core.List.{List, [], ◌∷◌, ◌++◌, append_assoc}
@@ -19,7 +20,6 @@ use Rattle.text.specs.Read.{Read, too_large, wrong_shape, read, read_text, IsTex
 use Rattle.text.specs.Kinds.{is_named_d, second, d_of}
 use Rattle.text.specs.Answer.{Span, span_behind, d_span, tags_place, content_place, text_parts, text_answer_of}
 use Rattle.text.specs.declared.Text.{Text}
-use Rattle.text.specs.declared.TextAnswer.TheVariants as answer
 use Rattle.wire.proofs.Escapes.{plain}
 use Rattle.text.proofs.Pieces.{both, Spelt, left, right, tail, all_of}
 use Rattle.text.proofs.Limits.{limits_of}
@@ -221,7 +221,7 @@ module _ (t : List ℕ) (e : Event) (a : IsTextOf t e) where
       inside i (suc k) n l z = omega arith
 
 -- ---- the answer to a text that was read, and that its parts can be taken
-pub read_told : (r : Read) (x : Text) → answer.Read x ≡ text_answer_of r → (e : Event) × (r ≡ read e) × (x ≡ text_parts e)
+pub read_told : (r : Read) (x : Text) → Ok x ≡ text_answer_of r → (e : Event) × (r ≡ read e) × (x ≡ text_parts e)
 read_told too_large x q = absurd (let z : ◌≡◌ {A = ℕ} 0 1 = cc in omega arith)
 read_told wrong_shape x q = absurd (let z : ◌≡◌ {A = ℕ} 0 1 = cc in omega arith)
 read_told (read e) x q = (e, refl, cc)
@@ -231,7 +231,7 @@ pub record Bounds (t : List ℕ) (x : Text) : Type 0 where
   pub ends : x.content + x.content_len + 2 ≡ length t
   pub small : length t ≤ most_text
 
-pub bounds : (t : List ℕ) (x : Text) → answer.Read x ≡ text_answer_of (read_text t) → Bounds t x
+pub bounds : (t : List ℕ) (x : Text) → Ok x ≡ text_answer_of (read_text t) → Bounds t x
 bounds t x w =
     let (e, r, q) = read_told (read_text t) x w in
     let a = read_same t e r in

@@ -1,14 +1,18 @@
 -- A turn or a way out of the code at a time: bytes, strings, lists, numbers, kinds.
+use Rattle.std.specs.Prelude.{Some, None, ◌==◌, position}
+use Rattle.std.specs.List.{position_or_len}
+use Rattle.std.specs.Slice.{IsGetRangeResult}
+use denote.Bor.{Bor}
 use mathlib.Core.Path.{◌≡◌, refl, sym, ap, ◌∙◌}
 use mathlib.Core.Bool.{Bool, true, false, cond, not, ◌&&◌, ◌||◌, false≢true}
 use mathlib.Core.List.{List, [], ◌∷◌, ◌++◌}
 use Prim.Native.Nat.{ℕ, zero, suc, ◌+◌, ◌-◌, ◌<◌, ◌≤◌}
 use native.Mathlib.Numerals.{add-one, sub-one}
-use native.Mathlib.Decide.{dec_le}
+use native.Mathlib.Decide.{dec_le, dec_lt}
 use native.Mathlib.Omega.{arith}
-use lib.Dec.{eqb, ltb, leb}
-use lib.ListN.{length, get_or, drop, length-append, drop_of_length-le, get_or-eq_default}
-use lib.Seq.{drop-cons}
+use lib.Dec.{eqb, ltb}
+use lib.ListN.{length, get_or, drop, length-append, length-drop, drop_of_length-le, get_or-eq_default}
+use lib.Seq.{drop-cons, take-length}
 use borrow.Author.Tests.{lt-ltb, le-ltb, le-leb, lt-leb, eq-eqb, ne_eqb, ltb-true, not-true, not-false}
 use Rattle.utf8.specs.Utf8.{is_utf8}
 use Rattle.wire.specs.Escape.{escape}
@@ -17,40 +21,12 @@ use Rattle.wire.specs.Bytes.{is_hex}
 use Rattle.text.specs.Event.{all}
 use Rattle.text.specs.Read.{Got, none, got, stands_at, is_raw, escaped_byte, move_of, said_of, push_bytes, body_from}
 use Rattle.text.specs.Read.{checked, string_at, cons, follow, text_members_at, tag_at, run_of}
-use Rattle.text.specs.Kinds.{is_ephemeral, is_addressable, class_of}
-use Rattle.text.specs.Inner.Parts.{got_end, is_letter, no_zero_byte}
-use Rattle.text.specs.declared.Class.TheVariants.{Regular, Replaceable, Ephemeral, Addressable}
-use Rattle.text.specs.declared.Out.TheVariants.{End, Bad}
+use Rattle.text.specs.Inner.Parts.{got_end, is_letter, no_zero_byte, comma_after}
 use Rattle.text.specs.declared.Move.TheVariants.{Go, Stop, Refuse}
 use Rattle.text.proofs.Pieces.{both, spelt_inside}
 use Rattle.text.proofs.Strings.{body_spelt, body_utf8}
 
 pub ruleset tests = (lt-ltb, le-ltb, le-leb, lt-leb, eq-eqb, ne_eqb)
-
--- ---- kinds
-module _ (k : ℕ) where
-  pub class_low : (k ≡ 0 → ⊥) → (k ≡ 3 → ⊥) → k < 10000 → Regular ≡ class_of k
-  unfolding class_of
-  class_low p q h = rw (ne_eqb k 0 p, ne_eqb k 3 q, lt-leb 10000 k h, lt-leb 20000 k (omega arith), lt-leb 30000 k (omega arith))
-
-  module _ (h : 10000 ≤ k) where
-    from_10000 : class_of k ≡ cond (leb k 19999) Replaceable (cond (is_ephemeral k) Ephemeral (cond (is_addressable k) Addressable Regular))
-    unfolding class_of
-    from_10000 = rw (ne_eqb k 0 (λ e. omega arith), ne_eqb k 3 (λ e. omega arith), le-leb 10000 k h)
-
-    pub class_replaceable : k ≤ 19999 → Replaceable ≡ class_of k
-    class_replaceable l = sym (from_10000 ∙ rw (le-leb k 19999 l))
-
-    module _ (i : 19999 < k) where
-      pub class_ephemeral : k ≤ 29999 → Ephemeral ≡ class_of k
-      class_ephemeral l = sym (from_10000 ∙ rw (lt-leb k 19999 i, le-leb 20000 k i, le-leb k 29999 l))
-
-      module _ (j : 29999 < k) where
-        pub class_addressable : k ≤ 39999 → Addressable ≡ class_of k
-        class_addressable l = sym (from_10000 ∙ rw (lt-leb k 19999 i, le-leb 20000 k i, lt-leb k 29999 j, le-leb 30000 k j, le-leb k 39999 l))
-
-        pub class_high : 39999 < k → Regular ≡ class_of k
-        class_high l = sym (from_10000 ∙ rw (lt-leb k 19999 i, le-leb 20000 k i, lt-leb k 29999 j, le-leb 30000 k j, lt-leb k 39999 l))
 
 -- ---- fixed bytes
 module _ (s w : List ℕ) (k i : ℕ) where
@@ -89,7 +65,7 @@ end_push p none = refl
 end_push p (got v n) = refl
 
 module _ (e : Bool) (s : List ℕ) (i : ℕ) where
-  pub body_over : length s ≤ i → got_end (body_from e i (drop i s)) ≡ Bad
+  pub body_over : length s ≤ i → got_end (body_from e i (drop i s)) ≡ None
   unfolding body_from
   body_over h = rw (drop_of_length-le s {i = i} h)
 
@@ -98,11 +74,11 @@ module _ (e : Bool) (s : List ℕ) (i : ℕ) where
     unfolding body_from
     body_go f q = rw (drop-cons s i 0, body_from, q, add-one) (end_push (said_of e (get_or s i 0)) (body_from f (suc i) (drop (suc i) s)))
 
-    pub body_stop : move_of e (get_or s i 0) ≡ Stop → got_end (body_from e i (drop i s)) ≡ End (i + 1)
+    pub body_stop : move_of e (get_or s i 0) ≡ Stop → got_end (body_from e i (drop i s)) ≡ Some (i + 1)
     unfolding body_from
     body_stop q = rw (drop-cons s i 0, body_from, q)
 
-    pub body_refuse : move_of e (get_or s i 0) ≡ Refuse → got_end (body_from e i (drop i s)) ≡ Bad
+    pub body_refuse : move_of e (get_or s i 0) ≡ Refuse → got_end (body_from e i (drop i s)) ≡ None
     unfolding body_from
     body_refuse q = rw (drop-cons s i 0, body_from, q)
 
@@ -127,21 +103,21 @@ module _ (s : List ℕ) (i : ℕ) (h : i < length s) where
             let d = not-true (eqb (escaped_byte (get_or s (i + 1) 0)) 0) is in
             slashed ∙ body_go true s (i + 1) (omega arith) false (rw d) ∙ ap (λ (j : ℕ). got_end (body_from false j (drop j s))) two
 
-    pub body_unknown : t ≡ false → got_end (body_from false i (drop i s)) ≡ Bad
+    pub body_unknown : t ≡ false → got_end (body_from false i (drop i s)) ≡ None
     body_unknown z = go (dec_le (length s) (i + 1))
       where
-        go : Dec (length s ≤ i + 1) → got_end (body_from false i (drop i s)) ≡ Bad
+        go : Dec (length s ≤ i + 1) → got_end (body_from false i (drop i s)) ≡ None
         go (yes m) = slashed ∙ body_over true s (i + 1) m
         go (no m) =
             let d = not-false (eqb (escaped_byte (get_or s (i + 1) 0)) 0) (sym (ap is_letter l) ∙ sym k ∙ z) in
             slashed ∙ body_refuse true s (i + 1) (omega arith) (rw d)
 
   module _ (e : get_or s i 0 ≡ 92 → ⊥) where
-    pub body_quote : get_or s i 0 ≡ 34 → got_end (body_from false i (drop i s)) ≡ End (i + 1)
+    pub body_quote : get_or s i 0 ≡ 34 → got_end (body_from false i (drop i s)) ≡ Some (i + 1)
     body_quote q = body_stop false s i h (rw (eq-eqb _ 34 q))
 
     module _ (q : get_or s i 0 ≡ 34 → ⊥) where
-      pub body_stuck : is_raw (get_or s i 0) ≡ false → got_end (body_from false i (drop i s)) ≡ Bad
+      pub body_stuck : is_raw (get_or s i 0) ≡ false → got_end (body_from false i (drop i s)) ≡ None
       body_stuck m = body_refuse false s i h (rw (ne_eqb _ 34 q, ne_eqb _ 92 e, m))
 
       pub body_raw : is_raw (get_or s i 0) ≡ true → got_end (body_from false i (drop i s)) ≡ got_end (body_from false (i + 1) (drop (i + 1) s))
@@ -149,10 +125,10 @@ module _ (s : List ℕ) (i : ℕ) (h : i < length s) where
 
 -- ---- a string
 module _ (s : List ℕ) (at n : ℕ) where
-  pub body_inside : got_end (body_from false at (drop at s)) ≡ End n → (at + 1 ≤ n) × (n ≤ length s)
+  pub body_inside : got_end (body_from false at (drop at s)) ≡ Some n → (at + 1 ≤ n) × (n ≤ length s)
   body_inside q = go (body_from false at (drop at s)) refl q
     where
-      go : (g : Got (List ℕ)) → body_from false at (drop at s) ≡ g → got_end g ≡ End n → (at + 1 ≤ n) × (n ≤ length s)
+      go : (g : Got (List ℕ)) → body_from false at (drop at s) ≡ g → got_end g ≡ Some n → (at + 1 ≤ n) × (n ≤ length s)
       go none e r = absurd (let z : ◌≡◌ {A = ℕ} 0 1 = cc in omega arith)
       go (got v m) e r =
           let z : m ≡ n = cc in
@@ -161,7 +137,7 @@ module _ (s : List ℕ) (at n : ℕ) where
           (omega (arith, a.end), rw (← z) (spelt_inside s at (escape v ++ (34 ∷ [])) m a (omega arith)))
 
 module _ (s : List ℕ) (at : ℕ) where
-  pub string_other : (get_or s at 0 ≡ 34 → ⊥) → Bad ≡ got_end (string_at s at)
+  pub string_other : (get_or s at 0 ≡ 34 → ⊥) → None ≡ got_end (string_at s at)
   unfolding string_at
   string_other h = rw (ne_eqb (get_or s at 0) 34 h)
 
@@ -205,7 +181,7 @@ module _ {A : Type 0} (one : ℕ → Got A) (s : List ℕ) where
       members_wrong f g = step ∙ rw (← e, ne_eqb b 44 f, ne_eqb b 93 g)
 
 -- ---- what an end says
-pub end_bad : {A : Type 0} (g : Got A) → Bad ≡ got_end g → g ≡ none
+pub end_bad : {A : Type 0} (g : Got A) → None ≡ got_end g → g ≡ none
 end_bad none e = refl
 end_bad (got x n) e = absurd (let z : ◌≡◌ {A = ℕ} 0 1 = cc in omega arith)
 
@@ -213,13 +189,13 @@ pub record Has {A : Type 0} (g : Got A) (n : ℕ) : Type 0 where
   pub it : A
   pub is : g ≡ got it n
 
-pub end_got : {A : Type 0} (g : Got A) (n : ℕ) → End n ≡ got_end g → Has g n
+pub end_got : {A : Type 0} (g : Got A) (n : ℕ) → Some n ≡ got_end g → Has g n
 end_got none n e = absurd (let z : ◌≡◌ {A = ℕ} 0 1 = cc in omega arith)
 end_got (got x m) n e = record { it = x; is = ap (got x) (let z : m ≡ n = cc in z) }
 
 -- ---- a tag: the loop of its strings
 module _ (s : List ℕ) (at b : ℕ) (e : b ≡ get_or s at 0) where
-  pub tag_other : (b ≡ 91 → ⊥) → Bad ≡ got_end (tag_at s at)
+  pub tag_other : (b ≡ 91 → ⊥) → None ≡ got_end (tag_at s at)
   unfolding tag_at
   tag_other h = rw (← e, ne_eqb b 91 h)
 
@@ -232,20 +208,20 @@ end_cons x none = refl
 end_cons x (got xs n) = refl
 
 module _ {A : Type 0} (one : ℕ → Got A) (s : List ℕ) (k at : ℕ) where
-  pub turn_out_lem : k ≤ 0 → got_end (text_members_at one s k at) ≡ Bad
+  pub turn_out_lem : k ≤ 0 → got_end (text_members_at one s k at) ≡ None
   turn_out_lem h = ap got_end (members_out one s k at h)
 
-  pub turn_bad : Bad ≡ got_end (one at) → got_end (text_members_at one s k at) ≡ Bad
+  pub turn_bad : None ≡ got_end (one at) → got_end (text_members_at one s k at) ≡ None
   turn_bad q = ap got_end (members_bad one s k at (end_bad (one at) q))
 
-  module _ (n b : ℕ) (h : 0 < k) (q : End n ≡ got_end (one at)) (e : b ≡ get_or s n 0) where
+  module _ (n b : ℕ) (h : 0 < k) (q : Some n ≡ got_end (one at)) (e : b ≡ get_or s n 0) where
     pub turn_more : b ≡ 44 → got_end (text_members_at one s k at) ≡ got_end (text_members_at one s (k - 1) (n + 1))
     turn_more f = let x = end_got (one at) n q in ap got_end (members_more one s k at n x.it h x.is b e f) ∙ end_cons x.it (text_members_at one s (k - 1) (n + 1))
 
-    pub turn_done : (b ≡ 44 → ⊥) → b ≡ 93 → got_end (text_members_at one s k at) ≡ End (n + 1)
+    pub turn_done : (b ≡ 44 → ⊥) → b ≡ 93 → got_end (text_members_at one s k at) ≡ Some (n + 1)
     turn_done f g = let x = end_got (one at) n q in ap got_end (members_done one s k at n x.it h x.is b e f g)
 
-    pub turn_wrong : (b ≡ 44 → ⊥) → (b ≡ 93 → ⊥) → got_end (text_members_at one s k at) ≡ Bad
+    pub turn_wrong : (b ≡ 44 → ⊥) → (b ≡ 93 → ⊥) → got_end (text_members_at one s k at) ≡ None
     turn_wrong f g = let x = end_got (one at) n q in ap got_end (members_wrong one s k at n x.it h x.is b e f g)
 
 -- ---- hex
@@ -260,18 +236,37 @@ module _ (p : List ℕ) (i : ℕ) where
   hex_more true b h e = rw (drop-cons p i 0, all, add-one, e)
   hex_more false b h e = refl
 
--- ---- the next comma: m is its place
-module _ {m : ℕ} (s : List ℕ) (i : ℕ) (inv : m ≡ i + length (run_of (drop i s))) where
-  pub comma_none : length s ≤ i → i ≡ m
-  unfolding run_of
-  comma_none h = let e : length (run_of (drop i s)) ≡ 0 = rw (drop_of_length-le s {i = i} h) in omega arith
+-- ---- the next comma
+pub suffix_of : (s : List ℕ) (at : ℕ) (x : Bor (List ℕ)) → IsGetRangeResult s at (length s) (Some x) → x.now ≡ drop at s
+suffix_of s at x e = e.0.2 ∙ (let z : length s - at ≡ length (drop at s) = sym (length-drop at s) in rw (z, take-length))
 
-  module _ (h : i < length s) where
-    pub comma_here : get_or s i 0 ≡ 44 → i ≡ m
-    unfolding run_of
-    comma_here c = let e : length (run_of (drop i s)) ≡ 0 = rw (drop-cons s i 0, run_of, c) in omega arith
+run_is : (l : List ℕ) → position_or_len (λ b. b == 44) l ≡ length (run_of l)
+unfolding run_of
+run_is [] = refl
+run_is (x ∷ l) = go (eqb x 44) (run_is l)
+  where
+    go : (t : Bool) → position_or_len (λ b. b == 44) l ≡ length (run_of l)
+        → cond (not t) (1 + position_or_len (λ b. b == 44) l) 0 ≡ length (cond t [] (x ∷ run_of l))
+    go true e = refl
+    go false e = let z : 1 + position_or_len (λ b. b == 44) l ≡ suc (length (run_of l)) = omega arith in z
 
-    pub comma_later : (get_or s i 0 ≡ 44 → ⊥) → m ≡ i + 1 + length (run_of (drop (i + 1) s))
-    unfolding run_of
-    comma_later c =
-        let e : length (run_of (drop i s)) ≡ suc (length (run_of (drop (i + 1) s))) = rw (drop-cons s i 0, run_of, ne_eqb (get_or s i 0) 44 c, add-one) in omega arith
+module _ (s : List ℕ) (at : ℕ) where
+  comma_is : position (λ b. b == 44) (drop at s) ≡ cond (ltb (length (run_of (drop at s))) (length s - at)) (Some (length (run_of (drop at s)))) None
+  comma_is = rw (run_is (drop at s), length-drop)
+
+  pub comma_found : (k : ℕ) → position (λ b. b == 44) (drop at s) ≡ Some k → Some (at + k) ≡ comma_after s at
+  comma_found k e = go (dec_lt (length (run_of (drop at s))) (length s - at))
+    where
+      go : Dec (length (run_of (drop at s)) < length s - at) → Some (at + k) ≡ comma_after s at
+      go (yes h) =
+          let q = rw (lt-ltb _ _ h) at (sym comma_is ∙ e) in
+          let z : length (run_of (drop at s)) ≡ k = cc in
+          rw (lt-ltb (at + length (run_of (drop at s))) (length s) (omega arith), z)
+      go (no h) = let q = rw (le-ltb (length (run_of (drop at s))) (length s - at) (omega arith)) at (sym comma_is ∙ e) in absurd (let z : ◌≡◌ {A = ℕ} 0 1 = cc in omega arith)
+
+  pub comma_none : position (λ b. b == 44) (drop at s) ≡ None → None ≡ comma_after s at
+  comma_none e = go (dec_lt (length (run_of (drop at s))) (length s - at))
+    where
+      go : Dec (length (run_of (drop at s)) < length s - at) → None ≡ comma_after s at
+      go (yes h) = let q = rw (lt-ltb _ _ h) at (sym comma_is ∙ e) in absurd (let z : ◌≡◌ {A = ℕ} 0 1 = cc in omega arith)
+      go (no h) = rw (le-ltb (at + length (run_of (drop at s))) (length s) (omega arith))

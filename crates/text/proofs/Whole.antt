@@ -1,5 +1,6 @@
 -- The text of an event within the limits is UTF-8, since its strings are and all else in it is ASCII. So a text that is
 -- not is none.
+use Rattle.std.specs.Prelude.{Err}
 use mathlib.Core.Path.{◌≡◌, refl, sym, ap, ◌∙◌}
 use mathlib.Core.Bool.{Bool, true, false, ◌&&◌, ◌||◌, false≢true}
 use mathlib.Core.List.{List, [], ◌∷◌, ◌++◌, append_assoc, append-nil}
@@ -17,11 +18,11 @@ use Rattle.wire.specs.Bytes.{is_hex}
 use Rattle.wire.specs.Limits.{most_text, hex_length, most_tags, most_strings}
 use Rattle.numeral.specs.Decimal.{digits, decimal}
 use Rattle.numeral.proofs.Digits.{digits_one, digits_split, by_digits}
+use Rattle.text.specs.declared.Unread.TheVariants.{WrongShape}
 use Rattle.text.specs.Event.{Tag, Event, quoted, members_text, tag_text, tags_text, opening, closing, comma, bracket}
 use Rattle.text.specs.Event.{serialise, all, is_pubkey, is_string_bytes, is_tag, is_tags, is_fit}
 use Rattle.text.specs.Read.{wrong_shape, read_text}
-use Rattle.text.specs.Answer.{text_answer_of, text_number, text_read_row}
-use Rattle.text.specs.declared.TextAnswer.TheVariants as answer
+use Rattle.text.specs.Answer.{text_answer_of}
 use Rattle.text.proofs.Pieces.{both}
 use Rattle.text.proofs.Strings.{utf8_escape}
 use Rattle.text.proofs.Limits.{limits_of}
@@ -125,8 +126,7 @@ pub serialise_utf8 : (e : Event) → is_fit e ≡ true → is_utf8 (serialise e)
 unfolding is_utf8 utf8_from
 serialise_utf8 e h = ap (utf8_from Lead) (sym (append-nil (serialise e))) ∙ (text e h).on []
 
-pub text_not : (t : List ℕ) → length t ≤ most_text → is_utf8 t ≡ false →
-    (answer.WrongShape ≡ text_answer_of (read_text t)) × (text_number answer.WrongShape ≡ text_read_row (read_text t))
+pub text_not : (t : List ℕ) → length t ≤ most_text → is_utf8 t ≡ false → Err WrongShape ≡ text_answer_of (read_text t)
 text_not t h u =
     let w : read_text t ≡ wrong_shape = (wrong_shape_lem t).1 (h, λ e f s. false≢true (sym u ∙ ap is_utf8 (sym s) ∙ serialise_utf8 e f)) in
-    (ap text_answer_of (sym w), ap text_read_row (sym w))
+    ap text_answer_of (sym w)

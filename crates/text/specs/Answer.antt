@@ -1,13 +1,13 @@
 -- What reading a text back answers: the places of an event's parts in its text, as functions of the event.
-use Rattle.std.specs.Prelude.{cond, List, [], ◌∷◌, ℕ, ◌+◌, length}
+use Rattle.text.specs.declared.Unread.{Unread}
+use Rattle.std.specs.Prelude.{cond, List, [], ◌∷◌, ℕ, ◌+◌, length, Result, Ok, Err}
 use Rattle.wire.specs.Escape.{escape}
 use Rattle.numeral.specs.Decimal.{digits, decimal}
+use Rattle.text.specs.declared.Unread.TheVariants.{TooLarge, WrongShape}
 use Rattle.text.specs.Event.{Tag, Event, tag_text, tags_text}
 use Rattle.text.specs.Read.{Read, too_large, wrong_shape, read}
 use Rattle.text.specs.Kinds.{is_named_d, second}
 use Rattle.text.specs.declared.Text.{Text}
-use Rattle.text.specs.declared.TextAnswer.{TextAnswer}
-use Rattle.text.specs.declared.TextAnswer.TheVariants as answer
 use Rattle.wire.specs.Bytes.{Bytes}
 
 -- bytes of a text: where they begin, and how many
@@ -44,16 +44,16 @@ text_parts e = record {
   d_len = (d_span (tags_place e + 1) e.tags).len;
 }
 
-abbrev pub text_answer_of : Read → TextAnswer
-text_answer_of too_large = answer.TooLarge
-text_answer_of wrong_shape = answer.WrongShape
-text_answer_of (read e) = answer.Read (text_parts e)
+abbrev pub text_answer_of : Read → Result Text Unread
+text_answer_of too_large = Err TooLarge
+text_answer_of wrong_shape = Err WrongShape
+text_answer_of (read e) = Ok (text_parts e)
 
 -- the number of 01
-abbrev pub text_number : TextAnswer → ℕ
-text_number (answer.Read x) = 0
-text_number answer.TooLarge = 9
-text_number answer.WrongShape = 5
+abbrev pub text_number : Result Text Unread → ℕ
+text_number (Ok x) = 0
+text_number (Err TooLarge) = 9
+text_number (Err WrongShape) = 5
 
 -- and of what reading gives: "refused by 9 if over 4,096 bytes, else by 5"
 abbrev pub text_read_row : Read → ℕ

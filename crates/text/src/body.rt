@@ -4,21 +4,17 @@ ghost use Rattle.utf8.specs.Utf8.{is_utf8};
 ghost use Rattle.text.specs.Read.{stands_at, is_raw, body_from, string_at};
 ghost use Rattle.text.specs.Inner.Parts.{got_end, is_letter, Passes, Raws, no_zero_byte};
 
-use crate::Out;
-
 // Whether the bytes of `w` stand at a place.
 pub(crate) fn stands(s: &[u8], at: usize, w: &[u8]) -> bool
     requires { no_zero_byte w.now ≡ true }
     ensures { result ≡ stands_at s.now w.now at }
 {
     let mut i = at;
-    let mut k = 0;
-    while k < w.len() {
-        if wire::byte(s, i) != w[k] {
+    for b in w {
+        if wire::byte(s, i) != *b {
             return false;
         }
         i += 1;
-        k += 1;
     }
     true
 }
@@ -46,13 +42,6 @@ pub(crate) fn is_raw(x: u8) -> bool
         & (x != 0x0c)
 }
 
-pub(crate) fn lesser(a: u8, b: u8) -> u8
-    ensures upper_bound { result ≤ a }
-    ensures upper_bound_2 { result ≤ b }
-{
-    if a < b { a } else { b }
-}
-
 // The place in a block where the bytes that stand as they are end at the latest: at k, unless the byte there is one.
 pub(crate) fn end_at(k: u8, raw: bool) -> u8
     ensures { result ≡ cond raw 32 k }
@@ -67,10 +56,8 @@ pub(crate) fn raw_run(s: &[u8], i: usize) -> usize
     ensures { Raws s.now i result }
 {
     let mut n: u8 = 32;
-    let mut k = 0;
-    while k < 32 {
-        n = lesser(n, end_at(k as u8, is_raw(s[i + k])));
-        k += 1;
+    for k in 0..32 {
+        n = n.min(end_at(k as u8, is_raw(s[i + k])));
     }
     n as usize
 }
@@ -96,13 +83,7 @@ pub(crate) fn past_escapes(s: &[u8], at: usize) -> usize
     ensures { Passes s.now at result }
 {
     let mut i = at;
-    while i < s.len() {
-        if s[i] != b'\\' {
-            return i;
-        }
-        if !is_letter(wire::byte(s, i + 1)) {
-            return i;
-        }
+    while i < s.len() && s[i] == b'\\' && is_letter(wire::byte(s, i + 1)) {
         i += 2;
     }
     i
@@ -110,7 +91,7 @@ pub(crate) fn past_escapes(s: &[u8], at: usize) -> usize
 
 // The place after the closing quote of a string whose opening quote stands before `at`. Bytes go one at a time until 16
 // in a row stood as they are: short strings, and escapes close to each other, are faster so.
-pub(crate) fn body_end(s: &[u8], at: usize) -> Out
+pub(crate) fn body_end(s: &[u8], at: usize) -> Option<usize>
     ensures { result ≡ got_end (body_from false at (drop at s.now)) }
 {
     let mut i = at;
@@ -119,17 +100,17 @@ pub(crate) fn body_end(s: &[u8], at: usize) -> Out
         let x = s[i];
         if x == b'\\' {
             if !is_letter(wire::byte(s, i + 1)) {
-                return Out::Bad;
+                return None;
             }
             i = past_escapes(s, i + 2);
             run = 0;
             continue;
         }
         if x == b'"' {
-            return Out::End(i + 1);
+            return Some(i + 1);
         }
         if !is_raw(x) {
-            return Out::Bad;
+            return None;
         }
         i += 1;
         run += 1;
@@ -138,16 +119,16 @@ pub(crate) fn body_end(s: &[u8], at: usize) -> Out
             run = 0;
         }
     }
-    Out::Bad
+    None
 }
 
 // A string with its quotes. In a text that is UTF-8 each string is.
-pub(crate) fn string_end(s: &[u8], at: usize) -> Out
+pub(crate) fn string_end(s: &[u8], at: usize) -> Option<usize>
     requires { is_utf8 s.now ≡ true }
     ensures { result ≡ got_end (string_at s.now at) }
 {
     if wire::byte(s, at) != b'"' {
-        return Out::Bad;
+        return None;
     }
     body_end(s, at + 1)
 }

@@ -1,10 +1,12 @@
 // The text that is hashed, read back, and the class of a kind.
 #![tactic(auto)]
 
-ghost use Rattle.std.specs.Prelude.{◌≡◌};
+ghost use Rattle.std.specs.Prelude.{◌≡◌, ◌≤◌, length};
+ghost use Rattle.wire.specs.Limits.{most_text};
 ghost use Rattle.text.specs.Read.{read_text};
 ghost use Rattle.text.specs.Kinds.{class_of};
 ghost use Rattle.text.specs.Answer.{text_answer_of, text_number, text_read_row};
+ghost use Rattle.text.specs.Inner.Parts.{answer_of};
 
 mod body;
 mod octets;
@@ -34,19 +36,11 @@ pub struct Text {
     pub d_len: usize,
 }
 
-// 01, "A text read back alone": rows 0, 9 and 5.
+// 01, "A text read back alone": why a text is not read, rows 9 and 5.
 #[derive(Clone, Copy)]
-pub enum TextAnswer {
-    Read(Text),
+pub enum Unread {
     TooLarge,
     WrongShape,
-}
-
-// The place after a part of the text, or that no such part is there.
-#[derive(Clone, Copy)]
-enum Out {
-    End(usize),
-    Bad,
 }
 
 // What a byte of a string does: the string goes on, after a backslash or not; it ends; or the byte may not stand there.
@@ -58,95 +52,56 @@ enum Move {
     Refuse,
 }
 
-// A number, and the place after the comma that follows it.
+// Where a string's bytes stand in the text, both 0 if it has none.
 #[derive(Clone, Copy)]
-enum Time {
-    Is(i64, usize),
-    Not,
-}
-
-#[derive(Clone, Copy)]
-enum Kind {
-    Is(u16, usize),
-    Not,
-}
-
-// d's place and length, once a tag named d was met.
-#[derive(Clone, Copy)]
-enum Found {
-    At(usize, usize),
-    Not,
-}
-
-// The place after the tags, and d's place and length.
-#[derive(Clone, Copy)]
-enum Tagged {
-    End(usize, usize, usize),
-    Bad,
-}
-
-// The content's place and length, and d's.
-#[derive(Clone, Copy)]
-enum Rest {
-    Is(usize, usize, usize, usize),
-    Bad,
+struct Found {
+    at: usize,
+    len: usize,
 }
 
 // What a kind makes of an event.
+#[tactic(auto, unfolding(crate::specs::Kinds::class_of))]
 pub fn class_of(kind: u16) -> Class
     ensures { result ≡ class_of kind }
 {
-    if kind == 0 {
-        return Class::Replaceable;
+    match kind {
+        0 | 3 | 10000..=19999 => Class::Replaceable,
+        20000..=29999 => Class::Ephemeral,
+        30000..=39999 => Class::Addressable,
+        _ => Class::Regular,
     }
-    if kind == 3 {
-        return Class::Replaceable;
+}
+
+// What a text of at most 4,096 bytes reads as, if it reads.
+fn text_at(t: &[u8]) -> Option<Text>
+    requires { length t.now ≤ most_text }
+    ensures { answer_of result ≡ text_answer_of (read_text t.now) }
+{
+    if !parts::is_opened(t) || !octets::is_text(t) {
+        return None;
     }
-    if kind < 10000 {
-        return Class::Regular;
-    }
-    if kind <= 19999 {
-        return Class::Replaceable;
-    }
-    if kind <= 29999 {
-        return Class::Ephemeral;
-    }
-    if kind <= 39999 {
-        return Class::Addressable;
-    }
-    Class::Regular
+    let (time, a) = parts::time_at(t, 70)?;
+    let (kind, tags) = parts::kind_at(t, a)?;
+    let (content, d) = parts::rest_at(t, tags)?;
+    Some(Text {
+        time,
+        kind,
+        tags,
+        content: content.at,
+        content_len: content.len,
+        d: d.at,
+        d_len: d.len,
+    })
 }
 
 // A text read back alone.
-pub fn read_text(t: &[u8]) -> TextAnswer
+#[tactic(auto, using(crate::proofs::Texts::text_large))]
+pub fn read_text(t: &[u8]) -> Result<Text, Unread>
     ensures value { result ≡ text_answer_of (read_text t.now) }
     ensures result_value { text_number result ≡ text_read_row (read_text t.now) }
 {
     if wire::MOST_TEXT < t.len() {
-        return TextAnswer::TooLarge;
+        return Err(Unread::TooLarge);
     }
-    if !parts::is_opened(t) {
-        return TextAnswer::WrongShape;
-    }
-    if !octets::is_text(t) {
-        return TextAnswer::WrongShape;
-    }
-    match parts::time_at(t, 70) {
-        Time::Is(time, a) => match parts::kind_at(t, a) {
-            Kind::Is(kind, tags) => match parts::rest_at(t, tags) {
-                Rest::Is(content, content_len, d, d_len) => TextAnswer::Read(Text {
-                    time,
-                    kind,
-                    tags,
-                    content,
-                    content_len,
-                    d,
-                    d_len,
-                }),
-                Rest::Bad => TextAnswer::WrongShape,
-            },
-            Kind::Not => TextAnswer::WrongShape,
-        },
-        Time::Not => TextAnswer::WrongShape,
-    }
+    text_at(t).ok_or(Unread::WrongShape)
 }

@@ -8,10 +8,8 @@ pub(crate) fn is_ascii(s: &[u8]) -> bool
     ensures { result ≡ true → is_utf8 s.now ≡ true }
 {
     let mut high = false;
-    let mut i = 0;
-    while i < s.len() {
-        high = high | (0x7f < s[i]);
-        i += 1;
+    for b in s {
+        high |= 0x7f < *b;
     }
     !high
 }
@@ -49,14 +47,11 @@ pub(crate) fn is_utf8(s: &[u8]) -> bool
     let mut b: u8 = 0;
     let mut a: u8 = 0;
     let mut wrong = false;
-    let mut i = 0;
-    while i < s.len() {
-        let x = s[i];
-        wrong = wrong | is_wrong(c, b, a, x);
+    for x in s {
+        wrong |= is_wrong(c, b, a, *x);
         c = b;
         b = a;
-        a = x;
-        i += 1;
+        a = *x;
     }
     !(wrong | wants_tail(c, b, a))
 }
@@ -65,8 +60,5 @@ pub(crate) fn is_utf8(s: &[u8]) -> bool
 pub(crate) fn is_text(s: &[u8]) -> bool
     ensures { result ≡ is_utf8 s.now }
 {
-    if is_ascii(s) {
-        return true;
-    }
-    is_utf8(s)
+    is_ascii(s) || is_utf8(s)
 }

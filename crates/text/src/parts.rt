@@ -1,178 +1,129 @@
 // The parts of the text: tags with d among them, numbers, and what follows the kind.
-ghost use Rattle.std.specs.Prelude.{◌≡◌, [], true, ℕ, ◌+◌, ◌≤◌, length, drop};
+ghost use Rattle.std.specs.Prelude.{◌≡◌, true, ℕ, ◌+◌, ◌≤◌, length, None, position, ◌==◌};
 ghost use Rattle.wire.specs.Escape.{escape};
 ghost use Rattle.utf8.specs.Utf8.{is_utf8};
 ghost use Rattle.text.specs.Event.{Tag, comma, is_pubkey};
-ghost use Rattle.text.specs.Read.{got, closed_at, tag_at, tags_at, run_of, time_at, kind_at};
+ghost use Rattle.text.specs.Read.{got, closed_at, tag_at, tags_at, time_at, kind_at};
 ghost use Rattle.text.specs.Kinds.{is_named_d, second};
 ghost use Rattle.text.specs.Answer.{span_behind};
-ghost use Rattle.text.specs.Inner.Parts.{got_end, time_got, kind_got, opens, found_of, look_of, tagged_of, rest_at};
-ghost use Rattle.text.specs.Inner.Parts.{rest_of};
+ghost use Rattle.text.specs.Inner.Parts.{got_end, time_got, kind_got, opens, found, look_of, tagged_of, rest_at};
+ghost use Rattle.text.specs.Inner.Parts.{rest_of, comma_after};
 
-use crate::{Found, Kind, Out, Rest, Tagged, Time, body};
+use crate::{Found, body};
 
-pub(crate) const MOST_KIND: u64 = wire::MOST_SMALL as u64;
+// No bytes of the text.
+pub(crate) const NOWHERE: Found = Found { at: 0, len: 0 };
 
 // 1 to 16 strings between brackets.
-pub(crate) fn tag_end(s: &[u8], at: usize) -> Out
+pub(crate) fn tag_end(s: &[u8], at: usize) -> Option<usize>
     requires { is_utf8 s.now ≡ true }
     ensures { result ≡ got_end (tag_at s.now at) }
 {
     if wire::byte(s, at) != b'[' {
-        return Out::Bad;
+        return None;
     }
     let mut i = at + 1;
-    let mut k = wire::MOST_STRINGS;
-    while 0 < k {
-        match body::string_end(s, i) {
-            Out::End(n) => {
-                let b = wire::byte(s, n);
-                if b != b',' {
-                    if b != b']' {
-                        return Out::Bad;
-                    }
-                    return Out::End(n + 1);
-                }
-                i = n + 1;
-            }
-            Out::Bad => {
-                return Out::Bad;
-            }
+    for _ in 0..wire::MOST_STRINGS {
+        let n = body::string_end(s, i)?;
+        match wire::byte(s, n) {
+            b',' => i = n + 1,
+            b']' => return Some(n + 1),
+            _ => return None,
         }
-        k -= 1;
     }
-    Out::Bad
+    None
 }
 
 // The second string of a tag named d.
 pub(crate) fn second_at(s: &[u8], i: usize) -> Found
     requires { i + 4 ≤ length s.now }
     ensures { (t : Tag) (n : ℕ) → tag_at s.now i ≡ got t n → is_named_d t ≡ true →
-        result ≡ found_of (span_behind (i + 6) (escape (second t))) }
+        result ≡ found (span_behind (i + 6) (escape (second t))) }
 {
     let a = i + 4;
     if !body::stands(s, a, b",\"") {
-        return Found::At(0, 0);
+        return NOWHERE;
     }
-    let b = a + 2;
-    match body::body_end(s, b) {
-        Out::End(n) => {
-            let len = n - 1 - b;
-            if len == 0 {
-                return Found::At(0, 0);
-            }
-            Found::At(b, len)
-        }
-        Out::Bad => Found::At(0, 0),
+    let at = a + 2;
+    let Some(n) = body::body_end(s, at) else {
+        return NOWHERE;
+    };
+    let len = n - 1 - at;
+    if len == 0 {
+        return NOWHERE;
     }
+    Found { at, len }
 }
 
 // What is known of d after the tag at `i`: the text is canonical, so the tag is named d where `["d"` stands.
-pub(crate) fn look(s: &[u8], i: usize, d: Found) -> Found
+pub(crate) fn look(s: &[u8], i: usize, d: Option<Found>) -> Option<Found>
     ensures { (t : Tag) (n : ℕ) → tag_at s.now i ≡ got t n → result ≡ look_of i d t }
 {
-    match d {
-        Found::At(a, l) => Found::At(a, l),
-        Found::Not => {
-            if body::stands(s, i, b"[\"d\"") {
-                return second_at(s, i);
-            }
-            Found::Not
-        }
+    if d.is_some() || !body::stands(s, i, b"[\"d\"") {
+        return d;
     }
-}
-
-pub(crate) fn with_d(n: usize, d: Found) -> Tagged
-    ensures { result ≡ tagged_of d 0 (got [] n) }
-{
-    match d {
-        Found::At(a, l) => Tagged::End(n, a, l),
-        Found::Not => Tagged::End(n, 0, 0),
-    }
+    Some(second_at(s, i))
 }
 
 // Up to 64 tags between brackets, and d.
-pub(crate) fn tags_end(s: &[u8], at: usize) -> Tagged
+pub(crate) fn tags_end(s: &[u8], at: usize) -> Option<(usize, Found)>
     requires { is_utf8 s.now ≡ true }
-    ensures { result ≡ tagged_of Found.Not (at + 1) (tags_at s.now at) }
+    ensures { result ≡ tagged_of None (at + 1) (tags_at s.now at) }
 {
     if wire::byte(s, at) != b'[' {
-        return Tagged::Bad;
+        return None;
     }
     let mut i = at + 1;
     if wire::byte(s, i) == b']' {
-        return Tagged::End(i + 1, 0, 0);
+        return Some((i + 1, NOWHERE));
     }
-    let mut d = Found::Not;
-    let mut k = wire::MOST_TAGS;
-    while 0 < k {
-        match tag_end(s, i) {
-            Out::End(n) => {
-                d = look(s, i, d);
-                let b = wire::byte(s, n);
-                if b != b',' {
-                    if b != b']' {
-                        return Tagged::Bad;
-                    }
-                    return with_d(n + 1, d);
-                }
-                i = n + 1;
-            }
-            Out::Bad => {
-                return Tagged::Bad;
-            }
+    let mut d = None;
+    for _ in 0..wire::MOST_TAGS {
+        let n = tag_end(s, i)?;
+        d = look(s, i, d);
+        match wire::byte(s, n) {
+            b',' => i = n + 1,
+            b']' => return Some((n + 1, d.unwrap_or(NOWHERE))),
+            _ => return None,
         }
-        k -= 1;
     }
-    Tagged::Bad
+    None
 }
 
-// The place of the next comma, or the end.
-pub(crate) fn next_comma(s: &[u8], at: usize) -> usize
-    ensures { result ≡ at + length (run_of (drop at s.now)) }
+// How many bytes stand before the first comma.
+fn to_comma(l: &[u8]) -> Option<usize>
+    ensures { result ≡ position (λ b. b == 44) l.now }
 {
-    let mut i = at;
-    while i < s.len() {
-        if s[i] == b',' {
-            return i;
-        }
-        i += 1;
-    }
-    i
+    l.iter().position(|b| *b == b',')
 }
 
-pub(crate) fn time_at(s: &[u8], at: usize) -> Time
+// The place of the next comma.
+pub(crate) fn next_comma(s: &[u8], at: usize) -> Option<usize>
+    ensures { result ≡ comma_after s.now at }
+{
+    let k = to_comma(s.get(at..)?)?;
+    Some(at + k)
+}
+
+pub(crate) fn time_at(s: &[u8], at: usize) -> Option<(i64, usize)>
     ensures { result ≡ time_got (closed_at s.now comma (time_at s.now) at) }
 {
-    let n = next_comma(s, at);
-    if s.len() <= n {
-        return Time::Not;
-    }
-    match numeral::read_whole(&s[at..n]) {
-        numeral::Whole::Value(z) => Time::Is(z, n + 1),
-        numeral::Whole::Large => Time::Not,
-        numeral::Whole::Malformed => Time::Not,
-    }
+    let n = next_comma(s, at)?;
+    let numeral::Whole::Value(z) = numeral::read_whole(&s[at..n]) else {
+        return None;
+    };
+    Some((z, n + 1))
 }
 
-pub(crate) fn kind_at(s: &[u8], at: usize) -> Kind
+pub(crate) fn kind_at(s: &[u8], at: usize) -> Option<(u16, usize)>
     ensures { result ≡ kind_got (closed_at s.now comma (kind_at s.now) at) }
 {
-    let n = next_comma(s, at);
-    if s.len() <= n {
-        return Kind::Not;
-    }
-    match numeral::read_whole(&s[at..n]) {
-        numeral::Whole::Value(z) => {
-            let k = wire::to_unsigned(z);
-            if MOST_KIND < k {
-                return Kind::Not;
-            }
-            Kind::Is(k as u16, n + 1)
-        }
-        numeral::Whole::Large => Kind::Not,
-        numeral::Whole::Malformed => Kind::Not,
-    }
+    let n = next_comma(s, at)?;
+    let numeral::Whole::Value(z) = numeral::read_whole(&s[at..n]) else {
+        return None;
+    };
+    let kind = u16::try_from(z).ok()?;
+    Some((kind, n + 1))
 }
 
 // With no way out of the loop.
@@ -183,10 +134,8 @@ pub(crate) fn is_pubkey(p: &[u8]) -> bool
         return false;
     }
     let mut hex = true;
-    let mut i = 0;
-    while i < p.len() {
-        hex = hex & wire::is_hex_digit(p[i]);
-        i += 1;
+    for b in p {
+        hex &= wire::is_hex_digit(*b);
     }
     hex
 }
@@ -195,41 +144,28 @@ pub(crate) fn is_pubkey(p: &[u8]) -> bool
 pub(crate) fn is_opened(t: &[u8]) -> bool
     ensures { result ≡ opens t.now }
 {
-    if t.len() < 70 {
-        return false;
-    }
-    if !body::stands(t, 0, b"[0,\"") {
-        return false;
-    }
-    if !is_pubkey(&t[4..68]) {
-        return false;
-    }
-    body::stands(t, 68, b"\",")
+    70 <= t.len()
+        && body::stands(t, 0, b"[0,\"")
+        && is_pubkey(&t[4..68])
+        && body::stands(t, 68, b"\",")
 }
 
-// TAGS,"CONTENT"] to the end of the text.
-pub(crate) fn rest_at(t: &[u8], at: usize) -> Rest
+// TAGS,"CONTENT"] to the end of the text: the content, and d.
+pub(crate) fn rest_at(t: &[u8], at: usize) -> Option<(Found, Found)>
     requires { is_utf8 t.now ≡ true }
     ensures { result ≡ rest_of (length t.now) at (rest_at t.now at) }
 {
-    match tags_end(t, at) {
-        Tagged::End(m, d, d_len) => {
-            if wire::byte(t, m) != b',' {
-                return Rest::Bad;
-            }
-            match body::string_end(t, m + 1) {
-                Out::End(n) => {
-                    if wire::byte(t, n) != b']' {
-                        return Rest::Bad;
-                    }
-                    if n + 1 != t.len() {
-                        return Rest::Bad;
-                    }
-                    Rest::Is(m + 2, n - m - 3, d, d_len)
-                }
-                Out::Bad => Rest::Bad,
-            }
-        }
-        Tagged::Bad => Rest::Bad,
+    let (m, d) = tags_end(t, at)?;
+    if wire::byte(t, m) != b',' {
+        return None;
     }
+    let n = body::string_end(t, m + 1)?;
+    if wire::byte(t, n) != b']' || n + 1 != t.len() {
+        return None;
+    }
+    let content = Found {
+        at: m + 2,
+        len: n - m - 3,
+    };
+    Some((content, d))
 }

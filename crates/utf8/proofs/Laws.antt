@@ -2,16 +2,18 @@
 use mathlib.Core.Bool.{false}
 use mathlib.Core.Path.{◌≡◌, refl, sym, ◌∙◌}
 use mathlib.Core.List.{List, [], ◌∷◌}
-use Prim.Native.Nat.{ℕ, ◌+◌, ◌-◌, ◌≤◌, ◌<◌}
+use Prim.Native.Nat.{ℕ, zero, suc, ◌+◌, ◌-◌, ◌≤◌, ◌<◌}
 use native.Mathlib.Decide.{dec_lt}
 use native.Mathlib.Omega.{arith}
 use native.Mathlib.Numerals.{add-one}
 use borrow.Author.Tests.{lt-ltb, le-ltb, le-leb, lt-leb, eq-eqb, ne_eqb}
-use lib.ListN.{length, get_or, drop, drop_of_length-le, get_or-eq_default}
-use lib.Seq.{drop-cons}
+use Rattle.std.proofs.Common.{add-zero}
+use Rattle.std.proofs.lemmas.List.{take_rest}
+use lib.ListN.{length, get_or, take, drop, length-drop, drop_of_length-le, get_or-eq_default}
+use lib.Seq.{drop-cons, get_or-drop}
 use Rattle.utf8.specs.declared.Want.{Want}
 use Rattle.utf8.specs.declared.Want.TheVariants.{Lead, Tail, Bad}
-use Rattle.utf8.specs.Inner.{Passed}
+use Rattle.utf8.specs.Inner.{Past, Passed}
 use Rattle.utf8.specs.Utf8.{lead_of, utf8_from, next_want, ends}
 
 pub ruleset tests = (lt-ltb, le-ltb, le-leb, lt-leb, eq-eqb, ne_eqb)
@@ -29,6 +31,20 @@ module _ (w : Want) (s : List ℕ) (i : ℕ) where
 pub ascii : (s : List ℕ) (i : ℕ) → i < length s → get_or s i 0 ≤ 0x7f → utf8_from Lead (drop i s) ≡ utf8_from Lead (drop (i + 1) s)
 unfolding lead_of
 ascii s i h a = turn Lead s i h Lead (rw (le-leb (get_or s i 0) 0x7f a))
+
+-- n of them
+ascii_run : (s : List ℕ) (i n : ℕ) → i + n ≤ length s → ((k : ℕ) → k < n → get_or s (i + k) 0 ≤ 0x7f) → Past s i (i + n)
+ascii_run s i zero h f = record { from = omega arith; within = h; same = rw add-zero }
+ascii_run s i (suc n) h f =
+    let p = ascii_run s i n (omega arith) (λ k l. f k (omega arith)) in
+    let e : i + n + 1 ≡ i + suc n = omega arith in
+    record { from = omega arith; within = h; same = p.same ∙ ascii s (i + n) (omega arith) (f n (omega arith)) ∙ rw e }
+
+-- of the part from i on, which the code takes as a slice
+pub ascii_passed : (s : List ℕ) (i n : ℕ) → i ≤ length s → n ≤ length (take (length s - i) (drop i s)) → ((k : ℕ) → k < n → get_or (take (length s - i) (drop i s)) k 0 ≤ 0x7f) → Past s i (i + n)
+ascii_passed s i n g h f =
+    let e = rw take_rest at h in
+    ascii_run s i n (omega (arith, e, length-drop i s)) (λ k l. rw (take_rest s i, get_or-drop i s k 0) at (f k l))
 
 -- nothing will do
 pub bad : (l : List ℕ) → utf8_from Bad l ≡ false

@@ -1,7 +1,7 @@
 // UTF-8 (RFC 3629), a character at a time, and ASCII at a run.
 #![tactic(auto)]
 
-ghost use Rattle.std.specs.Prelude.{◌≡◌, ◌+◌, ◌≤◌, ◌<◌, length};
+ghost use Rattle.std.specs.Prelude.{◌≡◌, ℕ, ◌+◌, ◌≤◌, ◌<◌, length, slice_index};
 ghost use Rattle.utf8.specs.Inner.{Past, Passed, Small};
 ghost use Rattle.utf8.specs.Utf8.{lead_of, is_utf8};
 
@@ -14,33 +14,31 @@ pub enum Want {
     Bad,
 }
 
+#[tactic(auto, unfolding(crate::specs::Utf8::lead_of))]
 fn lead(x: u8) -> Want
     ensures value { result ≡ lead_of x }
     ensures small { Small result }
 {
-    if x <= 0x7f {
-        Want::Lead
-    } else if x <= 0xc1 {
-        Want::Bad
-    } else if x <= 0xdf {
-        Want::Tail(0x80, 0xbf, 0)
-    } else if x <= 0xe0 {
-        Want::Tail(0xa0, 0xbf, 1)
-    } else if x <= 0xec {
-        Want::Tail(0x80, 0xbf, 1)
-    } else if x <= 0xed {
-        Want::Tail(0x80, 0x9f, 1)
-    } else if x <= 0xef {
-        Want::Tail(0x80, 0xbf, 1)
-    } else if x <= 0xf0 {
-        Want::Tail(0x90, 0xbf, 2)
-    } else if x <= 0xf3 {
-        Want::Tail(0x80, 0xbf, 2)
-    } else if x <= 0xf4 {
-        Want::Tail(0x80, 0x8f, 2)
-    } else {
-        Want::Bad
+    match x {
+        0x00..=0x7f => Want::Lead,
+        0xc2..=0xdf => Want::Tail(0x80, 0xbf, 0),
+        0xe0 => Want::Tail(0xa0, 0xbf, 1),
+        0xe1..=0xec => Want::Tail(0x80, 0xbf, 1),
+        0xed => Want::Tail(0x80, 0x9f, 1),
+        0xee..=0xef => Want::Tail(0x80, 0xbf, 1),
+        0xf0 => Want::Tail(0x90, 0xbf, 2),
+        0xf1..=0xf3 => Want::Tail(0x80, 0xbf, 2),
+        0xf4 => Want::Tail(0x80, 0x8f, 2),
+        _ => Want::Bad,
     }
+}
+
+// How many bytes of ASCII a text begins with.
+fn ascii_len(s: &[u8]) -> usize
+    ensures within { result ≤ length s.now }
+    ensures ascii { (k : ℕ) → k < result → slice_index s.now k ≤ 0x7f }
+{
+    s.iter().position(|b| 0x7f < *b).unwrap_or(s.len())
 }
 
 // The first place from i on that holds no ASCII, or the end.
@@ -48,14 +46,7 @@ fn past_ascii(s: &[u8], i: usize) -> usize
     requires { i ≤ length s.now }
     ensures { Past s.now i result }
 {
-    let mut k = i;
-    while k < s.len() {
-        if 0x7f < s[k] {
-            return k;
-        }
-        k += 1;
-    }
-    k
+    i + ascii_len(&s[i..])
 }
 
 // The place after a character whose first byte stands at i: an octet from lo to hi comes next, and after it so many
@@ -66,30 +57,21 @@ fn past_tails(s: &[u8], i: usize, lo: u8, hi: u8, more: u8) -> usize
     ensures { Passed (Want.Tail lo hi more) s.now (i + 1) i result }
 {
     let a = wire::byte(s, i + 1);
-    if a < lo {
-        return i;
-    }
-    if hi < a {
+    if a < lo || hi < a {
         return i;
     }
     if more == 0 {
         return i + 2;
     }
     let b = wire::byte(s, i + 2);
-    if b < 0x80 {
-        return i;
-    }
-    if 0xbf < b {
+    if b < 0x80 || 0xbf < b {
         return i;
     }
     if more == 1 {
         return i + 3;
     }
     let d = wire::byte(s, i + 3);
-    if d < 0x80 {
-        return i;
-    }
-    if 0xbf < d {
+    if d < 0x80 || 0xbf < d {
         return i;
     }
     i + 4

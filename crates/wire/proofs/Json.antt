@@ -5,7 +5,7 @@ use mathlib.Core.List.{List, [], ◌∷◌, ◌++◌, append_assoc}
 use Prim.Native.Nat.{ℕ, suc, ◌+◌, ◌*◌, ◌/◌, ◌%◌, ◌≤◌, ◌<◌}
 use native.Mathlib.Numerals.{add-one}
 use native.Mathlib.Omega.{arith}
-use borrow.Author.Tests.{eq-eqb, ne_eqb, eqb-true, lt-ltb, le-ltb, ltb-true}
+use borrow.Author.Tests.{ne_eqb, lt-ltb, ltb-true}
 use lib.Dec.{eqb, ltb}
 use lib.ListN.{length, drop, get_or, length-append, drop_of_length-le}
 use lib.Seq.{drop-cons}
@@ -190,25 +190,6 @@ module _ (s : List ℕ) (i : ℕ) where
   pub json_none : length s ≤ i → json_of (drop i s) ≡ []
   unfolding json_of
   json_none h = rw (drop_of_length-le s h)
-
-  pub has_turn : i < length s → has_control (drop i s) ≡ (is_control (get_or s i 0) || has_control (drop (i + 1) s))
-  has_turn h = rw (drop-cons s i 0 h, add-one i)
-
-  -- what was found before i or stands from there on is what stands in the whole
-  pub has_more : (found : Bool) → i < length s → (found || has_control (drop i s)) ≡ has_control s
-      → ((found || is_control (get_or s i 0)) || has_control (drop (i + 1) s)) ≡ has_control s
-  has_more found h v = go found (is_control (get_or s i 0)) (rw (has_turn h) at v)
-    where
-      go : (f b : Bool) → (f || (b || has_control (drop (i + 1) s))) ≡ has_control s → ((f || b) || has_control (drop (i + 1) s)) ≡ has_control s
-      go true b q = q
-      go false b q = q
-
-  pub has_all : (found : Bool) → length s ≤ i → (found || has_control (drop i s)) ≡ has_control s → found ≡ has_control s
-  has_all found h v = go found (rw (drop_of_length-le s h) at v)
-    where
-      go : (f : Bool) → (f || false) ≡ has_control s → f ≡ has_control s
-      go true q = q
-      go false q = q
 
   pub count_turn : i < length s → control_count (drop i s) ≡ control_count (get_or s i 0 ∷ []) + control_count (drop (i + 1) s)
   count_turn h = ap control_count (drop-cons s i 0 h) ∙ rw (add-one i) (count_cons (get_or s i 0) (drop (suc i) s))

@@ -1,10 +1,9 @@
--- After i turns the hash value is that after i blocks. Assumes nothing.
-use Rattle.std.proofs.Common.{◌≡◌, ◌-◌, ◌≤◌, length}
-use Rattle.digest.specs.Digest.{hash_after}
+-- The chunks that were yielded are absorbed, and the bytes behind them are left.
+use Rattle.std.proofs.Common.{◌≡◌, length}
+use Rattle.std.specs.Slice.Iter.{chunks_exact_rest, chunks_exact_size}
+use Rattle.digest.proofs.Laws.{Absorbed}
 use Rattle.digest.proofs.absorb.Given as goal
 
-abbrev pub invariant-loop-i : goal.invariant-loop-i
-invariant-loop-i l = (l.h ≡ hash_after l.initial.h l.bytes l.i) × (length l.h ≡ 8) × (l.i ≤ l.n)
-
-abbrev pub decreases-loop-i : goal.decreases-loop-i
-decreases-loop-i l = l.n - l.i
+abbrev pub invariant-loop-chunk : goal.invariant-loop-chunk
+invariant-loop-chunk l =
+    (chunks_exact_size l.chunk-iterator ≡ 64) × Absorbed l.initial.h l.bytes (length l.yielded) l.h (chunks_exact_rest l.chunk-iterator)

@@ -1,10 +1,7 @@
--- Below zero is 0, and otherwise the bits are the number.
+-- Below zero is 0, and otherwise the number itself.
 use mathlib.Core.Path.{◌∙◌}
-use Rattle.event.proofs.Strings.{natural_below, natural_above}
+use Rattle.event.proofs.Strings.{natural_or}
 use Rattle.event.proofs.kind_of.Goals as goal
 
-pub returns-then-kind-lt0 : goal.returns-then-kind-lt0
-returns-then-kind-lt0 c = natural_below c.args.kind c.ranges.kind c.if-kind-lt0.true
-
 pub returns : goal.returns
-returns c = c.to_unsigned.ensures ∙ natural_above c.args.kind c.ranges.kind c.if-kind-lt0.false
+returns c = c.unwrap_or.ensures ∙ natural_or c.args.kind c.ranges.kind _ c.try_from.ensures

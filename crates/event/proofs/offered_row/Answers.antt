@@ -10,8 +10,8 @@ returns-then-early-ne0 c = early_row _ _ c.event_row-early.ensures c.if-early-ne
 pub rest-requires : goal.rest-requires
 rest-requires c = record { t_len = search rules; p_value = sym c.event_row-early.ensures ∙ c.if-early-ne0.false }
 
-pub returns-in-Wrote : goal.returns-in-Wrote
-returns-in-Wrote c = row_none _ _ c.rest.ensures c.in-Wrote.is
+pub returns-in-Ok : goal.returns-in-Ok
+returns-in-Ok c = row_none _ _ c.rest.ensures c.in-Ok.is
 
-pub returns-in-Refused : goal.returns-in-Refused
-returns-in-Refused c = row_of _ _ c.rest.ensures c.in-Refused.is
+pub returns-in-Err : goal.returns-in-Err
+returns-in-Err c = row_of _ _ c.rest.ensures c.in-Err.is

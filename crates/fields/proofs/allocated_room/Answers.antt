@@ -1,6 +1,5 @@
 -- Zeros, and how many they are: as what made them says, and not by counting them.
 use mathlib.Core.Path.{◌≡◌, sym}
-use mathlib.Core.List.{List}
 use Prim.Native.Nat.{ℕ}
 use lib.ListN.{replicate}
 use Rattle.std.specs.Prelude.{IfOk, Ok, Err, Result, Vec, vec_len}

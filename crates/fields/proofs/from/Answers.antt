@@ -1,15 +1,22 @@
-use mathlib.Core.Path.{sym, ap, ◌∙◌}
-use Prim.Native.Nat.{◌-◌}
-use Rattle.fields.specs.Line.{fields_from}
-use Rattle.fields.proofs.Fields.{from_turn, from_end, to_end}
+use mathlib.Core.Path.{◌≡◌, sym, ◌∙◌}
+use native.Mathlib.Nat.{sub-zero}
+use native.Mathlib.Omega.{arith}
+use Prim.Native.Nat.{◌+◌, ◌-◌, ◌<◌, ◌≤◌}
+use Rattle.fields.proofs.Fields.{from_turn, from_end}
 use Rattle.fields.proofs.from.Goals as goal
 
-pub loop-left-preserved : goal.loop-left-preserved
-loop-left-preserved c =
-    let l = c.loop-left in
-    (c.after-at.ensures.1, ap (fields_from (l.left - 1)) c.after-at.ensures.0 ∙ sym (from_turn l.left _ c.loop-left-test.true) ∙ l.invariant.1)
+pub loop-k-init : goal.loop-k-init
+loop-k-init c = rw sub-zero
+
+pub loop-k-preserved : goal.loop-k-preserved
+loop-k-preserved c =
+    let l = c.loop-k in
+    let e : c.args.k - (l._k + 1) ≡ c.args.k - l._k - 1 = omega arith in
+    let h : 0 < c.args.k - l._k = omega arith in
+    rw (e, c.after-rest.ensures) (sym (from_turn (c.args.k - l._k) l.rest.now h) ∙ l.invariant)
 
 pub returns : goal.returns
 returns c =
-    let l = c.loop-left in
-    to_end c.args.line.now l.at ∙ sym (from_end l.left _ c.loop-left-test.false) ∙ l.invariant.1
+    let l = c.loop-k in
+    let h : c.args.k - l._k ≤ 0 = omega arith in
+    sym (from_end (c.args.k - l._k) l.rest.now h) ∙ l.invariant

@@ -1,12 +1,8 @@
--- The invariant: the fields left to pass, from index `at` on, give the whole.
+-- The invariant: the fields that are left to pass give the whole.
 use mathlib.Core.Path.{◌≡◌}
-use Prim.Native.Nat.{◌≤◌}
-use lib.ListN.{length, drop}
+use Prim.Native.Nat.{◌-◌}
 use Rattle.fields.specs.Line.{fields_from}
 use Rattle.fields.proofs.from.Given as goal
 
-abbrev pub invariant-loop-left : goal.invariant-loop-left
-invariant-loop-left l = (l.at ≤ length l.line) × (fields_from l.left (drop l.at l.line) ≡ fields_from l.k l.line)
-
-abbrev pub decreases-loop-left : goal.decreases-loop-left
-decreases-loop-left l = l.left
+abbrev pub invariant-loop-k : goal.invariant-loop-k
+invariant-loop-k l = fields_from (l.k - l._k) l.rest ≡ fields_from l.k l.line

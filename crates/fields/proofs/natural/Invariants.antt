@@ -1,12 +1,8 @@
--- The invariant: the bytes from i on give the whole.
+-- The invariant: the bytes that are left give the whole.
 use mathlib.Core.Path.{◌≡◌}
-use Prim.Native.Nat.{◌-◌}
-use lib.ListN.{length, drop}
+use lib.ListN.{drop}
 use Rattle.fields.specs.Number.{natural_field}
 use Rattle.fields.proofs.natural.Given as goal
 
-abbrev pub invariant-loop-i : goal.invariant-loop-i
-invariant-loop-i l = natural_field l.v (drop l.i l.p) ≡ natural_field 0 l.p
-
-abbrev pub decreases-loop-i : goal.decreases-loop-i
-decreases-loop-i l = length l.p - l.i
+abbrev pub invariant-loop-b : goal.invariant-loop-b
+invariant-loop-b l = natural_field l.v (drop l.b-index l.p) ≡ natural_field 0 l.p

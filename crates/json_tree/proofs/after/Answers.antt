@@ -1,11 +1,11 @@
 -- A comma, else what closes: each way is the calls' answers.
 use Rattle.json_tree.proofs.after.Goals as goal
 
-pub returns-in-End : goal.returns-in-End
-returns-in-End c = simp (← c.token.ensures, c.in-End.is)
+pub returns-in-Some : goal.returns-in-Some
+returns-in-Some c = simp (← c.token.ensures, c.in-Some.is)
 
-pub returns-in-End-token : goal.returns-in-End-token
-returns-in-End-token c = simp (← c.token.ensures, c.in-Bad.is, ← c.closing.ensures.0, ← c.token-in-Bad.ensures, c.in-End-token.is)
+pub returns-in-Some-token : goal.returns-in-Some-token
+returns-in-Some-token c = simp (← c.token.ensures, c.in-None.is, ← c.closing.ensures.0, ← c.token-in-None.ensures, c.in-Some-token.is)
 
-pub returns-in-Bad-token : goal.returns-in-Bad-token
-returns-in-Bad-token c = simp (← c.token.ensures, c.in-Bad.is, ← c.closing.ensures.0, ← c.token-in-Bad.ensures, c.in-Bad-token.is)
+pub returns-in-None-token : goal.returns-in-None-token
+returns-in-None-token c = simp (← c.token.ensures, c.in-None.is, ← c.closing.ensures.0, ← c.token-in-None.ensures, c.in-None-token.is)

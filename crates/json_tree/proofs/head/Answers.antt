@@ -2,11 +2,11 @@
 use mathlib.Core.Path.{◌∙◌}
 use Rattle.json_tree.proofs.head.Goals as goal
 
-pub returns-in-End : goal.returns-in-End
-returns-in-End c = c.token.ensures ∙ simp (c.if-named.true, ← c.string.ensures, c.in-End.is, ← c.space.ensures)
+pub returns-then-not-named : goal.returns-then-not-named
+returns-then-not-named c = simp c.if-not-named.true
 
-pub returns-in-Bad : goal.returns-in-Bad
-returns-in-Bad c = simp (c.if-named.true, ← c.string.ensures, c.in-Bad.is)
+pub returns-in_err-n : goal.returns-in_err-n
+returns-in_err-n c = c.from_residual.ensures ∙ simp (c.if-not-named.false, ← c.string.ensures, c.in_err-n.was)
 
-pub returns-else-named : goal.returns-else-named
-returns-else-named c = simp c.if-named.false
+pub returns : goal.returns
+returns c = c.token.ensures ∙ simp (c.if-not-named.false, ← c.string.ensures, c.in_ok-n.was, ← c.space.ensures)

@@ -1,56 +1,20 @@
 -- A string, else a number, else a name: each way is the calls' answers.
-use borrow.Author.Rules.{rules}
+use mathlib.Core.Path.{◌∙◌}
 use Rattle.json_tree.specs.Grammar.{scalar_at}
 use Rattle.json_tree.proofs.scalar.Goals as goal
 
-pub string-requires : goal.string-requires
+pub returns-in-Some : goal.returns-in-Some
 unfolding scalar_at
-string-requires c = search rules
+returns-in-Some c = simp (← c.string.ensures, c.in-Some.is)
 
-pub enum_known-n : goal.enum_known-n
+pub returns-in-Some-number : goal.returns-in-Some-number
 unfolding scalar_at
-enum_known-n c = search rules
+returns-in-Some-number c = simp (← c.string.ensures, c.in_default.is, ← c.number.ensures, c.in-Some-number.is)
 
-pub enum_told-1 : goal.enum_told-1
+pub returns-in_err-n : goal.returns-in_err-n
 unfolding scalar_at
-enum_told-1 c = search rules
+returns-in_err-n c = c.from_residual.ensures ∙ simp (← c.string.ensures, c.in_default.is, ← c.number.ensures, c.in_default-number.is, ← c.literal.ensures, c.in_err-n.was)
 
-pub number-requires : goal.number-requires
+pub returns : goal.returns
 unfolding scalar_at
-number-requires c = search rules
-
-pub enum_known-n-in-End-number : goal.enum_known-n-in-End-number
-unfolding scalar_at
-enum_known-n-in-End-number c = search rules
-
-pub enum_told-in-Bad-number : goal.enum_told-in-Bad-number
-unfolding scalar_at
-enum_told-in-Bad-number c = search rules
-
-pub literal-requires : goal.literal-requires
-unfolding scalar_at
-literal-requires c = search rules
-
-pub enum_known-n-in-End-literal : goal.enum_known-n-in-End-literal
-unfolding scalar_at
-enum_known-n-in-End-literal c = search rules
-
-pub enum_told-in-Bad-literal : goal.enum_told-in-Bad-literal
-unfolding scalar_at
-enum_told-in-Bad-literal c = search rules
-
-pub returns-in-End : goal.returns-in-End
-unfolding scalar_at
-returns-in-End c = simp (← c.string.ensures, c.in-End.is)
-
-pub returns-in-End-number : goal.returns-in-End-number
-unfolding scalar_at
-returns-in-End-number c = simp (← c.string.ensures, c.in-Bad.is, ← c.number.ensures, c.in-End-number.is)
-
-pub returns-in-End-literal : goal.returns-in-End-literal
-unfolding scalar_at
-returns-in-End-literal c = simp (← c.string.ensures, c.in-Bad.is, ← c.number.ensures, c.in-Bad-number.is, ← c.literal.ensures, c.in-End-literal.is)
-
-pub returns-in-Bad-literal : goal.returns-in-Bad-literal
-unfolding scalar_at
-returns-in-Bad-literal c = simp (← c.string.ensures, c.in-Bad.is, ← c.number.ensures, c.in-Bad-number.is, ← c.literal.ensures, c.in-Bad-literal.is)
+returns c = simp (← c.string.ensures, c.in_default.is, ← c.number.ensures, c.in_default-number.is, ← c.literal.ensures, c.in_ok-n.was)

@@ -1,4 +1,5 @@
 -- The filters asked so far, each with its bytes, and the whole answer.
+use Rattle.std.specs.Prelude.{Result, Ok, Err}
 use mathlib.Core.Path.{◌≡◌, refl, sym, ap, ◌∙◌}
 use mathlib.Core.Bool.{Bool, true, false, cond}
 use mathlib.Core.Logic.{◌≢◌}
@@ -20,8 +21,6 @@ use Rattle.table.proofs.Lists.{entry_in}
 use Rattle.query.specs.Filter.{Filter, filter_of}
 use Rattle.query.specs.Answer.{among, numbers_from, matches_slot, meant, answer_to, filters_row, listing_row, listed}
 use Rattle.query.specs.Answer.{listed_row, listing_number}
-use Rattle.query.specs.declared.Listing.{Listing}
-use Rattle.query.specs.declared.Listing.TheVariants.{Count, Refused}
 use Rattle.query.proofs.Sorting.{from_among}
 use Rattle.query.proofs.Lent.{filters_pass}
 use Rattle.matching.specs.Inner.Hits.{hit_at, Filled}
@@ -87,30 +86,30 @@ module _ (b m : List ℕ) (fs : List FilterParts) where
     unfolding meant
     taken_is h j p q a = let e : j ≡ n = omega arith in taken_answers b h m fs n (rw e at a)
 
-    pub as_told : (h row out : List ℕ) (r : Listing) → pass_taken b h fs n ≡ answer_to b m fs n → (r ≡ told (pass_taken b h fs n) row) × (out ≡ told_row (pass_taken b h fs n) row)
+    pub as_told : (h row out : List ℕ) (r : Result ℕ ℕ) → pass_taken b h fs n ≡ answer_to b m fs n → (r ≡ told (pass_taken b h fs n) row) × (out ≡ told_row (pass_taken b h fs n) row)
         → (r ≡ told (answer_to b m fs n) row) × (out ≡ told_row (answer_to b m fs n) row)
     as_told h row out r e (p, q) = (p ∙ ap (λ t. told t row) e, q ∙ ap (λ t. told_row t row) e)
 
     -- ---- the ways out: the answer, its number, the row
     module _ (row : List ℕ) where
-      abbrev Listed : Listing → List ℕ → Type 0
+      abbrev Listed : Result ℕ ℕ → List ℕ → Type 0
       Listed r out = (r ≡ listed b m fs n row) × ((listing_number r ≡ listing_row b m fs n row) × (out ≡ listed_row b m fs n row))
 
-      pub filters_refuse : (r : ℕ) → r ≡ filters_row m fs n → r ≢ 0 → Listed (Refused r) row
+      pub filters_refuse : (r : ℕ) → r ≡ filters_row m fs n → r ≢ 0 → Listed (Err r) row
       unfolding listed listed_row listing_row
       filters_refuse r e ne = rw (← e, ne_eqb r 0 ne, ne_eqb r 0 ne) (refl, (refl, refl))
 
       module _ (passed : filters_row m fs n ≡ 0) where
-        pub not_sound : sound b ≡ false → Listed (Refused 11) row
+        pub not_sound : sound b ≡ false → Listed (Err 11) row
         unfolding listed listed_row listing_row
         not_sound e = rw (passed, e) (refl, (refl, refl))
 
-        pub answers_rest : sound b ≡ true → (r : Listing) (out : List ℕ) → r ≡ told (answer_to b m fs n) row → out ≡ told_row (answer_to b m fs n) row → Listed r out
+        pub answers_rest : sound b ≡ true → (r : Result ℕ ℕ) (out : List ℕ) → r ≡ told (answer_to b m fs n) row → out ≡ told_row (answer_to b m fs n) row → Listed r out
         unfolding listed listed_row listing_row told told_row laid_over
         answers_rest e r out p q = rw (passed, e, p, q) (go (ltb (length row) (length (answer_to b m fs n))))
           where
-            go : (t : Bool) → (cond t (Refused 13) (Count (length (answer_to b m fs n))) ≡ cond (eqb (cond t 13 0) 0) (Count (length (answer_to b m fs n))) (Refused (cond t 13 0)))
-                × ((listing_number (cond t (Refused 13) (Count (length (answer_to b m fs n)))) ≡ cond t 13 0)
+            go : (t : Bool) → (cond {A = Result ℕ ℕ} t (Err 13) (Ok (length (answer_to b m fs n))) ≡ cond (eqb (cond t 13 0) 0) (Ok (length (answer_to b m fs n))) (Err (cond t 13 0)))
+                × ((listing_number (cond t (Err 13) (Ok (length (answer_to b m fs n)))) ≡ cond t 13 0)
                 × (cond t row (laid_over (answer_to b m fs n) row) ≡ cond (eqb (cond t 13 0) 0) (laid_over (answer_to b m fs n) row) row))
             go true = (refl, (refl, refl))
             go false = (refl, (refl, refl))

@@ -1,4 +1,5 @@
 -- The members of an array that are left while they are written into the row.
+use Rattle.std.specs.Prelude.{Option, Some, None}
 use mathlib.Core.Path.{◌≡◌, refl, sym, ap, ap₂, ◌∙◌}
 use mathlib.Core.Bool.{Bool, true, false, not, false≢true}
 use mathlib.Core.List.{List, [], ◌∷◌, ◌++◌, append_assoc, append-nil}
@@ -14,8 +15,6 @@ use Rattle.json_tree.specs.Grammar.{start_at}
 use Rattle.json_tree.specs.Tree.{Json, arr, Items, nil, item, Got, none, got, depth, tree_at, on_array}
 use Rattle.shape.specs.Shape.{any_item, all_items, count_items, count, is_array_of}
 use Rattle.shape.specs.Rows.{wrong_list}
-use Rattle.message.specs.declared.Listed.{Listed}
-use Rattle.message.specs.declared.Listed.TheVariants.{Absent, At}
 use Rattle.message.specs.Lists.{start_element, next_of}
 use Rattle.message.specs.Lent.{value5, on_value, value_at}
 use Rattle.message.proofs.Facts.{and_true, or_not}
@@ -28,7 +27,7 @@ use Rattle.matching.proofs.matcher.Places.{first_left, all_left}
 
 -- ---- what is left of an array whose members f takes and g does not, w numbers for each, when n numbers were written
 module _ {X : Type 0} (w : ℕ) (f g : Json → Bool) (means : List ℕ → List X) (says : Json → X) (saysAll : Items → List X) (m : List ℕ) (whole : List X) where
-  pub record Going (before : List ℕ) (at : ℕ) (row : List ℕ) (x : Listed) (n : ℕ) : Type 0 where
+  pub record Going (before : List ℕ) (at : ℕ) (row : List ℕ) (x : Option ℕ) (n : ℕ) : Type 0 where
     pub us : Items
     pub listing : Listing m us
     pub here : x ≡ first_left us
@@ -42,7 +41,7 @@ module _ {X : Type 0} (w : ℕ) (f g : Json → Bool) (means : List ℕ → List
     pub long : length row ≡ length before
 
   module _ (saysNil : saysAll nil ≡ []) (saysItem : (p v : ℕ) (t : Json) (ts : Items) → saysAll (item p v t ts) ≡ says t ∷ saysAll ts) where
-    module _ {before : List ℕ} {at : ℕ} {row : List ℕ} {x : Listed} {n : ℕ} (k : Going before at row x n) where
+    module _ {before : List ℕ} {at : ℕ} {row : List ℕ} {x : Option ℕ} {n : ℕ} (k : Going before at row x n) where
       ended : {most : ℕ} → n ≤ most → k.us ≡ nil → Finds means whole most before at n row
       ended h e = record {
         few = h;
@@ -51,10 +50,10 @@ module _ {X : Type 0} (w : ℕ) (f g : Json → Bool) (means : List ℕ → List
         long = k.long;
       }
 
-      pub going_none : {most : ℕ} → n ≤ most → x ≡ Absent → Finds means whole most before at n row
+      pub going_none : {most : ℕ} → n ≤ most → x ≡ None → Finds means whole most before at n row
       going_none h e = ended h (go k.us (sym k.here ∙ e))
         where
-          go : (us : Items) → first_left us ≡ Absent → us ≡ nil
+          go : (us : Items) → first_left us ≡ None → us ≡ nil
           go nil q = refl
           go (item p v t ts) q = absurd (let y : ◌≡◌ {A = ℕ} 0 1 = cc in omega arith)
 
@@ -66,23 +65,15 @@ module _ {X : Type 0} (w : ℕ) (f g : Json → Bool) (means : List ℕ → List
           go nil q = refl
           go (item p v t ts) q = absurd (omega (arith, l))
 
-      module _ {i : ℕ} (e : x ≡ At i) where
-        pub going_there : k.done < 16
-        unfolding count_items
-        going_there = go k.us (sym k.here ∙ e) k.few
-          where
-            go : (us : Items) → first_left us ≡ At i → count us + k.done ≤ 16 → k.done < 16
-            go nil q l = absurd (let y : ◌≡◌ {A = ℕ} 0 1 = cc in omega arith)
-            go (item p v t ts) q l = omega arith
-
+      module _ {i : ℕ} (e : x ≡ Some i) where
         -- one member more is written
-        pub going_more : {n' : ℕ} {row' : List ℕ} {y : Listed} → y ≡ placed (next_of m i) → n' ≡ (k.done + 1) * w → take at row' ≡ take at row → length row' ≡ length row
+        pub going_more : {n' : ℕ} {row' : List ℕ} {y : Option ℕ} → y ≡ placed (next_of m i) → n' ≡ (k.done + 1) * w → take at row' ≡ take at row → length row' ≡ length row
             → ((t : Json) (j : ℕ) → tree_at m 7 i ≡ got t j → f t ≡ true → g t ≡ false → means (part row' at n') ≡ means (part row at n) ++ (says t ∷ []))
             → Going before at row' y n'
         unfolding count_items all_items any_item
         going_more {n'} {row'} {y} nx sz sm ln st = go k.us k.listing (sym k.here ∙ e) k.each k.clean k.few k.is
           where
-            go : (us : Items) → Listing m us → first_left us ≡ At i → all_items (λ q u. f u) us ≡ true → any_item (λ q u. g u) us ≡ false → count us + k.done ≤ 16
+            go : (us : Items) → Listing m us → first_left us ≡ Some i → all_items (λ q u. f u) us ≡ true → any_item (λ q u. g u) us ≡ false → count us + k.done ≤ 16
                 → means (part row at n) ++ saysAll us ≡ whole → Going before at row' y n'
             go nil l q a c h s = absurd (let z : ◌≡◌ {A = ℕ} 0 1 = cc in omega arith)
             go (item p v t ts) (one {m = j} tr nt l) q a c h s =
@@ -106,7 +97,7 @@ module _ {X : Type 0} (w : ℕ) (f g : Json → Bool) (means : List ℕ → List
                 }
 
   -- where the value at v is such an array of 1 to 16
-  pub going_start : (v : ℕ) (row : List ℕ) (at : ℕ) {x : Listed} → ((r : List ℕ) → means (part r at 0) ≡ []) → ((ts : Items) (n : ℕ) → tree_at m depth v ≡ got (arr ts) n → saysAll ts ≡ whole)
+  pub going_start : (v : ℕ) (row : List ℕ) (at : ℕ) {x : Option ℕ} → ((r : List ℕ) → means (part r at 0) ≡ []) → ((ts : Items) (n : ℕ) → tree_at m depth v ≡ got (arr ts) n → saysAll ts ≡ whole)
       → value5 (is_array_of f) m v ≡ false → on_value (on_array (any_item (λ q u. g u))) (value_at m v) ≡ false → on_value wrong_list (value_at m v) ≡ false
       → x ≡ placed (start_element (start_at m v)) → Going row at row x 0
   unfolding value5

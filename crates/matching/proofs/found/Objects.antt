@@ -1,8 +1,9 @@
 -- The members of a filter's object that are left while its # conditions are written.
+use Rattle.std.specs.Prelude.{Option, Some, None}
 use mathlib.Core.Path.{◌≡◌, refl, sym, ap, ap₂, ◌∙◌}
 use mathlib.Core.Bool.{Bool, true, false, cond, not, ◌&&◌, ◌||◌, false≢true}
 use mathlib.Core.List.{List, [], ◌∷◌, ◌++◌, map, append_assoc, append-nil}
-use Prim.Native.Nat.{ℕ, zero, suc, ◌+◌, ◌-◌, ◌*◌, ◌≤◌, ◌<◌}
+use Prim.Native.Nat.{ℕ, zero, suc, ◌+◌, ◌*◌, ◌≤◌, ◌<◌}
 use native.Mathlib.Omega.{arith}
 use borrow.Author.Tests.{le-ltb, leb-true, ltb-false, not-false}
 use lib.Dec.{eqb, leb, ltb}
@@ -13,14 +14,10 @@ use Rattle.spell.specs.Spell.{decode}
 use Rattle.json_tree.specs.Grammar.{case, start_at, head_at}
 use Rattle.json_tree.specs.Tree.{Json, word, num, str, arr, obj, Items, nil, item, Got, none, got, depth, tree_at}
 use Rattle.json_tree.specs.Tree.{on_object}
-use Rattle.json_tree.specs.declared.Out.{Out}
-use Rattle.json_tree.specs.declared.Out.TheVariants.{End}
 use Rattle.rows.specs.Strings.{spelled_at}
 use Rattle.shape.specs.Shape.{any_item, all_items, count_items, count, name_at, is_string, is_array_of, is_letter, is_condition}
 use Rattle.shape.specs.Shape.{filter_member, is_filter}
 use Rattle.shape.specs.Rows.{wrong_list, wrong_filter, filter_counts}
-use Rattle.message.specs.declared.Listed.{Listed}
-use Rattle.message.specs.declared.Listed.TheVariants.{Absent, At}
 use Rattle.message.specs.Lists.{open_within}
 use Rattle.message.specs.Parts.{members_at}
 use Rattle.message.specs.Lent.{value5, on_value, value_at}
@@ -36,21 +33,21 @@ use Rattle.matching.specs.Inner.Finds.{Finds, FindsConditions, first_named, next
 use Rattle.matching.specs.Inner.Finds.{condition_letter}
 
 -- ---- the place of the first name that is left; each name is followed by its value and then by the next name
-abbrev pub first_name : Items → Listed
-first_name nil = Absent
-first_name (item p v t ts) = At p
+abbrev pub first_name : Items → Option ℕ
+first_name nil = None
+first_name (item p v t ts) = Some p
 
 pub data Named (s : List ℕ) : Items → Type 0 where
   end : Named s nil
-  one : {p v m : ℕ} {t : Json} {ts : Items} → head_at s p true ≡ End v → tree_at s open_within v ≡ got t m → next_named s v ≡ first_name ts → Named s ts → Named s (item p v t ts)
+  one : {p v m : ℕ} {t : Json} {ts : Items} → head_at s p true ≡ Some v → tree_at s open_within v ≡ got t m → next_named s v ≡ first_name ts → Named s ts → Named s (item p v t ts)
 
-walk_name : {value : ℕ → Got Json} {s : List ℕ} {f i : ℕ} {ts : Items} {n : ℕ} → Walk value s true f i ts n → At i ≡ first_name ts
+walk_name : {value : ℕ → Got Json} {s : List ℕ} {f i : ℕ} {ts : Items} {n : ℕ} → Walk value s true f i ts n → Some i ≡ first_name ts
 walk_name (last h w q) = refl
 walk_name (more h w q r) = refl
 
 walk_named : {s : List ℕ} {f i : ℕ} {ts : Items} {n : ℕ} → Walk (tree_at s open_within) s true f i ts n → Named s ts
 unfolding next_named
-walk_named {s} (last {v = v} h w q) = let e : next_named s v ≡ Absent = rw (w, q) refl in one h w e end
+walk_named {s} (last {v = v} h w q) = let e : next_named s v ≡ None = rw (w, q) refl in one h w e end
 walk_named {s} (more {v = v} {ts = ts} h w q r) = let e : next_named s v ≡ first_name ts = rw (w, q) (walk_name r) in one h w e (walk_named r)
 
 object_named : {s : List ℕ} {at : ℕ} {ts : Items} {n : ℕ} → Group s at true ts n → (first_named (start_at s at) ≡ first_name ts) × Named s ts
@@ -163,7 +160,7 @@ unfolding value5 wrong_list
 listed m w j t e l = (rw (e, l.is, l.each) refl, rw (e, l.is, le-ltb (count l.items) 1 l.some, le-ltb 16 (count l.items) l.few) refl)
 
 -- ---- what is left, when n conditions were written and k members passed
-pub record Passing (m : List ℕ) (v : ℕ) (before : List ℕ) (row : List ℕ) (list : List Needed) (n : ℕ) (x : Listed) (k : ℕ) : Type 0 where
+pub record Passing (m : List ℕ) (v : ℕ) (before : List ℕ) (row : List ℕ) (list : List Needed) (n : ℕ) (x : Option ℕ) (k : ℕ) : Type 0 where
   pub object : Object m v
   pub us : Items
   pub named : Named m us
@@ -173,11 +170,11 @@ pub record Passing (m : List ℕ) (v : ℕ) (before : List ℕ) (row : List ℕ)
   pub room : count_items (λ p t. is_condition (name_at m p)) us + n ≤ 4
   pub size : length list ≡ 4
   pub below : Below (80 + n * 32) (take n list)
-  pub is : map (condition_by m row) (take n list) ++ conditions_of m us ≡ conditions_in m (At v)
+  pub is : map (condition_by m row) (take n list) ++ conditions_of m us ≡ conditions_in m (Some v)
   pub same : take 80 row ≡ take 80 before
   pub long : length row ≡ length before
 
-pub passing_start : (m : List ℕ) (v : ℕ) (row : List ℕ) (list : List Needed) → length list ≡ 4 → {x : Listed} → Object m v → x ≡ first_named (start_at m v) → Passing m v row row list 0 x 0
+pub passing_start : (m : List ℕ) (v : ℕ) (row : List ℕ) (list : List Needed) → length list ≡ 4 → {x : Option ℕ} → Object m v → x ≡ first_named (start_at m v) → Passing m v row row list 0 x 0
 unfolding members_at filter_counts
 passing_start m v row list s o q =
     let g = group_of m v true o.items o.end o.tree in
@@ -197,22 +194,22 @@ passing_start m v row list s o q =
       long = refl;
     }
 
-module _ {m : List ℕ} {v : ℕ} {before row : List ℕ} {list : List Needed} {n : ℕ} {x : Listed} {k : ℕ} (g : Passing m v before row list n x k) where
-  ended : g.us ≡ nil → FindsConditions m (At v) before list n row
+module _ {m : List ℕ} {v : ℕ} {before row : List ℕ} {list : List Needed} {n : ℕ} {x : Option ℕ} {k : ℕ} (g : Passing m v before row list n x k) where
+  ended : g.us ≡ nil → FindsConditions m (Some v) before list n row
   ended e = record {
     is = sym (append-nil (map (condition_by m row) (take n list))) ∙ ap (λ (u : Items). map (condition_by m row) (take n list) ++ conditions_of m u) (sym e) ∙ g.is;
     same = g.same;
     long = g.long;
   }
 
-  pub passing_none : x ≡ Absent → FindsConditions m (At v) before list n row
+  pub passing_none : x ≡ None → FindsConditions m (Some v) before list n row
   passing_none e = ended (go g.us (sym g.first ∙ e))
     where
-      go : (us : Items) → first_name us ≡ Absent → us ≡ nil
+      go : (us : Items) → first_name us ≡ None → us ≡ nil
       go nil q = refl
       go (item p w t ts) q = absurd (let y : ◌≡◌ {A = ℕ} 0 1 = cc in omega arith)
 
-  pub passing_spent : length m ≤ k → FindsConditions m (At v) before list n row
+  pub passing_spent : length m ≤ k → FindsConditions m (Some v) before list n row
   unfolding count_items
   passing_spent h = ended (go g.us g.few)
     where
@@ -221,19 +218,19 @@ module _ {m : List ℕ} {v : ℕ} {before row : List ℕ} {list : List Needed} {
       go (item p w t ts) q = absurd (omega (arith, h))
 
   -- the member at p, whose value stands at w
-  module _ {p w : ℕ} (e : x ≡ At p) (ew : w ≡ value_place m p) where
+  module _ {p w : ℕ} (e : x ≡ Some p) (ew : w ≡ value_place m p) where
     -- no condition
-    pub passing_other : {y : Listed} → y ≡ next_named m w → condition_letter (name_at m p) ≡ 0 → Passing m v before row list n y (k + 1)
+    pub passing_other : {y : Option ℕ} → y ≡ next_named m w → condition_letter (name_at m p) ≡ 0 → Passing m v before row list n y (k + 1)
     unfolding count_items
     passing_other {y} nx l = go g.us g.named (sym g.first ∙ e) g.few g.inside g.room g.is
       where
-        go : (us : Items) → Named m us → first_name us ≡ At p → count us + k ≤ length m → ((q w : ℕ) (t : Json) → In q w t us → In q w t g.object.items)
-            → count_items (λ p t. is_condition (name_at m p)) us + n ≤ 4 → map (condition_by m row) (take n list) ++ conditions_of m us ≡ conditions_in m (At v) → Passing m v before row list n y (k + 1)
+        go : (us : Items) → Named m us → first_name us ≡ Some p → count us + k ≤ length m → ((q w : ℕ) (t : Json) → In q w t us → In q w t g.object.items)
+            → count_items (λ p t. is_condition (name_at m p)) us + n ≤ 4 → map (condition_by m row) (take n list) ++ conditions_of m us ≡ conditions_in m (Some v) → Passing m v before row list n y (k + 1)
         go nil d q f i r s = absurd (let z : ◌≡◌ {A = ℕ} 0 1 = cc in omega arith)
         go (item p' w' t ts) (one h tr nt d) q f i r s =
             let u : p' ≡ p = cc in
             let c : is_condition (name_at m p') ≡ false = ap (λ z. is_condition (name_at m z)) u ∙ no_condition (name_at m p) l in
-            let ww : w ≡ w' = ew ∙ ap (value_place m) (sym u) ∙ ap (λ (o : Out). case o (λ z. z) 0) h in
+            let ww : w ≡ w' = ew ∙ ap (value_place m) (sym u) ∙ ap (λ (o : Option ℕ). case o (λ z. z) 0) h in
             record {
               object = g.object;
               us = ts;
@@ -255,19 +252,19 @@ module _ {m : List ℕ} {v : ℕ} {before row : List ℕ} {list : List Needed} {
       unfolding count_items
       passing_list = go g.us g.named (sym g.first ∙ e) g.inside g.room
         where
-          go : (us : Items) → Named m us → first_name us ≡ At p → ((q w : ℕ) (t : Json) → In q w t us → In q w t g.object.items)
+          go : (us : Items) → Named m us → first_name us ≡ Some p → ((q w : ℕ) (t : Json) → In q w t us → In q w t g.object.items)
               → count_items (λ p t. is_condition (name_at m p)) us + n ≤ 4 → (n < 4) × (value5 (is_array_of is_string) m w ≡ false) × (on_value wrong_list (value_at m w) ≡ false)
           go nil d q i r = absurd (let z : ◌≡◌ {A = ℕ} 0 1 = cc in omega arith)
           go (item p' w' t ts) (one {m = j} h tr nt d) q i r =
               let u : p' ≡ p = cc in
               let yes : is_condition (name_at m p') ≡ true = ap (λ z. is_condition (name_at m z)) u ∙ (is_condition_lem (name_at m p) lt nz).0 in
-              let ww : w' ≡ w = sym (ew ∙ ap (value_place m) (sym u) ∙ ap (λ (o : Out). case o (λ z. z) 0) h) in
+              let ww : w' ≡ w = sym (ew ∙ ap (value_place m) (sym u) ∙ ap (λ (o : Option ℕ). case o (λ z. z) 0) h) in
               let tr' : tree_at m depth w ≡ got t j = ap (tree_at m depth) (sym ww) ∙ deeper m 7 w' t j tr in
               let (a, b) = listed m w j t tr' (condition_is m g.object.members g.object.counts (i p' w' t here) yes) in
               let r' = rw yes at r in
               (omega (arith, r'), a, b)
 
-      pub passing_more : {y : Listed} {row' : List ℕ} {l : ℕ} → y ≡ next_named m w → Finds (spelled_by m) (strings_in m (tree_at m depth w)) 32 row (80 + n * 32) l row'
+      pub passing_more : {y : Option ℕ} {row' : List ℕ} {l : ℕ} → y ≡ next_named m w → Finds (spelled_by m) (strings_in m (tree_at m depth w)) 32 row (80 + n * 32) l row'
           → Passing m v before row' (set list n (record { letter = c; from = 80 + n * 32; len = l })) (n + 1) y (k + 1)
       unfolding count_items
       passing_more {y} {row'} {l} nx fd = go g.us g.named (sym g.first ∙ e) g.few g.inside g.room g.is
@@ -275,15 +272,15 @@ module _ {m : List ℕ} {v : ℕ} {before row : List ℕ} {list : List Needed} {
           new : Needed
           new = record { letter = c; from = 80 + n * 32; len = l }
 
-          go : (us : Items) → Named m us → first_name us ≡ At p → count us + k ≤ length m → ((q w : ℕ) (t : Json) → In q w t us → In q w t g.object.items)
-              → count_items (λ p t. is_condition (name_at m p)) us + n ≤ 4 → map (condition_by m row) (take n list) ++ conditions_of m us ≡ conditions_in m (At v) → Passing m v before row' (set list n new) (n + 1) y (k + 1)
+          go : (us : Items) → Named m us → first_name us ≡ Some p → count us + k ≤ length m → ((q w : ℕ) (t : Json) → In q w t us → In q w t g.object.items)
+              → count_items (λ p t. is_condition (name_at m p)) us + n ≤ 4 → map (condition_by m row) (take n list) ++ conditions_of m us ≡ conditions_in m (Some v) → Passing m v before row' (set list n new) (n + 1) y (k + 1)
           go nil d q f i r s = absurd (let z : ◌≡◌ {A = ℕ} 0 1 = cc in omega arith)
           go (item p' w' t ts) (one {m = j} h tr nt d) q f i r s =
               let u : p' ≡ p = cc in
               let ic = is_condition_lem (name_at m p) lt nz in
               let yes : is_condition (name_at m p') ≡ true = ap (λ z. is_condition (name_at m z)) u ∙ ic.0 in
               let lc : get_or (name_at m p') 1 0 ≡ c = ap (λ z. get_or (name_at m z) 1 0) u ∙ ic.1 in
-              let ww : w' ≡ w = sym (ew ∙ ap (value_place m) (sym u) ∙ ap (λ (o : Out). case o (λ z. z) 0) h) in
+              let ww : w' ≡ w = sym (ew ∙ ap (value_place m) (sym u) ∙ ap (λ (o : Option ℕ). case o (λ z. z) 0) h) in
               let tr' : tree_at m depth w ≡ got t j = ap (tree_at m depth) (sym ww) ∙ deeper m 7 w' t j tr in
               let r' = rw yes at r in
               let s' = rw yes at s in

@@ -1,55 +1,31 @@
 -- The ways out of the functions on names, places and lists, and the whole filter.
+use Rattle.std.specs.Prelude.{Some, None, Option}
 use mathlib.Core.Path.{◌≡◌, refl, sym, ap, ◌∙◌}
-use mathlib.Core.Bool.{Bool, true, false, ◌&&◌, ◌||◌}
-use mathlib.Core.Option.{Option, some}
+use mathlib.Core.Bool.{Bool, true, false}
 use mathlib.Core.List.{List, ◌++◌, append-nil}
-use Prim.Native.Nat.{ℕ, ◌+◌, ◌-◌, ◌≤◌, ◌<◌}
+use Prim.Native.Nat.{ℕ, ◌+◌, ◌≤◌}
 use native.Mathlib.Omega.{arith}
-use borrow.Author.Tests.{le-leb, lt-leb, ne_eqb}
-use lib.Dec.{leb}
-use native.Mathlib.Decide.{dec_le}
+use borrow.Author.Tests.{ne_eqb}
 use lib.ListN.{length, get_or, take, drop_of_length-le}
 use Rattle.wire.specs.Put.{Puts}
 use Rattle.wire.proofs.Laws.{puts_whole}
-use Rattle.json_tree.specs.Grammar.{case, start_at, head_at, next_at}
+use Rattle.json_tree.specs.Grammar.{case, next_at}
 use Rattle.json_tree.specs.Tree.{end_of, depth, tree_at, on_object}
-use Rattle.json_tree.specs.declared.Out.{Out}
-use Rattle.json_tree.specs.declared.Start.{Start}
-use Rattle.json_tree.specs.declared.Start.TheVariants.{Many}
 use Rattle.json_tree.specs.declared.Next.{Next}
 use Rattle.shape.specs.Shape.{is_string, is_number, is_array_of, is_letter, is_condition, is_filter}
 use Rattle.shape.specs.Rows.{wrong_list, filter_counts}
-use Rattle.message.specs.declared.Listed.{Listed}
-use Rattle.message.specs.declared.Listed.TheVariants.{Absent, At}
 use Rattle.message.specs.declared.FilterParts.{FilterParts}
 use Rattle.message.specs.Lists.{open_within}
 use Rattle.message.specs.Lent.{value5, on_value, value_at, wrong_smalls, in_list, filter_row}
 use Rattle.message.proofs.Checked.{ids_are, authors_are, kinds_are, conditions_are}
-use Rattle.query.specs.Filter.{if_listed, strings_in, numbers_in, conditions_in, filter_of}
-use Rattle.matching.specs.declared.Members.{Members}
-use Rattle.matching.specs.declared.Members.TheVariants as members
-use Rattle.matching.specs.declared.Needed.{Needed}
+use Rattle.query.specs.Filter.{if_listed, strings_in, numbers_in, filter_of}
 use Rattle.matching.specs.declared.Known.{Known}
 use Rattle.matching.specs.Inner.Found.{given, spelled_by, numbers_by, filter_by}
-use Rattle.matching.specs.Inner.Finds.{Finds, FindsMembers, FindsConditions, reach, first_named, more_named}
-use Rattle.matching.specs.Inner.Finds.{next_named, value_place, condition_letter}
+use Rattle.matching.specs.Inner.Finds.{FindsMembers, FindsConditions, reach, more_named}
+use Rattle.matching.specs.Inner.Finds.{next_named, condition_letter}
 use Rattle.matching.proofs.found.Objects.{part_same, take_shorter}
 
 -- ---- a name
-module _ (x : ℕ) where
-  pub letter_low : 97 ≤ x → leb x 122 ≡ is_letter x
-  letter_low h = rw (le-leb 97 x h) (go (dec_le x 122))
-    where
-      go : Dec (x ≤ 122) → leb x 122 ≡ (leb x 122 || (leb 65 x && leb x 90))
-      go (yes l) = rw (le-leb x 122 l) refl
-      go (no l) = let m : 90 < x = omega arith in let k : 122 < x = omega (arith, l) in rw (lt-leb x 122 k, lt-leb x 90 m, le-leb 65 x (omega arith)) refl
-
-  pub letter_high : x < 97 → 65 ≤ x → leb x 90 ≡ is_letter x
-  letter_high h l = rw (lt-leb 97 x h, le-leb 65 x l) refl
-
-  pub letter_none : x < 65 → false ≡ is_letter x
-  letter_none h = rw (lt-leb 97 x (omega arith), lt-leb 65 x h) refl
-
 pub not_two : (w : List ℕ) {n : ℕ} → n ≡ length w → (n ≡ 2 → ⊥) → 0 ≡ condition_letter w
 unfolding condition_letter is_condition
 not_two w e z =
@@ -84,48 +60,21 @@ module _ (w : List ℕ) {n : ℕ} (e : n ≡ length w) (two : n ≡ 2) {d o : Li
         sym (rw (sym e ∙ two, q, f) refl ∙ ap (λ (x : List ℕ). get_or x 1 0) (sym same_two))
 
 -- ---- places
-pub first_is : (m : List ℕ) (at : ℕ) {x y : Start} → x ≡ start_at m at → x ≡ y → first_named y ≡ first_named (start_at m at)
-first_is m at e q = ap first_named (sym q ∙ e)
-
-pub first_many : (m : List ℕ) (at : ℕ) {x : Start} {i : ℕ} {b c : Bool} → x ≡ start_at m at → x ≡ Many i b → b ≡ c → first_named (Many i c) ≡ first_named (start_at m at)
-first_many m at {i = i} e q r = ap first_named (sym (q ∙ ap (Many i) r) ∙ e)
-
-pub next_bad : (m : List ℕ) (at : ℕ) {o p : Out} → o ≡ end_of (tree_at m open_within at) → o ≡ p → case p (λ n. more_named (next_at m n true)) Absent ≡ next_named m at
+pub next_bad : (m : List ℕ) (at : ℕ) {o p : Option ℕ} → o ≡ end_of (tree_at m open_within at) → o ≡ p → case p (λ n. more_named (next_at m n true)) None ≡ next_named m at
 unfolding next_named
-next_bad m at e q = ap (λ (z : Out). case z (λ n. more_named (next_at m n true)) Absent) (sym q ∙ e)
+next_bad m at e q = ap (λ (z : Option ℕ). case z (λ n. more_named (next_at m n true)) None) (sym q ∙ e)
 
 pub more_is : (m : List ℕ) (n : ℕ) {x y : Next} → x ≡ next_at m n true → x ≡ y → more_named y ≡ more_named (next_at m n true)
 more_is m n e q = ap more_named (sym q ∙ e)
 
-pub value_is : (m : List ℕ) (at : ℕ) {o p : Out} → o ≡ head_at m at true → o ≡ p → case p (λ v. v) 0 ≡ value_place m at
-value_is m at e q = ap (λ (z : Out). case z (λ v. v) 0) (sym q ∙ e)
-
--- ---- a list that may be absent
-pub of_list : (f : ℕ → Bool) {l : Listed} {v : ℕ} → l ≡ At v → in_list f l ≡ false → f v ≡ false
-of_list f q h = sym (ap (in_list f) q) ∙ h
-
-module _ {X : Type 0} {means : List ℕ → List X} (says : ℕ → List X) {most : ℕ} {at : ℕ} {row : List ℕ} {l : Listed} where
-  pub members_none : l ≡ Absent → FindsMembers means (if_listed says l) most row at members.Absent row
-  members_none e = record { inside = omega arith; is = sym (ap (if_listed says) e); same = refl; long = refl }
-
-  pub members_in : {before : List ℕ} {v n : ℕ} → l ≡ At v → Finds means (says v) most before at n row → FindsMembers means (if_listed says l) most before at (members.In at n) row
-  members_in e f = record { inside = omega (arith, f.few); is = ap some f.is ∙ sym (ap (if_listed says) e); same = f.same; long = f.long }
-
-module _ {m : List ℕ} {l : Listed} where
-  pub conditions_none : {row : List ℕ} {list : List Needed} → l ≡ Absent → FindsConditions m l row list 0 row
-  conditions_none e = record { is = sym (ap (conditions_in m) e); same = refl; long = refl }
-
-  pub conditions_same : {v n : ℕ} {before row : List ℕ} {list : List Needed} → l ≡ At v → FindsConditions m (At v) before list n row → FindsConditions m l before list n row
-  conditions_same e f = record { is = f.is ∙ sym (ap (conditions_in m) e); same = f.same; long = f.long }
-
 -- ---- the whole filter: what was found first stays
-module _ {X : Type 0} (means : List ℕ → List X) {whole : Option (List X)} {most : ℕ} {before : List ℕ} {at : ℕ} {l : Members} {row : List ℕ} (f : FindsMembers means whole most before at l row) where
+module _ {X : Type 0} (means : List ℕ → List X) {whole : Option (List X)} {most : ℕ} {before : List ℕ} {at : ℕ} {l : Option (ℕ × ℕ)} {row : List ℕ} (f : FindsMembers means whole most before at l row) where
   pub stays : (k : ℕ) (row' : List ℕ) → at + most ≤ k → take k row' ≡ take k row → given means row' l ≡ whole
   stays k row' h e = go l f.inside ∙ f.is
     where
-      go : (l : Members) → reach l ≤ at + most → given means row' l ≡ given means row l
-      go members.Absent r = refl
-      go (members.In a n) r = ap (λ (p : List ℕ). some (means p)) (part_same k row row' e a n (omega arith))
+      go : (l : Option (ℕ × ℕ)) → reach l ≤ at + most → given means row' l ≡ given means row l
+      go None r = refl
+      go (Some (a, n)) r = ap (λ (p : List ℕ). Some (means p)) (part_same k row row' e a n (omega arith))
 
 pub found_all : (m : List ℕ) (p : FilterParts) (k : Known) {row₀ row₁ row₂ row₃ row₄ : List ℕ}
     → FindsMembers (spelled_by m) (if_listed (λ v. strings_in m (tree_at m depth v)) p.ids) 32 row₀ 0 k.ids row₁
@@ -144,9 +93,9 @@ found_all m p k {row₀} {row₁} {row₂} {row₃} {row₄} i a n c s u l =
     rw (i', a', n', c.is, s, u, l) refl
 
 -- ---- what checked parts say of each list
-in_list_lem : (f : ℕ → Bool) (l : Listed) → ((v : ℕ) → l ≡ At v → f v ≡ false) → in_list f l ≡ false
-in_list_lem f Absent h = refl
-in_list_lem f (At v) h = h v refl
+in_list_lem : (f : ℕ → Bool) (l : Option ℕ) → ((v : ℕ) → l ≡ Some v → f v ≡ false) → in_list f l ≡ false
+in_list_lem f None h = refl
+in_list_lem f (Some v) h = h v refl
 
 module _ (m : List ℕ) (p : FilterParts) (e : filter_row m p ≡ 0) where
   pub ids_clean : (in_list (value5 (is_array_of is_string) m) p.ids ≡ false) × (in_list (λ v. on_value wrong_list (value_at m v)) p.ids ≡ false)

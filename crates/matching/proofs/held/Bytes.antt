@@ -1,16 +1,21 @@
 -- The byte of one slot and filter stored.
 use mathlib.Core.Path.{◌≡◌, refl, sym, ap, ◌∙◌}
-use mathlib.Core.Bool.{Bool, not}
+use mathlib.Core.Bool.{Bool, true, false, not}
 use mathlib.Core.List.{List}
 use Prim.Native.Nat.{ℕ, ◌+◌, ◌*◌, ◌<◌}
 use native.Mathlib.Omega.{arith}
 use native.Mathlib.Decide.{dec_lt}
 use lib.Dec.{eqb}
+use mir.Val.{bool_byte}
 use lib.ListN.{length, get_or, set}
 use lib.Seq.{get_or-set_same, get_or-set_other}
 use Rattle.query.specs.Filter.{Filter}
 use Rattle.query.specs.Answer.{matches_slot}
 use Rattle.matching.specs.Inner.Hits.{hit_at, Filled}
+
+pub as_byte : (r : Bool) → not (eqb (bool_byte r) 0) ≡ r
+as_byte true = refl
+as_byte false = refl
 
 pub filled_none : (b : List ℕ) (f : Filter) (j : ℕ) (h : List ℕ) → Filled b f j 0 h h
 filled_none b f j h = record { here = λ s l. absurd (omega arith); others = λ i s l n. refl }

@@ -1,4 +1,5 @@
 -- What the fields and the text of a held slot say of its event, a law for each way out.
+use Rattle.std.specs.Prelude.{Option}
 use mathlib.Core.Path.{◌≡◌, refl, sym, ap, ap₂, ◌∙◌}
 use mathlib.Core.Bool.{Bool, true, false, not}
 use mathlib.Core.List.{List, [], ◌∷◌, ◌++◌, append_assoc, map}
@@ -38,8 +39,6 @@ use Rattle.table.proofs.Tellable.{pubkey_said, tags_said}
 use Rattle.query.specs.Match.{is_listed, condition_holds, matches}
 use Rattle.query.specs.Answer.{matches_slot}
 use Rattle.query.proofs.Tables.{slot_matches}
-use Rattle.matching.specs.declared.Members.{Members}
-use Rattle.matching.specs.declared.Members.TheVariants.{In}
 use Rattle.matching.specs.declared.Known.{Known}
 use Rattle.matching.specs.Inner.Found.{spelled_by, given, condition_by, filter_by}
 use Rattle.matching.specs.Inner.Steps.{fields_hold}
@@ -84,15 +83,15 @@ module _ (l o : List ℕ) (i : ℕ) (w : take (i * 2) o ≡ hex_of (take i l)) w
 pub id_long : (s : List ℕ) {w : List ℕ} → w ≡ part s 0 32 → 32 ≤ length s → length w ≡ 32
 id_long s e h = ap length e ∙ length-take 32 s ∙ omega arith
 
-module _ (s m row : List ℕ) {l : Members} where
-  pub id_given : {a n : ℕ} → l ≡ In a n → ((i : ℕ) → Fits w8 (get_or s i 0)) → {w o : List ℕ} {r : Bool} → w ≡ part s 0 32 → o ≡ hex_of w
-      → r ≡ is_listed (given (spelled_by m) row (In a n)) (decode o) → r ≡ is_listed (given (spelled_by m) row l) (hex_of (id_in s))
+module _ (s m row : List ℕ) (l : Option (ℕ × ℕ)) where
+  pub id_given : ((i : ℕ) → Fits w8 (get_or s i 0)) → {w o : List ℕ} {r : Bool} → w ≡ part s 0 32 → o ≡ hex_of w
+      → r ≡ is_listed (given (spelled_by m) row l) (decode o) → r ≡ is_listed (given (spelled_by m) row l) (hex_of (id_in s))
   unfolding id_in
-  id_given e small {w} {o} p q x =
+  id_given small {w} {o} p q x =
       let y : decode o ≡ hex_of (part s 0 32) =
       ap decode (q ∙ ap hex_of p)
       ∙ hex_itself (hex_of (part s 0 32)) (hex_is (part s 0 32) (bytes_are (part s 0 32) (first_bytes_lem 32 s (λ i. (small i).fits)))) in
-      x ∙ ap₂ (λ k v. is_listed (given (spelled_by m) row k) v) (sym e) y
+      x ∙ ap (is_listed (given (spelled_by m) row l)) y
 
 -- ---- the tags
 module _ (t : List ℕ) (time : ℤ) (kind : ℕ) (m row : List ℕ) (f : Known) where

@@ -2,9 +2,8 @@
 use mathlib.Core.Path.{◌≡◌, sym, ap, ap₂, ◌∙◌}
 use mathlib.Core.Bool.{cond}
 use mathlib.Core.List.{List, ◌∷◌, map}
-use Prim.Native.Nat.{ℕ, suc, ◌-◌, ◌≤◌, ◌<◌}
+use Prim.Native.Nat.{min, ℕ, suc, ◌-◌, ◌≤◌, ◌<◌}
 use native.Mathlib.Omega.{arith}
-use borrow.Author.Tests.{lt-ltb, le-ltb}
 use lib.ListN.{length, take, drop, get_or, length-take, drop_of_length-le}
 use lib.Seq.{drop-cons, get_or-take}
 use Rattle.wire.specs.Limits.{most_filters}
@@ -19,15 +18,6 @@ module _ (n : ℕ) where
   abbrev pub counted : ℕ
   counted = cond (outside 1 most_filters n) 8 0
 
-  pub too_few : n < 1 → 8 ≡ counted
-  too_few h = rw (lt-ltb n 1 h)
-
-  pub too_many : 1 ≤ n → 4 < n → 8 ≡ counted
-  too_many h k = rw (le-ltb n 1 h, lt-ltb 4 n k)
-
-  pub right_number : 1 ≤ n → n ≤ 4 → 0 ≡ counted
-  right_number h k = rw (le-ltb n 1 h, le-ltb 4 n k)
-
 -- ---- each
 module _ (m : List ℕ) (fs : List FilterParts) (n : ℕ) where
   abbrev pub lowest_from : ℕ → ℕ
@@ -37,11 +27,8 @@ module _ (m : List ℕ) (fs : List FilterParts) (n : ℕ) where
   unfolding lowest_of
   none j h = rw (drop_of_length-le (take n fs) h)
 
-  pub rows_none : (j : ℕ) → length fs ≤ j → 0 ≡ lowest_from j
+  pub rows_none : (j : ℕ) → min n (length fs) ≤ j → 0 ≡ lowest_from j
   rows_none j h = sym (none j (omega (arith, length-take n fs)))
-
-  pub rows_skip : (j r : ℕ) → 0 < j → n ≤ j - 1 → r ≡ lowest_from j → r ≡ lowest_from (j - 1)
-  rows_skip j r p h e = e ∙ none j (omega (arith, length-take n fs)) ∙ sym (none (j - 1) (omega (arith, length-take n fs)))
 
   pub rows_more : (j r s t : ℕ) (z : FilterParts) → 0 < j → j ≤ length fs → j - 1 < n → r ≡ lowest_from j → s ≡ filter_row m (get_or fs (j - 1) z) → t ≡ lower_row s r
       → t ≡ lowest_from (j - 1)

@@ -1,7 +1,6 @@
 -- A law for each way out.
 use Rattle.message.proofs.Checked.{event_tags}
-use Rattle.matching.proofs.several.Ways.{row_refuses, event_passed, filters_passed, large_refuses, some_matches}
-use Rattle.matching.proofs.several.Ways.{none_matches}
+use Rattle.matching.proofs.several.Ways.{row_refuses, event_passed, filters_passed, large_refuses, answers}
 use Rattle.matching.proofs.matched.Goals as goal
 
 pub returns-then-row-ne0 : goal.returns-then-row-ne0
@@ -17,8 +16,5 @@ some_match-requires c =
       n_value = filters_passed _ _ _ _ _ c.lower_row-row.ensures c.event_row.ensures c.filters_row.ensures c.if-row-ne0.false;
     }
 
-pub returns-then-some_match : goal.returns-then-some_match
-returns-then-some_match c = let both = some_matches _ _ _ _ _ c.lower_row-row.ensures c.event_row.ensures c.filters_row.ensures c.if-row-ne0.false c.text_len.ensures c.if-text_len-gt-MOST_TEXT.false c.some_match.ensures c.if-some_match.true in record { value = both.0; result_value = both.1 }
-
 pub returns : goal.returns
-returns c = let both = none_matches _ _ _ _ _ c.lower_row-row.ensures c.event_row.ensures c.filters_row.ensures c.if-row-ne0.false c.text_len.ensures c.if-text_len-gt-MOST_TEXT.false c.some_match.ensures c.if-some_match.false in record { value = both.0; result_value = both.1 }
+returns c = let both = answers _ _ _ _ _ c.lower_row-row.ensures c.event_row.ensures c.filters_row.ensures c.if-row-ne0.false c.text_len.ensures c.if-text_len-gt-MOST_TEXT.false c.some_match.ensures in record { value = both.0; result_value = both.1 }

@@ -1,22 +1,21 @@
--- The rest of a filter: kinds, bounds, the conditions one by one, and all of them together.
+-- The rest of a filter: kinds, the conditions one by one, and all of them together.
+use Rattle.std.specs.Prelude.{◌==◌}
+use Rattle.std.specs.List.{list_any}
 use mathlib.Core.Path.{◌≡◌, refl, sym, ap, ap₂, ◌∙◌}
 use mathlib.Core.Bool.{Bool, true, false, not, ◌&&◌, ◌||◌}
-use mathlib.Core.List.{List, ◌∷◌, map}
-use Prim.Native.Nat.{ℕ, suc, ◌+◌, ◌-◌, ◌≤◌, ◌<◌}
+use mathlib.Core.List.{List, [], ◌∷◌, map}
+use Prim.Native.Nat.{ℕ, suc, ◌+◌, ◌-◌, ◌≤◌, ◌<◌, min}
 use native.Mathlib.Omega.{arith}
-use borrow.Author.Tests.{le-ltb, lt-ltb}
+use borrow.Author.Tests.{le-ltb, lt-ltb, eq-eqb, ne_eqb}
 use lib.IntN.{ℤ, pos}
 use lib.ListN.{length, get_or, take, drop, drop_of_length-le}
 use lib.Seq.{drop-cons, take-nil}
-use lib.Signed.{lt_z}
 use mir.Syntax.{w64}
 use mir.Val.{to_z, of_z, SFits}
 use mir.ValLaws.{to_z-of_z}
 use native.Mathlib.Decide.{dec_lt}
 use Rattle.wire.specs.Bytes.{part}
 use Rattle.text.specs.Event.{Event, all}
-use Rattle.message.specs.declared.Bound.{Bound}
-use Rattle.message.specs.declared.Bound.TheVariants.{Number}
 use Rattle.spell.specs.Spell.{decode}
 use Rattle.message.specs.declared.EventParts.{EventParts}
 use Rattle.event.specs.Lent.{natural, said, lent_tags_at, event_of}
@@ -42,48 +41,19 @@ and_yes {r} {a} {x} {y} e n q = go r n ∙ ap (λ (z : Bool). z && x) e
     go true n = q
     go false n = absurd (let z : ◌≡◌ {A = ℕ} 0 1 = cc in omega arith)
 
-pub was_no : (r : Bool) → not r ≡ true → r ≡ false
-was_no true n = absurd (let z : ◌≡◌ {A = ℕ} 0 1 = cc in omega arith)
-was_no false n = refl
-
-pub was_yes : (r : Bool) → not r ≡ false → r ≡ true
-was_yes true n = refl
-was_yes false n = absurd (let z : ◌≡◌ {A = ℕ} 0 1 = cc in omega arith)
-
 -- ---- kinds
-module _ (row : List ℕ) (k j : ℕ) (e : any (same_number (pos k)) (numbers_by row) ≡ any (same_number (pos k)) (numbers_by (drop j row))) where
-  pub kinds_end : length row ≤ j → false ≡ any (same_number (pos k)) (numbers_by row)
-  unfolding numbers_by
-  kinds_end h = sym (e ∙ ap (λ r. any (same_number (pos k)) (numbers_by r)) (drop_of_length-le row {i = j} h))
+alike : (k x : ℕ) → (x == k) ≡ same_number (pos k) (pos x)
+alike k x = go (dec_lt k x) (dec_lt x k)
+  where
+    go : Dec (k < x) → Dec (x < k) → (x == k) ≡ same_number (pos k) (pos x)
+    go (yes l) d = let n : x ≡ k → ⊥ = λ e. absurd (omega (arith, l, e)) in rw (ne_eqb x k n, lt-ltb k x l) refl
+    go (no l) (yes h) = let n : x ≡ k → ⊥ = λ e. absurd (omega (arith, h, e)) in rw (ne_eqb x k n, le-ltb k x (omega arith), lt-ltb x k h) refl
+    go (no l) (no h) = let e : x ≡ k = omega (arith, l, h) in rw (eq-eqb x k e, le-ltb k x (omega arith), le-ltb x k (omega arith)) refl
 
-  module _ (h : j < length row) where
-    here : any (same_number (pos k)) (numbers_by row) ≡ (same_number (pos k) (pos (get_or row j 0)) || any (same_number (pos k)) (numbers_by (drop (j + 1) row)))
-    unfolding numbers_by
-    here = let z : suc j ≡ j + 1 = omega arith in e ∙ ap (λ r. any (same_number (pos k)) (numbers_by r)) (drop-cons row j 0 h ∙ ap (λ i. get_or row j 0 ∷ drop i row) z)
-
-    pub kinds_hit : get_or row j 0 ≡ k → true ≡ any (same_number (pos k)) (numbers_by row)
-    kinds_hit q = sym (here ∙ ap (λ y. y || any (same_number (pos k)) (numbers_by (drop (j + 1) row))) alike)
-      where
-        alike : same_number (pos k) (pos (get_or row j 0)) ≡ true
-        alike = rw (q, le-ltb k k (omega arith)) refl
-
-    pub kinds_miss : (get_or row j 0 ≡ k → ⊥) → any (same_number (pos k)) (numbers_by row) ≡ any (same_number (pos k)) (numbers_by (drop (j + 1) row))
-    kinds_miss q = here ∙ ap (λ y. y || any (same_number (pos k)) (numbers_by (drop (j + 1) row))) (differ k (get_or row j 0) (λ e. q (sym e)))
-      where
-        differ : (a b : ℕ) → (a ≡ b → ⊥) → same_number (pos a) (pos b) ≡ false
-        differ a b n = go (dec_lt a b)
-          where
-            go : Dec (a < b) → same_number (pos a) (pos b) ≡ false
-            go (yes l) = rw (lt-ltb a b l) refl
-            go (no l) = let m : b < a = omega (arith, n, l) in rw (le-ltb a b (omega arith), lt-ltb b a m) refl
-
--- ---- bounds
-module _ {x : Bound} {z : ℤ} (t : ℤ) (e : x ≡ Number z) (fz : SFits w64 z) (ft : SFits w64 t) where
-  pub since_is : {r : Bool} → lt_z (to_z w64 (of_z w64 t)) (to_z w64 (of_z w64 z)) ≡ r → not r ≡ since_holds x t
-  since_is h = sym (ap (λ (y : Bound). since_holds y t) e ∙ ap not (sym (ap₂ lt_z (to_z-of_z w64 t ft) (to_z-of_z w64 z fz)) ∙ h))
-
-  pub until_is : {r : Bool} → lt_z (to_z w64 (of_z w64 z)) (to_z w64 (of_z w64 t)) ≡ r → not r ≡ until_holds x t
-  until_is h = sym (ap (λ (y : Bound). until_holds y t) e ∙ ap not (sym (ap₂ lt_z (to_z-of_z w64 z fz) (to_z-of_z w64 t ft)) ∙ h))
+pub kinds_any : (row : List ℕ) (k : ℕ) → list_any (λ x. x == k) row ≡ any (same_number (pos k)) (numbers_by row)
+unfolding numbers_by
+kinds_any [] k = refl
+kinds_any (x ∷ row) k = ap₂ ◌||◌ (alike k x) (kinds_any row k)
 
 -- ---- the conditions
 pub condition_test : (b m : List ℕ) (tags l : ℕ) {r : Bool} {s q : List ℕ} → r ≡ condition_holds (lent_tags_at b tags) (asked l (spelled_by m s)) → s ≡ q
@@ -94,13 +64,20 @@ module _ {A B : Type 0} (p : B → Bool) (f : A → B) (n : ℕ) (l : List A) wh
   abbrev pub Rest : ℕ → Type 0
   Rest i = all p (map f (take n l)) ≡ all p (map f (take (n - i) (drop i l)))
 
-  pub rest_none : (i : ℕ) → Rest i → n ≤ i → true ≡ all p (map f (take n l))
+  rest_none : (i : ℕ) → Rest i → n ≤ i → true ≡ all p (map f (take n l))
   unfolding all
   rest_none i r h = let z : n - i ≡ 0 = omega arith in sym (r ∙ ap (λ k. all p (map f (take k (drop i l)))) z)
 
-  pub rest_end : (i : ℕ) → Rest i → length l ≤ i → true ≡ all p (map f (take n l))
+  rest_end : (i : ℕ) → Rest i → length l ≤ i → true ≡ all p (map f (take n l))
   unfolding all
   rest_end i r h = sym (r ∙ ap (λ k. all p (map f k)) (ap (take (n - i)) (drop_of_length-le l {i = i} h) ∙ take-nil (n - i)))
+
+  pub rest_done : (i : ℕ) → Rest i → min n (length l) ≤ i → true ≡ all p (map f (take n l))
+  rest_done i r h = go (dec_lt i n)
+    where
+      go : Dec (i < n) → true ≡ all p (map f (take n l))
+      go (yes m) = rest_end i r (omega arith)
+      go (no m) = rest_none i r (omega arith)
 
   module _ (i : ℕ) (r : Rest i) (h : i < n) (k : i < length l) (z : A) where
     next : all p (map f (take n l)) ≡ (p (f (get_or l i z)) && all p (map f (take (n - (i + 1)) (drop (i + 1) l))))

@@ -1,4 +1,5 @@
 -- Filters asked one by one; and the ways out of the public call.
+use Rattle.std.specs.Prelude.{Result, Ok, Err}
 use mathlib.Core.Path.{◌≡◌, refl, sym, ap, ap₂, ◌∙◌}
 use mathlib.Core.Bool.{Bool, true, false, cond, ◌||◌}
 use mathlib.Core.List.{List, ◌∷◌, map}
@@ -22,8 +23,6 @@ use Rattle.query.specs.Match.{matches, matches_some}
 use Rattle.query.specs.Filter.{Filter}
 use Rattle.query.specs.Answer.{meant, filters_row, matched_row, matched, match_number}
 use Rattle.query.proofs.Listings.{matched_means}
-use Rattle.query.specs.declared.Matched.{Matched}
-use Rattle.query.specs.declared.Matched.TheVariants.{Matches, Differs, Refused}
 
 -- ---- those that are left, after i of them
 module _ {A B : Type 0} (p : B → Bool) (f : A → B) (n : ℕ) (l : List A) where
@@ -63,27 +62,24 @@ lower_none x y e = go (eqb x 0) refl (eqb y 0) refl e
     go false p false q e = absurd (let h = eqb-false x 0 p in let k = eqb-false y 0 q in omega (arith, h, k, e))
 
 module _ (b : List ℕ) (p : EventParts) (m : List ℕ) (fs : List FilterParts) (n : ℕ) where
-  abbrev Answer : Matched
-  Answer = cond (matches_some (meant m fs n) (said b p.id) (event_of b p.body)) Matches Differs
-
-  abbrev by : ℕ → Bool → Bool → Matched
-  by l g s = cond (eqb (or_else l (cond g 9 0)) 0) (cond s Matches Differs) (Refused (or_else l (cond g 9 0)))
+  abbrev by : ℕ → Bool → Bool → Result Bool ℕ
+  by l g s = cond (eqb (or_else l (cond g 9 0)) 0) (Ok s) (Err (or_else l (cond g 9 0)))
 
   whole : by (lower_row (event_row b p) (filters_row m fs n)) (is_large b p.body) (matches_some (meant m fs n) (said b p.id) (event_of b p.body)) ≡ matched b p m fs n
   unfolding matched matched_row
   whole = refl
 
-  number : {x : Matched} → x ≡ matched b p m fs n → (x ≡ matched b p m fs n) × (match_number x ≡ matched_row b p m fs n)
+  number : {x : Result Bool ℕ} → x ≡ matched b p m fs n → (x ≡ matched b p m fs n) × (match_number x ≡ matched_row b p m fs n)
   number e = (e, ap match_number e ∙ (matched_means b p m fs n).number)
 
   module _ {r e f : ℕ} (qr : r ≡ lower_row e f) (qe : e ≡ event_row b p) (qf : f ≡ filters_row m fs n) where
     row_is : r ≡ lower_row (event_row b p) (filters_row m fs n)
     row_is = qr ∙ ap₂ lower_row qe qf
 
-    pub row_refuses : (r ≡ 0 → ⊥) → (Refused r ≡ matched b p m fs n) × (match_number (Refused r) ≡ matched_row b p m fs n)
+    pub row_refuses : (r ≡ 0 → ⊥) → (Err r ≡ matched b p m fs n) × (match_number (Err r) ≡ matched_row b p m fs n)
     row_refuses z = number (here ∙ ap (λ l. by l (is_large b p.body) (matches_some (meant m fs n) (said b p.id) (event_of b p.body))) row_is ∙ whole)
       where
-        here : Refused r ≡ by r (is_large b p.body) (matches_some (meant m fs n) (said b p.id) (event_of b p.body))
+        here : Err r ≡ by r (is_large b p.body) (matches_some (meant m fs n) (said b p.id) (event_of b p.body))
         here = sym (rw (ne_eqb r 0 z, ne_eqb r 0 z) refl)
 
     module _ (z : r ≡ 0) where
@@ -97,7 +93,7 @@ module _ (b : List ℕ) (p : EventParts) (m : List ℕ) (fs : List FilterParts) 
       filters_passed = (lower_none (event_row b p) (filters_row m fs n) none).1
 
       module _ {k : ℕ} (qk : k ≡ length_of (text_of b p.body)) where
-        pub large_refuses : most_text < k → (Refused 9 ≡ matched b p m fs n) × (match_number (Refused 9) ≡ matched_row b p m fs n)
+        pub large_refuses : most_text < k → (Err 9 ≡ matched b p m fs n) × (match_number (Err 9) ≡ matched_row b p m fs n)
         unfolding is_large
         large_refuses h =
             let g : is_large b p.body ≡ true = lt-ltb most_text (length (text_of b p.body)) (omega arith) in
@@ -110,8 +106,5 @@ module _ (b : List ℕ) (p : EventParts) (m : List ℕ) (fs : List FilterParts) 
               let g : is_large b p.body ≡ false = le-ltb most_text (length (text_of b p.body)) (omega arith) in
               ap (by 0 false) qs ∙ ap₂ (λ l y. by l y (matches_some (meant m fs n) (said b p.id) (event_of b p.body))) (sym none) (sym g) ∙ whole
 
-          pub some_matches : s ≡ true → (Matches ≡ matched b p m fs n) × (match_number Matches ≡ matched_row b p m fs n)
-          some_matches q = number (sym (ap (by 0 false) q) ∙ asked)
-
-          pub none_matches : s ≡ false → (Differs ≡ matched b p m fs n) × (match_number Differs ≡ matched_row b p m fs n)
-          none_matches q = number (sym (ap (by 0 false) q) ∙ asked)
+          pub answers : (Ok s ≡ matched b p m fs n) × (match_number (Ok s) ≡ matched_row b p m fs n)
+          answers = number asked

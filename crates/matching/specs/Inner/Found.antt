@@ -1,12 +1,9 @@
 -- A filter whose list members were found beforehand: they stand in a row of numbers, strings as two numbers each (start
 -- and length of what stands between the quotes, in the buffer m), kinds as one.
-use Rattle.std.proofs.Math.Option.{Option, none, some}
-use Rattle.std.specs.Prelude.{List, [], ◌∷◌, map, ℕ, ℤ, pos, take}
+use Rattle.std.specs.Prelude.{List, [], ◌∷◌, map, ℕ, ℤ, pos, take, Some, None, Option}
 use Rattle.wire.specs.Bytes.{Bytes, part}
 use Rattle.spell.specs.Spell.{decode}
 use Rattle.query.specs.Filter.{Filter, Condition}
-use Rattle.matching.specs.declared.Members.{Members}
-use Rattle.matching.specs.declared.Members.TheVariants.{Absent, In}
 use Rattle.matching.specs.declared.Needed.{Needed}
 use Rattle.matching.specs.declared.Known.{Known}
 
@@ -20,9 +17,9 @@ numbers_by [] = []
 numbers_by (k ∷ r) = pos k ∷ numbers_by r
 
 -- the members that stand in the row, or none given
-abbrev pub given : {A : Type 0} (f : List ℕ → A) (row : List ℕ) (x : Members) → Option A
-given f row Absent = none
-given f row (In a n) = some (f (part row a n))
+abbrev pub given : {A : Type 0} (f : List ℕ → A) (row : List ℕ) (x : Option (ℕ × ℕ)) → Option A
+given f row None = None
+given f row (Some (a, n)) = Some (f (part row a n))
 
 abbrev pub condition_by : (m : Bytes) (row : List ℕ) (c : Needed) → Condition
 condition_by m row c = record { letter = c.letter; members = spelled_by m (part row c.from c.len) }

@@ -1,8 +1,7 @@
 -- One pass over slots that stand newest first: each filter has a number of matches that it still takes, to begin with
 -- its limit.
-use Rattle.std.specs.Prelude.{Bool, true, false, cond, List, [], ◌∷◌, ◌++◌, map, ℕ, suc, ◌+◌, ◌-◌, min, ltb, take, replicate}
-use Rattle.message.specs.declared.Bound.{Bound}
-use Rattle.message.specs.declared.Bound.TheVariants.{Absent, Number}
+use Rattle.std.specs.Prelude.{Bool, true, false, cond, List, [], ◌∷◌, ◌++◌, map, ℕ, suc, ◌+◌, ◌-◌, min, ltb, take}
+use Rattle.std.specs.Prelude.{replicate, Option, Some, None, ℤ}
 use Rattle.message.specs.declared.FilterParts.{FilterParts}
 use Rattle.event.specs.Lent.{natural}
 use Rattle.table.specs.Layout.{count_of}
@@ -34,9 +33,9 @@ unfoldable pub may_take : (hit : ℕ → ℕ → Bool) (ks : List ℕ) (s : ℕ)
 may_take hit ks s = ltb 0 (takers hit s 0 ks)
 
 -- a number to begin with: c where there is no limit, c being at least as many as there are slots
-abbrev pub room : ℕ → Bound → ℕ
-room c Absent = c
-room c (Number z) = min (natural z) c
+abbrev pub room : ℕ → Option ℤ → ℕ
+room c None = c
+room c (Some z) = min (natural z) c
 
 abbrev pub room_for : ℕ → FilterParts → ℕ
 room_for c p = room c p.limit

@@ -7,6 +7,3 @@ use Rattle.numbers.proofs.put_filters.Given as goal
 
 abbrev pub invariant-loop-i : goal.invariant-loop-i
 invariant-loop-i l = Rest l.initial.out l.at (parts_numbers (take l.n l.fs)) l.out l.o (parts_numbers (take (l.n - l.i) (drop l.i l.fs)))
-
-abbrev pub decreases-loop-i : goal.decreases-loop-i
-decreases-loop-i l = 4 - l.i

@@ -1,22 +1,17 @@
--- The tests in the order of the definition.
-use borrow.Author.Rules.{rules}
+-- The tests in the order of the definition; a number of the range is its own cast.
 use Rattle.wire.proofs.Laws.{tests}
 use Rattle.numeral.specs.Inner.{above_of}
 use Rattle.numeral.proofs.Ways.{plain}
 use Rattle.numeral.proofs.above.Goals as goal
 
-pub returns-then-v-gt-WIDEST : goal.returns-then-v-gt-WIDEST
+pub returns-in-Some : goal.returns-in-Some
 unfolding above_of
-returns-then-v-gt-WIDEST c = rw c.in-Sum.is (search tests)
+returns-in-Some c = rw (c.in-Some.is, plain _ c.if-v-le-WIDEST.true) (search tests)
 
-pub overflow_cast-result : goal.overflow_cast-result
+pub returns-in-Some-2 : goal.returns-in-Some-2
 unfolding above_of
-overflow_cast-result c = search rules
+returns-in-Some-2 c = rw c.in-Some.is (search tests)
 
-pub returns-else-v-gt-WIDEST : goal.returns-else-v-gt-WIDEST
+pub returns-in-None : goal.returns-in-None
 unfolding above_of
-returns-else-v-gt-WIDEST c = rw (c.in-Sum.is, plain _ c.if-v-gt-WIDEST.false) (search tests)
-
-pub returns-in-NotOne : goal.returns-in-NotOne
-unfolding above_of
-returns-in-NotOne c = rw c.in-NotOne.is
+returns-in-None c = rw c.in-None.is

@@ -3,17 +3,20 @@ use native.Mathlib.Omega.{arith}
 use Rattle.numeral.proofs.Ways.{seen_end_lem, seen_low, seen_high, seen_more}
 use Rattle.numeral.proofs.digits_sum.Goals as goal
 
-pub loop-i-preserved : goal.loop-i-preserved
-loop-i-preserved c = seen_more c.loop-i.invariant c.loop-i-test.true (omega arith) (omega arith) _ c.grow-v.ensures
+pub grow-v-requires : goal.grow-v-requires
+grow-v-requires c = (omega (arith, c.loop-x.invariant.is), omega arith, omega arith)
 
-pub loop-i-init : goal.loop-i-init
-loop-i-init c = record { sum = 0; is = refl; same = refl }
+pub loop-x-preserved : goal.loop-x-preserved
+loop-x-preserved c = seen_more c.loop-x.invariant c.loop-x-test.true (omega arith) (omega arith) _ c.grow-v.ensures
 
-pub returns-then-x-lt48 : goal.returns-then-x-lt48
-returns-then-x-lt48 c = seen_low c.loop-i.invariant c.loop-i-test.true c.if-x-lt48.true
+pub loop-x-init : goal.loop-x-init
+loop-x-init c = record { sum = 0; is = refl; same = refl }
 
-pub returns-then-x-gt57 : goal.returns-then-x-gt57
-returns-then-x-gt57 c = seen_high c.loop-i.invariant c.loop-i-test.true c.if-x-gt57.true
+pub returns-in_default : goal.returns-in_default
+returns-in_default c = seen_low c.loop-x.invariant c.loop-x-test.true (omega arith)
+
+pub returns-in_default-2 : goal.returns-in_default-2
+returns-in_default-2 c = seen_high c.loop-x.invariant c.loop-x-test.true (omega arith)
 
 pub returns : goal.returns
-returns c = seen_end_lem c.loop-i.invariant c.loop-i-test.false
+returns c = seen_end_lem c.loop-x.invariant c.loop-x-test.false

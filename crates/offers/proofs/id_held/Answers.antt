@@ -1,6 +1,4 @@
 use mathlib.Core.Path.{sym, ap, ◌∙◌}
-use native.Mathlib.Nat.{sub-zero}
-use borrow.Author.Rules.{rules}
 use Rattle.slots.specs.Slots.{same_id_in}
 use Rattle.slots.proofs.Walk.{any_more, any_met, any_end}
 use Rattle.offers.proofs.id_held.Goals as goal
@@ -9,15 +7,12 @@ pub returns-then-same_id : goal.returns-then-same_id
 returns-then-same_id c =
     let l = c.loop-k in
     sym
-    (any_met _ l.k _ _ l.invariant.1 c.loop-k-test.true (sym (c.same_id.ensures ∙ ap (same_id_in _) c.slot.ensures) ∙ c.if-same_id.true))
+    (any_met _ l.k _ _ l.invariant c.loop-k-test.true (sym (c.same_id.ensures ∙ ap (same_id_in _) c.slot.ensures) ∙ c.if-same_id.true))
 
 pub loop-k-preserved : goal.loop-k-preserved
 loop-k-preserved c =
     let l = c.loop-k in
-    (search rules, any_more _ l.k _ _ l.invariant.1 c.loop-k-test.true (sym (c.same_id.ensures ∙ ap (same_id_in _) c.slot.ensures) ∙ c.if-same_id.false))
+    any_more _ l.k _ _ l.invariant c.loop-k-test.true (sym (c.same_id.ensures ∙ ap (same_id_in _) c.slot.ensures) ∙ c.if-same_id.false)
 
 pub returns : goal.returns
-returns c = let l = c.loop-k in sym (any_end _ l.k _ _ l.invariant.1 c.loop-k-test.false)
-
-pub loop-k-init : goal.loop-k-init
-loop-k-init c = (search rules, simp sub-zero)
+returns c = let l = c.loop-k in sym (any_end _ l.k _ _ l.invariant c.loop-k-test.false)

@@ -1,6 +1,5 @@
 -- The slot and the count lie within a sound table.
 use native.Mathlib.Omega.{arith}
-use borrow.Author.Rules.{rules}
 use Rattle.offers.proofs.Stores.{count_few, fits, stored_is}
 use Rattle.offers.proofs.store.Goals as goal
 
@@ -15,12 +14,6 @@ overflow_add-e c = let p = c.requires in let f = fits _ _ p.new p.has_room p.k_v
 
 pub slice_bounds-write_slot-end : goal.slice_bounds-write_slot-end
 slice_bounds-write_slot-end c = let p = c.requires in let f = fits _ _ p.new p.has_room p.k_value in omega arith
-
-pub write_slot-requires : goal.write_slot-requires
-write_slot-requires c =
-    let p = c.requires in
-    let f = fits _ _ p.new p.has_room p.k_value in
-    (search rules, p.new.long)
 
 pub count_after-requires : goal.count_after-requires
 count_after-requires c =

@@ -1,7 +1,7 @@
 -- What specs/Program, Replies and Lent mean, in the sentences of 01: proved in proofs/Which, Shown, Lines, Plain, Kept,
 -- Lent and Sendable, each under its own name in small letters (EarlyRow: early-row).
 use Rattle.std.specs.Prelude.{◌≡◌, true, false, cond, ◌↔◌, ◌⊎◌, ◌≢◌, List, [], ◌∷◌, ◌++◌, map, ℕ, ◌≤◌, ◌<◌, ltb, length}
-use Rattle.std.proofs.Math.Option.{some}
+use Rattle.std.specs.Prelude.{Option, None, Some}
 use Rattle.wire.specs.Limits.{hex_length, most_message, most_text}
 use Rattle.json_tree.specs.Tree.{Json, Items, nil, Got, none, got, root}
 use Rattle.spell.specs.Spell.{is_hex_of}
@@ -9,8 +9,6 @@ use Rattle.shape.specs.Shape.{Word, event, req, close, other, Opened, opened, id
 use Rattle.rows.specs.Rows.{row1, text_row_if, text_row}
 use Rattle.shape.specs.Rows.{message_row_if, message_row, wrong_subscription}
 use Rattle.shape.specs.Offsets.{refusal_of, offset_for}
-use Rattle.shape.specs.declared.Offset.{Offset}
-use Rattle.shape.specs.declared.Offset.TheVariants.{Absent}
 use Rattle.shape.specs.declared.Refusal.{Refusal}
 use Rattle.digest.specs.Digest.{digest}
 use Rattle.text.specs.Event.{Event, serialise, is_fit, all}
@@ -115,7 +113,7 @@ NamesSubscription =
 abbrev pub LastRows : Type 0
 LastRows =
     (b m : List ℕ) (p : EventParts) (r : Refusal) → read_of m ≡ message.Event p → answer b (as_message m) ≡ Refused r →
-    (9 ≤ r.row) × (r.row ≤ 12) × (r.offset ≡ Absent)
+    (9 ≤ r.row) × (r.row ≤ 12) × (r.offset ≡ None)
 
 -- one OK that names its id: true with a verdict, false on a refusal; "Replies: ephemeral and stored `true,""`;
 -- duplicate .. older .."
@@ -174,7 +172,7 @@ Sendable =
     (e : Event) (sig : List ℕ) → is_fit e ≡ true → length (serialise e) ≤ most_text → length sig ≡ 64 →
     all is_byte sig ≡ true →
     length (event_message (hex_of (digest (serialise e))) e (hex_of sig)) ≤ most_message →
-    offers.judge (as_message (event_message (hex_of (digest (serialise e))) e (hex_of sig))) ≡ some
+    offers.judge (as_message (event_message (hex_of (digest (serialise e))) e (hex_of sig))) ≡ Some
     (of_held (record { id = digest (serialise e); sig = sig; event = e }))
 
 -- ---- lines
@@ -267,9 +265,9 @@ ProgramSettles =
 
 -- ---- "A refusal carries its number and no other value", as 02, Wish 9, amends it: of an offer, the row of a refusal,
 -- with the offset that goes with this row of a message, and with none of parts; and 0 for a verdict
-abbrev pub offset_at : Offering → ℕ → Offset
+abbrev pub offset_at : Offering → ℕ → Option ℕ
 offset_at (as_message m) row = offset_for m row
-offset_at (as_parts b p) row = Absent
+offset_at (as_parts b p) row = None
 
 abbrev pub OfferedNumber : Type 0
 OfferedNumber = (b : List ℕ) (o : Offering) →

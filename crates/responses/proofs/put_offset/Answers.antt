@@ -2,8 +2,8 @@
 use Rattle.responses.proofs.Lines.{absent_put, offset_put}
 use Rattle.responses.proofs.put_offset.Goals as goal
 
-pub returns-in-Absent : goal.returns-in-Absent
-returns-in-Absent c = absent_put c.in-Absent.is c.put.ensures
+pub returns-in-None : goal.returns-in-None
+returns-in-None c = absent_put c.in-None.is c.put.ensures
 
-pub returns-in-At : goal.returns-in-At
-returns-in-At c = offset_put _ c.in-At.is c.put-a.ensures c.put_natural-b.ensures c.put-in-At.ensures
+pub returns-in-Some : goal.returns-in-Some
+returns-in-Some c = offset_put _ c.in-Some.is c.put-a.ensures c.put_natural-b.ensures c.put-in-Some.ensures

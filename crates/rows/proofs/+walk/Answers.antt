@@ -1,4 +1,4 @@
-use mathlib.Core.Path.{sym, ap, ◌∙◌}
+use mathlib.Core.Path.{refl, sym, ap, ◌∙◌}
 use Prim.Native.Nat.{◌-◌}
 use Rattle.json_tree.specs.Tree.{tree_at}
 use Rattle.json_tree.specs.declared.Start.TheVariants.{Leaf}
@@ -11,51 +11,42 @@ use Rattle.rows.proofs.+walk.Goals as goal
 pub returns-then-d-eq0 : goal.returns-then-d-eq0
 returns-then-d-eq0 t c = c.leaf.ensures ∙ ap (seen_of _) (value_flat _ _ _ c.if-d-eq0.true)
 
-pub loop-k-init : goal.loop-k-init
-loop-k-init t c = seen_many _ _ _ _ _ c.if-d-eq0.false (sym c.in-Many.is ∙ c.begin.ensures)
+pub loop-turn-init : goal.loop-turn-init
+loop-turn-init t c = seen_many _ _ _ _ _ c.if-d-eq0.false (sym c.in-Many.is ∙ c.begin.ensures)
 
-pub returns-in_default : goal.returns-in_default
-returns-in_default t c =
-    let s = c.args.s.now in
-    sym
-    (seen_unnamed (tree_at s (c.args.d - 1)) s c.in-Many.named c.loop-k.k c.loop-k.i c.loop-k.bad c.name-x.result c.loop-k-test.true c.name-x.ensures
-    (sym c.place.ensures ∙ c.in_default.is)) ∙ c.loop-k.invariant
+pub returns-in_err-x-in-Many : goal.returns-in_err-x-in-Many
+returns-in_err-x-in-Many t c =
+    c.from_residual.ensures ∙ sym
+    (seen_unnamed (tree_at c.args.s.now (c.args.d - 1)) _ _ _ _ _ c.loop-turn-test.true (sym c.in_err-x-in-Many.was ∙ c.name.ensures))
+    ∙ c.loop-turn.invariant
 
-pub returns-in_default-place : goal.returns-in_default-place
-returns-in_default-place t c =
-    let s = c.args.s.now in
-    sym
-    (seen_no_value (tree_at s (c.args.d - 1)) s c.in-Many.named c.loop-k.k c.loop-k.i c.loop-k.bad c.name-x.result c.loop-k-test.true c.name-x.ensures
-    c.in-End.v c.walk-y.result (sym c.place.ensures ∙ c.in-End.is) c.walk-y.ensures
-    (sym c.place-in-loop-k.ensures ∙ c.in_default-place.is)) ∙ c.loop-k.invariant
+pub returns-in_err-y-in-Many : goal.returns-in_err-y-in-Many
+returns-in_err-y-in-Many t c =
+    c.from_residual-in_err-y-in-Many.ensures ∙ sym
+    (seen_no_value (tree_at c.args.s.now (c.args.d - 1)) _ _ _ _ _ c.loop-turn-test.true _ (sym c.in_ok-x-in-Many.was ∙ c.name.ensures)
+    (sym c.in_err-y-in-Many.was ∙ c.walk.ensures))
+    ∙ c.loop-turn.invariant
 
 pub returns-in-Done : goal.returns-in-Done
 returns-in-Done t c =
-    c.make.ensures ∙
-    let s = c.args.s.now in
     sym
-    (seen_next (tree_at s (c.args.d - 1)) s c.in-Many.named c.loop-k.k c.loop-k.i c.loop-k.bad c.name-x.result c.loop-k-test.true c.name-x.ensures
-    c.in-End.v c.walk-y.result (sym c.place.ensures ∙ c.in-End.is) c.walk-y.ensures c.in-End-place.n (Done c.in-Done.e) c.any-bad.result
-    (sym c.place-in-loop-k.ensures ∙ c.in-End-place.is) (sym c.after.ensures ∙ c.in-Done.is)
-    c.is_refused.ensures c.is_refused-in-loop-k.ensures c.any-bad.ensures) ∙ c.loop-k.invariant
+    (seen_next (tree_at c.args.s.now (c.args.d - 1)) _ _ _ _ _ c.loop-turn-test.true _ (sym c.in_ok-x-in-Many.was ∙ c.name.ensures)
+    _ (Done c.in-Done.end) _ (sym c.in_ok-y-in-Many.was ∙ c.walk.ensures) (sym c.after.ensures ∙ c.in-Done.is) refl)
+    ∙ c.loop-turn.invariant
 
 pub returns-in-Wrong : goal.returns-in-Wrong
 returns-in-Wrong t c =
-    let s = c.args.s.now in
     sym
-    (seen_next (tree_at s (c.args.d - 1)) s c.in-Many.named c.loop-k.k c.loop-k.i c.loop-k.bad c.name-x.result c.loop-k-test.true c.name-x.ensures
-    c.in-End.v c.walk-y.result (sym c.place.ensures ∙ c.in-End.is) c.walk-y.ensures c.in-End-place.n Wrong c.any-bad.result
-    (sym c.place-in-loop-k.ensures ∙ c.in-End-place.is) (sym c.after.ensures ∙ c.in-Wrong.is)
-    c.is_refused.ensures c.is_refused-in-loop-k.ensures c.any-bad.ensures) ∙ c.loop-k.invariant
+    (seen_next (tree_at c.args.s.now (c.args.d - 1)) _ _ _ _ _ c.loop-turn-test.true _ (sym c.in_ok-x-in-Many.was ∙ c.name.ensures)
+    _ Wrong _ (sym c.in_ok-y-in-Many.was ∙ c.walk.ensures) (sym c.after.ensures ∙ c.in-Wrong.is) refl)
+    ∙ c.loop-turn.invariant
 
-pub loop-k-preserved : goal.loop-k-preserved
-loop-k-preserved t c =
-    let s = c.args.s.now in
+pub loop-turn-preserved : goal.loop-turn-preserved
+loop-turn-preserved t c =
     sym
-    (seen_next (tree_at s (c.args.d - 1)) s c.in-Many.named c.loop-k.k c.loop-k.i c.loop-k.bad c.name-x.result c.loop-k-test.true c.name-x.ensures
-    c.in-End.v c.walk-y.result (sym c.place.ensures ∙ c.in-End.is) c.walk-y.ensures c.in-End-place.n (More c.in-More.j) c.any-bad.result
-    (sym c.place-in-loop-k.ensures ∙ c.in-End-place.is) (sym c.after.ensures ∙ c.in-More.is)
-    c.is_refused.ensures c.is_refused-in-loop-k.ensures c.any-bad.ensures) ∙ c.loop-k.invariant
+    (seen_next (tree_at c.args.s.now (c.args.d - 1)) _ _ _ _ _ c.loop-turn-test.true _ (sym c.in_ok-x-in-Many.was ∙ c.name.ensures)
+    _ (More c.in-More.j) _ (sym c.in_ok-y-in-Many.was ∙ c.walk.ensures) (sym c.after.ensures ∙ c.in-More.is) refl)
+    ∙ c.loop-turn.invariant
 
 pub returns-in-Leaf : goal.returns-in-Leaf
 returns-in-Leaf t c =
@@ -64,6 +55,6 @@ returns-in-Leaf t c =
 pub returns-in-Empty : goal.returns-in-Empty
 returns-in-Empty t c = seen_empty _ _ _ _ _ c.if-d-eq0.false (sym c.in-Empty.is ∙ c.begin.ensures)
 
-pub returns-after-loop-k : goal.returns-after-loop-k
-returns-after-loop-k t c =
-    sym (seen_gone (tree_at c.args.s.now (c.args.d - 1)) _ _ _ _ _ c.loop-k-test.false) ∙ c.loop-k.invariant
+pub returns-after-loop-turn : goal.returns-after-loop-turn
+returns-after-loop-turn t c =
+    sym (seen_gone (tree_at c.args.s.now (c.args.d - 1)) _ _ _ _ _ c.loop-turn-test.false) ∙ c.loop-turn.invariant

@@ -11,6 +11,3 @@ decreases-judge l = l.d
 
 abbrev pub invariant-loop-k : goal.invariant-loop-k
 invariant-loop-k l = judged_items l.s l.named l.inner l.k l.a (items_at (tree_at l.s (l.d - 1)) l.s l.named (length l.s - l.k) l.i) ≡ judged_of l.s l.form l.at (tree_at l.s l.d l.at)
-
-abbrev pub decreases-loop-k : goal.decreases-loop-k
-decreases-loop-k l = length l.s - l.k

@@ -7,6 +7,3 @@ use Rattle.slot_replies.proofs.fit_lines.Given as goal
 
 abbrev pub invariant-loop-i : goal.invariant-loop-i
 invariant-loop-i l = fitted_in 0 l.room (sizes l.table l.n l.ks) ≡ fitted_in l.i l.left (sizes l.table l.n (drop l.i l.ks))
-
-abbrev pub decreases-loop-i : goal.decreases-loop-i
-decreases-loop-i l = length l.ks - l.i

@@ -7,6 +7,3 @@ use Rattle.slot_replies.proofs.held_len.Given as goal
 
 abbrev pub invariant-loop-i : goal.invariant-loop-i
 invariant-loop-i l = held_len l.table l.ks ≡ l.i + held_len l.table (drop l.i l.ks)
-
-abbrev pub decreases-loop-i : goal.decreases-loop-i
-decreases-loop-i l = length l.ks - l.i

@@ -6,8 +6,5 @@ use Rattle.spell.specs.Spell.{decode}
 use Rattle.program.specs.Program.{events_of, written}
 use Rattle.slot_replies.proofs.put_events.Given as goal
 
-abbrev pub invariant-loop-i : goal.invariant-loop-i
-invariant-loop-i l = Rest l.initial.out l.at (written (events_of l.table (decode l.sub) l.ks)) l.out l.o (written (events_of l.table (decode l.sub) (drop l.i l.ks)))
-
-abbrev pub decreases-loop-i : goal.decreases-loop-i
-decreases-loop-i l = length l.ks - l.i
+abbrev pub invariant-loop-k : goal.invariant-loop-k
+invariant-loop-k l = Rest l.initial.out l.at (written (events_of l.table (decode l.sub) l.ks)) l.out l.o (written (events_of l.table (decode l.sub) (drop l.k-index l.ks)))

@@ -1,13 +1,9 @@
 -- The invariant: the characters counted and those left are all.
 use mathlib.Core.Path.{◌≡◌}
 use Prim.Native.Nat.{◌+◌}
-use lib.ListN.{length}
 use Rattle.spell.specs.Spell.{decode, points}
-use Rattle.spell.specs.Inner.{left_of, Within}
+use Rattle.spell.specs.Inner.{bytes_left}
 use Rattle.spell.proofs.characters.Given as goal
 
-abbrev pub invariant-loop-i : goal.invariant-loop-i
-invariant-loop-i l = (l.n + points (left_of l.p l.i l.k) ≡ points (decode l.p)) × Within l.p l.i l.k
-
-abbrev pub decreases-loop-i : goal.decreases-loop-i
-decreases-loop-i l = length (left_of l.p l.i l.k)
+abbrev pub invariant-loop-b : goal.invariant-loop-b
+invariant-loop-b l = l.n + points (bytes_left l.b-iterator) ≡ points (decode l.p)

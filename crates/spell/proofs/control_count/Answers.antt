@@ -1,69 +1,17 @@
-use mathlib.Core.Path.{ap}
 use native.Mathlib.Omega.{arith}
-use borrow.Author.Rules.{rules}
-use lib.ListN.{length}
 use Rattle.wire.proofs.Json.{count_most}
 use Rattle.spell.specs.Spell.{decode}
-use Rattle.spell.specs.Inner.{left_of}
-use Rattle.spell.proofs.Chars.{begin, left_over, step_byte, decode_few}
+use Rattle.spell.proofs.Chars.{decode_few}
 use Rattle.spell.proofs.Loops.{control_turn, control_end}
 use Rattle.spell.proofs.control_count.Goals as goal
 
-pub loop-i-preserved-then-b-ne92 : goal.loop-i-preserved-then-b-ne92
-loop-i-preserved-then-b-ne92 c =
-    let l = c.loop-i in
-    let s = c.args in
-    let r = step_byte s.p.now l.i c.if-b-ne92.true l.k c.loop-i-test.true l.invariant.1 in
-    (omega (arith, control_turn r.left, l.invariant.0, c.one_if_control-n.ensures), r.within)
-
-pub loop-i-preserved : goal.loop-i-preserved
-loop-i-preserved c =
-    let l = c.loop-i in
-    let r = c.advance-x.ensures in
-    (omega (arith, control_turn r.left, l.invariant.0, c.one_if_control-n-in-loop-i.ensures), r.within)
-
 pub overflow_add-n : goal.overflow_add-n
 overflow_add-n c =
-    let s = c.args in
-    omega (arith, (loop-i-preserved-then-b-ne92 c).0, count_most (decode s.p.now), decode_few s.p.now)
+    let p = c.args.p.now in
+    omega (arith, control_turn c.in-Some.ensures.steps, count_most (decode p), decode_few p)
 
-pub overflow_add-n-in-loop-i : goal.overflow_add-n-in-loop-i
-overflow_add-n-in-loop-i c =
-    let s = c.args in
-    omega (arith, (loop-i-preserved c).0, count_most (decode s.p.now), decode_few s.p.now)
-
-pub loop-i-smaller-then-b-ne92 : goal.loop-i-smaller-then-b-ne92
-loop-i-smaller-then-b-ne92 c =
-    let l = c.loop-i in
-    let s = c.args in
-    omega (arith, ap length (step_byte s.p.now l.i c.if-b-ne92.true l.k c.loop-i-test.true l.invariant.1).left)
+pub loop-b-preserved : goal.loop-b-preserved
+loop-b-preserved c = omega (arith, control_turn c.in-Some.ensures.steps)
 
 pub returns : goal.returns
-returns c =
-    let l = c.loop-i in
-    let s = c.args in
-    omega (arith, l.invariant.0, control_end (left_over s.p.now l.i l.k c.loop-i-test.false))
-
-pub loop-i-init : goal.loop-i-init
-unfolding left_of
-loop-i-init c = (omega arith, begin _ 0 0)
-
-pub bounds-p-i : goal.bounds-p-i
-unfolding left_of
-bounds-p-i c = search rules
-
-pub overflow_add-i : goal.overflow_add-i
-unfolding left_of
-overflow_add-i c = search rules
-
-pub one_if_control-n-requires : goal.one_if_control-n-requires
-unfolding left_of
-one_if_control-n-requires c = search rules
-
-pub one_if_control-n-requires-in-loop-i : goal.one_if_control-n-requires-in-loop-i
-unfolding left_of
-one_if_control-n-requires-in-loop-i c = search rules
-
-pub loop-i-smaller : goal.loop-i-smaller
-unfolding left_of
-loop-i-smaller c = omega (arith, ap length c.advance-x.ensures.left)
+returns c = omega (arith, control_end c.in-None.ensures.steps.0)

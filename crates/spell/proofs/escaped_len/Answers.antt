@@ -1,6 +1,5 @@
 use mathlib.Core.Path.{ap}
 use native.Mathlib.Omega.{arith}
-use borrow.Author.Rules.{rules}
 use lib.ListN.{length, length-append}
 use Rattle.spell.specs.Spell.{decode}
 use Rattle.spell.specs.Inner.{left_of}
@@ -46,25 +45,9 @@ pub loop-i-init : goal.loop-i-init
 unfolding left_of
 loop-i-init c = (omega arith, begin _ 0 0)
 
-pub bounds-p-i : goal.bounds-p-i
-unfolding left_of
-bounds-p-i c = search rules
-
-pub overflow_add-i : goal.overflow_add-i
-unfolding left_of
-overflow_add-i c = search rules
-
-pub escaped_byte_len-n-requires : goal.escaped_byte_len-n-requires
-unfolding left_of
-escaped_byte_len-n-requires c = search rules
-
 pub loop-i-smaller-then-b-ne92 : goal.loop-i-smaller-then-b-ne92
 unfolding left_of
 loop-i-smaller-then-b-ne92 c = let l = c.loop-i in let s = c.args in omega (arith, ap length (step_byte s.p.now l.i c.if-b-ne92.true l.k c.loop-i-test.true l.invariant.1).left)
-
-pub escaped_byte_len-n-requires-in-loop-i : goal.escaped_byte_len-n-requires-in-loop-i
-unfolding left_of
-escaped_byte_len-n-requires-in-loop-i c = search rules
 
 pub loop-i-smaller : goal.loop-i-smaller
 unfolding left_of

@@ -1,5 +1,4 @@
 use native.Mathlib.Omega.{arith}
-use borrow.Author.Rules.{rules}
 use mathlib.Core.Path.{refl, sym, ◌∙◌}
 use Rattle.spell.specs.Spell.{refuses}
 use Rattle.spell.proofs.Chars.{raw_is, raw_refused, short_is, short_refused, refused_here, refused_later}
@@ -42,42 +41,10 @@ pub loop-i-init : goal.loop-i-init
 unfolding refuses
 loop-i-init c = refl
 
-pub bounds-p-i : goal.bounds-p-i
-unfolding refuses
-bounds-p-i c = search rules
-
-pub overflow_add-i : goal.overflow_add-i
-unfolding refuses
-overflow_add-i c = search rules
-
 pub loop-i-smaller-then-b-ne92 : goal.loop-i-smaller-then-b-ne92
 unfolding refuses
 loop-i-smaller-then-b-ne92 c = omega arith
 
-pub overflow_add-i-in-loop-i : goal.overflow_add-i-in-loop-i
-unfolding refuses
-overflow_add-i-in-loop-i c = search rules
-
-pub byte-y-requires : goal.byte-y-requires
-unfolding refuses
-byte-y-requires c = search rules
-
-pub overflow_add-i-then-y-ne117 : goal.overflow_add-i-then-y-ne117
-unfolding refuses
-overflow_add-i-then-y-ne117 c = search rules
-
 pub loop-i-smaller-then-y-ne117 : goal.loop-i-smaller-then-y-ne117
 unfolding refuses
 loop-i-smaller-then-y-ne117 c = omega arith
-
-pub is_refused-requires : goal.is_refused-requires
-unfolding refuses
-is_refused-requires c = search rules
-
-pub overflow_add-i-in-loop-i-2 : goal.overflow_add-i-in-loop-i-2
-unfolding refuses
-overflow_add-i-in-loop-i-2 c = search rules
-
-pub loop-i-smaller : goal.loop-i-smaller
-unfolding refuses
-loop-i-smaller c = search rules

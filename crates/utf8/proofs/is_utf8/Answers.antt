@@ -14,25 +14,9 @@ loop-i-preserved c = (
   c.loop-i.invariant.1 ∙ c.past_char-n.ensures.same (omega arith) ∙ c.past_ascii-i-in-loop-i.ensures.same,
 )
 
-pub past_ascii-i-requires : goal.past_ascii-i-requires
-unfolding is_utf8
-past_ascii-i-requires c = search rules
-
 pub loop-i-init : goal.loop-i-init
 unfolding is_utf8
 loop-i-init c = (c.past_ascii-i.ensures.within, c.past_ascii-i.ensures.same)
-
-pub past_char-n-requires : goal.past_char-n-requires
-unfolding is_utf8
-past_char-n-requires c = search rules
-
-pub past_ascii-i-requires-in-loop-i : goal.past_ascii-i-requires-in-loop-i
-unfolding is_utf8
-past_ascii-i-requires-in-loop-i c = search rules
-
-pub loop-i-smaller : goal.loop-i-smaller
-unfolding is_utf8
-loop-i-smaller c = omega arith
 
 pub returns : goal.returns
 unfolding is_utf8

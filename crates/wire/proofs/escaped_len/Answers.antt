@@ -4,13 +4,13 @@ use lib.ListN.{length}
 use Rattle.wire.proofs.Escapes.{esc_count, esc_none}
 use Rattle.wire.proofs.escaped_len.Goals as goal
 
-pub loop-i-preserved : goal.loop-i-preserved
-loop-i-preserved c =
-    let l = c.loop-i in
-    esc_count c.args.part.now l.i l.n _ c.loop-i-test.true l.invariant c.escaped_byte_len-n.ensures
+pub loop-b-preserved : goal.loop-b-preserved
+loop-b-preserved c =
+    let l = c.loop-b in
+    esc_count c.args.part.now l.b-index l.n _ c.loop-b-test.true l.invariant c.escaped_byte_len-n.ensures
 
 pub returns : goal.returns
-returns c = let h = ap length (esc_none c.args.part.now c.loop-i.i c.loop-i-test.false) in omega arith
+returns c = let h = ap length (esc_none c.args.part.now c.loop-b.b-index c.loop-b-test.false) in omega arith
 
 pub overflow_add-n : goal.overflow_add-n
-overflow_add-n c = omega (arith, (loop-i-preserved c).1)
+overflow_add-n c = omega (arith, (loop-b-preserved c).1)

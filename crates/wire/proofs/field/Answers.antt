@@ -1,30 +1,23 @@
-use mathlib.Core.Path.{◌≡◌, refl}
-use Prim.Native.Nat.{ℕ, ◌+◌, ◌-◌, ◌<◌, ◌^◌, ◌*◌}
-use native.Mathlib.Nat.{add-zero, sub-zero, sub_self}
+use mathlib.Core.Path.{◌≡◌}
+use Prim.Native.Nat.{◌+◌, ◌-◌}
 use native.Mathlib.Omega.{arith}
-use borrow.Author.Rules.{rules}
-use lib.Dec.{lit<}
-use Rattle.wire.proofs.Fields.{read_turn, read_small, field_none}
+use Rattle.std.proofs.lemmas.List.{nil_from_length}
+use Rattle.wire.proofs.Fields.{reading_none, reading_turn, reading_end}
 use Rattle.wire.proofs.field.Goals as goal
 
-pub loop-i-preserved : goal.loop-i-preserved
-loop-i-preserved c =
-    let l = c.loop-i in
-    (search rules, read_turn _ _ _ _ _ c.loop-i-test.true l.invariant.0 c.requires.0 l.invariant.1, (read_small _ _ _ _ c.loop-i-test.true l.invariant.0 c.requires.1 l.invariant.2 (c.type_inv.s _).fits).1)
+pub loop-b-init : goal.loop-b-init
+loop-b-init c =
+    let e : c.args.at + c.args.n - c.args.at ≡ c.args.n = omega arith in
+    rw (c.into_iter-b-iterator.ensures.into_iter_gives, c.rev-b-items.ensures.source, c.iter.ensures.rest, e) (reading_none _ _ _)
 
-pub returns : goal.returns
-returns c =
-    let e : c.loop-i.i ≡ 0 = omega arith in
-    record { is = simp (e, add-zero, sub-zero) at c.loop-i.invariant.1; small = simp (e, sub-zero) at c.loop-i.invariant.2 }
-
-pub loop-i-init : goal.loop-i-init
-loop-i-init c = (search rules, simp sub_self (field_none _ _ 0 refl), simp sub_self (lit< tt))
+pub loop-b-preserved : goal.loop-b-preserved
+loop-b-preserved c = rw c.from.ensures (reading_turn c.in-Some.b.now c.type_inv.s c.requires.1 c.in-Some.ensures.steps c.loop-b.invariant).1
 
 pub overflow_mul-x : goal.overflow_mul-x
-overflow_mul-x c = omega (arith, (read_small _ _ _ 0 c.loop-i-test.true c.loop-i.invariant.0 c.requires.1 c.loop-i.invariant.2 (lit< tt)).0)
+overflow_mul-x c = omega (arith, (reading_turn c.in-Some.b.now c.type_inv.s c.requires.1 c.in-Some.ensures.steps c.loop-b.invariant).0)
 
-pub overflow_cast-x : goal.overflow_cast-x
-overflow_cast-x c = omega (arith, c.type_inv.s (c.args.at + (c.loop-i.i - 1)))
+pub overflow_add-x : goal.overflow_add-x
+overflow_add-x c = omega (arith, c.from.ensures, (reading_turn c.in-Some.b.now c.type_inv.s c.requires.1 c.in-Some.ensures.steps c.loop-b.invariant).0)
 
-pub overflow_add-x-in-loop-i : goal.overflow_add-x-in-loop-i
-overflow_add-x-in-loop-i c = record { fits = (read_small _ _ _ _ c.loop-i-test.true c.loop-i.invariant.0 c.requires.1 c.loop-i.invariant.2 (c.type_inv.s _).fits).0 }
+pub returns : goal.returns
+returns c = reading_end c.requires.0 (nil_from_length _ c.in-None.ensures.steps.0) c.loop-b.invariant

@@ -1,11 +1,8 @@
--- The invariant: x is what the last bytes of the field spell, from the byte at i on.
-use mathlib.Core.Path.{◌≡◌}
-use Prim.Native.Nat.{◌+◌, ◌-◌, ◌≤◌, ◌<◌, ◌^◌}
-use Rattle.wire.specs.Field.{field_at}
+-- The invariant: x is what the last bytes of the field spell, and those before them are left.
+use Rattle.std.specs.Slice.Iter.{iter_rest}
+use Rattle.std.specs.Iterator.Adapters.{rev_source}
+use Rattle.wire.proofs.Fields.{Reading}
 use Rattle.wire.proofs.field.Given as goal
 
-abbrev pub invariant-loop-i : goal.invariant-loop-i
-invariant-loop-i l = (l.i ≤ l.n) × (l.x ≡ field_at l.s (l.at + l.i) (l.n - l.i)) × (l.x < 256 ^ (l.n - l.i))
-
-abbrev pub decreases-loop-i : goal.decreases-loop-i
-decreases-loop-i l = l.i
+abbrev pub invariant-loop-b : goal.invariant-loop-b
+invariant-loop-b l = Reading l.s l.at l.n (iter_rest (rev_source l.b-iterator)) l.x

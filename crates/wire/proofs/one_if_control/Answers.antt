@@ -1,12 +1,14 @@
 -- By the test.
-use mathlib.Core.Path.{sym, ◌∙◌}
+use mathlib.Core.Bool.{Bool, true, false, cond}
+use mathlib.Core.Path.{◌≡◌, refl}
+use mir.Val.{bool_byte}
 use Rattle.wire.specs.Escape.{control_count}
 use Rattle.wire.proofs.one_if_control.Goals as goal
 
-pub returns-then-is_control : goal.returns-then-is_control
-unfolding control_count
-returns-then-is_control c = rw (sym c.is_control.ensures ∙ c.if-is_control.true)
+one_or_none : (t : Bool) → bool_byte t ≡ cond t 1 0
+one_or_none true = refl
+one_or_none false = refl
 
-pub returns-else-is_control : goal.returns-else-is_control
+pub returns : goal.returns
 unfolding control_count
-returns-else-is_control c = rw (sym c.is_control.ensures ∙ c.if-is_control.false)
+returns c = rw (c.from.ensures, c.is_control.ensures) (one_or_none _)

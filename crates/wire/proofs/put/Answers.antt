@@ -1,20 +1,10 @@
-use mathlib.Core.Path.{sym, ◌∙◌}
-use native.Mathlib.Nat.{add-zero}
+use mathlib.Core.Path.{refl}
 use native.Mathlib.Omega.{arith}
-use borrow.Author.Rules.{rules}
-use Rattle.wire.proofs.Laws.{put_step, put_rest, put_out}
+use Rattle.wire.proofs.Laws.{puts_out, puts_mid}
 use Rattle.wire.proofs.put.Goals as goal
 
 pub returns-then-n-at : goal.returns-then-n-at
-returns-then-n-at c = record { next = omega arith; bytes = sym (put_out _ _ _ (omega arith)) }
-
-pub loop-i-preserved : goal.loop-i-preserved
-loop-i-preserved c = (search rules, search rules, search rules, search rules, put_step _ _ _ _ (omega arith) ∙ c.loop-i.invariant.4)
+returns-then-n-at c = puts_out _ _ _ (omega arith)
 
 pub returns : goal.returns
-returns c =
-    let l = c.loop-i in
-    record { next = omega arith; bytes = sym (put_rest l.out _ l.i _ (omega arith)) ∙ l.invariant.4 }
-
-pub loop-i-init : goal.loop-i-init
-loop-i-init c = (omega arith, omega arith, search rules, search rules, simp add-zero)
+returns c = puts_mid c.if-n-at.false c.min-m.ensures refl c.copy_from_slice.ensures.after

@@ -1,19 +1,14 @@
+use mathlib.Core.Path.{refl, ◌∙◌}
 use native.Mathlib.Omega.{arith}
-use Rattle.wire.proofs.Laws.{puts_out, rest_start, rest_turn, rest_end, rest_full}
-use Rattle.wire.proofs.Fields.{le_turn, le_none}
+use Rattle.wire.proofs.Laws.{puts_out, puts_mid}
+use Rattle.wire.proofs.Fields.{length_le_bytes, written_turn, written_end}
 use Rattle.wire.proofs.put_le.Goals as goal
 
-pub loop-left-preserved : goal.loop-left-preserved
-loop-left-preserved c = rest_turn c.loop-left.invariant c.put_byte-o.ensures (le_turn _ _ c.loop-left-test.true)
+pub returns-then-len-at : goal.returns-then-len-at
+returns-then-len-at c = puts_out _ _ _ (omega arith)
 
-pub returns-then-out-at : goal.returns-then-out-at
-returns-then-out-at c = puts_out _ _ _ (omega arith)
-
-pub loop-left-init : goal.loop-left-init
-loop-left-init c = rest_start _ _ _ c.if-out-at.false
-
-pub returns-then-out-o : goal.returns-then-out-o
-returns-then-out-o c = rest_full c.loop-left.invariant c.if-out-o.true
+pub loop-b-preserved : goal.loop-b-preserved
+loop-b-preserved c = written_turn _ _ _ _ (omega arith) ∙ c.loop-b.invariant
 
 pub returns : goal.returns
-returns c = rest_end c.loop-left.invariant (le_none _ _ c.loop-left-test.false)
+returns c = puts_mid c.if-len-at.false (omega (arith, length_le_bytes c.args.n c.args.v)) refl (written_end _ _ _ _ _ _ (omega arith) (omega arith) (omega arith) c.loop-b.invariant)

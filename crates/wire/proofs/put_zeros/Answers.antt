@@ -1,18 +1,17 @@
+use mathlib.Core.Path.{◌≡◌, refl, sym, ◌∙◌}
+use Prim.Native.Nat.{◌+◌, ◌-◌, min}
 use native.Mathlib.Omega.{arith}
-use Rattle.wire.proofs.Laws.{puts_out, rest_start, rest_turn, rest_end, rest_full, zeros_turn, zeros_none}
+use lib.ListN.{length, length-take, length-drop, length-replicate}
+use Rattle.std.proofs.lemmas.List.{take-replicate}
+use Rattle.wire.proofs.Laws.{puts_out, puts_mid}
 use Rattle.wire.proofs.put_zeros.Goals as goal
 
-pub loop-left-preserved : goal.loop-left-preserved
-loop-left-preserved c = rest_turn c.loop-left.invariant c.put_byte-o.ensures (zeros_turn _ c.loop-left-test.true)
-
-pub returns-then-out-at : goal.returns-then-out-at
-returns-then-out-at c = puts_out _ _ _ (omega arith)
-
-pub loop-left-init : goal.loop-left-init
-loop-left-init c = rest_start _ _ _ c.if-out-at.false
-
-pub returns-then-out-o : goal.returns-then-out-o
-returns-then-out-o c = rest_full c.loop-left.invariant c.if-out-o.true
+pub returns-then-len-at : goal.returns-then-len-at
+returns-then-len-at c = puts_out _ _ _ (omega arith)
 
 pub returns : goal.returns
-returns c = rest_end c.loop-left.invariant (zeros_none _ c.loop-left-test.false)
+returns c =
+    let m = c.min-m.result in
+    let k : m ≡ min (c.args.at + m - c.args.at) (length c.args.out.now - c.args.at) = omega arith in
+    let h = c.fill.ensures.after (λ y e. e) in
+    puts_mid c.if-len-at.false (simp length-replicate c.min-m.ensures) refl (simp (length-take, length-drop, ← k) at h ∙ sym (take-replicate m c.args.n 0 (omega arith)))

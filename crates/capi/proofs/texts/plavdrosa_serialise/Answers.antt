@@ -2,8 +2,8 @@
 use Rattle.capi.proofs.Laws.{body_of_lem, said_length}
 use Rattle.capi.proofs.texts.plavdrosa_serialise.Goals as goal
 
-pub returns-in-Wrote : goal.returns-in-Wrote
-returns-in-Wrote c = let both = said_length _ _ _ (body_of_lem _ c.event_from-p.ensures) c.serialise.ensures.value c.serialise.ensures.out_after _ c.in-Wrote.is in record { value = both.0; out_after = both.1.0; len_after = both.1.1 }
+pub returns-in-Ok : goal.returns-in-Ok
+returns-in-Ok c = let both = said_length _ _ _ (body_of_lem _ c.event_from-p.ensures) c.serialise.ensures.value c.serialise.ensures.out_after _ c.in-Ok.is in record { value = both.0; out_after = both.1.0; len_after = both.1.1 }
 
-pub returns-in-Refused : goal.returns-in-Refused
-returns-in-Refused c = let both = said_length _ _ _ (body_of_lem _ c.event_from-p.ensures) c.serialise.ensures.value c.serialise.ensures.out_after _ c.in-Refused.is in record { value = both.0; out_after = both.1.0; len_after = both.1.1 }
+pub returns-in-Err : goal.returns-in-Err
+returns-in-Err c = let both = said_length _ _ _ (body_of_lem _ c.event_from-p.ensures) c.serialise.ensures.value c.serialise.ensures.out_after _ c.in-Err.is in record { value = both.0; out_after = both.1.0; len_after = both.1.1 }

@@ -8,11 +8,11 @@ returns c =
     let h : List ℕ = c.args.h in
     rw (← c.first_words-w.ensures)
     (rw (
-      c.rounds_48.ensures.value,
-      c.rounds_32-s3.ensures.value,
-      c.rounds_32-s3.ensures.w_after,
-      c.rounds_16-s2.ensures.value,
-      c.rounds_16-s2.ensures.w_after,
-      c.rounds_0-s1.ensures,
+      c.later_rounds.ensures.value,
+      c.later_rounds-s3.ensures.value,
+      c.later_rounds-s3.ensures.w_after,
+      c.later_rounds-s2.ensures.value,
+      c.later_rounds-s2.ensures.w_after,
+      c.first_rounds-s1.ensures,
     )
     (ring_rounds c.first_words-w.result c.first_words-w.type_inv.1.0.1 h))

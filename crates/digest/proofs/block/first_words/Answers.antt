@@ -11,8 +11,8 @@ pub loop-i-preserved : goal.loop-i-preserved
 unfolding words
 loop-i-preserved c =
     let l = c.loop-i in (
-      filled l.w l.i (l.i + 1) c.word_at.result l.invariant.0 (add-one l.i) (omega arith)
-          ∙ rw (add-one, word_part _ _ l.i (omega arith), c.word_at.ensures),
+      filled l.word-items l.i (l.i + 1) c.word_at.result l.invariant.0 (add-one l.i) (omega arith)
+          ∙ rw (add-one, word_part _ l.i (omega arith), c.word_at.ensures),
       simp length-set l.invariant.1,
       omega arith,
     )
@@ -21,4 +21,4 @@ pub returns : goal.returns
 returns c =
     let l = c.loop-i in
     let e : l.i ≡ 16 = omega arith in
-    sym (take_all 16 l.w (omega arith)) ∙ (rw e at l.invariant.0)
+    sym (take_all 16 l.word-items (omega arith)) ∙ (rw e at l.invariant.0)

@@ -11,7 +11,7 @@ pub loop-i-preserved : goal.loop-i-preserved
 unfolding words
 loop-i-preserved c =
     let l = c.loop-i in (
-      filled l.w l.i (l.i + 1) c.word_at.result l.invariant.0 (add-one l.i) (omega arith) ∙ rw (add-one, c.word_at.ensures),
+      filled l.word-items l.i (l.i + 1) c.word_at.result l.invariant.0 (add-one l.i) (omega arith) ∙ rw (add-one, c.word_at.ensures),
       simp length-set l.invariant.1,
       omega arith,
     )
@@ -20,4 +20,4 @@ pub returns : goal.returns
 returns c =
     let l = c.loop-i in
     let e : l.i ≡ 8 = omega arith in
-    sym (take_all 8 l.w (omega arith)) ∙ (rw e at l.invariant.0)
+    sym (take_all 8 l.word-items (omega arith)) ∙ (rw e at l.invariant.0)

@@ -3,10 +3,10 @@ use mathlib.Core.Path.{◌∙◌}
 use Rattle.event.specs.Inner.{first_tag}
 use Rattle.event.proofs.writing.first_tag.Goals as goal
 
-pub returns-in-End : goal.returns-in-End
+pub returns-in_err-value : goal.returns-in_err-value
 unfolding first_tag
-returns-in-End c = c.begun.ensures ∙ simp (← c.value.ensures, c.in-End.is)
+returns-in_err-value c = c.from_residual.ensures ∙ simp (← c.value.ensures, c.in_err-value.was)
 
-pub returns-in-Bad : goal.returns-in-Bad
+pub returns : goal.returns
 unfolding first_tag
-returns-in-Bad c = simp (← c.value.ensures, c.in-Bad.is)
+returns c = c.begun.ensures ∙ simp (← c.value.ensures, c.in_ok-value.was)

@@ -1,18 +1,15 @@
 -- A law for each way out.
 use mathlib.Core.Path.{refl, sym, ◌∙◌}
+use borrow.Author.Rules.{rules}
+use Rattle.json_tree.specs.Tree.{tree_at}
+use Rattle.event.specs.Inner.{string_text, strings_text}
 use Rattle.event.proofs.Forms.{put_fixed}
 use Rattle.event.proofs.Walks.{puts_chain}
-use Rattle.event.proofs.Tags.{tag_bare, tag_empty, tag_many}
+use Rattle.event.proofs.Tags.{tag_bare, tag_many, strings_printer}
 use Rattle.event.proofs.writing.put_tag.Goals as goal
 
-pub returns-then-named : goal.returns-then-named
-returns-then-named c = tag_bare c.args.b.now c.args.v (simp (← c.begin.ensures, c.in-Many.is, c.if-named.true)) (put_fixed c.args.json _ refl c.put-o.ensures) c.past.ensures
+pub returns-in-Some : goal.returns-in-Some
+returns-in-Some c = tag_many c.args.b.now c.args.v (puts_chain c.args.json) (sym c.begun.ensures ∙ c.in-Some.is) (put_fixed c.args.json _ refl c.put-o.ensures) (c.put_items.ensures c.args.json (tree_at c.args.b.now 6) (string_text c.args.b.now) (strings_text c.args.b.now) (strings_printer _) (λ x o v w y q. search rules))
 
-pub returns-else-named : goal.returns-else-named
-returns-else-named c = tag_many c.args.b.now c.args.v (puts_chain c.args.json) (simp (← c.begin.ensures, c.in-Many.is, c.if-named.false)) (put_fixed c.args.json _ refl c.put-o-in-Many.ensures) c.put_strings.ensures
-
-pub returns-in-Empty : goal.returns-in-Empty
-returns-in-Empty c = tag_empty c.args.b.now c.args.v (sym c.begin.ensures ∙ c.in-Empty.is) (put_fixed c.args.json _ refl c.put-o-in-Empty.ensures)
-
-pub returns-in-Leaf : goal.returns-in-Leaf
-returns-in-Leaf c = tag_bare c.args.b.now c.args.v (simp (← c.begin.ensures, c.in-Leaf.is)) (put_fixed c.args.json _ refl c.put-o-in-Leaf.ensures) c.past-in-Leaf.ensures
+pub returns-in-None : goal.returns-in-None
+returns-in-None c = tag_bare c.args.b.now c.args.v (sym c.begun.ensures ∙ c.in-None.is) (put_fixed c.args.json _ refl c.put.ensures) c.past.ensures

@@ -12,13 +12,13 @@ loop-i-preserved-then-i-n c = c.past8-n.ensures.same ∙ c.loop-i.invariant
 
 pub loop-i-smaller : goal.loop-i-smaller
 loop-i-smaller c =
-    let h = escaped_ends _ _ _ (sym c.escaped.ensures ∙ c.in-End.is) in
+    let h = escaped_ends _ _ _ (sym c.escaped.ensures ∙ c.in-Some.is) in
     omega arith
 
 pub loop-i-preserved : goal.loop-i-preserved
 loop-i-preserved c =
     let p = char_escaped _ _ c.loop-i-test.true (sym c.own.ensures ∙ c.if-own.false) in
-    chars_more _ _ _ (p ∙ sym c.escaped.ensures ∙ c.in-End.is) ∙ c.loop-i.invariant
+    chars_more _ _ _ (p ∙ sym c.escaped.ensures ∙ c.in-Some.is) ∙ c.loop-i.invariant
 
 pub returns-in_default : goal.returns-in_default
 returns-in_default c =

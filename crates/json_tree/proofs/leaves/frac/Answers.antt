@@ -20,10 +20,10 @@ pub enum_told-1 : goal.enum_told-1
 unfolding frac_at
 enum_told-1 c = search rules
 
-pub returns-in-End : goal.returns-in-End
+pub returns-in-Some : goal.returns-in-Some
 unfolding frac_at
-returns-in-End c = c.digits.ensures ∙ simp (← c.this.ensures, c.in-End.is)
+returns-in-Some c = c.digits.ensures ∙ simp (← c.this.ensures, c.in-Some.is)
 
-pub returns-in-Bad : goal.returns-in-Bad
+pub returns-in-None : goal.returns-in-None
 unfolding frac_at
-returns-in-Bad c = simp (← c.this.ensures, c.in-Bad.is)
+returns-in-None c = simp (← c.this.ensures, c.in-None.is)

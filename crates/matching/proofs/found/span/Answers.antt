@@ -16,24 +16,24 @@ enum_known-n c = search rules
 
 pub overflow_add-result : goal.overflow_add-result
 unfolding spelled_at
-overflow_add-result c = let h = string_parts _ _ _ (sym c.string.ensures ∙ c.in-End.is) in omega (arith, h.3, h.4)
+overflow_add-result c = let h = string_parts _ _ _ (sym c.string.ensures ∙ c.in-Some.is) in omega (arith, h.3, h.4)
 
 pub overflow_sub-result : goal.overflow_sub-result
 unfolding spelled_at
-overflow_sub-result c = let h = string_parts _ _ _ (sym c.string.ensures ∙ c.in-End.is) in omega (arith, h.3)
+overflow_sub-result c = let h = string_parts _ _ _ (sym c.string.ensures ∙ c.in-Some.is) in omega (arith, h.3)
 
-pub overflow_sub-result-in-End : goal.overflow_sub-result-in-End
+pub overflow_sub-result-in-Some : goal.overflow_sub-result-in-Some
 unfolding spelled_at
-overflow_sub-result-in-End c = let h = string_parts _ _ _ (sym c.string.ensures ∙ c.in-End.is) in omega (arith, h.3)
+overflow_sub-result-in-Some c = let h = string_parts _ _ _ (sym c.string.ensures ∙ c.in-Some.is) in omega (arith, h.3)
 
 pub enum_told-1 : goal.enum_told-1
 unfolding spelled_at
 enum_told-1 c = search rules
 
-pub returns-in-End : goal.returns-in-End
+pub returns-in-Some : goal.returns-in-Some
 unfolding spelled_at
-returns-in-End c = simp (← c.string.ensures, c.in-End.is)
+returns-in-Some c = simp (← c.string.ensures, c.in-Some.is)
 
-pub returns-in-Bad : goal.returns-in-Bad
+pub returns-in-None : goal.returns-in-None
 unfolding spelled_at
-returns-in-Bad c = simp (← c.string.ensures, c.in-Bad.is)
+returns-in-None c = simp (← c.string.ensures, c.in-None.is)

@@ -1,10 +1,7 @@
 -- The invariant: what is written and what is left make the list.
-use Prim.Native.Nat.{◌-◌}
+use Prim.Native.Nat.{◌*◌}
 use Rattle.matching.proofs.found.Members.{Strings}
 use Rattle.matching.proofs.found.strings_at.Given as goal
 
-abbrev pub invariant-loop-n : goal.invariant-loop-n
-invariant-loop-n l = Strings l.m l.v l.initial.row l.at l.row l.x l.n
-
-abbrev pub decreases-loop-n : goal.decreases-loop-n
-decreases-loop-n l = 32 - l.n
+abbrev pub invariant-loop-k : goal.invariant-loop-k
+invariant-loop-k l = Strings l.m l.v l.initial.row l.at l.row l.x (l.k * 2)

@@ -1,20 +1,11 @@
-use mathlib.Core.Path.{◌≡◌, refl, sym}
+use mathlib.Core.Path.{◌≡◌, refl}
 use lib.ListN.{length-set}
-use Rattle.matching.proofs.held.Bytes.{filled_none, filled_more}
+use Rattle.matching.proofs.held.Bytes.{as_byte, filled_none, filled_more}
 use native.Mathlib.Omega.{arith}
 use Rattle.matching.proofs.held.fill.Goals as goal
 
 pub loop-k-init : goal.loop-k-init
 loop-k-init c = (omega arith, refl, filled_none _ _ _ _)
-
-pub loop-k-preserved-then-slot_matched : goal.loop-k-preserved-then-slot_matched
-loop-k-preserved-then-slot_matched c =
-    let l = c.loop-k in
-    let p = c.requires.c_bound in (
-      omega (arith, c.loop-k-test.true),
-      simp length-set l.invariant.1,
-      filled_more l.invariant.2 p.2 (omega (arith, c.loop-k-test.true, l.invariant.1, p.2, p.3)) c.slot_matched.ensures 1 (sym c.if-slot_matched.true),
-    )
 
 pub loop-k-preserved : goal.loop-k-preserved
 loop-k-preserved c =
@@ -22,7 +13,7 @@ loop-k-preserved c =
     let p = c.requires.c_bound in (
       omega (arith, c.loop-k-test.true),
       simp length-set l.invariant.1,
-      filled_more l.invariant.2 p.2 (omega (arith, c.loop-k-test.true, l.invariant.1, p.2, p.3)) c.slot_matched.ensures 0 (sym c.if-slot_matched.false),
+      filled_more l.invariant.2 p.2 (omega (arith, c.loop-k-test.true, l.invariant.1, p.2, p.3)) c.slot_matched.ensures _ (as_byte _),
     )
 
 pub returns : goal.returns

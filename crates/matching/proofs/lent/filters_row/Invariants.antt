@@ -5,7 +5,4 @@ use Rattle.matching.proofs.lent.Rows.{lowest_from}
 use Rattle.matching.proofs.lent.filters_row.Given as goal
 
 abbrev pub invariant-loop-j : goal.invariant-loop-j
-invariant-loop-j l = (l.j ≤ 4) × (l.r ≡ lowest_from l.m l.fs l.n l.j)
-
-abbrev pub decreases-loop-j : goal.decreases-loop-j
-decreases-loop-j l = l.j
+invariant-loop-j l = (l.j ≤ 4) × (l.j ≤ l.n) × (l.r ≡ lowest_from l.m l.fs l.n l.j)

@@ -1,7 +1,7 @@
--- The invariant: all conditions hold exactly if those from i on do. The measure: 4 - i.
+-- The invariant: all conditions hold exactly if those from i on do.
 use mathlib.Core.Path.{◌≡◌}
 use mathlib.Core.List.{map}
-use Prim.Native.Nat.{◌-◌, ◌≤◌}
+use Prim.Native.Nat.{◌-◌}
 use lib.ListN.{take, drop}
 use Rattle.text.specs.Event.{all}
 use Rattle.event.specs.Lent.{lent_tags_at}
@@ -10,7 +10,4 @@ use Rattle.matching.specs.Inner.Found.{condition_by}
 use Rattle.matching.proofs.matcher.all_hold.Given as goal
 
 abbrev pub invariant-loop-i : goal.invariant-loop-i
-invariant-loop-i l = (l.i ≤ 4) × (all (condition_holds (lent_tags_at l.b l.tags)) (map (condition_by l.m l.row) (take l.n l.cs)) ≡ all (condition_holds (lent_tags_at l.b l.tags)) (map (condition_by l.m l.row) (take (l.n - l.i) (drop l.i l.cs))))
-
-abbrev pub decreases-loop-i : goal.decreases-loop-i
-decreases-loop-i l = 4 - l.i
+invariant-loop-i l = all (condition_holds (lent_tags_at l.b l.tags)) (map (condition_by l.m l.row) (take l.n l.cs)) ≡ all (condition_holds (lent_tags_at l.b l.tags)) (map (condition_by l.m l.row) (take (l.n - l.i) (drop l.i l.cs)))

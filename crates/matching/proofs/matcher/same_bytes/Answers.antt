@@ -1,4 +1,4 @@
-use mathlib.Core.Path.{refl, sym, ◌∙◌}
+use mathlib.Core.Path.{sym, ◌∙◌}
 use borrow.Author.Rules.{rules}
 use native.Mathlib.Omega.{arith}
 use Rattle.slots.proofs.Bytes.{same_lengths}
@@ -10,9 +10,6 @@ returns-then-p-q c = same_lengths _ _ c.if-p-q.true
 
 pub returns-then-byte : goal.returns-then-byte
 returns-then-byte c = first_differs _ _ c.byte.ensures c.byte-2.ensures c.if-byte.true
-
-pub loop-i-init : goal.loop-i-init
-loop-i-init c = (search rules, search rules, refl)
 
 pub loop-i-preserved : goal.loop-i-preserved
 loop-i-preserved c = let l = c.loop-i in (search rules, search rules, l.invariant.2 ∙ seen_more _ _ l.i l.same (omega arith) (omega arith))

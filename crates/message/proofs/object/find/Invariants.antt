@@ -12,7 +12,4 @@ use Rattle.message.proofs.Found.{by}
 use Rattle.message.proofs.object.find.Given as goal
 
 abbrev pub invariant-loop-k : goal.invariant-loop-k
-invariant-loop-k l = fold_got (by l.s l.event) no_members l.a (items_at (tree_at l.s open_within) l.s true (length l.s - l.k) l.i) ≡ found_in l.s l.event (members_at l.s l.at)
-
-abbrev pub decreases-loop-k : goal.decreases-loop-k
-decreases-loop-k l = length l.s - l.k
+invariant-loop-k l = fold_got (by l.s l.event) no_members l.a (items_at (tree_at l.s open_within) l.s true (length l.s - l._k) l.i) ≡ found_in l.s l.event (members_at l.s l.at)

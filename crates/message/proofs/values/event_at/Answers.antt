@@ -3,4 +3,4 @@ use Rattle.message.proofs.Found.{event_is}
 use Rattle.message.proofs.values.event_at.Goals as goal
 
 pub returns : goal.returns
-returns c = simp (c.span_in-id.ensures, c.body_in-body.ensures, c.span_in-sig.ensures) (event_is _ _ _ c.find-m.ensures)
+returns c = simp (c.span_in.ensures, c.body_in.ensures, c.span_in-2.ensures) (event_is _ _ _ c.find-m.ensures)

@@ -8,6 +8,3 @@ use Rattle.message.proofs.words.count_from.Given as goal
 
 abbrev pub invariant-loop-k : goal.invariant-loop-k
 invariant-loop-k l = l.k + length (up_to (length l.s - l.k) l.s l.x) ≡ length (elements_from l.s (At l.at))
-
-abbrev pub decreases-loop-k : goal.decreases-loop-k
-decreases-loop-k l = length l.s - l.k

@@ -5,7 +5,5 @@ use Rattle.shape.proofs.Names.{condition_plain}
 use Rattle.shape.proofs.items.condition_slot.Goals as goal
 
 pub returns-then-slot-ne-UNKNOWN : goal.returns-then-slot-ne-UNKNOWN
-returns-then-slot-ne-UNKNOWN c = c.letter_slot-slot.ensures ∙ condition_plain c.args.p.now (omega arith) c.if-p-eq35.true refl (λ e. c.if-slot-ne-UNKNOWN.true (c.letter_slot-slot.ensures ∙ e))
-
-pub returns : goal.returns
-returns c = c.escaped_condition.ensures
+returns-then-slot-ne-UNKNOWN c =
+    c.letter_slot-slot.ensures ∙ condition_plain c.args.p.now (omega arith) (omega arith) refl (λ e. c.if-slot-ne-UNKNOWN.true (c.letter_slot-slot.ensures ∙ e))

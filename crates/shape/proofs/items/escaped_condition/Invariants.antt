@@ -2,13 +2,10 @@
 use mathlib.Core.Path.{◌≡◌}
 use mathlib.Core.Bool.{false}
 use mathlib.Core.List.{[], ◌∷◌}
-use Prim.Native.Nat.{ℕ, ◌-◌, ◌≤◌, ◌<◌}
+use Prim.Native.Nat.{ℕ, ◌≤◌, ◌<◌}
 use Rattle.wire.specs.Bytes.{same_bytes}
 use Rattle.spell.specs.Spell.{decode}
 use Rattle.shape.proofs.items.escaped_condition.Given as goal
 
 abbrev pub invariant-loop-b : goal.invariant-loop-b
-invariant-loop-b l = (65 ≤ l.b) × (l.b ≤ 123) × ((k : ℕ) → 65 ≤ k → k < l.b → same_bytes (decode l.p) (35 ∷ k ∷ []) ≡ false)
-
-abbrev pub decreases-loop-b : goal.decreases-loop-b
-decreases-loop-b l = 123 - l.b
+invariant-loop-b l = (k : ℕ) → 65 ≤ k → k < l.b → same_bytes (decode l.p) (35 ∷ k ∷ []) ≡ false

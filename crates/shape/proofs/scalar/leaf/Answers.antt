@@ -4,26 +4,22 @@ use native.Mathlib.Omega.{arith}
 use Rattle.shape.specs.Inner.{judged_of, fault_of}
 use Rattle.shape.proofs.Places.{string_within, string_inner, scalar_string}
 use Rattle.shape.proofs.scalar.leaf.Goals as goal
+use Rattle.shape.proofs.scalar.leaf.Goals.{in-Str, in-Num, in-Word}
+
+pub returns-in_err-n : goal.returns-in_err-n
+unfolding judged_of
+returns-in_err-n c = c.from_residual.ensures ∙ simp (← c.scalar.ensures, c.in_err-n.was)
 
 pub overflow_add-inner : goal.overflow_add-inner
-overflow_add-inner c = omega (arith, (string_within _ _ _ (scalar_string _ _ _ (sym c.scalar.ensures ∙ c.in-Str.is))).0, c.well_formed.0)
-
-pub returns-in-Str : goal.returns-in-Str
-unfolding judged_of fault_of
-returns-in-Str c = simp (← c.scalar.ensures, c.in-Str.is, c.space.ensures, c.string_fault-x.ensures, string_inner c.args.s.now c.args.at c.in-Str.n c.cut.ensures)
-
-pub returns-in-Num : goal.returns-in-Num
-unfolding judged_of fault_of
-returns-in-Num c = simp (← c.scalar.ensures, c.in-Num.is, c.space-in-Num.ensures, c.number_fault-x.ensures, c.cut-in-Num.ensures)
-
-pub returns-in-Word : goal.returns-in-Word
-unfolding judged_of fault_of
-returns-in-Word c = simp (← c.scalar.ensures, c.in-Word.is, c.space-in-Word.ensures)
+overflow_add-inner c = omega (arith, (string_within _ _ _ (scalar_string _ _ _ (sym c.scalar.ensures ∙ rw c.in-Str.is at c.in_ok-n.was))).0, c.well_formed.0)
 
 pub overflow_sub-n : goal.overflow_sub-n
-unfolding judged_of
-overflow_sub-n c = omega (arith, (string_within _ _ _ (scalar_string _ _ _ (sym c.scalar.ensures ∙ c.in-Str.is))).1)
+overflow_sub-n c = omega (arith, (string_within _ _ _ (scalar_string _ _ _ (sym c.scalar.ensures ∙ rw c.in-Str.is at c.in_ok-n.was))).1)
 
-pub returns-in-None : goal.returns-in-None
-unfolding judged_of
-returns-in-None c = simp (← c.scalar.ensures, c.in-None.is)
+pub returns : goal.returns
+unfolding judged_of fault_of
+returns c = elim c.match-branch-2.branch [
+  | in-Str w ↦ simp (← c.scalar.ensures, c.in_ok-n.was, w.in-Str.is, c.space.ensures, w.n-is, w.string_fault.ensures, string_inner c.args.s.now c.args.at w.in-Str.n w.cut.ensures)
+  | in-Num w ↦ simp (← c.scalar.ensures, c.in_ok-n.was, w.in-Num.is, c.space.ensures, w.n-is, w.number_fault.ensures, w.cut-in-Num.ensures)
+  | in-Word w ↦ simp (← c.scalar.ensures, c.in_ok-n.was, w.in-Word.is, c.space.ensures, w.n-is)
+]

@@ -1,6 +1,5 @@
 use mathlib.Core.Path.{◌≡◌, refl, sym, ◌∙◌}
 use Prim.Native.Nat.{◌+◌, ◌-◌}
-use native.Mathlib.Nat.{sub-zero}
 use native.Mathlib.Omega.{arith}
 use Rattle.slots.specs.Slots.{clash}
 use Rattle.slots.proofs.Walk.{none_more, none_bad, none_end, none_whole}
@@ -8,40 +7,20 @@ use Rattle.slots.proofs.Marks.{none_noted, noted_more}
 use Rattle.slots.proofs.twice.apart.Goals as goal
 
 pub loop-i-init : goal.loop-i-init
-loop-i-init c =
-    let n = c.args.c in
-    (omega arith, c.mark.ensures, none_noted refl, none_end _ n n clash refl (omega arith))
-
-pub repeated-requires : goal.repeated-requires
-repeated-requires c =
-    let l = c.loop-i in
-    let p = c.requires in
-    let z : l.i - 1 + 1 ≡ l.i = omega arith in
-    record {
-      marked = l.invariant.1;
-      c_le_most_slots = (omega (arith, p), omega arith);
-      noted = rw z l.invariant.2;
-    }
+loop-i-init c = let n = c.args.c in (c.mark.ensures, none_noted refl, none_end _ n n clash refl (omega arith))
 
 pub returns-then-repeated : goal.returns-then-repeated
 returns-then-repeated c =
     let l = c.loop-i in
     let n = c.args.c in
-    sym (none_whole _ n clash (l.i - 1) (omega (arith, l.invariant.0)) (none_bad _ (l.i - 1) n clash refl (omega (arith, l.invariant.0)) (sym c.repeated.ensures ∙ c.if-repeated.true)))
+    sym (none_whole _ n clash (l.i - 1) (omega arith) (none_bad _ (l.i - 1) n clash refl (omega arith) (sym c.repeated.ensures ∙ c.if-repeated.true)))
 
 pub loop-i-preserved : goal.loop-i-preserved
 loop-i-preserved c =
     let l = c.loop-i in
     let n = c.args.c in
     let z : l.i - 1 + 1 ≡ l.i = omega arith in (
-      omega (arith, l.invariant.0),
-      l.invariant.1,
-      rw c.note.ensures (noted_more {seen = l.seen} (rw z l.invariant.2)),
-      none_more _ (l.i - 1) n clash refl (omega (arith, l.invariant.0)) (sym c.repeated.ensures ∙ c.if-repeated.false) ∙ rw z l.invariant.3,
+      l.invariant.0,
+      rw c.note.ensures (noted_more {seen = l.seen} (rw z l.invariant.1)),
+      none_more _ (l.i - 1) n clash refl (omega arith) (sym c.repeated.ensures ∙ c.if-repeated.false) ∙ rw z l.invariant.2,
     )
-
-pub returns : goal.returns
-returns c =
-    let l = c.loop-i in
-    let z : l.i ≡ 0 = omega arith in
-    sym (rw (z, sub-zero) at l.invariant.3)

@@ -1,6 +1,5 @@
 -- The first bytes of the id.
 use mathlib.Core.Path.{ap, ◌∙◌}
-use native.Mathlib.Omega.{arith}
 use Rattle.wire.specs.Field.{field_at}
 use Rattle.table.specs.Layout.{id_in}
 use Rattle.slots.specs.Marks.{id_mark}
@@ -9,6 +8,3 @@ use Rattle.slots.proofs.twice.id_mark.Goals as goal
 pub returns : goal.returns
 unfolding id_mark id_in
 returns c = c.le_at.ensures.is ∙ ap (λ l. field_at l 0 2) c.piece.ensures
-
-pub overflow_cast-result : goal.overflow_cast-result
-overflow_cast-result c = omega (arith, c.le_at.ensures.small)

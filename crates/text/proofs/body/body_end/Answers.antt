@@ -1,4 +1,4 @@
-use mathlib.Core.Path.{refl, sym, ◌∙◌}
+use mathlib.Core.Path.{sym, ◌∙◌}
 use native.Mathlib.Omega.{arith}
 use Rattle.text.proofs.Ways.{body_over, body_pair, body_unknown, body_quote, body_stuck, body_raw}
 use Rattle.text.proofs.body.body_end.Goals as goal
@@ -25,18 +25,6 @@ loop-i-preserved c =
     let h = c.loop-i.invariant.0 in
     let k = c.if-run-eq16.false in
     (omega arith, c.loop-i.invariant.1 ∙ body_raw _ _ c.loop-i-test.true c.if-x-eq92.false c.if-x-eq34.false (sym c.is_raw.ensures ∙ c.if-not-is_raw.false))
-
-pub loop-i-init : goal.loop-i-init
-loop-i-init c = (omega arith, refl)
-
-pub loop-i-smaller-then-x-eq92 : goal.loop-i-smaller-then-x-eq92
-loop-i-smaller-then-x-eq92 c = let h = c.past_escapes-i.ensures.from in omega arith
-
-pub overflow_add-run : goal.overflow_add-run
-overflow_add-run c = let h = c.loop-i.invariant.0 in omega arith
-
-pub loop-i-smaller-then-run-eq16 : goal.loop-i-smaller-then-run-eq16
-loop-i-smaller-then-run-eq16 c = let h = c.past_raw-i.ensures.from in omega arith
 
 pub returns : goal.returns
 returns c = sym (c.loop-i.invariant.1 ∙ body_over _ _ _ c.loop-i-test.false)

@@ -1,10 +1,6 @@
 -- What is known of the bytes tested so far.
-use Prim.Native.Nat.{◌-◌}
 use Rattle.text.proofs.Blocks.{Tested}
 use Rattle.text.proofs.body.raw_run.Given as goal
 
 abbrev pub invariant-loop-k : goal.invariant-loop-k
 invariant-loop-k l = Tested l.s l.i l.n l.k
-
-abbrev pub decreases-loop-k : goal.decreases-loop-k
-decreases-loop-k l = 32 - l.k

@@ -1,7 +1,0 @@
--- What `next` of message promises, and its place.
-use mathlib.Core.Path.{ap, ◌∙◌}
-use Rattle.matching.specs.Inner.Steps.{placed}
-use Rattle.matching.proofs.matcher.next.Goals as goal
-
-pub returns : goal.returns
-returns c = c.place.ensures ∙ ap placed c.next.ensures

@@ -1,9 +1,0 @@
--- By the first pair.
-use borrow.Author.Tests.{eq-eqb, ne_eqb}
-use Rattle.slots.proofs.held.both_are.Goals as goal
-
-pub returns-then-a-b : goal.returns-then-a-b
-returns-then-a-b c = rw (ne_eqb _ _ c.if-a-b.true)
-
-pub returns : goal.returns
-returns c = rw (eq-eqb _ _ c.if-a-b.false)
