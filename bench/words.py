@@ -82,8 +82,8 @@ class Machine:
             self.store(HASH + 4 * i, 4, h[i])
         for i in range(64):
             self.memory[BLOCK + i] = block[i]
-        # the hash value, the bytes, and where in them the block begins
-        self.regs.update(rsp=STACK, rdi=HASH, rsi=BLOCK, rdx=0)
+        # the hash value and the block
+        self.regs.update(rsp=STACK, rdi=HASH, rsi=BLOCK)
 
     def load(self, at, size):
         return sum(self.memory.get(at + i, 0) << 8 * i for i in range(size))

@@ -15,7 +15,7 @@ class Glossary:
                 names = names.split(", ")
                 self.entries.append((anchor, names, meaning))
                 self.anchors.update({name: anchor for name in names})
-        self.builtin = {"×", "→", "⊥", "Unit", "tt", "Type", "λ", "record", "elim", "↦", "ensures", "requires", "wrapping_add_u32"}
+        self.builtin = {"×", "→", "⊥", "Unit", "tt", "Type", "λ", "record", "elim", "↦", "ensures", "requires", "wrapping_add"}
 
     def anchor(self, name):
         return self.anchors.get(name)
