@@ -1,5 +1,6 @@
 -- A row that was read begins with the message's numbers, whatever stands behind them; a state lent as bytes is the
 -- state of what was fed.
+use Rattle.std.specs.Prelude.{Result}
 use mathlib.Core.Path.{◌≡◌, refl, ap, ◌∙◌}
 use mathlib.Core.Bool.{Bool, true, false, cond}
 use mathlib.Core.List.{List, [], ◌∷◌, ◌++◌, append_assoc, append-nil}
@@ -21,6 +22,7 @@ use Rattle.digest.specs.Claims.{joined, update_stands, finish_stands}
 use Rattle.digest.specs.Bytes.{state_bytes, state_lent, update_row, update_out}
 use Rattle.digest.specs.Back.{length_state, fed_back}
 use Rattle.message.specs.Read.{read_of, read_number}
+use Rattle.shape.specs.declared.Refusal.{Refusal}
 use Rattle.message.specs.declared.Message.{Message}
 use Rattle.message.proofs.Taken.{filters_taken}
 use Rattle.numbers.specs.Numbers.{message_numbers}
@@ -41,7 +43,7 @@ written l out e = go (leb (length l) (length out)) refl e
     go true q z = put_over out l (leb-true (length l) (length out) q)
     go false q z = absurd (omega arith)
 
-row_written : (s out : List ℕ) {m : Message} → read_of s ≡ m → read_number m ≡ 0 → read_row s out ≡ 0 → read_out s out ≡ message_numbers s m ++ drop (length (message_numbers s m)) out
+row_written : (s out : List ℕ) {m : Result Message Refusal} → read_of s ≡ m → read_number m ≡ 0 → read_row s out ≡ 0 → read_out s out ≡ message_numbers s m ++ drop (length (message_numbers s m)) out
 row_written s out {m} e z h =
     rw (e, z) (written (message_numbers s m) out (rw (e, z) at h))
 

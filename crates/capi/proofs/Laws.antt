@@ -1,5 +1,5 @@
 -- A law for each way out of a call that writes into a lent row; the numbers of a REQ.
-use Rattle.std.specs.Prelude.{Result}
+use Rattle.std.specs.Prelude.{Result, Err}
 use mathlib.Core.Path.{◌≡◌, refl, sym, ap, ◌∙◌}
 use mathlib.Core.List.{List, [], ◌++◌}
 use Prim.Native.Nat.{ℕ, ◌≤◌, ◌<◌}
@@ -111,7 +111,7 @@ pub row_told_lem : (s : List ℕ) (k : ℕ) {x : Refusal} {o : ℕ} → x ≡ re
 row_told_lem s k e f = (ap (λ (y : Refusal). y.row) e, f ∙ ap (λ (y : Refusal). offset_or y k) e)
 
 -- ---- a message that was read
-module _ (s out : List ℕ) {m : Message} (e : m ≡ read_of s) (k : ℕ) where
+module _ (s out : List ℕ) {m : Result Message Refusal} (e : m ≡ read_of s) (k : ℕ) where
   abbrev pub ReadSays : ℕ → List ℕ → ℕ → Type 0
   ReadSays x o j = (x ≡ read_row s out) × ((o ≡ read_out s out) × (j ≡ offset_or (refusal_of s) k))
 
@@ -123,8 +123,8 @@ module _ (s out : List ℕ) {m : Message} (e : m ≡ read_of s) (k : ℕ) where
       let h : (x ≡ read_row s out) × (o ≡ read_out s out) = rw (y, sym g) (a, b) in
       (h.0, (h.1, sym (ap (λ t. offset_in t k) (offset_absent s (λ n. omega arith) (λ n. omega arith)))))
 
-  pub read_refused : {z : Refusal} {j : ℕ} → m ≡ message.Refused z → j ≡ offset_or z k → ReadSays z.row out j
+  pub read_refused : {z : Refusal} {j : ℕ} → m ≡ Err z → j ≡ offset_or z k → ReadSays z.row out j
   read_refused {z} f g =
-      let y : read_of s ≡ message.Refused z = sym e ∙ f in
+      let y : read_of s ≡ Err z = sym e ∙ f in
       let h : (z.row ≡ read_row s out) × (out ≡ read_out s out) = rw y (lent_refused z.row 0 [] out refl (some_row s y)) in
       (h.0, (h.1, g ∙ ap (λ (r : Refusal). offset_or r k) (sym (refused_own s y))))

@@ -1,5 +1,5 @@
 -- What the rows that one call writes are to another, and what pieces come to.
-use Rattle.std.specs.Prelude.{◌≡◌, cond, List, [], ◌∷◌, ◌++◌, ℕ, ◌≤◌, ltb, length, drop}
+use Rattle.std.specs.Prelude.{◌≡◌, cond, List, [], ◌∷◌, ◌++◌, ℕ, ◌≤◌, ltb, length, drop, Ok}
 use Rattle.digest.specs.Digest.{digest}
 use Rattle.digest.specs.State.{most}
 use Rattle.digest.specs.Bytes.{update_out}
@@ -17,7 +17,7 @@ use Rattle.capi.specs.Digest.{start_out, end_out}
 -- ---- a message is read into the row `out`, and the row handed on unchanged
 -- an EVENT: serialising, identifying, offering and matching take the parts that were read
 abbrev pub ReadOffered : Type 0
-ReadOffered = (s out : List ℕ) (p : EventParts) → read_of s ≡ Event p → read_row s out ≡ 0 → event_from (read_out s out) ≡ p
+ReadOffered = (s out : List ℕ) (p : EventParts) → read_of s ≡ Ok (Event p) → read_row s out ≡ 0 → event_from (read_out s out) ≡ p
 
 -- a REQ: what is listed is the message's own answer, and no row but 11 and 13 refuses it
 pub record Answered (t s : List ℕ) (r : ReqParts) (l row : List ℕ) : Type 0 where
@@ -27,7 +27,7 @@ pub record Answered (t s : List ℕ) (r : ReqParts) (l row : List ℕ) : Type 0 
 
 abbrev pub ReadListed : Type 0
 ReadListed =
-    (t s out row : List ℕ) (r : ReqParts) → read_of s ≡ Req r → read_row s out ≡ 0 → Answered t s r (read_out s out) row
+    (t s out row : List ℕ) (r : ReqParts) → read_of s ≡ Ok (Req r) → read_row s out ≡ 0 → Answered t s r (read_out s out) row
 
 -- ---- 01: "A digest can be fed piece by piece and finished, and equals the digest of the whole", with the state lent
 -- as bytes

@@ -78,16 +78,16 @@ pub fn plavdrosa_read(bytes: &[u8], out: &mut [u64], offset: &mut usize) -> u8
     ensures offset_after { offset.new ≡ offset_or (refusal_of bytes.now) offset.old }
 {
     match message::read(bytes) {
-        Message::Event(p) => {
+        Ok(Message::Event(p)) => {
             let l = numbers::event_numbers(p);
             put_row(out, &l)
         }
-        Message::Req(p) => put_request(out, bytes, p),
-        Message::Close(p) => {
+        Ok(Message::Req(p)) => put_request(out, bytes, p),
+        Ok(Message::Close(p)) => {
             let l = [3, p.start as u64, p.len as u64];
             put_row(out, &l)
         }
-        Message::Refused(r) => {
+        Err(r) => {
             put_offset(offset, r);
             r.row
         }

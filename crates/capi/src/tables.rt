@@ -26,28 +26,28 @@ pub fn plavdrosa_sound(table: &[u8]) -> u8
     11
 }
 
-fn offered_number(x: table::Offered) -> u8
+fn offered_number(x: Result<table::Offered, shape::Refusal>) -> u8
     ensures { result ≡ offered_number x }
 {
     match x {
-        table::Offered::Stored => 0,
-        table::Offered::Ephemeral => 100,
-        table::Offered::Duplicate => 101,
-        table::Offered::Older => 102,
-        table::Offered::Refused(r) => r.row,
+        Ok(table::Offered::Stored) => 0,
+        Ok(table::Offered::Ephemeral) => 100,
+        Ok(table::Offered::Duplicate) => 101,
+        Ok(table::Offered::Older) => 102,
+        Err(r) => r.row,
     }
 }
 
 // The offset that an offer's refusal carries, into `offset`, which stays where there is none.
-fn put_offered(offset: &mut usize, x: table::Offered)
+fn put_offered(offset: &mut usize, x: Result<table::Offered, shape::Refusal>)
     ensures { offset.new ≡ offered_offset x offset.old }
 {
     match x {
-        table::Offered::Stored => {}
-        table::Offered::Ephemeral => {}
-        table::Offered::Duplicate => {}
-        table::Offered::Older => {}
-        table::Offered::Refused(r) => messages::put_offset(offset, r),
+        Ok(table::Offered::Stored) => {}
+        Ok(table::Offered::Ephemeral) => {}
+        Ok(table::Offered::Duplicate) => {}
+        Ok(table::Offered::Older) => {}
+        Err(r) => messages::put_offset(offset, r),
     }
 }
 

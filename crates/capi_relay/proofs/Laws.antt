@@ -11,7 +11,7 @@ use Rattle.event.specs.Answer.{written_number}
 use Rattle.program.specs.Feed.{turned, turn_row, turned_number}
 use Rattle.program.specs.Respond.{sent_events, events_row, sent_number}
 use Rattle.reply.specs.Lent.{replied, replied_out}
-use Rattle.program.specs.declared.Turned.{Turned}
+use Rattle.program.specs.declared.Fed.{Fed}
 use Rattle.reply.specs.declared.ReplyParts.{ReplyParts}
 use Rattle.capi.specs.Calls.{length_or}
 use Rattle.capi_relay.specs.Counts.{used_or, kept_or, written_or, bytes_or, slots_or}
@@ -22,7 +22,7 @@ pub length_as : {x y : Result ℕ ℕ} {l : ℕ} (m : ℕ) → l ≡ length_or x
 length_as m e f = e ∙ ap (λ (z : Result ℕ ℕ). length_or z m) f
 
 -- with k, u and w in the lent numbers
-pub said_turn : (b line : List ℕ) (n : ℕ) (piece out : List ℕ) {x v : Turned} (k u w : ℕ) → x ≡ turned b line n piece out →
+pub said_turn : (b line : List ℕ) (n : ℕ) (piece out : List ℕ) {x v : Result Fed ℕ} (k u w : ℕ) → x ≡ turned b line n piece out →
     turned_number x ≡ turn_row b line n piece out → x ≡ v →
     (turned_number v ≡ turn_row b line n piece out)
     × ((kept_or v k ≡ kept_or (turned b line n piece out) k)
@@ -30,7 +30,7 @@ pub said_turn : (b line : List ℕ) (n : ℕ) (piece out : List ℕ) {x v : Turn
 said_turn b line n piece out {v = v} k u w e f h =
     let z : v ≡ turned b line n piece out = sym h ∙ e in (
       sym (ap turned_number h) ∙ f,
-      (ap (λ (y : Turned). kept_or y k) z, (ap (λ (y : Turned). used_or y u) z, ap (λ (y : Turned). written_or y w) z)),
+      (ap (λ (y : Result Fed ℕ). kept_or y k) z, (ap (λ (y : Result Fed ℕ). used_or y u) z, ap (λ (y : Result Fed ℕ). written_or y w) z)),
     )
 
 -- with w and n in the lent numbers

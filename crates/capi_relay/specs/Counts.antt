@@ -3,21 +3,20 @@
 use Rattle.std.specs.Prelude.{ℕ, Result, Ok, Err}
 use Rattle.text.specs.declared.Class.{Class}
 use Rattle.text.specs.declared.Class.TheVariants as class
-use Rattle.program.specs.declared.Turned.{Turned}
-use Rattle.program.specs.declared.Turned.TheVariants as turning
+use Rattle.program.specs.declared.Fed.{Fed}
 
 -- ---- a piece of the input: how many of its bytes are used up, how many the line has then, how many are written
-abbrev pub used_or : Turned → ℕ → ℕ
-used_or (turning.Fed u k n) m = u
-used_or (turning.Refused r) m = m
+abbrev pub used_or : Result Fed ℕ → ℕ → ℕ
+used_or (Ok f) m = f.used
+used_or (Err r) m = m
 
-abbrev pub kept_or : Turned → ℕ → ℕ
-kept_or (turning.Fed u k n) m = k
-kept_or (turning.Refused r) m = m
+abbrev pub kept_or : Result Fed ℕ → ℕ → ℕ
+kept_or (Ok f) m = f.kept
+kept_or (Err r) m = m
 
-abbrev pub written_or : Turned → ℕ → ℕ
-written_or (turning.Fed u k n) m = n
-written_or (turning.Refused r) m = m
+abbrev pub written_or : Result Fed ℕ → ℕ → ℕ
+written_or (Ok f) m = f.written
+written_or (Err r) m = m
 
 -- ---- the EVENTs of some slots: how many bytes, and of how many slots
 abbrev pub bytes_or : Result (ℕ × ℕ) ℕ → ℕ → ℕ

@@ -18,7 +18,6 @@ ghost use Rattle.capi_relay.specs.Reply.{span_of_numbers, written_reply, written
 mod given;
 
 use message::Span;
-use program::Turned;
 use text::Class;
 
 // The number of what was answered; how many bytes were written goes to `written`.
@@ -82,13 +81,13 @@ pub fn plavdrosa_turn(
 {
     let n = *kept;
     match feed::turn(table, line, n, piece, out) {
-        Turned::Fed(u, k, w) => {
-            *used = u;
-            *kept = k;
-            *written = w;
+        Ok(f) => {
+            *used = f.used;
+            *kept = f.kept;
+            *written = f.written;
             0
         }
-        Turned::Refused(r) => r,
+        Err(r) => r,
     }
 }
 

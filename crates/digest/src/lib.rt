@@ -115,7 +115,8 @@ pub enum Answer {
     TooLong,
 }
 
-// What a piece more comes to.
+// What a piece more comes to. No Result: `updated` says of a refusal too what the state is, and so do `finished` and
+// `digested` of the bytes.
 #[derive(Clone, Copy)]
 pub struct Updated {
     pub answer: Answer,

@@ -30,7 +30,7 @@ use Rattle.event.specs.Sent.{sent_text_number}
 use Rattle.event.proofs.Answers.{AsOffered, wrote-is, refused_is}
 
 -- what is promised where the reader answers x, and of the message m
-abbrev pub AsRead : List ℕ → List ℕ → Message → Result (EventParts × ℕ) Refusal → List ℕ → Type 0
+abbrev pub AsRead : List ℕ → List ℕ → Result Message Refusal → Result (EventParts × ℕ) Refusal → List ℕ → Type 0
 AsRead m out x s o = (s ≡ sent_text_of m out x) × ((sent_text_number s ≡ sent_row_of m out x) × (o ≡ sent_out_of m out x))
 
 abbrev pub AsSent : List ℕ → List ℕ → Result (EventParts × ℕ) Refusal → List ℕ → Type 0
@@ -38,14 +38,14 @@ AsSent m out s o = (s ≡ sent_text m out) × ((sent_text_number s ≡ sent_row 
 
 -- ---- an EVENT, whose text was asked for
 module _ (m out : List ℕ) (p : EventParts) {w : Result ℕ ℕ} {o : List ℕ} (k : AsOffered m p out w o) where
-  pub event_wrote : {n : ℕ} → w ≡ Ok n → AsRead m out (message.Event p) (Ok (p, n)) o
+  pub event_wrote : {n : ℕ} → w ≡ Ok n → AsRead m out (Ok (message.Event p)) (Ok (p, n)) o
   unfolding offered
   event_wrote e =
       let r = offered_text_row m p out in
       let (z, l) = wrote-is r (length (text_of m p.body)) (sym e ∙ k.0) in
       (rw (eq-eqb r 0 z, l), (sym z, k.1.1))
 
-  pub event_refused : {x : ℕ} {z : Refusal} → w ≡ Err x → z ≡ plain_refusal x → AsRead m out (message.Event p) (Err z) o
+  pub event_refused : {x : ℕ} {z : Refusal} → w ≡ Err x → z ≡ plain_refusal x → AsRead m out (Ok (message.Event p)) (Err z) o
   unfolding offered
   event_refused e f =
       let r = offered_text_row m p out in
@@ -54,26 +54,26 @@ module _ (m out : List ℕ) (p : EventParts) {w : Result ℕ ℕ} {o : List ℕ}
 
 -- ---- a message
 -- the parts of one that was read pass rows 2 and 4 to 8
-pub passes : (m : List ℕ) {x : Message} {p : EventParts} → x ≡ read_of m → x ≡ message.Event p → event_row m p ≡ 0
+pub passes : (m : List ℕ) {x : Result Message Refusal} {p : EventParts} → x ≡ read_of m → x ≡ Ok (message.Event p) → event_row m p ≡ 0
 passes m {p = p} a e = event_passes m p (sym a ∙ e)
 
-module _ (m out : List ℕ) {x : Message} (a : x ≡ read_of m) where
-  as_sent : {y : Message} {s : Result (EventParts × ℕ) Refusal} {o : List ℕ} → x ≡ y → AsRead m out y s o → AsSent m out s o
+module _ (m out : List ℕ) {x : Result Message Refusal} (a : x ≡ read_of m) where
+  as_sent : {y : Result Message Refusal} {s : Result (EventParts × ℕ) Refusal} {o : List ℕ} → x ≡ y → AsRead m out y s o → AsSent m out s o
   unfolding sent_text sent_row sent_out
   as_sent {y} e k =
       let z : y ≡ read_of m = sym e ∙ a in
       (k.0 ∙ ap (sent_text_of m out) z, (k.1.0 ∙ ap (sent_row_of m out) z, k.1.1 ∙ ap (sent_out_of m out) z))
 
-  pub from_event : {p : EventParts} {s : Result (EventParts × ℕ) Refusal} {o : List ℕ} → x ≡ message.Event p → AsRead m out (message.Event p) s o → AsSent m out s o
+  pub from_event : {p : EventParts} {s : Result (EventParts × ℕ) Refusal} {o : List ℕ} → x ≡ Ok (message.Event p) → AsRead m out (Ok (message.Event p)) s o → AsSent m out s o
   from_event e k = as_sent e k
 
-  pub from_req : {p : ReqParts} {z : Refusal} → x ≡ message.Req p → z ≡ plain_refusal 5 → AsSent m out (Err z) out
+  pub from_req : {p : ReqParts} {z : Refusal} → x ≡ Ok (message.Req p) → z ≡ plain_refusal 5 → AsSent m out (Err z) out
   from_req e f = as_sent e (ap Err f, (ap (λ z. z.row) f, refl))
 
-  pub from_close : {p : Span} {z : Refusal} → x ≡ message.Close p → z ≡ plain_refusal 5 → AsSent m out (Err z) out
+  pub from_close : {p : Span} {z : Refusal} → x ≡ Ok (message.Close p) → z ≡ plain_refusal 5 → AsSent m out (Err z) out
   from_close e f = as_sent e (ap Err f, (ap (λ z. z.row) f, refl))
 
-  pub from_refused : {r z : Refusal} → x ≡ message.Refused r → z ≡ unread_refusal m r → AsSent m out (Err z) out
+  pub from_refused : {r z : Refusal} → x ≡ Err r → z ≡ unread_refusal m r → AsSent m out (Err z) out
   from_refused e f = as_sent e (ap Err f, (ap (λ z. z.row) f, refl))
 
 -- ---- what an answer says of the message
@@ -97,52 +97,52 @@ Refuses m x = (x ≡ refusal_for m x.row) × (x.row ≡ 0 → ⊥)
 
 module _ (m : List ℕ) where
   -- the reader refuses by some row
-  pub some_row : {r : Refusal} → read_of m ≡ message.Refused r → r.row ≡ 0 → ⊥
+  pub some_row : {r : Refusal} → read_of m ≡ Err r → r.row ≡ 0 → ⊥
   unfolding read_of
   some_row {r} e z = go (eqb (message_row m) 0) refl e
     where
-      tree : (g : Got Json) → in_root m g ≡ message.Refused r → ⊥
+      tree : (g : Got Json) → in_root m g ≡ Err r → ⊥
       tree none f = let y : plain_refusal 3 ≡ r = cc in omega (arith, ap (λ x. x.row) y)
       tree (got t k) f = word (opened m t).first f
         where
-          word : (w : Word) → message_parts m w (opened m t).rest ≡ message.Refused r → ⊥
+          word : (w : Word) → message_parts m w (opened m t).rest ≡ Err r → ⊥
           word event f = let y : ◌≡◌ {A = ℕ} 0 1 = cc in omega arith
           word req f = let y : ◌≡◌ {A = ℕ} 0 1 = cc in omega arith
           word close f = let y : ◌≡◌ {A = ℕ} 0 1 = cc in omega arith
           word other f = let y : plain_refusal 5 ≡ r = cc in omega (arith, ap (λ x. x.row) y)
 
-      go : (t : Bool) → eqb (message_row m) 0 ≡ t → cond t (in_root m (root m)) (message.Refused (refusal_of m)) ≡ message.Refused r → ⊥
+      go : (t : Bool) → eqb (message_row m) 0 ≡ t → cond t (in_root m (root m)) (Err (refusal_of m)) ≡ Err r → ⊥
       go true q f = tree (root m) f
       go false q f = let y : refusal_of m ≡ r = cc in eqb-false (message_row m) 0 q (ap (λ x. x.row) y ∙ z)
 
   -- and it is what refuses the message
-  pub refused_own : {r : Refusal} → read_of m ≡ message.Refused r → refusal_of m ≡ r
+  pub refused_own : {r : Refusal} → read_of m ≡ Err r → refusal_of m ≡ r
   unfolding read_of
   refused_own {r} e = go (eqb (message_row m) 0) refl e
     where
-      go : (t : Bool) → eqb (message_row m) 0 ≡ t → cond t (in_root m (root m)) (message.Refused (refusal_of m)) ≡ message.Refused r → refusal_of m ≡ r
+      go : (t : Bool) → eqb (message_row m) 0 ≡ t → cond t (in_root m (root m)) (Err (refusal_of m)) ≡ Err r → refusal_of m ≡ r
       go true q f = absurd (some_row e (sym (ap read_number e) ∙ row_read m ∙ eqb-true (message_row m) 0 q))
       go false q f = cc
 
   module _ (out : List ℕ) where
     -- an event is written: it was read, and its text was asked for
-    pub sent_wrote : {p : EventParts} {n : ℕ} → sent_text m out ≡ Ok (p, n) → (read_of m ≡ message.Event p) × AsOffered m p out (Ok n) (sent_out m out)
+    pub sent_wrote : {p : EventParts} {n : ℕ} → sent_text m out ≡ Ok (p, n) → (read_of m ≡ Ok (message.Event p)) × AsOffered m p out (Ok n) (sent_out m out)
     unfolding sent_text sent_out offered
     sent_wrote {p} {n} = go (read_of m) refl
       where
         moved : {q : EventParts} {o : List ℕ} → q ≡ p → AsOffered m q out (Ok n) o → AsOffered m p out (Ok n) o
         moved h k = rw h at k
 
-        go : (x : Message) → read_of m ≡ x → sent_text_of m out x ≡ Ok (p, n)
-            → (x ≡ message.Event p) × AsOffered m p out (Ok n) (sent_out_of m out x)
-        go (message.Event q) e f =
+        go : (x : Result Message Refusal) → read_of m ≡ x → sent_text_of m out x ≡ Ok (p, n)
+            → (x ≡ Ok (message.Event p)) × AsOffered m p out (Ok n) (sent_out_of m out x)
+        go (Ok (message.Event q)) e f =
             let r = offered_text_row m q out in
             let (z, (h, l)) = as_wrote q (length (text_of m q.body)) r f in
             let k : AsOffered m q out (Ok n) (offered_out m q out) = (rw (eq-eqb r 0 z, l), (sym z, refl)) in
-            (ap message.Event h, moved h k)
-        go (message.Req q) e f = absurd (let y : ◌≡◌ {A = ℕ} 0 1 = cc in omega arith)
-        go (message.Close q) e f = absurd (let y : ◌≡◌ {A = ℕ} 0 1 = cc in omega arith)
-        go (message.Refused r) e f = absurd (let y : ◌≡◌ {A = ℕ} 0 1 = cc in omega arith)
+            (ap (λ x. Ok (message.Event x)) h, moved h k)
+        go (Ok (message.Req q)) e f = absurd (let y : ◌≡◌ {A = ℕ} 0 1 = cc in omega arith)
+        go (Ok (message.Close q)) e f = absurd (let y : ◌≡◌ {A = ℕ} 0 1 = cc in omega arith)
+        go (Err r) e f = absurd (let y : ◌≡◌ {A = ℕ} 0 1 = cc in omega arith)
 
     pub sent_refused : {r : Refusal} → sent_text m out ≡ Err r → Refuses m r
     unfolding sent_text
@@ -157,15 +157,15 @@ module _ (m : List ℕ) where
         five : Refuses m (plain_refusal 5)
         five = without 5 (offset_plain m 5 (λ z. omega arith) (λ z. omega arith)) (λ z. omega arith)
 
-        unread : {x : Refusal} → read_of m ≡ message.Refused x → (t : Bool) → Refuses m (cond t x (plain_refusal 5))
+        unread : {x : Refusal} → read_of m ≡ Err x → (t : Bool) → Refuses m (cond t x (plain_refusal 5))
         unread e true = (sym (refused_own e) ∙ sym (refusal_own m) ∙ ap (λ y. refusal_for m y.row) (refused_own e), some_row e)
         unread e false = five
 
-        go : (x : Message) → read_of m ≡ x → sent_text_of m out x ≡ Err r → Refuses m r
-        go (message.Event q) e f =
+        go : (x : Result Message Refusal) → read_of m ≡ x → sent_text_of m out x ≡ Err r → Refuses m r
+        go (Ok (message.Event q)) e f =
             let n = offered_text_row m q out in
             let (y, z) = as_refused q (length (text_of m q.body)) n f in
             moved (without n (offset_other m n (λ w. z (w ∙ sym (row_read m) ∙ ap read_number e))) z) y
-        go (message.Req q) e f = moved five cc
-        go (message.Close q) e f = moved five cc
-        go (message.Refused x) e f = moved (unread e (leb x.row 4 || is_event m)) cc
+        go (Ok (message.Req q)) e f = moved five cc
+        go (Ok (message.Close q)) e f = moved five cc
+        go (Err x) e f = moved (unread e (leb x.row 4 || is_event m)) cc

@@ -18,11 +18,11 @@ unread_refusal m r = cond (leb r.row 4 || is_event m) r (plain_refusal 5)
 
 -- by what the reader answers: a REQ and a CLOSE aren't EVENTs; an EVENT is tested "by 9 too, and by 10 when offered",
 -- then by 13
-abbrev pub sent_row_of : (m out : Bytes) (x : Message) → ℕ
-sent_row_of m out (message.Event p) = offered_text_row m p out
-sent_row_of m out (message.Req p) = 5
-sent_row_of m out (message.Close p) = 5
-sent_row_of m out (message.Refused r) = (unread_refusal m r).row
+abbrev pub sent_row_of : (m out : Bytes) (x : Result Message Refusal) → ℕ
+sent_row_of m out (Ok (message.Event p)) = offered_text_row m p out
+sent_row_of m out (Ok (message.Req p)) = 5
+sent_row_of m out (Ok (message.Close p)) = 5
+sent_row_of m out (Err r) = (unread_refusal m r).row
 
 unfoldable pub sent_row : Bytes → Bytes → Row
 sent_row m out = sent_row_of m out (read_of m)
@@ -32,21 +32,21 @@ sent_row m out = sent_row_of m out (read_of m)
 abbrev pub sent_as : (r : ℕ) (p : EventParts) (n : ℕ) → Result (EventParts × ℕ) Refusal
 sent_as r p n = cond (eqb r 0) (Ok (p, n)) (Err (plain_refusal r))
 
-abbrev pub sent_text_of : (m out : Bytes) (x : Message) → Result (EventParts × ℕ) Refusal
-sent_text_of m out (message.Event p) = sent_as (offered_text_row m p out) p (length (text_of m p.body))
-sent_text_of m out (message.Req p) = Err (plain_refusal 5)
-sent_text_of m out (message.Close p) = Err (plain_refusal 5)
-sent_text_of m out (message.Refused r) = Err (unread_refusal m r)
+abbrev pub sent_text_of : (m out : Bytes) (x : Result Message Refusal) → Result (EventParts × ℕ) Refusal
+sent_text_of m out (Ok (message.Event p)) = sent_as (offered_text_row m p out) p (length (text_of m p.body))
+sent_text_of m out (Ok (message.Req p)) = Err (plain_refusal 5)
+sent_text_of m out (Ok (message.Close p)) = Err (plain_refusal 5)
+sent_text_of m out (Err r) = Err (unread_refusal m r)
 
 unfoldable pub sent_text : Bytes → Bytes → Result (EventParts × ℕ) Refusal
 sent_text m out = sent_text_of m out (read_of m)
 
 -- "Output is written from its start, and its rest stays"; on a refusal "every lent buffer stays as found"
-abbrev pub sent_out_of : (m out : Bytes) (x : Message) → Bytes
-sent_out_of m out (message.Event p) = offered_out m p out
-sent_out_of m out (message.Req p) = out
-sent_out_of m out (message.Close p) = out
-sent_out_of m out (message.Refused r) = out
+abbrev pub sent_out_of : (m out : Bytes) (x : Result Message Refusal) → Bytes
+sent_out_of m out (Ok (message.Event p)) = offered_out m p out
+sent_out_of m out (Ok (message.Req p)) = out
+sent_out_of m out (Ok (message.Close p)) = out
+sent_out_of m out (Err r) = out
 
 unfoldable pub sent_out : Bytes → Bytes → Bytes
 sent_out m out = sent_out_of m out (read_of m)

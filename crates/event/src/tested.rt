@@ -1,5 +1,5 @@
 // Rows 9, 10 and 13 of an event whose parts pass the rows before them.
-ghost use Rattle.std.specs.Prelude.{◌≡◌, length};
+ghost use Rattle.std.specs.Prelude.{◌≡◌, length, Ok};
 ghost use Rattle.wire.specs.Bytes.{same_bytes};
 ghost use Rattle.message.specs.Lent.{event_row};
 ghost use Rattle.message.specs.declared.Message.TheVariants.{Event};
@@ -95,9 +95,9 @@ pub(crate) fn sent_event(
     out: &mut [u8],
 ) -> Result<(message::EventParts, usize), shape::Refusal>
     requires { event_row m.now p ≡ 0 }
-    ensures value { result ≡ sent_text_of m.now out.old (Event p) }
-    ensures result_value { sent_text_number result ≡ sent_row_of m.now out.old (Event p) }
-    ensures out_after { out.new ≡ sent_out_of m.now out.old (Event p) }
+    ensures value { result ≡ sent_text_of m.now out.old (Ok (Event p)) }
+    ensures result_value { sent_text_number result ≡ sent_row_of m.now out.old (Ok (Event p)) }
+    ensures out_after { out.new ≡ sent_out_of m.now out.old (Ok (Event p)) }
 {
     match rest_text(m, p, out) {
         Ok(n) => Ok((p, n)),

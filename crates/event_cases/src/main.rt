@@ -95,10 +95,10 @@ fn put_refused(out: &mut [u8], s: &[u8], x: Refusal) -> usize {
 fn put_offer(out: &mut [u8], s: &[u8]) -> usize {
     let m = message::read(s);
     match m {
-        Message::Event(p) => put_event(out, s, p),
-        Message::Req(_) => put_row(out, 0, 5),
-        Message::Close(_) => put_row(out, 0, 5),
-        Message::Refused(x) => put_refused(out, s, x),
+        Ok(Message::Event(p)) => put_event(out, s, p),
+        Ok(Message::Req(_)) => put_row(out, 0, 5),
+        Ok(Message::Close(_)) => put_row(out, 0, 5),
+        Err(x) => put_refused(out, s, x),
     }
 }
 

@@ -1,4 +1,5 @@
 -- An output that is never too short, and a table that keeps its slots.
+use Rattle.std.specs.Prelude.{Result, Ok, Err}
 use mathlib.Core.Path.{◌≡◌, refl, ap, ◌∙◌}
 use mathlib.Core.Bool.{Bool, true, false, cond}
 use mathlib.Core.List.{List, [], ◌∷◌}
@@ -10,6 +11,7 @@ use lib.Dec.{eqb}
 use lib.ListN.{length, take}
 use Rattle.law.specs.Lists.{any}
 use Rattle.message.specs.Read.{read_of}
+use Rattle.shape.specs.declared.Refusal.{Refusal}
 use Rattle.message.specs.declared.Message.{Message}
 use Rattle.message.specs.declared.Message.TheVariants as message
 use Rattle.table.specs.Layout.{capacity_of}
@@ -52,11 +54,11 @@ table_slots : (b m : List ℕ) → capacity_of (table_after b m) ≡ capacity_of
 unfolding table_after
 table_slots b m = go (read_of m)
   where
-    go : (x : Message) → capacity_of (table_in b m x) ≡ capacity_of b
-    go (message.Event p) = next_capacity b _
-    go (message.Req r) = refl
-    go (message.Close p) = refl
-    go (message.Refused r) = refl
+    go : (x : Result Message Refusal) → capacity_of (table_in b m x) ≡ capacity_of b
+    go (Ok (message.Event p)) = next_capacity b _
+    go (Ok (message.Req r)) = refl
+    go (Ok (message.Close p)) = refl
+    go (Err r) = refl
 
 state_slots : (b line : List ℕ) (n : ℕ) (piece : List ℕ) → capacity_of (turn_state b line n piece).table ≡ capacity_of b
 state_slots b line n piece = go (dec_le (length piece) (length (before piece)))

@@ -16,8 +16,7 @@ use Rattle.program.specs.Program.{table_after}
 use Rattle.program.specs.Respond.{response, respond_row, responded, responded_out, responded_table}
 use Rattle.program.specs.Feed.{State, most_line, kept, is_end, last_line, said_last, before, used_of, turn_text, turn_state}
 use Rattle.program.specs.Feed.{turn_row, turned, turn_table, turn_line, turn_out, turned_number}
-use Rattle.program.specs.declared.Turned.{Turned}
-use Rattle.program.specs.declared.Turned.TheVariants as turning
+use Rattle.program.specs.declared.Fed.{Fed}
 use Rattle.program.proofs.Respond.{fits_if, responded_means}
 use Rattle.program.proofs.Feed.{kept_same, so_far, turn_means, turn_row_is}
 use Rattle.feed.specs.Finish.{finish_text, finish_row, feed_finished, finish_table, finish_out, last_table}
@@ -60,7 +59,7 @@ module _ (b m out : List ℕ) where
 
 -- ---- one turn
 module _ (b line : List ℕ) (n : ℕ) (piece out : List ℕ) where
-  abbrev Turning : Turned → (b' line' o : List ℕ) → Type 0
+  abbrev Turning : Result Fed ℕ → (b' line' o : List ℕ) → Type 0
   Turning r b' line' o =
       (r ≡ turned b line n piece out)
       × ((turned_number r ≡ turn_row b line n piece out)
@@ -78,20 +77,20 @@ module _ (b line : List ℕ) (n : ℕ) (piece out : List ℕ) where
   abbrev line_after : List ℕ → List ℕ
   line_after p = put line (min n most_line) (take (most_line - min n most_line) p)
 
-  refusing : (k : ℕ) → row ≡ k → k ≢ 0 → Turning (turning.Refused k) b line out
+  refusing : (k : ℕ) → row ≡ k → k ≢ 0 → Turning (Err k) b line out
   unfolding turned turn_table turn_line turn_out
   refusing k e ne =
       let z = ne_eqb row 0 (λ q. ne (sym e ∙ q)) in
-      (rw z (ap turning.Refused (sym e)), (sym e, (rw z, (rw z, rw z))))
+      (rw z (ap Err (sym e)), (sym e, (rw z, (rw z, rw z))))
 
   feeding : row ≡ 0 → {u k w : ℕ} {b' line' o : List ℕ} → u ≡ used_of piece → k ≡ length state.line → w ≡ length text → b' ≡ state.table
-      → line' ≡ line_after (before piece) → o ≡ text ++ drop (length text) out → Turning (turning.Fed u k w) b' line' o
+      → line' ≡ line_after (before piece) → o ≡ text ++ drop (length text) out → Turning (Ok (record { used = u; kept = k; written = w })) b' line' o
   unfolding turned turn_table turn_line turn_out
   feeding e p q s t l o =
       let z = eq-eqb row 0 e in
       (rw (z, p, q, s), (sym e, (rw z t, (rw z l, rw z o))))
 
-  pub narrow : length line < most_line → Turning (turning.Refused 13) b line out
+  pub narrow : length line < most_line → Turning (Err 13) b line out
   unfolding turn_row
   narrow h = refusing 13 (rw (lt-ltb (length line) most_line h)) (λ q. omega arith)
 
@@ -102,7 +101,7 @@ module _ (b line : List ℕ) (n : ℕ) (piece out : List ℕ) where
   module _ (wide : most_line ≤ length line) where
     -- the piece ends no line
     pub unended : {e k : ℕ} {line' : List ℕ} → e ≡ length (before piece) → length piece ≤ e → Keeps line n piece k line'
-        → Turning (turning.Fed e k 0) b line' out
+        → Turning (Ok (record { used = e; kept = k; written = 0 })) b line' out
     unended {e} q h s =
         let u = whole piece (omega arith) in
         let t : text ≡ [] = says ∙ rw u.ends in
@@ -127,7 +126,7 @@ module _ (b line : List ℕ) (n : ℕ) (piece out : List ℕ) where
       text_is = says ∙ rw ((within piece (omega arith)).ends, part_is)
 
       pub ended : {r : Result ℕ ℕ} {w j : ℕ} {b' o line' : List ℕ} → Answers b message out r b' o → r ≡ Ok w → Keeps line n (take e piece) j line'
-          → Turning (turning.Fed (e + 1) 0 w) b' line' o
+          → Turning (Ok (record { used = e + 1; kept = 0; written = w })) b' line' o
       ended a x s =
           let u = within piece (omega arith) in
           let (z, k) = wrote_row b message out (sym x ∙ a.answer) in
@@ -137,7 +136,7 @@ module _ (b line : List ℕ) (n : ℕ) (piece out : List ℕ) where
           (a.table ∙ (responded_means b message out).1 z ∙ ap (λ v. table_after b (grown line n v)) part_is ∙ sym (ap (λ v. v.table) y))
           (s.bytes ∙ ap line_after part_is) (a.output ∙ out_written b message out z ∙ sym (ap (λ t. t ++ drop (length t) out) text_is))
 
-      pub ended_refused : {r : Result ℕ ℕ} {k : ℕ} {b' o : List ℕ} → Answers b message out r b' o → r ≡ Err k → Turning (turning.Refused k) b' line o
+      pub ended_refused : {r : Result ℕ ℕ} {k : ℕ} {b' o : List ℕ} → Answers b message out r b' o → r ≡ Err k → Turning (Err k) b' line o
       unfolding turn_row respond_row
       ended_refused {r} {k} a x =
           let (ne, i) = refused_row_lem b message out (sym x ∙ a.answer) in

@@ -2,7 +2,7 @@
 -- is cut. Proved in proofs/Run and Room, each under its own name in small letters.
 use Rattle.std.specs.Prelude.{◌≡◌, ◌↔◌, ◌≢◌, List, [], ◌++◌, ℕ, ◌≤◌, ◌<◌, length, take, Ok}
 use Rattle.table.specs.Layout.{capacity_of}
-use Rattle.program.specs.declared.Turned.TheVariants as turning
+use Rattle.program.specs.declared.Fed.{Fed}
 use Rattle.reply.specs.Claims.{WritesOr}
 use Rattle.program.specs.Program.{fresh_table, output}
 use Rattle.program.specs.Feed.{most_line, feed_state, turn_row, turned, turn_table, turn_line, turn_out}
@@ -44,14 +44,14 @@ SlotsStay = (b line : List ℕ) (n : ℕ) (piece out : List ℕ) → capacity_of
 pub data Turns (b line : List ℕ) (n : ℕ) : (input said b' line' : List ℕ) → ℕ → Type 0 where
   none : Turns b line n [] [] b line n
   more : {input said b' line' : List ℕ} {n' : ℕ} → Turns b line n input said b' line' n'
-      → (piece out : List ℕ) {u k w : ℕ} → turned b' line' n' (looked_at n' piece) out ≡ turning.Fed u k w
+      → (piece out : List ℕ) {u k w : ℕ} → turned b' line' n' (looked_at n' piece) out ≡ Ok (record { used = u; kept = k; written = w })
       → Turns b line n (input ++ take u piece) (said ++ take w (turn_out b' line' n' (looked_at n' piece) out))
       (turn_table b' line' n' (looked_at n' piece) out) (turn_line b' line' n' (looked_at n' piece) out) k
 
 -- a call uses some of every piece that has bytes, so a caller that goes on with the rest comes to its end
 abbrev pub UsesSome : Type 0
 UsesSome = (b line : List ℕ) (n : ℕ) (piece out : List ℕ) (u k w : ℕ) → 1 ≤ length piece →
-    turned b line n (looked_at n piece) out ≡ turning.Fed u k w → (1 ≤ u) × (u ≤ length piece)
+    turned b line n (looked_at n piece) out ≡ Ok (record { used = u; kept = k; written = w }) → (1 ≤ u) × (u ≤ length piece)
 
 -- a run from a fresh table and no line so far, and then the end of the input, write what the program prints: "One
 -- program reads messages from standard input, one a line, over a fresh table of 8 slots"

@@ -9,7 +9,7 @@ ghost use Rattle.feed.specs.Finish.{feed_finished, finish_row, finish_table, fin
 ghost use Rattle.feed.specs.Turn.{looked_at};
 ghost use Rattle.feed.specs.Inner.{NoEndFrom, EndFrom, grown, Keeps, InOnePlace, Answers};
 
-use program::Turned;
+use program::Fed;
 
 // A byte more than a message may have tells that the line is too long.
 pub const MOST_LINE: usize = wire::MOST_MESSAGE + 1;
@@ -107,7 +107,13 @@ fn answer_line(
 }
 
 // One turn over what it looks at.
-fn turn_over(table: &mut [u8], line: &mut [u8], n: usize, piece: &[u8], out: &mut [u8]) -> Turned
+fn turn_over(
+    table: &mut [u8],
+    line: &mut [u8],
+    n: usize,
+    piece: &[u8],
+    out: &mut [u8],
+) -> Result<Fed, u8>
     requires { InOnePlace n piece.now }
     ensures value { result ≡ turned table.old line.old n piece.now out.old }
     ensures result_value { turned_number result ≡ turn_row table.old line.old n piece.now
@@ -120,26 +126,36 @@ fn turn_over(table: &mut [u8], line: &mut [u8], n: usize, piece: &[u8], out: &mu
         out.old }
 {
     if line.len() < MOST_LINE {
-        return Turned::Refused(13);
+        return Err(13);
     }
     let e = end_at(piece);
     if piece.len() <= e {
         let k = keep(line, n, piece);
-        return Turned::Fed(e, k, 0);
+        return Ok(Fed {
+            used: e,
+            kept: k,
+            written: 0,
+        });
     }
-    match answer_line(table, line, n, &piece[..e], out) {
-        Ok(w) => {
-            keep(line, n, &piece[..e]);
-            Turned::Fed(e + 1, 0, w)
-        }
-        Err(row) => Turned::Refused(row),
-    }
+    let w = answer_line(table, line, n, &piece[..e], out)?;
+    keep(line, n, &piece[..e]);
+    Ok(Fed {
+        used: e + 1,
+        kept: 0,
+        written: w,
+    })
 }
 
 // A piece of the input is fed up to its first line's end, and with it; where the first n bytes of `line` are the line so
 // far and more of it come, up to its end, which the next turn takes. Row 13 for a line buffer of fewer than 16,385
 // bytes, or an output too short; table, line and output then stay as found.
-pub fn turn(table: &mut [u8], line: &mut [u8], n: usize, piece: &[u8], out: &mut [u8]) -> Turned
+pub fn turn(
+    table: &mut [u8],
+    line: &mut [u8],
+    n: usize,
+    piece: &[u8],
+    out: &mut [u8],
+) -> Result<Fed, u8>
     ensures value { result ≡ turned table.old line.old n (looked_at n piece.now)
         out.old }
     ensures result_value { turned_number result ≡ turn_row table.old line.old n

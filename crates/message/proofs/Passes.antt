@@ -1,5 +1,6 @@
 -- What was read from an accepted message passes the test of lent parts: a message that no row refuses breaks none in
 -- any of its parts.
+use Rattle.std.specs.Prelude.{Result, Ok, Err}
 use mathlib.Core.Path.{◌≡◌, refl, sym, ap, ◌∙◌}
 use mathlib.Core.List.Memᴰ
 use mathlib.Core.List.{List, Memᴰ}
@@ -243,12 +244,12 @@ accepted_of s e =
         (t, n, record { tree = r; bytes = u; a4 = z₄; a5 = not-false _ z₅; a6 = z₆; a7 = z₇; a8 = z₈ })
 
 -- what is read of it
-module _ (s : List ℕ) {m : Message} (read : (x : Refusal) → message.Refused x ≡ m → ⊥) where
+module _ (s : List ℕ) {m : Result Message Refusal} (read : (x : Refusal) → Err x ≡ m → ⊥) where
   read_accepted : read_of s ≡ m → (message_row s ≡ 0) × (in_root s (root s) ≡ m)
   unfolding read_of
   read_accepted e = go (eqb (message_row s) 0) refl e
     where
-      go : (b : Bool) → eqb (message_row s) 0 ≡ b → cond b (in_root s (root s)) (message.Refused (refusal_of s)) ≡ m → (message_row s ≡ 0) × (in_root s (root s) ≡ m)
+      go : (b : Bool) → eqb (message_row s) 0 ≡ b → cond b (in_root s (root s)) (Err (refusal_of s)) ≡ m → (message_row s ≡ 0) × (in_root s (root s) ≡ m)
       go true q e = (eqb-true (message_row s) 0 q, e)
       go false q e = absurd (read (refusal_of s) e)
 
@@ -287,7 +288,7 @@ module _ (s : List ℕ) (u : is_utf8 s ≡ true) (p : EventParts) where
       let (o₆, o₇) = and_true (once s content_name ts) _ h₆ in
       rw q at (event_clean s u ts (members_reads s w n ts e) a4 all a6 a7 a8 o₁ o₂ o₃ o₄ o₅ o₆ o₇)
 
-  event_word_lem : (x : Word) (rest : Items) → Reads (tree_at s open_within) rest → refused_items s false rest ≡ false → message_parts s x rest ≡ message.Event p → has_shape s x rest ≡ true
+  event_word_lem : (x : Word) (rest : Items) → Reads (tree_at s open_within) rest → refused_items s false rest ≡ false → message_parts s x rest ≡ Ok (message.Event p) → has_shape s x rest ≡ true
       → in_message (on_object (any_item (event_number s))) (on_object (any_item (filter_number s))) x rest ≡ false
       → in_message (on_object (any_item (event_hex s))) (on_object (any_item (filter_hex s))) x rest ≡ false
       → in_message (on_object (any_item (event_count s))) (on_object (filter_counts s)) x rest ≡ false → event_row s p ≡ 0
@@ -309,7 +310,7 @@ event_passes s p e =
     let (t, n, a) = accepted_of s z in
     on a (begun_of s t a.a5) (rw a.tree at r)
   where
-    on : {t : Json} {n : ℕ} → Accepted s t n → Begun t → in_root s (got t n) ≡ message.Event p → event_row s p ≡ 0
+    on : {t : Json} {n : ℕ} → Accepted s t n → Begun t → in_root s (got t n) ≡ Ok (message.Event p) → event_row s p ≡ 0
     on {n = n} a (begun {p = i} {v = v} {a = b} {n = k} {q = j} {w = w} {u = t} {us = us}) q =
         let rest = item j w t us in
         let x = word_of (decode (part s b k)) in
@@ -345,7 +346,7 @@ pub data Request (s : List ℕ) (r : ReqParts) : Type 0 where
       → any_item (λ q t. on_object (filter_counts s) t) us ≡ false → outside 1 4 (count us) ≡ false → Request s r
 
 module _ (s : List ℕ) (u : is_utf8 s ≡ true) (r : ReqParts) where
-  request_word : (x : Word) (rest : Items) {f i n : ℕ} → f ≤ length s → Walk (tree_at s open_within) s false f i rest n → refused_items s false rest ≡ false → message_parts s x rest ≡ message.Req r
+  request_word : (x : Word) (rest : Items) {f i n : ℕ} → f ≤ length s → Walk (tree_at s open_within) s false f i rest n → refused_items s false rest ≡ false → message_parts s x rest ≡ Ok (message.Req r)
       → has_shape s x rest ≡ true → in_message (on_object (any_item (event_number s))) (on_object (any_item (filter_number s))) x rest ≡ false
       → in_message (on_object (any_item (event_hex s))) (on_object (any_item (filter_hex s))) x rest ≡ false
       → (wrong_request s x rest || in_message (on_object (any_item (event_count s))) (on_object (filter_counts s)) x rest) ≡ false → Request s r
@@ -363,14 +364,14 @@ module _ (s : List ℕ) (u : is_utf8 s ≡ true) (r : ReqParts) where
   request_word close rest l y a4 q h a6 a7 a8 = absurd (let z : ◌≡◌ {A = ℕ} 0 1 = cc in omega arith)
   request_word other rest l y a4 q h a6 a7 a8 = absurd (false≢true h)
 
-request_of : (s : List ℕ) (r : ReqParts) → read_of s ≡ message.Req r → Request s r
+request_of : (s : List ℕ) (r : ReqParts) → read_of s ≡ Ok (message.Req r) → Request s r
 unfolding row6 row7 row8 refused_in
 request_of s r e =
     let (z, q) = read_accepted s (λ k q. (let y : ◌≡◌ {A = ℕ} 0 1 = cc in omega arith)) e in
     let (t, n, a) = accepted_of s z in
     on a (begun_of s t a.a5) (rw a.tree at q)
   where
-    on : {t : Json} {n : ℕ} → Accepted s t n → Begun t → in_root s (got t n) ≡ message.Req r → Request s r
+    on : {t : Json} {n : ℕ} → Accepted s t n → Begun t → in_root s (got t n) ≡ Ok (message.Req r) → Request s r
     on {n = n} a (begun {p = i} {v = v} {a = b} {n = k} {q = j} {w = w} {u = t} {us = us}) q =
         let rest = item j w t us in
         let (f, o, l, y) = tail_walk (group_of s (ws_at s 0) false (item i v (str b k) rest) n a.tree) in

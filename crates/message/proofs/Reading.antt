@@ -1,6 +1,6 @@
 -- A message that rows 1 to 5 let pass is an array of a word and more, and its parts stand where the code looks for
 -- them.
-use Rattle.std.specs.Prelude.{Option, Some, None}
+use Rattle.std.specs.Prelude.{Option, Some, None, Result, Ok, Err}
 use mathlib.Core.Path.{◌≡◌, refl, sym, ap, ◌∙◌}
 use mathlib.Core.List.{List}
 use mathlib.Core.Bool.{Bool, true, false, cond, not, false≢true}
@@ -163,9 +163,9 @@ module _ (s : List ℕ) (p v a n q w : ℕ) (u : Json) (us : Items) (m : ℕ) (r
 
   parts_are : (x : Word) → parts_at s (word_opening x) w ≡ message_parts s x (item q w u us)
   unfolding parts_at
-  parts_are event = ap message.Event event_second
+  parts_are event = ap (λ x. Ok (message.Event x)) event_second
   parts_are req = rw (span_second, third_is)
-  parts_are close = ap message.Close span_second
+  parts_are close = ap (λ x. Ok (message.Close x)) span_second
   parts_are other = refl
 
   label_is : (t : Json) → span_at s w ≡ span_of t → is_then is_string (is_filter s) (item q w t us) ≡ true → label_named s (span_at s w) ≡ subscription_named s t
@@ -222,12 +222,12 @@ row_read s = go (eqb (message_row s) 0) refl
     on : message_row s ≡ 0 → Shaped s → read_number (in_root s (root s)) ≡ message_row s
     on z (shaped {t = t} r h) = rw (r, z) (by (opened s t).first (opened s t).rest h)
 
-    go : (b : Bool) → eqb (message_row s) 0 ≡ b → read_number (cond b (in_root s (root s)) (message.Refused (refusal_of s))) ≡ message_row s
+    go : (b : Bool) → eqb (message_row s) 0 ≡ b → read_number (cond b (in_root s (root s)) (Err (refusal_of s))) ≡ message_row s
     go true e = let z = eqb-true (message_row s) 0 e in on z (late_shaped s (ap is_early z))
     go false e = refl
 
 -- an answer and its number
-pub with_row : (s : List ℕ) {r : Message} → r ≡ read_of s → (r ≡ read_of s) × (read_number r ≡ message_row s)
+pub with_row : (s : List ℕ) {r : Result Message Refusal} → r ≡ read_of s → (r ≡ read_of s) × (read_number r ≡ message_row s)
 with_row s e = (e, ap read_number e ∙ row_read s)
 
 -- what refuses a message, its own row, and what the reply names
@@ -235,7 +235,7 @@ module _ (s : List ℕ) {x : Refusal} (e : x ≡ refusal_of s) where
   pub own_row : {n : ℕ} → x.row ≡ n → message_row s ≡ n
   own_row z = sym (ap (λ y. y.row) e) ∙ z
 
-  pub read_refused : (x.row ≡ 0 → ⊥) → message.Refused x ≡ read_of s
+  pub read_refused : (x.row ≡ 0 → ⊥) → Err x ≡ read_of s
   unfolding read_of
   read_refused n = simp (e, ne_eqb (message_row s) 0 (λ z. n (ap (λ y. y.row) e ∙ z)))
 

@@ -1,5 +1,5 @@
 -- What was read from an accepted message passes the test of lent parts: proved in proofs/Passes.antt.
-use Rattle.std.specs.Prelude.{ℕ, ◌≤◌, ◌≡◌, length, take}
+use Rattle.std.specs.Prelude.{ℕ, ◌≤◌, ◌≡◌, length, take, Ok}
 use mathlib.Core.List.{List, map, Memᴰ}
 use Rattle.message.specs.declared.EventParts.{EventParts}
 use Rattle.message.specs.declared.ReqParts.{ReqParts}
@@ -12,7 +12,7 @@ use Rattle.message.specs.Lent.{event_row, filter_row}
 use Rattle.wire.specs.Bytes.{Bytes}
 
 abbrev pub EventPasses : Type 0
-EventPasses = (s : List ℕ) (p : EventParts) → read_of s ≡ Event p → event_row s p ≡ 0
+EventPasses = (s : List ℕ) (p : EventParts) → read_of s ≡ Ok (Event p) → event_row s p ≡ 0
 
 -- the filters of a REQ, one after the other
 abbrev pub request_filters : Bytes → ReqParts → List ℕ
@@ -20,12 +20,12 @@ request_filters s r = elements_from s (At r.filters)
 
 abbrev pub FiltersPass : Type 0
 FiltersPass =
-    (s : List ℕ) (r : ReqParts) → read_of s ≡ Req r → (v : ℕ) → Memᴰ v (request_filters s r) →
+    (s : List ℕ) (r : ReqParts) → read_of s ≡ Ok (Req r) → (v : ℕ) → Memᴰ v (request_filters s r) →
     filter_row s (filter_at s v) ≡ 0
 
 abbrev pub FiltersCounted : Type 0
 FiltersCounted =
-    (s : List ℕ) (r : ReqParts) → read_of s ≡ Req r → (1 ≤ length (request_filters s r)) ×
+    (s : List ℕ) (r : ReqParts) → read_of s ≡ Ok (Req r) → (1 ≤ length (request_filters s r)) ×
     (length (request_filters s r) ≤ 4)
 
 -- as values they are all there
@@ -35,4 +35,4 @@ pub record Taken (s : List ℕ) (r : ReqParts) : Type 0 where
   pub all : take (filters_at s r.filters).n (filters_at s r.filters).parts ≡ map (filter_at s) (request_filters s r)
 
 abbrev pub FiltersTaken : Type 0
-FiltersTaken = (s : List ℕ) (r : ReqParts) → read_of s ≡ Req r → Taken s r
+FiltersTaken = (s : List ℕ) (r : ReqParts) → read_of s ≡ Ok (Req r) → Taken s r

@@ -1,6 +1,6 @@
 -- What the private functions promise each other: the first member of each name as places, found in one walk, and what
 -- stands at a place.
-use Rattle.std.specs.Prelude.{ℕ, ◌≡◌, Bool, false, cond, eqb, ℤ, pos, Option, None, Some}
+use Rattle.std.specs.Prelude.{ℕ, ◌≡◌, Bool, false, cond, eqb, ℤ, pos, Option, None, Some, Result, Ok, Err}
 use Rattle.json_tree.specs.Grammar.{ws_at, scalar_at, start_at}
 use Rattle.json_tree.specs.Tree.{Json, Items, Got, none, got, fold_items, on_leaf}
 use Rattle.json_tree.specs.declared.Kind.{Kind}
@@ -20,6 +20,7 @@ use Rattle.message.specs.declared.Body.{Body}
 use Rattle.message.specs.declared.Members.{Members}
 use Rattle.shape.specs.Rows.{outside}
 use Rattle.shape.specs.Offsets.{plain_refusal}
+use Rattle.shape.specs.declared.Refusal.{Refusal}
 use Rattle.message.specs.declared.Message.{Message}
 use Rattle.message.specs.declared.Message.TheVariants as message
 use Rattle.message.specs.declared.Named.{Named}
@@ -150,11 +151,11 @@ is_event_at s (element.At v) = same_bytes (decode (part s (span_at s v).start (s
 is_event_at s element.Ended = false
 is_event_at s element.Broken = false
 
-unfoldable pub parts_at : (s : Bytes) (x : Opening) (j : ℕ) → Message
-parts_at s opening.Event j = message.Event (event_at s j)
-parts_at s opening.Req j = message.Req (record { subscription = span_at s j; filters = string_after s j })
-parts_at s opening.Close j = message.Close (span_at s j)
-parts_at s opening.Other j = message.Refused (plain_refusal 5)
+unfoldable pub parts_at : (s : Bytes) (x : Opening) (j : ℕ) → Result Message Refusal
+parts_at s opening.Event j = Ok (message.Event (event_at s j))
+parts_at s opening.Req j = Ok (message.Req (record { subscription = span_at s j; filters = string_after s j }))
+parts_at s opening.Close j = Ok (message.Close (span_at s j))
+parts_at s opening.Other j = Err (plain_refusal 5)
 
 -- ---- the filters of a REQ, one element after the other
 abbrev pub following_of : Bytes → Element → Element

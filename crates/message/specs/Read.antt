@@ -1,5 +1,5 @@
 -- A message read: rows 1 to 8 and then its parts; and what a refusal's reply names.
-use Rattle.std.specs.Prelude.{ℕ, ◌≡◌, List, Bool, true, false, cond, ◌&&◌, eqb, leb}
+use Rattle.std.specs.Prelude.{ℕ, ◌≡◌, List, Bool, true, false, cond, ◌&&◌, eqb, leb, Result, Ok, Err}
 use Rattle.wire.specs.Limits.{hex_length}
 use Rattle.json_tree.specs.Tree.{Json, word, Items, nil, item, Got, none, got, root}
 use Rattle.rows.specs.Strings.{part}
@@ -10,6 +10,7 @@ use Rattle.shape.specs.Rows.{message_row, wrong_subscription}
 use Rattle.shape.specs.Offsets.{plain_refusal, refusal_of}
 use Rattle.message.specs.Parts.{span_of, event_parts_of, members_of, member_of, span_in}
 use Rattle.message.specs.declared.Span.{Span}
+use Rattle.shape.specs.declared.Refusal.{Refusal}
 use Rattle.message.specs.declared.Message.{Message}
 use Rattle.message.specs.declared.Message.TheVariants as message
 use Rattle.message.specs.declared.Named.{Named}
@@ -28,28 +29,28 @@ second_place (item p v t nil) = 0
 second_place (item p v t (item q w u us)) = w
 
 -- the elements after the first word
-abbrev pub message_parts : (s : Bytes) (word : Word) (ts : Items) → Message
-message_parts s event ts = message.Event (event_parts_of s (members_of (first_item ts)))
-message_parts s req ts = message.Req (record { subscription = span_of (first_item ts); filters = second_place ts })
-message_parts s close ts = message.Close (span_of (first_item ts))
-message_parts s other ts = message.Refused (plain_refusal 5)
+abbrev pub message_parts : (s : Bytes) (word : Word) (ts : Items) → Result Message Refusal
+message_parts s event ts = Ok (message.Event (event_parts_of s (members_of (first_item ts))))
+message_parts s req ts = Ok (message.Req (record { subscription = span_of (first_item ts); filters = second_place ts }))
+message_parts s close ts = Ok (message.Close (span_of (first_item ts)))
+message_parts s other ts = Err (plain_refusal 5)
 
-abbrev pub in_root : Bytes → Got Json → Message
-in_root s none = message.Refused (plain_refusal 3)
+abbrev pub in_root : Bytes → Got Json → Result Message Refusal
+in_root s none = Err (plain_refusal 3)
 in_root s (got t n) = message_parts s (opened s t).first (opened s t).rest
 
 -- 01: "A read message is an EVENT, a REQ or a CLOSE, each with its own parts"; "A refusal carries its number and no
 -- other value", but for the offset of rows 6 and 7 (02, Wish 9)
-unfoldable pub read_of : Bytes → Message
-read_of s = cond (eqb (message_row s) 0) (in_root s (root s)) (message.Refused (refusal_of s))
+unfoldable pub read_of : Bytes → Result Message Refusal
+read_of s = cond (eqb (message_row s) 0) (in_root s (root s)) (Err (refusal_of s))
 
 -- 01's number of an answer: 0 where none of rows 1 to 8 holds. That it is the message's row is proved in
 -- proofs/Reading.antt
-abbrev pub read_number : Message → ℕ
-read_number (message.Event p) = 0
-read_number (message.Req r) = 0
-read_number (message.Close p) = 0
-read_number (message.Refused r) = r.row
+abbrev pub read_number : Result Message Refusal → ℕ
+read_number (Ok (message.Event p)) = 0
+read_number (Ok (message.Req r)) = 0
+read_number (Ok (message.Close p)) = 0
+read_number (Err r) = r.row
 
 abbrev pub RowRead : Type 0
 RowRead = (s : List ℕ) → read_number (read_of s) ≡ message_row s

@@ -47,7 +47,8 @@ pub struct EventParts {
     pub sig: Span,
 }
 
-// A step of a walk over an array: the place of an element, the array's end, or no array that goes on so.
+// A step of a walk over an array: the place of an element, the array's end, or no array that goes on so. Three ways that
+// specs/Lists tells apart, and no error: a walk that is broken off ends there.
 #[derive(Clone, Copy)]
 pub enum Element {
     At(usize),
@@ -86,10 +87,9 @@ pub enum Message {
     Event(EventParts),
     Req(ReqParts),
     Close(Span),
-    Refused(Refusal),
 }
 
-// What the reply to a refused message names.
+// What the reply to a refused message names. An enum of three and no Option of two: each is a reply of its own.
 #[derive(Clone, Copy)]
 pub enum Named {
     Id(Span),
@@ -161,13 +161,13 @@ pub fn next(s: &[u8], at: usize) -> Element
 }
 
 // A message read: its parts, or the lowest of rows 1 to 8 that holds of it, with the offset of rows 6 and 7.
-pub fn read(s: &[u8]) -> Message
+pub fn read(s: &[u8]) -> Result<Message, Refusal>
     ensures value { result ≡ read_of s.now }
     ensures result_value { read_number result ≡ message_row s.now }
 {
     let refusal = shape::message_refusal(s);
     if refusal.row != 0 {
-        return Message::Refused(refusal);
+        return Err(refusal);
     }
     let i = words::word_place(s);
     words::parts(s, words::opening_at(s, i), words::second(s, i))

@@ -64,17 +64,17 @@ pub(crate) fn second(s: &[u8], at: usize) -> usize
 
 // The parts of a message, by its first word; its second element stands at j.
 #[tactic(auto, unfolding(crate::specs::Inner::parts_at))]
-pub(crate) fn parts(s: &[u8], x: Opening, j: usize) -> Message
+pub(crate) fn parts(s: &[u8], x: Opening, j: usize) -> Result<Message, Refusal>
     ensures { result ≡ parts_at s.now x j }
 {
     match x {
-        Opening::Event => Message::Event(values::event_at(s, j)),
-        Opening::Req => Message::Req(ReqParts {
+        Opening::Event => Ok(Message::Event(values::event_at(s, j))),
+        Opening::Req => Ok(Message::Req(ReqParts {
             subscription: values::span_at(s, j),
             filters: second(s, j),
-        }),
-        Opening::Close => Message::Close(values::span_at(s, j)),
-        Opening::Other => Message::Refused(Refusal {
+        })),
+        Opening::Close => Ok(Message::Close(values::span_at(s, j))),
+        Opening::Other => Err(Refusal {
             row: 5,
             offset: None,
         }),

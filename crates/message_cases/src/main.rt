@@ -308,16 +308,16 @@ fn put_close(out: &mut [u8], at: usize, s: &[u8], p: Span) -> usize {
 fn put_answer(out: &mut [u8], line: &[u8]) -> usize {
     let m = message::read(line);
     match m {
-        Message::Refused(x) => fields::put_refusal(out, 0, x),
-        Message::Event(e) => {
+        Err(x) => fields::put_refusal(out, 0, x),
+        Ok(Message::Event(e)) => {
             let a = wire::put(out, 0, b"0 ");
             put_event(out, a, line, e)
         }
-        Message::Req(r) => {
+        Ok(Message::Req(r)) => {
             let a = wire::put(out, 0, b"0 ");
             put_req(out, a, line, r)
         }
-        Message::Close(p) => {
+        Ok(Message::Close(p)) => {
             let a = wire::put(out, 0, b"0 ");
             put_close(out, a, line, p)
         }

@@ -1,5 +1,5 @@
 -- The filters of a REQ stand behind the place 0, so each of them is read back; so is an EVENT.
-use Rattle.std.specs.Prelude.{Option, Some, None}
+use Rattle.std.specs.Prelude.{Option, Some, None, Ok, Err}
 use mathlib.Core.Path.{◌≡◌, refl, sym, ap, ap₂, ◌∙◌}
 use mathlib.Core.List.{List, [], ◌∷◌, ◌++◌, map, Memᴰ}
 use mathlib.Core.Bool.{Bool, true, false, cond, false≢true}
@@ -26,7 +26,7 @@ use Rattle.message.specs.declared.Element.TheVariants.{At, Ended, Broken}
 use Rattle.message.specs.declared.EventParts.{EventParts}
 use Rattle.message.specs.declared.FilterParts.{FilterParts}
 use Rattle.message.specs.declared.ReqParts.{ReqParts}
-use Rattle.message.specs.declared.Message.TheVariants.{Event, Req, Refused}
+use Rattle.message.specs.declared.Message.TheVariants.{Event, Req}
 use Rattle.message.specs.Lists.{more_of, open_within, next_of, up_to, elements_from}
 use Rattle.message.specs.Parts.{member_of, members_of, body_of, event_parts_of, filter_at, no_filter, filters_at, filter_parts_of}
 use Rattle.message.specs.Lent.{on_value, value_at, value5}
@@ -123,7 +123,7 @@ no_message s ts n e z = go (late_shaped s (ap is_early z))
     go (shaped {t = t} r h) = on r (begun_of s t h)
 
 -- ---- so the filters of a message do not begin at 0
-module _ (s : List ℕ) (r : ReqParts) (e : read_of s ≡ Req r) where
+module _ (s : List ℕ) (r : ReqParts) (e : read_of s ≡ Ok (Req r)) where
   first_in_lem : r.filters ≡ 0 → Memᴰ 0 (request_filters s r)
   unfolding elements_from up_to
   first_in_lem z = go (length s) refl
@@ -181,21 +181,21 @@ filters_back s r e x =
 pub data Members (s : List ℕ) (p : EventParts) : Type 0 where
   members : (ts : Items) → event_parts_of s ts ≡ p → Members s p
 
-read_event : (s : List ℕ) (p : EventParts) → read_of s ≡ Event p → Members s p
+read_event : (s : List ℕ) (p : EventParts) → read_of s ≡ Ok (Event p) → Members s p
 unfolding read_of
 read_event s p e = accepted (eqb (message_row s) 0) e
   where
-    by_word : (w : Word) (ts : Items) → message_parts s w ts ≡ Event p → Members s p
+    by_word : (w : Word) (ts : Items) → message_parts s w ts ≡ Ok (Event p) → Members s p
     by_word event ts q = members (members_of (first_item ts)) cc
     by_word req ts q = absurd (let z : ◌≡◌ {A = ℕ} 0 1 = cc in omega arith)
     by_word close ts q = absurd (let z : ◌≡◌ {A = ℕ} 0 1 = cc in omega arith)
     by_word other ts q = absurd (let z : ◌≡◌ {A = ℕ} 0 1 = cc in omega arith)
 
-    in_root_lem : (g : Got Json) → in_root s g ≡ Event p → Members s p
+    in_root_lem : (g : Got Json) → in_root s g ≡ Ok (Event p) → Members s p
     in_root_lem none q = absurd (let z : ◌≡◌ {A = ℕ} 0 1 = cc in omega arith)
     in_root_lem (got t n) q = by_word (opened s t).first (opened s t).rest q
 
-    accepted : (b : Bool) → cond b (in_root s (root s)) (Refused (refusal_of s)) ≡ Event p → Members s p
+    accepted : (b : Bool) → cond b (in_root s (root s)) (Err (refusal_of s)) ≡ Ok (Event p) → Members s p
     accepted true q = in_root_lem (root s) q
     accepted false q = absurd (let z : ◌≡◌ {A = ℕ} 0 1 = cc in omega arith)
 

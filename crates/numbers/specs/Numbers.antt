@@ -7,6 +7,7 @@ use Rattle.message.specs.Parts.{filters_at}
 use Rattle.message.specs.declared.EventParts.{EventParts}
 use Rattle.message.specs.declared.FilterParts.{FilterParts}
 use Rattle.message.specs.declared.ReqParts.{ReqParts}
+use Rattle.shape.specs.declared.Refusal.{Refusal}
 use Rattle.message.specs.declared.Message.{Message}
 use Rattle.message.specs.declared.Message.TheVariants as message
 use Rattle.text.specs.declared.Unread.TheVariants.{TooLarge, WrongShape}
@@ -49,11 +50,11 @@ request_numbers s p =
     ++ parts_numbers (take (filters_at s p.filters).n (filters_at s p.filters).parts)
 
 -- the first number says what was read: 1 an EVENT, 2 a REQ, 3 a CLOSE
-abbrev pub message_numbers : List ℕ → Message → List ℕ
-message_numbers s (message.Event p) = event_numbers p
-message_numbers s (message.Req p) = request_numbers s p
-message_numbers s (message.Close p) = 3 ∷ p.start ∷ p.len ∷ []
-message_numbers s (message.Refused r) = []
+abbrev pub message_numbers : List ℕ → Result Message Refusal → List ℕ
+message_numbers s (Ok (message.Event p)) = event_numbers p
+message_numbers s (Ok (message.Req p)) = request_numbers s p
+message_numbers s (Ok (message.Close p)) = 3 ∷ p.start ∷ p.len ∷ []
+message_numbers s (Err r) = []
 
 abbrev pub text_numbers : Text → List ℕ
 text_numbers x = unsigned x.time ∷ x.kind ∷ x.tags ∷ x.content ∷ x.content_len ∷ x.d ∷ x.d_len ∷ []

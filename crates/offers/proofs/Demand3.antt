@@ -1,4 +1,5 @@
 -- Demand 3 of calls: a session of calls is a run of the table's relay, so table/proofs/Demand3 speaks of it.
+use Rattle.std.specs.Prelude.{Result, Ok, Err}
 use mathlib.Core.Path.{◌≡◌, refl, sym, ap, ap₂, ◌∙◌}
 use mathlib.Core.Bool.{Bool, true, false, not, cond, ◌||◌, false≢true}
 use mathlib.Core.Logic.{◌≢◌}
@@ -12,8 +13,9 @@ use Rattle.table.specs.Layout.{capacity_of, count_of}
 use Rattle.table.specs.Events.{Signature, table_events, view}
 use Rattle.table.specs.Offer.{Offering, judge, answer, offer_number, is_stored}
 use Rattle.table.specs.Demand3.{relay, verdict_of}
+use Rattle.shape.specs.declared.Refusal.{Refusal}
 use Rattle.table.specs.declared.Offered.{Offered}
-use Rattle.table.specs.declared.Offered.TheVariants.{Ephemeral, Duplicate, Older, Stored, Refused}
+use Rattle.table.specs.declared.Offered.TheVariants.{Ephemeral, Duplicate, Older, Stored}
 use Rattle.table.proofs.Demand3.{demand_3}
 use Rattle.table.proofs.Formatted.{formatted_capacity}
 use Rattle.table.proofs.Stored.{length_view}
@@ -31,12 +33,12 @@ run b [] t = refl
 run b (c ∷ cs) t = run c.exit cs t.1 ∙ ap (λ x. run_on table_events Signature relay x (offers_of cs)) t.0.leaves
 
 -- row 12 is the verdict that lacks room
-twelve : (a : Offered) → eqb (offer_number a) 12 ≡ is_no_room (verdict_of a)
-twelve Ephemeral = refl
-twelve Duplicate = refl
-twelve Older = refl
-twelve Stored = refl
-twelve (Refused r) = go (eqb r.row 12)
+twelve : (a : Result Offered Refusal) → eqb (offer_number a) 12 ≡ is_no_room (verdict_of a)
+twelve (Ok Ephemeral) = refl
+twelve (Ok Duplicate) = refl
+twelve (Ok Older) = refl
+twelve (Ok Stored) = refl
+twelve (Err r) = go (eqb r.row 12)
   where
     go : (t : Bool) → t ≡ is_no_room (cond t no_room refused)
     go true = refl
@@ -151,12 +153,12 @@ behind : (b : List ℕ) (cs : List Call) (c : Call) (ds : List Call) → InTurn 
 behind b [] c ds t = t.0.answers
 behind b (d ∷ cs) c ds t = behind d.exit cs c ds t.1
 
-was_stored : (a : Offered) → isStoredVerdict (verdict_of a) ≡ true → a ≡ Stored
-was_stored Ephemeral e = absurd (false≢true e)
-was_stored Duplicate e = absurd (false≢true e)
-was_stored Older e = absurd (false≢true e)
-was_stored Stored e = refl
-was_stored (Refused r) e = absurd (go (eqb r.row 12) e)
+was_stored : (a : Result Offered Refusal) → isStoredVerdict (verdict_of a) ≡ true → a ≡ Ok Stored
+was_stored (Ok Ephemeral) e = absurd (false≢true e)
+was_stored (Ok Duplicate) e = absurd (false≢true e)
+was_stored (Ok Older) e = absurd (false≢true e)
+was_stored (Ok Stored) e = refl
+was_stored (Err r) e = absurd (go (eqb r.row 12) e)
   where
     go : (t : Bool) → isStoredVerdict (cond t no_room refused) ≡ true → ⊥
     go true q = false≢true q
@@ -199,14 +201,14 @@ demand_3_of_calls = record {
 }
 
 -- ---- the wrong relays
-not_stored : (a : Offered) → offer_number a ≢ 0 → is_stored a ≡ false
-not_stored Ephemeral n = refl
-not_stored Duplicate n = refl
-not_stored Older n = refl
-not_stored Stored n = absurd (n refl)
-not_stored (Refused r) n = refl
+not_stored : (a : Result Offered Refusal) → offer_number a ≢ 0 → is_stored a ≡ false
+not_stored (Ok Ephemeral) n = refl
+not_stored (Ok Duplicate) n = refl
+not_stored (Ok Older) n = refl
+not_stored (Ok Stored) n = absurd (n refl)
+not_stored (Err r) n = refl
 
-pub none_of_these : (says : List ℕ → Offering → Offered) (exit : List ℕ → Offering → List ℕ) → Keeps says exit → NoneOfThese says exit
+pub none_of_these : (says : List ℕ → Offering → Result Offered Refusal) (exit : List ℕ → Offering → List ℕ) → Keeps says exit → NoneOfThese says exit
 none_of_these says exit k = record {
   takes = λ r. takes_something (λ b o. not_stored (answer b o) (λ z. r b o (ap offer_number (k.answers b o) ∙ z)));
   stores = λ i. stores_something (λ b o. ap view (sym (k.leaves b o)) ∙ i b o);

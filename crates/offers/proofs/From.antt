@@ -40,13 +40,13 @@ use Rattle.offers.specs.Taken.{Made, Makes}
 use Rattle.offers.proofs.Makes.{lent_part, given, lent_most, ready, made}
 
 module _ (m : List ℕ) where
-  read_row_lem : {x : Message} → read_of m ≡ x → message_row m ≡ reader.read_number x
+  read_row_lem : {x : Result Message Refusal} → read_of m ≡ x → message_row m ≡ reader.read_number x
   read_row_lem e = sym (row_read m) ∙ ap reader.read_number e
 
   -- a message that was read and is no EVENT
-  not_event : (x : Message) → ((p : EventParts) → x ≡ message.Event p → ⊥) → read_of m ≡ x → message_row m ≡ 0 → is_event m ≡ false
+  not_event : (x : Result Message Refusal) → ((p : EventParts) → x ≡ Ok (message.Event p) → ⊥) → read_of m ≡ x → message_row m ≡ 0 → is_event m ≡ false
   unfolding read_of is_event
-  not_event x n e z = go (root m) (sym (ap (λ t. cond t (in_root m (root m)) (message.Refused (refusal_of m))) (eq-eqb (message_row m) 0 z)) ∙ e)
+  not_event x n e z = go (root m) (sym (ap (λ t. cond t (in_root m (root m)) (Err (refusal_of m))) (eq-eqb (message_row m) 0 z)) ∙ e)
     where
       go : (g : Got Json) → in_root m g ≡ x → on_root (λ t. is_event_word (opened m t).first) g ≡ false
       go none f = refl
@@ -73,7 +73,7 @@ module _ (m : List ℕ) where
       go false false false true = omega arith
       go false false false false = omega arith
 
-  unread : {x : Refusal} → read_of m ≡ message.Refused x → (unread_refusal m x).row ≡ message_offer_row m
+  unread : {x : Refusal} → read_of m ≡ Err x → (unread_refusal m x).row ≡ message_offer_row m
   unread {x} e = go (read_row_lem e) (some_row m e) (eqb (text_row m) 0) refl (is_event m) refl
     where
       late : message_row m ≡ x.row → (x.row ≡ 0 → ⊥) → Late (message_row m) → 4 < x.row
@@ -97,11 +97,11 @@ module _ (m : List ℕ) where
   unfolding sent_row
   sent_row_lem out h = go (read_of m) refl
     where
-      go : (x : Message) → read_of m ≡ x → sent_row_of m out x ≡ message_offer_row m
-      go (message.Event p) e = row-alone-most m p out h ∙ sym (event_rows m p e).as_parts_lem
-      go (message.Req r) e = five (not_event (message.Req r) (λ p q. let y : ◌≡◌ {A = ℕ} 0 1 = cc in omega arith) e (read_row_lem e)) (read_row_lem e)
-      go (message.Close s) e = five (not_event (message.Close s) (λ p q. let y : ◌≡◌ {A = ℕ} 0 1 = cc in omega arith) e (read_row_lem e)) (read_row_lem e)
-      go (message.Refused r) e = unread e
+      go : (x : Result Message Refusal) → read_of m ≡ x → sent_row_of m out x ≡ message_offer_row m
+      go (Ok (message.Event p)) e = row-alone-most m p out h ∙ sym (event_rows m p e).as_parts_lem
+      go (Ok (message.Req r)) e = five (not_event (Ok (message.Req r)) (λ p q. let y : ◌≡◌ {A = ℕ} 0 1 = cc in omega arith) e (read_row_lem e)) (read_row_lem e)
+      go (Ok (message.Close s)) e = five (not_event (Ok (message.Close s)) (λ p q. let y : ◌≡◌ {A = ℕ} 0 1 = cc in omega arith) e (read_row_lem e)) (read_row_lem e)
+      go (Err r) e = unread e
 
   -- ---- the slot made from a message, o at exit; d is what was lent, zeros
   module _ (d : List ℕ) (zs : d ≡ replicate slot_size 0) {s : Result (EventParts × ℕ) Refusal} (a : s ≡ sent_text m (lent_part d)) where
@@ -112,7 +112,7 @@ module _ (m : List ℕ) where
         record { is = (f ∙ ap (refusal_for m) z, λ w. n (z ∙ w)) }
 
     module _ {p : EventParts} {n : ℕ} (e : s ≡ Ok (p, n)) where
-      told : (read_of m ≡ message.Event p) × AsOffered m p (lent_part d) (Ok n) (sent_out m (lent_part d))
+      told : (read_of m ≡ Ok (message.Event p)) × AsOffered m p (lent_part d) (Ok n) (sent_out m (lent_part d))
       told = sent_wrote m (lent_part d) (sym a ∙ e)
 
       pub from_ready : {y : List ℕ} → y ≡ sent_out m (lent_part d)
@@ -131,7 +131,7 @@ module _ (m : List ℕ) where
 -- ---- what was made: what refuses it alone
 module _ (m : List ℕ) {s : Result (EventParts × ℕ) Refusal} {o : List ℕ} (k : Makes m s o) where
   pub made_wrote : {p : EventParts} {n : ℕ} → s ≡ Ok (p, n)
-      → (read_of m ≡ message.Event p) × ((0 ≡ message_offer_row m) × (o ≡ slot_bytes (held_of m (parts_of m))))
+      → (read_of m ≡ Ok (message.Event p)) × ((0 ≡ message_offer_row m) × (o ≡ slot_bytes (held_of m (parts_of m))))
   made_wrote {p} {n} e = let h : Made m (Ok (p, n)) o = rw e at k.is in h
 
   pub made_refused : {r : Refusal} → s ≡ Err r → (r ≡ refusal_for m (message_offer_row m)) × (message_offer_row m ≡ 0 → ⊥)

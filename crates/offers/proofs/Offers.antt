@@ -1,5 +1,5 @@
 -- The calls: what the slot of an offer is answered is what the offer is answered, with 01's number.
-use Rattle.std.specs.Prelude.{Some}
+use Rattle.std.specs.Prelude.{Some, Result, Err}
 use mathlib.Core.Path.{◌≡◌, refl, sym, ap, ap₂, ◌∙◌}
 use mathlib.Core.Bool.{Bool, true, false, cond, not, ◌&&◌, ◌||◌, false≢true}
 use mathlib.Core.List.{List, [], ◌∷◌}
@@ -20,7 +20,6 @@ use Rattle.table.specs.Sound.{sound}
 use Rattle.table.specs.Offer.{Offering, offering_row, offering_refusal, is_valid, offered_of, offered_by, answer}
 use Rattle.table.specs.Offer.{offer_number, is_stored, count_after, slot_for, stored_in, next}
 use Rattle.table.specs.declared.Offered.{Offered}
-use Rattle.table.specs.declared.Offered.TheVariants.{Refused}
 use Rattle.table.proofs.Valid.{valid_fits, valid_read}
 use Rattle.table.proofs.Slots.{slot_length, slot_kind, slot_reads, slot_sound_lem, slot_holds}
 use Rattle.table.proofs.Distinct.{class_lasts}
@@ -90,23 +89,23 @@ module _ (b : List ℕ) (o : Offering) where
 -- ---- an offer o by its slot
 module _ (b : List ℕ) (o : Offering) where
   -- what is promised of an answer, and of the table at exit
-  abbrev pub Answers : Offered → Type 0
+  abbrev pub Answers : Result Offered Refusal → Type 0
   Answers a = (a ≡ answer b o) × (offer_number a ≡ offer_row b o)
 
-  abbrev pub Leaves : Offered → List ℕ → Type 0
+  abbrev pub Leaves : Result Offered Refusal → List ℕ → Type 0
   Leaves a t = (a ≡ answer b o) × ((offer_number a ≡ offer_row b o) × (t ≡ next b o))
 
-  answers : {a : Offered} → a ≡ answer b o → Answers a
+  answers : {a : Result Offered Refusal} → a ≡ answer b o → Answers a
   answers e = (e, ap offer_number e ∙ number_is b o)
 
   module _ {r : ℕ} (f : r ≡ offering_row o) where
-    refused_is : (r ≡ 0 → ⊥) → answer b o ≡ Refused (offering_refusal o)
+    refused_is : (r ≡ 0 → ⊥) → answer b o ≡ Err (offering_refusal o)
     refused_is n = answer_invalid b o (ne_eqb (offering_row o) 0 (λ q. n (f ∙ q)))
 
-    pub refused : (r ≡ 0 → ⊥) → {x : Refusal} → x ≡ offering_refusal o → Answers (Refused x)
-    refused n e = answers (ap Refused e ∙ sym (refused_is n))
+    pub refused : (r ≡ 0 → ⊥) → {x : Refusal} → x ≡ offering_refusal o → Answers (Err x)
+    refused n e = answers (ap Err e ∙ sym (refused_is n))
 
-    pub refused_stays : (r ≡ 0 → ⊥) → {x : Refusal} → x ≡ offering_refusal o → Leaves (Refused x) b
+    pub refused_stays : (r ≡ 0 → ⊥) → {x : Refusal} → x ≡ offering_refusal o → Leaves (Err x) b
     unfolding next
     refused_stays n e = let a = refused n e in (a.0, (a.1, sym (ap (λ x. cond (is_stored x) (stored_in b (offered_of o)) b) (refused_is n))))
 
@@ -130,7 +129,7 @@ module _ (b : List ℕ) (o : Offering) where
       unfolding offered_to answer_for
       answer_is = go (sound b) refl
         where
-          go : (x : Bool) → sound b ≡ x → cond x (answer_for b s) (Refused (plain_refusal 11)) ≡ answer b o
+          go : (x : Bool) → sound b ≡ x → cond x (answer_for b s) (Err (plain_refusal 11)) ≡ answer b o
           go true g =
               ap₂ (λ k v. offered_by k (verdict signed_events (capacity_of b) (view b) (Some v))) (sym (valid_plain o (sym f ∙ z))) held ∙ sym (answer_valid b o valid g)
           go false g = sym (answer_unsound b o valid g)
@@ -140,9 +139,9 @@ module _ (b : List ℕ) (o : Offering) where
       stores =
           ap₂ (λ v w. put (put b (slot_place (find (has_key signed_events v) (view b))) w) count_place (le_bytes 4 (count_after b (find (has_key signed_events v) (view b))))) held q
 
-      pub judged : {a : Offered} → a ≡ offered_to b s → Answers a
+      pub judged : {a : Result Offered Refusal} → a ≡ offered_to b s → Answers a
       judged e = answers (e ∙ answer_is)
 
-      pub taken : {a : Offered} {t : List ℕ} → (a ≡ offered_to b s) × (t ≡ offered_next b s) → Leaves a t
+      pub taken : {a : Result Offered Refusal} {t : List ℕ} → (a ≡ offered_to b s) × (t ≡ offered_next b s) → Leaves a t
       unfolding offered_next next
       taken g = let a = judged g.0 in (a.0, (a.1, g.1 ∙ ap₂ (λ x y. cond (is_stored x) y b) answer_is stores))

@@ -1,5 +1,6 @@
 -- The store: a law for each way out. The slot's part of the table came back as its bytes, and the count was put after
 -- it.
+use Rattle.std.specs.Prelude.{Result, Ok, Err}
 use mathlib.Core.Path.{◌≡◌, refl, sym, ap, ap₂, ◌∙◌}
 use mathlib.Core.Bool.{Bool, true, false, cond, not, ◌&&◌, false≢true}
 use mathlib.Core.List.{List, ◌++◌, append_assoc}
@@ -23,7 +24,7 @@ use Rattle.table.specs.Events.{signed_events, in_slot, view}
 use Rattle.table.specs.Sound.{sound}
 use Rattle.table.specs.Offer.{offered_by, is_stored}
 use Rattle.table.specs.declared.Offered.{Offered}
-use Rattle.table.specs.declared.Offered.TheVariants.{Stored, Refused}
+use Rattle.table.specs.declared.Offered.TheVariants.{Stored}
 use Rattle.table.proofs.Bytes.{clauses}
 use Rattle.table.proofs.Stored.{length_view}
 use Rattle.offers.specs.Inner.{New, answer_for, offered_to, slot_of, DecidedAs, Decides, HasRoom, count_from}
@@ -54,7 +55,7 @@ pub room_sound : (b s : List ℕ) → HasRoom b s → (sound b ≡ true) × (is_
 unfolding offered_to
 room_sound b s h = go (sound b) refl h.stored
   where
-    go : (t : Bool) → sound b ≡ t → is_stored (cond t (answer_for b s) (Refused (plain_refusal 11))) ≡ true → (sound b ≡ true) × (is_stored (answer_for b s) ≡ true)
+    go : (t : Bool) → sound b ≡ t → is_stored (cond t (answer_for b s) (Err (plain_refusal 11))) ≡ true → (sound b ≡ true) × (is_stored (answer_for b s) ≡ true)
     go true e q = (e, q)
     go false e q = absurd (false≢true q)
 
@@ -111,9 +112,9 @@ module _ (b s : List ℕ) (n : New s) (h : HasRoom b s) where
 
 -- ---- an offer to a table that is sound or not
 module _ (b s : List ℕ) {x : Bool} (f : x ≡ sound b) where
-  pub not_sound : x ≡ false → {y : Refusal} → y ≡ plain_refusal 11 → Decides b s (offered_to b s) (Answered (Refused y))
+  pub not_sound : x ≡ false → {y : Refusal} → y ≡ plain_refusal 11 → Decides b s (offered_to b s) (Answered (Err y))
   unfolding offered_to
-  not_sound e h = record { is = (ap Refused h ∙ sym (ap (λ t. cond t (answer_for b s) (Refused (plain_refusal 11))) (sym f ∙ e)), refl) }
+  not_sound e h = record { is = (ap Err h ∙ sym (ap (λ t. cond t (answer_for b s) (Err (plain_refusal 11))) (sym f ∙ e)), refl) }
 
   pub is_judged : {d : Decided} → x ≡ true → Decides b s (answer_for b s) d → Decides b s (offered_to b s) d
   unfolding offered_to
@@ -121,19 +122,19 @@ module _ (b s : List ℕ) {x : Bool} (f : x ≡ sound b) where
 
 -- ---- what was decided of an offer
 module _ (b s : List ℕ) {d : Decided} (j : Decides b s (offered_to b s) d) where
-  pub skipped : {a : Offered} → d ≡ Answered a → (a ≡ offered_to b s) × (b ≡ offered_next b s)
+  pub skipped : {a : Result Offered Refusal} → d ≡ Answered a → (a ≡ offered_to b s) × (b ≡ offered_next b s)
   unfolding offered_next
   skipped {a} e =
       let (f, n) : DecidedAs b s (offered_to b s) (Answered a) = rw e at j.is in
       (f, sym (ap (λ t. cond t (stored_for b s) b) (sym (ap is_stored f) ∙ n)))
 
   module _ {k : ℕ} (e : d ≡ Fills k) where
-    pub fills : (Stored ≡ offered_to b s) × (k ≡ slot_of b s)
+    pub fills : (Ok Stored ≡ offered_to b s) × (k ≡ slot_of b s)
     fills = let h : DecidedAs b s (offered_to b s) (Fills k) = rw e at j.is in h
 
     pub has_room : HasRoom b s × (k ≡ slot_of b s)
     has_room = (record { stored = sym (ap is_stored fills.0) }, fills.1)
 
-    pub filled : {o : List ℕ} → o ≡ stored_for b s → (Stored ≡ offered_to b s) × (o ≡ offered_next b s)
+    pub filled : {o : List ℕ} → o ≡ stored_for b s → (Ok Stored ≡ offered_to b s) × (o ≡ offered_next b s)
     unfolding offered_next
     filled z = (fills.0, z ∙ sym (ap (λ t. cond t (stored_for b s) b) (sym (ap is_stored fills.0))))

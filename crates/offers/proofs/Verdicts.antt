@@ -1,4 +1,5 @@
 -- The verdict: a law for each way out. The premises are the facts of the path, in the order of the code.
+use Rattle.std.specs.Prelude.{Ok, Err}
 use mathlib.Core.Path.{◌≡◌, refl, sym, ap, ap₂, ◌∙◌}
 use mathlib.Core.Bool.{Bool, true, false, not, ◌&&◌}
 use mathlib.Core.List.{List, []}
@@ -22,7 +23,7 @@ use Rattle.table.specs.Layout.{capacity_of, count_of, kind_in, id_in, held_slots
 use Rattle.table.specs.Events.{signed_events, in_slot, view}
 use Rattle.table.specs.Sound.{sound, slot_sound}
 use Rattle.table.specs.Offer.{offered_by}
-use Rattle.table.specs.declared.Offered.TheVariants.{Ephemeral, Duplicate, Older, Refused}
+use Rattle.table.specs.declared.Offered.TheVariants.{Ephemeral, Duplicate, Older}
 use Rattle.table.proofs.Stored.{length_view}
 use Rattle.table.proofs.Shown.{slot_entry}
 use Rattle.slots.specs.Slots.{same_id_in, same_key_in, slots_from}
@@ -51,7 +52,7 @@ module _ (b s : List ℕ) (g : sound b ≡ true) (n : New s) where
     unfolding kind_in
     class_is = sym (q ∙ ap is_ephemeral p)
 
-    pub was_ephemeral_lem : x ≡ true → Says (Answered Ephemeral)
+    pub was_ephemeral_lem : x ≡ true → Says (Answered (Ok Ephemeral))
     was_ephemeral_lem e = record {
       is =
           (sym (by_class ∙ ap (λ t. offered_by (plain_refusal 0) (first_verdict t (any (has_id signed_events (in_slot s)) (view b)) (newer_held b s) (lacks b s))) (class_is ∙ e)), refl);
@@ -71,7 +72,7 @@ module _ (b s : List ℕ) (g : sound b ≡ true) (n : New s) where
           ∙ ap₂ (λ t u. offered_by (plain_refusal 0) (first_verdict t u (newer_held b s) (lacks b s))) (class_is ∙ e)
           (ids b s g ∙ sym (f ∙ ap (λ m. any (same_id_in s) (slots_from b 0 m)) count_is))
 
-      pub was_duplicate : y ≡ true → Says (Answered Duplicate)
+      pub was_duplicate : y ≡ true → Says (Answered (Ok Duplicate))
       was_duplicate h = record { is = (sym (by_id ∙ ap (λ u. offered_by (plain_refusal 0) (first_verdict false u (newer_held b s) (lacks b s))) h), refl) }
 
       module _ (h : y ≡ false) {j : ℕ} (o : j ≡ find (same_key_in s) (slots_from b 0 c)) where
@@ -93,7 +94,7 @@ module _ (b s : List ℕ) (g : sound b ≡ true) (n : New s) where
               ∙ ap (λ t. offered_by (plain_refusal 0) (first_verdict false false (t && newer_in (get_or (held_slots b) j []) s) (not t && leb (capacity_of b) c))) (lt-ltb j c i)
               ∙ ap (λ t. offered_by (plain_refusal 0) (first_verdict false false t false)) (ap (λ r. newer_in r s) (slot_entry b j (rw count_is at i) ∙ sym a) ∙ sym v)
 
-          pub was_older : w ≡ true → Says (Answered Older)
+          pub was_older : w ≡ true → Says (Answered (Ok Older))
           was_older z = record { is = (sym (by_time ∙ ap (λ t. offered_by (plain_refusal 0) (first_verdict false false t false)) z), refl) }
 
           pub was_newer : w ≡ false → Says (Fills j)
@@ -103,8 +104,8 @@ module _ (b s : List ℕ) (g : sound b ≡ true) (n : New s) where
           by_room : answer_for b s ≡ offered_by (plain_refusal 0) (first_verdict false false false u)
           by_room = by_key ∙ ap₂ (λ t a. offered_by (plain_refusal 0) (first_verdict false false (t && newer_in (get_or (held_slots b) j []) s) (not t && a))) (le-ltb j c i) (sym r)
 
-          pub no_room_lem : u ≡ true → {x : Refusal} → x ≡ plain_refusal 12 → Says (Answered (Refused x))
-          no_room_lem z {x} f = record { is = (ap Refused f ∙ sym (by_room ∙ ap (λ t. offered_by (plain_refusal 0) (first_verdict false false false t)) z), refl) }
+          pub no_room_lem : u ≡ true → {x : Refusal} → x ≡ plain_refusal 12 → Says (Answered (Err x))
+          no_room_lem z {x} f = record { is = (ap Err f ∙ sym (by_room ∙ ap (λ t. offered_by (plain_refusal 0) (first_verdict false false false t)) z), refl) }
 
           pub was_stored : u ≡ false → Says (Fills j)
           was_stored z = record { is = (sym (by_room ∙ ap (λ t. offered_by (plain_refusal 0) (first_verdict false false false t)) z), place_is) }

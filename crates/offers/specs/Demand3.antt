@@ -1,6 +1,6 @@
 -- Demand 3 for whoever calls: calls are known by their promises alone (src/lib.rt, and `format` of slots/src/lib.rt),
 -- and this is what a list of them leaves. Quotes are from demand 3 where nothing else is said. Proofs: proofs/Demand3.
-use Rattle.std.specs.Prelude.{◌≡◌, Bool, true, false, ◌↔◌, ◌≢◌, List, [], ◌∷◌, ◌++◌, map, ℕ, ◌≤◌, ◌<◌, eqb, length, Some}
+use Rattle.std.specs.Prelude.{◌≡◌, Bool, true, false, ◌↔◌, ◌≢◌, List, [], ◌∷◌, ◌++◌, map, ℕ, ◌≤◌, ◌<◌, eqb, length, Some, Result, Ok}
 use Rattle.std.proofs.Common.{sym, ◌∙◌}
 use Rattle.digest.specs.Digest.{digest}
 use Rattle.text.specs.Event.{Event, serialise}
@@ -13,6 +13,7 @@ use Rattle.table.specs.Events.{Signature, SignedEvent, table_events, view}
 use Rattle.table.specs.Offer.{Offering, is_valid, offered_of, judge, answer, offer_number, next}
 use Rattle.table.specs.Format.{format_row, formatted}
 use Rattle.table.specs.Demand3.{Fresh, relay}
+use Rattle.shape.specs.declared.Refusal.{Refusal}
 use Rattle.table.specs.declared.Offered.{Offered}
 use Rattle.table.specs.declared.Offered.TheVariants.{Stored}
 use Rattle.offers.specs.Row.{offer_row}
@@ -22,7 +23,7 @@ use Rattle.wire.specs.Bytes.{Bytes}
 -- of `offer_message` or `offer_parts`: what is offered, the answer, and the table at exit
 pub record Call : Type 0 where
   pub offer : Offering
-  pub answer : Offered
+  pub answer : Result Offered Refusal
   pub exit : List ℕ
 
 -- what the call promises, with the table b lent to it
@@ -107,7 +108,7 @@ pub record Brought (cs : List Call) (x : SignedEvent) : Type 0 where
   pub later : List Call
   pub splits : cs ≡ before ++ (call ∷ later)
   pub brings : judge call.offer ≡ Some x
-  pub says : call.answer ≡ Stored
+  pub says : call.answer ≡ Ok Stored
 
 -- what is held was stored: with its event, its signature too
 abbrev pub SignatureBrought : Type 0
@@ -150,7 +151,7 @@ pub record Demand3OfCalls : Type 0 where
 
 -- ---- 01, "How far each promise must reach: .. Check it against these": whatever answers and leaves tables as promised
 -- is none of them
-module _ (says : List ℕ → Offering → Offered) (exit : List ℕ → Offering → List ℕ) where
+module _ (says : List ℕ → Offering → Result Offered Refusal) (exit : List ℕ → Offering → List ℕ) where
   pub record Keeps : Type 0 where
     pub answers : (b : List ℕ) (o : Offering) → says b o ≡ answer b o
     pub leaves : (b : List ℕ) (o : Offering) → exit b o ≡ next b o

@@ -1,6 +1,6 @@
 -- An offer by the bytes s of the slot that it would fill, to the table b: the steps of the code. That `offered_to` and
 -- `offered_next` are table/specs/Offer `answer` and `next` is proved: proofs/Offers.
-use Rattle.std.specs.Prelude.{◌≡◌, Bool, true, false, cond, List, ◌++◌, ℕ, ◌+◌, ◌-◌, ltb, length, get_or, Some}
+use Rattle.std.specs.Prelude.{◌≡◌, Bool, true, false, cond, List, ◌++◌, ℕ, ◌+◌, ◌-◌, ltb, length, get_or, Some, Result, Ok, Err}
 use Rattle.wire.specs.Bytes.{Bytes, part}
 use Rattle.wire.specs.Field.{le_bytes, signed, unsigned}
 use Rattle.wire.specs.Put.{put}
@@ -21,8 +21,9 @@ use Rattle.table.specs.Layout.{slot_size, slot_place, count_place, capacity_of, 
 use Rattle.table.specs.Events.{signed_events, in_slot, class_of_text, view}
 use Rattle.table.specs.Sound.{slot_sound, sound}
 use Rattle.table.specs.Offer.{offered_by, is_stored}
+use Rattle.shape.specs.declared.Refusal.{Refusal}
 use Rattle.table.specs.declared.Offered.{Offered}
-use Rattle.table.specs.declared.Offered.TheVariants.{Stored, Refused}
+use Rattle.table.specs.declared.Offered.TheVariants.{Stored}
 use Rattle.slots.specs.Slots.{d_bytes_in}
 use Rattle.offers.specs.declared.Decided.{Decided}
 use Rattle.offers.specs.declared.Decided.TheVariants.{Fills, Answered}
@@ -43,23 +44,23 @@ pub record New (s : List ℕ) : Type 0 where
   pub ok : is_ephemeral (kind_in s) ≡ false → slot_sound s ≡ true
 
 -- "Verdicts of an offer"
-unfoldable pub answer_for : Bytes → Bytes → Offered
+unfoldable pub answer_for : Bytes → Bytes → Result Offered Refusal
 answer_for b s = offered_by (plain_refusal 0) (verdict signed_events (capacity_of b) (view b) (Some (in_slot s)))
 
 -- row 11, then the verdict
-unfoldable pub offered_to : Bytes → Bytes → Offered
-offered_to b s = cond (sound b) (answer_for b s) (Refused (plain_refusal 11))
+unfoldable pub offered_to : Bytes → Bytes → Result Offered Refusal
+offered_to b s = cond (sound b) (answer_for b s) (Err (plain_refusal 11))
 
 -- "over the slot with its key, else in slot C"
 unfoldable pub slot_of : Bytes → Bytes → ℕ
 slot_of b s = find (has_key signed_events (in_slot s)) (view b)
 
 -- what is decided of an offer s to the table b that is answered a
-abbrev pub DecidedAs : (b s : Bytes) (a : Offered) (x : Decided) → Type 0
-DecidedAs b s a (Fills k) = (Stored ≡ a) × (k ≡ slot_of b s)
+abbrev pub DecidedAs : (b s : Bytes) (a : Result Offered Refusal) (x : Decided) → Type 0
+DecidedAs b s a (Fills k) = (Ok Stored ≡ a) × (k ≡ slot_of b s)
 DecidedAs b s a (Answered x) = (x ≡ a) × (is_stored x ≡ false)
 
-pub record Decides (b s : List ℕ) (a : Offered) (d : Decided) : Type 0 where
+pub record Decides (b s : List ℕ) (a : Result Offered Refusal) (d : Decided) : Type 0 where
   pub is : DecidedAs b s a d
 
 -- ---- the store

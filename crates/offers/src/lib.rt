@@ -2,11 +2,10 @@
 // count that a store writes. The definitions are table/specs/Offer; what the code goes by on the way stands in specs/.
 #![tactic(auto)]
 
-ghost use Rattle.std.specs.Prelude.{◌≡◌, true, ◌≤◌, leb, length};
+ghost use Rattle.std.specs.Prelude.{◌≡◌, true, ◌≤◌, leb, length, Err};
 ghost use Rattle.wire.specs.Limits.{most_slots};
 ghost use Rattle.text.specs.Kinds.{is_ephemeral};
 ghost use Rattle.message.specs.Read.{read_of};
-ghost use Rattle.table.specs.declared.Offered.TheVariants as offered;
 ghost use Rattle.law.specs.Lists.{any, find};
 ghost use Rattle.table.specs.Layout.{slot_size, capacity_of};
 ghost use Rattle.table.specs.Sound.{sound};
@@ -22,17 +21,16 @@ mod made;
 // What taking a message gives: the place of an EVENT's id in it, and what its offer is answered; or what else was read.
 #[derive(Clone, Copy)]
 pub enum Taken {
-    Event(message::Span, table::Offered),
+    Event(message::Span, Result<table::Offered, shape::Refusal>),
     Req(message::ReqParts),
     Close(message::Span),
-    Refused(shape::Refusal),
 }
 
 // What is decided of an offer: the slot that it fills, or what it is answered where nothing is stored.
 #[derive(Clone, Copy)]
 enum Decided {
     Fills(usize),
-    Answered(table::Offered),
+    Answered(Result<table::Offered, shape::Refusal>),
 }
 
 // ---- the verdict
@@ -116,23 +114,23 @@ fn verdict(table: &[u8], new: &[u8]) -> Decided
         result }
 {
     if is_ephemeral(wire::le_at(new, slots::KIND_PLACE, 2)) {
-        return Decided::Answered(table::Offered::Ephemeral);
+        return Decided::Answered(Ok(table::Offered::Ephemeral));
     }
     let c = wire::le_at(table, slots::COUNT_PLACE, 4) as usize;
     let held = id_held(table, c, new);
     let full = is_full(table, c);
     if held {
-        return Decided::Answered(table::Offered::Duplicate);
+        return Decided::Answered(Ok(table::Offered::Duplicate));
     }
     let k = find_key(table, c, new);
     if k < c {
         if newer_than(slots::slot(table, k), new) {
-            return Decided::Answered(table::Offered::Older);
+            return Decided::Answered(Ok(table::Offered::Older));
         }
         return Decided::Fills(k);
     }
     if full {
-        return Decided::Answered(table::Offered::Refused(shape::plain_refusal(12)));
+        return Decided::Answered(Err(shape::plain_refusal(12)));
     }
     Decided::Fills(k)
 }
@@ -144,7 +142,7 @@ fn judge(table: &[u8], new: &[u8]) -> Decided
         result }
 {
     if !slots::sound(table) {
-        return Decided::Answered(table::Offered::Refused(shape::plain_refusal(11)));
+        return Decided::Answered(Err(shape::plain_refusal(11)));
     }
     verdict(table, new)
 }
@@ -181,7 +179,7 @@ fn store(table: &mut [u8], new: &[u8], k: usize)
     wire::put_le(table, slots::COUNT_PLACE, 4, count_after(c, k) as u64);
 }
 
-fn offer_slot(table: &mut [u8], new: &[u8]) -> table::Offered
+fn offer_slot(table: &mut [u8], new: &[u8]) -> Result<table::Offered, shape::Refusal>
     requires { New new.now }
     ensures value { result ≡ offered_to table.old new.now }
     ensures table_after { table.new ≡ offered_next table.old new.now }
@@ -189,7 +187,7 @@ fn offer_slot(table: &mut [u8], new: &[u8]) -> table::Offered
     match judge(table, new) {
         Decided::Fills(k) => {
             store(table, new, k);
-            table::Offered::Stored
+            Ok(table::Offered::Stored)
         }
         Decided::Answered(a) => a,
     }
@@ -197,7 +195,11 @@ fn offer_slot(table: &mut [u8], new: &[u8]) -> table::Offered
 
 // ---- the calls
 // An event offered as parts: rows 2 and 4 to 10, then 11, then the verdict.
-pub fn offer_parts(table: &mut [u8], b: &[u8], p: message::EventParts) -> table::Offered
+pub fn offer_parts(
+    table: &mut [u8],
+    b: &[u8],
+    p: message::EventParts,
+) -> Result<table::Offered, shape::Refusal>
     ensures value { result ≡ answer table.old (as_parts b.now p) }
     ensures result_value { offer_number result ≡ offer_row table.old (as_parts b.now p) }
     ensures table_after { table.new ≡ next table.old (as_parts b.now p) }
@@ -205,13 +207,13 @@ pub fn offer_parts(table: &mut [u8], b: &[u8], p: message::EventParts) -> table:
     let mut new = [0u8; slots::SLOT_SIZE];
     let row = made::make_slot(&mut new, b, p);
     if row != 0 {
-        return table::Offered::Refused(shape::plain_refusal(row));
+        return Err(shape::plain_refusal(row));
     }
     offer_slot(table, &new)
 }
 
 // A message offered: rows 1 to 10, then 11, then the verdict.
-pub fn offer_message(table: &mut [u8], m: &[u8]) -> table::Offered
+pub fn offer_message(table: &mut [u8], m: &[u8]) -> Result<table::Offered, shape::Refusal>
     ensures value { result ≡ answer table.old (as_message m.now) }
     ensures result_value { offer_number result ≡ offer_row table.old (as_message m.now) }
     ensures table_after { table.new ≡ next table.old (as_message m.now) }
@@ -219,45 +221,44 @@ pub fn offer_message(table: &mut [u8], m: &[u8]) -> table::Offered
     let mut new = [0u8; slots::SLOT_SIZE];
     let refusal = made::make_from(&mut new, m);
     if refusal.row != 0 {
-        return table::Offered::Refused(refusal);
+        return Err(refusal);
     }
     offer_slot(table, &new)
 }
 
 // What the same offer would be answered; the table is only read.
-pub fn judge_message(table: &[u8], m: &[u8]) -> table::Offered
+pub fn judge_message(table: &[u8], m: &[u8]) -> Result<table::Offered, shape::Refusal>
     ensures value { result ≡ answer table.now (as_message m.now) }
     ensures result_value { offer_number result ≡ offer_row table.now (as_message m.now) }
 {
     let mut new = [0u8; slots::SLOT_SIZE];
     let refusal = made::make_from(&mut new, m);
     if refusal.row != 0 {
-        return table::Offered::Refused(refusal);
+        return Err(refusal);
     }
     match judge(table, &new) {
-        Decided::Fills(_) => table::Offered::Stored,
+        Decided::Fills(_) => Ok(table::Offered::Stored),
         Decided::Answered(a) => a,
     }
 }
 
 // What a message gives that is refused as an offer: it is read again.
-fn untaken(m: &[u8], refusal: shape::Refusal) -> Taken
-    ensures { result ≡ taken_as (offered.Refused refusal) (read_of m.now) }
+fn untaken(m: &[u8], refusal: shape::Refusal) -> Result<Taken, shape::Refusal>
+    ensures { result ≡ taken_as (Err refusal) (read_of m.now) }
 {
-    match message::read(m) {
+    Ok(match message::read(m)? {
         message::Message::Event(p) => {
             let id = p.id;
-            Taken::Event(id, table::Offered::Refused(refusal))
+            Taken::Event(id, Err(refusal))
         }
         message::Message::Req(q) => Taken::Req(q),
         message::Message::Close(s) => Taken::Close(s),
-        message::Message::Refused(r) => Taken::Refused(r),
-    }
+    })
 }
 
 // A message taken: an EVENT is offered, and its id told; of anything else what was read is told, and the table stays. A
 // valid EVENT is read once.
-pub fn take(table: &mut [u8], m: &[u8]) -> Taken
+pub fn take(table: &mut [u8], m: &[u8]) -> Result<Taken, shape::Refusal>
     ensures value { result ≡ taken table.old m.now }
     ensures result_value { taken_number result ≡ taken_row table.old m.now }
     ensures table_after { table.new ≡ taken_table table.old m.now }
@@ -267,7 +268,7 @@ pub fn take(table: &mut [u8], m: &[u8]) -> Taken
         Ok((p, _)) => {
             let id = p.id;
             let a = offer_slot(table, &new);
-            Taken::Event(id, a)
+            Ok(Taken::Event(id, a))
         }
         Err(r) => untaken(m, r),
     }

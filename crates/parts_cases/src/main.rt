@@ -186,15 +186,15 @@ fn put_req(out: &mut [u8], at: usize, s: &[u8], p: ReqParts) -> usize {
     put_filter_parts(out, a, message::filter_at(s, p.filters))
 }
 
-fn put_read(out: &mut [u8], at: usize, s: &[u8], m: Message) -> usize {
+fn put_read(out: &mut [u8], at: usize, s: &[u8], m: Result<Message, shape::Refusal>) -> usize {
     match m {
-        Message::Event(p) => put_event_parts(out, at, p),
-        Message::Req(p) => put_req(out, at, s, p),
-        Message::Close(p) => {
+        Ok(Message::Event(p)) => put_event_parts(out, at, p),
+        Ok(Message::Req(p)) => put_req(out, at, s, p),
+        Ok(Message::Close(p)) => {
             let a = fields::put_word(out, at, b"CLOSE");
             put_span(out, a, p)
         }
-        Message::Refused(x) => fields::put_refusal(out, at, x),
+        Err(x) => fields::put_refusal(out, at, x),
     }
 }
 

@@ -1,6 +1,6 @@
 -- An EVENT message that is accepted, by computation: it is read, its text is hashed to its id, and a fresh table stores
 -- it.
-use Rattle.std.specs.Prelude.{None, Some}
+use Rattle.std.specs.Prelude.{None, Some, Ok}
 use mathlib.Core.Path.{◌≡◌, refl, sym, ap, ap₂, ◌∙◌}
 use mathlib.Core.Bool.{true}
 use mathlib.Core.List.{List, [], ◌∷◌, ◌++◌}
@@ -97,7 +97,7 @@ hash : digest text ≡ id
 unfolding digest digest_bytes hash_after padded padding digests.big_endian compress chained rounds round schedule words H0 K
 hash = refl
 
-reads : read_of sent ≡ message.Event parts
+reads : read_of sent ≡ Ok (message.Event parts)
 unfolding in_class run past one_at token_at word_at literal_at digits_at int_at frac_at exp_at number_at hex_at escaped_at char_at chars_up_to chars_at string_at scalar_at items_at tree_at is_utf8 utf8_from lead_of char_of chars_from char_bytes chars_bytes decode is_refused spell.any refuses same_bytes is_hex spell.all is_hex_of points character_count spelled_at refused_in any_item all_items count_items name_at no_name_twice is_filter is_event event_member once word_of row6 row7 row8 event_number event_hex event_count wrong_time wrong_small wrong_hex wrong_tag filter_counts wrong_subscription tree_row message_row read_of event_parts_of body_of member_of is_digit all_digits value_from is_natural natural_of negative_of whole_of is_within whole_answer
 reads = refl
 
@@ -163,7 +163,7 @@ table_sound = (faithful.good fresh_table (as_message sent) (fresh_good fresh_tab
 table_count : count_of table ≡ 1
 table_count = sym (length_view table) ∙ ap length table_view
 
-says_stored : answer fresh_table (as_message sent) ≡ Stored
+says_stored : answer fresh_table (as_message sent) ≡ Ok Stored
 unfolding parts_of
 says_stored =
     (rows_in_order.0 fresh_table (as_message sent)).judged (rw valid) (fresh_good fresh_table fresh).is_sound

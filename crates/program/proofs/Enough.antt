@@ -1,4 +1,5 @@
 -- No answer is longer than an EVENT for each slot and one short reply: `Enough` of specs/Claims/Respond.
+use Rattle.std.specs.Prelude.{Result, Ok, Err}
 use mathlib.Core.Path.{◌≡◌, refl, sym, ap, ◌∙◌}
 use mathlib.Core.Bool.{Bool, true, false, cond, not, ◌||◌, false≢true}
 use mathlib.Core.List.Memᴰ
@@ -24,6 +25,7 @@ use Rattle.text.specs.Event.{quoted}
 use Rattle.text.proofs.Pieces.{both}
 use Rattle.message.specs.declared.Span.{Span}
 use Rattle.message.specs.declared.ReqParts.{ReqParts}
+use Rattle.shape.specs.declared.Refusal.{Refusal}
 use Rattle.message.specs.declared.Message.{Message}
 use Rattle.message.specs.declared.Message.TheVariants as message
 use Rattle.message.specs.declared.Named.{Named}
@@ -177,17 +179,17 @@ refusal_short m r = go (leb r 5) (named_of m) (named_short m)
     go false names.Nothing h = omega (arith, notice_line (reason_for m r), reason_short m r)
 
 -- a verdict's reason has at most 34 bytes
-verdicts_short : (length (string_json (verdict_reason offered.Ephemeral)) ≡ 2) × (length (string_json (verdict_reason offered.Duplicate)) ≡ 36)
-    × (length (string_json (verdict_reason offered.Older)) ≡ 33) × (length (string_json (verdict_reason offered.Stored)) ≡ 2)
+verdicts_short : (length (string_json (verdict_reason (Ok offered.Ephemeral))) ≡ 2) × (length (string_json (verdict_reason (Ok offered.Duplicate))) ≡ 36)
+    × (length (string_json (verdict_reason (Ok offered.Older))) ≡ 33) × (length (string_json (verdict_reason (Ok offered.Stored))) ≡ 2)
 unfolding string_json quoted json_of json_one escape esc_one letter_of
 verdicts_short = (refl, refl, refl, refl)
 
-offer_short : (m i : List ℕ) (a : Offered) → length (string_json i) ≡ 66 → length (reply_line (offer_reply m i a)) ≤ 428
-offer_short m i offered.Ephemeral h = omega (arith, ok_line i true (verdict_reason offered.Ephemeral), verdicts_short.0, h)
-offer_short m i offered.Duplicate h = omega (arith, ok_line i true (verdict_reason offered.Duplicate), verdicts_short.1, h)
-offer_short m i offered.Older h = omega (arith, ok_line i true (verdict_reason offered.Older), verdicts_short.2, h)
-offer_short m i offered.Stored h = omega (arith, ok_line i true (verdict_reason offered.Stored), verdicts_short.3, h)
-offer_short m i (offered.Refused r) h = refusal_short m r.row
+offer_short : (m i : List ℕ) (a : Result Offered Refusal) → length (string_json i) ≡ 66 → length (reply_line (offer_reply m i a)) ≤ 428
+offer_short m i (Ok offered.Ephemeral) h = omega (arith, ok_line i true (verdict_reason (Ok offered.Ephemeral)), verdicts_short.0, h)
+offer_short m i (Ok offered.Duplicate) h = omega (arith, ok_line i true (verdict_reason (Ok offered.Duplicate)), verdicts_short.1, h)
+offer_short m i (Ok offered.Older) h = omega (arith, ok_line i true (verdict_reason (Ok offered.Older)), verdicts_short.2, h)
+offer_short m i (Ok offered.Stored) h = omega (arith, ok_line i true (verdict_reason (Ok offered.Stored)), verdicts_short.3, h)
+offer_short m i (Err r) h = refusal_short m r.row
 
 -- ---- the whole
 slots_short : (b sub : List ℕ) → sound b ≡ true → length (string_json sub) ≤ 386 → (ks : List ℕ) → ((k : ℕ) → k ∈ ks → k < count_of b)
@@ -216,7 +218,7 @@ module _ (b m : List ℕ) where
   unfolding response
   one_short r e h = omega (arith, ap (λ l. length (written l)) e, one_written r)
 
-  request_short : (r : ReqParts) → read_of m ≡ message.Req r → length (response b m) ≤ enough_for (capacity_of b)
+  request_short : (r : ReqParts) → read_of m ≡ Ok (message.Req r) → length (response b m) ≤ enough_for (capacity_of b)
   unfolding replies_to request_replies
   request_short r e = go (sound b) refl
     where
@@ -240,7 +242,7 @@ module _ (b m : List ℕ) where
           )
       go false s = one_short (refusal m 11) (rw (e, s)) (refusal_short m 11)
 
-  close_short : (p : Span) → read_of m ≡ message.Close p → length (response b m) ≤ enough_for (capacity_of b)
+  close_short : (p : Span) → read_of m ≡ Ok (message.Close p) → length (response b m) ≤ enough_for (capacity_of b)
   unfolding response replies_to written
   close_short p e = rw e (omega arith)
 
@@ -248,13 +250,13 @@ module _ (b m : List ℕ) where
   unfolding replies_to
   response_short = go (read_of m) refl
     where
-      go : (x : Message) → read_of m ≡ x → length (response b m) ≤ enough_for (capacity_of b)
-      go (message.Event p) e =
+      go : (x : Result Message Refusal) → read_of m ≡ x → length (response b m) ≤ enough_for (capacity_of b)
+      go (Ok (message.Event p)) e =
           let a = answer b (as_message m) in
           one_short (offer_reply m (said m p.id) a) (rw e) (offer_short m (said m p.id) a (rw (names_id m p e) at (named_short m)))
-      go (message.Req r) e = request_short r e
-      go (message.Close p) e = close_short p e
-      go (message.Refused r) e = one_short (refusal m r.row) (rw e) (refusal_short m r.row)
+      go (Ok (message.Req r)) e = request_short r e
+      go (Ok (message.Close p)) e = close_short p e
+      go (Err r) e = one_short (refusal m r.row) (rw e) (refusal_short m r.row)
 
 pub enough : Enough
 unfolding respond_row

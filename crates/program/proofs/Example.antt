@@ -1,4 +1,5 @@
 -- 01's program input of four lines, by computation: what is read from each line, and so what the program writes.
+use Rattle.std.specs.Prelude.{Ok}
 use mathlib.Core.Path.{◌≡◌, refl, sym, ap, ap₂, ◌∙◌}
 use mathlib.Core.Bool.{true, cond}
 use lib.Dec.{ltb}
@@ -38,11 +39,11 @@ braces : message_row (ascii "{}") ≡ 5
 unfolding in_class run past one_at token_at word_at literal_at digits_at int_at frac_at exp_at number_at hex_at escaped_at char_at chars_up_to chars_at string_at scalar_at items_at tree_at is_utf8 utf8_from lead_of char_of chars_from char_bytes chars_bytes decode is_refused spell.any refuses same_bytes points character_count spelled_at refused_in any_item count_items name_at no_name_twice is_filter word_of all_items row6 row7 row8 filter_counts wrong_subscription tree_row message_row
 braces = refl
 
-pub request : read_of (ascii "[\"REQ\",\"s\",{}]") ≡ message.Req (record { subscription = record { start = 8; len = 1 }; filters = 11 })
+pub request : read_of (ascii "[\"REQ\",\"s\",{}]") ≡ Ok (message.Req (record { subscription = record { start = 8; len = 1 }; filters = 11 }))
 unfolding in_class run past one_at token_at word_at literal_at digits_at int_at frac_at exp_at number_at hex_at escaped_at char_at chars_up_to chars_at string_at scalar_at items_at tree_at is_utf8 utf8_from lead_of char_of chars_from char_bytes chars_bytes decode is_refused spell.any refuses same_bytes points character_count spelled_at refused_in any_item count_items name_at no_name_twice is_filter word_of all_items row6 row7 row8 filter_counts wrong_subscription tree_row message_row read_of
 request = refl
 
-close : read_of (ascii "[\"CLOSE\",\"s\"]") ≡ message.Close (record { start = 10; len = 1 })
+close : read_of (ascii "[\"CLOSE\",\"s\"]") ≡ Ok (message.Close (record { start = 10; len = 1 }))
 unfolding in_class run past one_at token_at word_at literal_at digits_at int_at frac_at exp_at number_at hex_at escaped_at char_at chars_up_to chars_at string_at scalar_at items_at tree_at is_utf8 utf8_from lead_of char_of chars_from char_bytes chars_bytes decode is_refused spell.any refuses same_bytes points character_count spelled_at refused_in any_item count_items name_at no_name_twice is_filter word_of all_items row6 row7 row8 filter_counts wrong_subscription tree_row message_row read_of
 close = refl
 

@@ -1,5 +1,6 @@
 -- The program as a state that bytes are fed to: a cut line is answered as the whole one, the input may be cut anywhere,
 -- what is said is the output, and a turn over lent buffers leaves the state in them.
+use Rattle.std.specs.Prelude.{Ok, Err}
 use mathlib.Core.Path.{◌≡◌, refl, sym, ap, ap₂, ◌∙◌}
 use mathlib.Core.Bool.{Bool, true, false, cond, ◌||◌, false≢true}
 use mathlib.Core.Logic.{◌⊎◌, inl, inr, ⊎_elim, ◌≢◌}
@@ -18,7 +19,6 @@ use Rattle.reply.specs.Lent.{short_row}
 use Rattle.program.specs.Program.{replies_to, table_after, lines, written, output_from, fresh_table, output}
 use Rattle.reply.specs.Claims.{Plain}
 use Rattle.program.specs.Respond.{response}
-use Rattle.program.specs.declared.Turned.TheVariants as turning
 use Rattle.program.specs.Feed.{State, most_line, kept, is_end, after_byte, said_at, after_bytes, said_by, last_line}
 use Rattle.program.specs.Feed.{said_last, feed_state, before, used_of, turn_text, turn_state, turn_row, turned}
 use Rattle.program.specs.Feed.{turn_table, turn_line, turn_out, turned_number, turned_used, turned_line, turned_bytes}
@@ -257,11 +257,11 @@ module _ (b line : List ℕ) (n : ℕ) (piece out : List ℕ) where
   abbrev row : ℕ
   row = turn_row b line n piece out
 
-  is_fed : row ≡ 0 → turned b line n piece out ≡ turning.Fed (used_of piece) (length (turn_state b line n piece).line) (length (turn_text b line n piece))
+  is_fed : row ≡ 0 → turned b line n piece out ≡ Ok (record { used = used_of piece; kept = length (turn_state b line n piece).line; written = length (turn_text b line n piece) })
   unfolding turned
   is_fed e = rw (eq-eqb row 0 e)
 
-  is_refused_lem : row ≢ 0 → turned b line n piece out ≡ turning.Refused row
+  is_refused_lem : row ≢ 0 → turned b line n piece out ≡ Err row
   unfolding turned
   is_refused_lem ne = rw (ne_eqb row 0 ne)
 

@@ -1,5 +1,5 @@
 -- What an offer is answered, as a number.
-use Rattle.std.specs.Prelude.{Option, None}
+use Rattle.std.specs.Prelude.{Option, None, Result, Ok, Err}
 use mathlib.Core.Path.{◌≡◌, refl, sym, ap, ap₂, subst, ◌∙◌}
 use mathlib.Core.Bool.{Bool, true, false, cond, not, ◌&&◌}
 use mathlib.Core.Logic.{◌≢◌}
@@ -25,7 +25,7 @@ use Rattle.program.proofs.Which.{verdict_rows}
 abbrev Told : Offering → Refusal → Type 0
 Told o r = (1 ≤ r.row) × (r.offset ≡ offset_at o r.row)
 
-told_is : (o : Offering) {x r : Refusal} → offered.Refused x ≡ offered.Refused r → Told o x → Told o r
+told_is : (o : Offering) {x r : Refusal} → ◌≡◌ {A = Result Offered Refusal} (Err x) (Err r) → Told o x → Told o r
 told_is o {x} {r} e h = let z : x ≡ r = cc in subst (Told o) z h
 
 no_offset : (o : Offering) (row : ℕ) → (row ≡ 6 → ⊥) → (row ≡ 7 → ⊥) → None ≡ offset_at o row
@@ -36,11 +36,11 @@ offering_told : (o : Offering) → (offers.offering_row o ≡ 0 → ⊥) → Tol
 offering_told (as_message m) n = (omega (arith, n), refl)
 offering_told (as_parts c p) n = (omega (arith, n), refl)
 
-refused_told : (b : List ℕ) (o : Offering) (r : Refusal) → answer b o ≡ offered.Refused r → Told o r
+refused_told : (b : List ℕ) (o : Offering) (r : Refusal) → answer b o ≡ Err r → Told o r
 unfolding answer verdict_on judge verdict
 refused_told b o r a = go (is_valid o) refl (sound b) a
   where
-    go : (v : Bool) → is_valid o ≡ v → (s : Bool) → cond (v && not s) (offered.Refused (plain_refusal 11)) (offered_by (offers.offering_refusal o) (verdict_on b o)) ≡ offered.Refused r → Told o r
+    go : (v : Bool) → is_valid o ≡ v → (s : Bool) → cond (v && not s) (Err (plain_refusal 11)) (offered_by (offers.offering_refusal o) (verdict_on b o)) ≡ Err r → Told o r
     go true v false q = told_is o q (omega arith, no_offset o 11 (λ z. omega arith) (λ z. omega arith))
     go true v true q =
         let (l, h, n) = verdict_rows r (offers.offering_refusal o) (capacity_of b) (view b) (of_held (offers.offered_of o)) (rw v at q) in
@@ -50,20 +50,20 @@ refused_told b o r a = go (is_valid o) refl (sound b) a
 pub offered_number_lem : OfferedNumber
 offered_number_lem b o = (λ r l. (of_number (answer b o) refl r l, ap offers.offer_number), (no_row, on (answer b o) refl))
   where
-    of_number : (a : Offered) → answer b o ≡ a → (r : ℕ) → 1 ≤ r → offers.offer_number a ≡ r → a ≡ offered.Refused (record { row = r; offset = offset_at o r })
-    of_number offered.Ephemeral q r l e = absurd (omega arith)
-    of_number offered.Duplicate q r l e = absurd (omega arith)
-    of_number offered.Older q r l e = absurd (omega arith)
-    of_number offered.Stored q r l e = absurd (omega arith)
-    of_number (offered.Refused k) q r l e =
-        ap₂ (λ (x : ℕ) (y : Option ℕ). offered.Refused (record { row = x; offset = y })) e ((refused_told b o k q).1 ∙ ap (offset_at o) e)
+    of_number : (a : Result Offered Refusal) → answer b o ≡ a → (r : ℕ) → 1 ≤ r → offers.offer_number a ≡ r → a ≡ Err (record { row = r; offset = offset_at o r })
+    of_number (Ok offered.Ephemeral) q r l e = absurd (omega arith)
+    of_number (Ok offered.Duplicate) q r l e = absurd (omega arith)
+    of_number (Ok offered.Older) q r l e = absurd (omega arith)
+    of_number (Ok offered.Stored) q r l e = absurd (omega arith)
+    of_number (Err k) q r l e =
+        ap₂ (λ (x : ℕ) (y : Option ℕ). Err (record { row = x; offset = y })) e ((refused_told b o k q).1 ∙ ap (offset_at o) e)
 
-    no_row : offers.offer_number (answer b o) ≡ 0 → (r : Refusal) → answer b o ≢ offered.Refused r
+    no_row : offers.offer_number (answer b o) ≡ 0 → (r : Refusal) → answer b o ≢ Err r
     no_row e r a = let l = (refused_told b o r a).0 in let z = ap offers.offer_number a in omega arith
 
-    on : (a : Offered) → answer b o ≡ a → ((r : Refusal) → answer b o ≢ offered.Refused r) → offers.offer_number (answer b o) ≡ 0
-    on offered.Ephemeral e n = ap offers.offer_number e
-    on offered.Duplicate e n = ap offers.offer_number e
-    on offered.Older e n = ap offers.offer_number e
-    on offered.Stored e n = ap offers.offer_number e
-    on (offered.Refused k) e n = absurd (n k e)
+    on : (a : Result Offered Refusal) → answer b o ≡ a → ((r : Refusal) → answer b o ≢ Err r) → offers.offer_number (answer b o) ≡ 0
+    on (Ok offered.Ephemeral) e n = ap offers.offer_number e
+    on (Ok offered.Duplicate) e n = ap offers.offer_number e
+    on (Ok offered.Older) e n = ap offers.offer_number e
+    on (Ok offered.Stored) e n = ap offers.offer_number e
+    on (Err k) e n = absurd (n k e)

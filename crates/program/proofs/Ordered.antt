@@ -1,5 +1,6 @@
 -- An EVENT whose object has its seven members in the order listed under Shape, each as it should be: rows 4 to 8 do not
 -- hold, and its parts are the members' places. Over any text s: only what its names and values are is used.
+use Rattle.std.specs.Prelude.{Ok}
 use mathlib.Core.Bool.{true, false}
 use mathlib.Core.Path.{◌≡◌, refl}
 use mathlib.Core.List.{List}
@@ -187,6 +188,6 @@ module _ (s : List ℕ) (i k t n g c z : Entry) (array : Json) (time : ℤ) (kin
   unfolding tree_row
   rows_none = rw (no_4, no_5, no_6, no_7, no_8)
 
-  pub parts_are : message_parts s (opened s whole).first (opened s whole).rest ≡ message.Event (parts_at i k g c z time kind)
+  pub parts_are : message_parts s (opened s whole).first (opened s whole).rest ≡ Ok (message.Event (parts_at i k g c z time kind))
   unfolding event_parts_of body_of member_of same_bytes
   parts_are = rw (first, id_says, pubkey_says, time_says, kind_says, tags_say, content_says, sig_says, f.time_is, f.kind_is)

@@ -1,7 +1,7 @@
 -- Each event within the limits has a valid message: the one that spells it as replies do, where row 1 lets that pass.
 -- Its bytes are taken apart member by member, so its tree is known; rows 2 to 8 do not hold of that tree, and its parts
 -- tell the event, so rows 9 and 10 do not hold either.
-use Rattle.std.specs.Prelude.{Some}
+use Rattle.std.specs.Prelude.{Some, Ok}
 use mathlib.Core.Bool.{true, false}
 use mathlib.Core.Path.{◌≡◌, refl, ap, ◌∙◌}
 use mathlib.Core.List.{List, [], ◌∷◌, ◌++◌}
@@ -466,7 +466,7 @@ module _ (i : List ℕ) (e : Event) (g s : List ℕ) (is : s ≡ event_message i
       rw (le-ltb most_message (length s) h, utf8, none_raw, root_is, eq-eqb (end + 1) (length s) size)
       (rows_none s id pubkey time kind tags content sig array e.time e.kind fine)
 
-  reads : length s ≤ most_message → read_of s ≡ message.Event parts
+  reads : length s ≤ most_message → read_of s ≡ Ok (message.Event parts)
   unfolding read_of
   reads h = rw (row_0 h, root_is) (parts_are s id pubkey time kind tags content sig array e.time e.kind fine)
 

@@ -1,5 +1,5 @@
 -- Which reply a message gets.
-use Rattle.std.specs.Prelude.{None, Some}
+use Rattle.std.specs.Prelude.{None, Some, Result, Ok, Err}
 use mathlib.Core.Path.{◌≡◌, refl, sym, ap, subst, ◌∙◌}
 use mathlib.Core.Bool.{Bool, true, false, cond, not, ◌&&◌, ◌||◌, false≢true}
 use mathlib.Core.Logic.{◌⊎◌, inl, inr, ◌≢◌}
@@ -57,7 +57,7 @@ use Rattle.program.specs.Claims.Program.{NamesSubscription, LastRows, ReadEvent,
 use Rattle.program.specs.Claims.Program.{Overlong, AllOffered}
 
 -- ---- refused when read
-read_refused : (m : List ℕ) → 1 ≤ message_row m → read_of m ≡ message.Refused (refusal_of m)
+read_refused : (m : List ℕ) → 1 ≤ message_row m → read_of m ≡ Err (refusal_of m)
 unfolding read_of
 read_refused m h = rw (ne_eqb (message_row m) 0 (λ e. omega arith))
 
@@ -135,7 +135,7 @@ unfolding message_row reason_of
 overlong b m h = early_at b m 1 (rw (lt-ltb most_message (length m) h)) (omega arith) (omega arith)
 
 -- ---- read
-row_of : (m : List ℕ) (x : Message) → read_of m ≡ x → message_row m ≡ read_number x
+row_of : (m : List ℕ) (x : Result Message Refusal) → read_of m ≡ x → message_row m ≡ read_number x
 row_of m x e = sym (row_read m) ∙ ap read_number e
 
 off : (b : Bool) (k x : ℕ) → 0 < k → cond b k x ≡ 0 → (b ≡ false) × (x ≡ 0)
@@ -191,13 +191,13 @@ covered m = go (message_row m) refl (below m)
     below : (m : List ℕ) → message_row m ≤ 8
     below m = most (row1 m) 1 _ (omega arith) (most (row2 m) 2 _ (omega arith) (most (row3 m) 3 _ (omega arith) (tree m (root m))))
 
-    word : (w : Word) (ts : Items) (r : Refusal) → has_shape m w ts ≡ true → message_parts m w ts ≢ message.Refused r
+    word : (w : Word) (ts : Items) (r : Refusal) → has_shape m w ts ≡ true → message_parts m w ts ≢ Err r
     word event ts r h e = let z : ◌≡◌ {A = ℕ} 0 1 = cc in omega arith
     word req ts r h e = let z : ◌≡◌ {A = ℕ} 0 1 = cc in omega arith
     word close ts r h e = let z : ◌≡◌ {A = ℕ} 0 1 = cc in omega arith
     word other ts r h e = false≢true h
 
-    go : (k : ℕ) → message_row m ≡ k → message_row m ≤ 8 → ((1 ≤ message_row m) × (message_row m ≤ 8)) ⊎ ((r : Refusal) → read_of m ≢ message.Refused r)
+    go : (k : ℕ) → message_row m ≡ k → message_row m ≤ 8 → ((1 ≤ message_row m) × (message_row m ≤ 8)) ⊎ ((r : Refusal) → read_of m ≢ Err r)
     go zero z l = let (t, n, c) = clean_of m z in inr (λ r e. word (opened m t).first (opened m t).rest r c.shape (sym (read_tree m t n z c.tree) ∙ e))
     go (suc k) z l = inl (omega arith, l)
 
@@ -225,15 +225,15 @@ id_hex m p e =
 data Opens (m : List ℕ) (p : EventParts) : Word → Items → Type 0 where
   opens : {ts : Items} → event_parts_of m (members_of (first_item ts)) ≡ p → Opens m p event ts
 
-opens_of : (m : List ℕ) (p : EventParts) (w : Word) (ts : Items) → message_parts m w ts ≡ message.Event p → Opens m p w ts
+opens_of : (m : List ℕ) (p : EventParts) (w : Word) (ts : Items) → message_parts m w ts ≡ Ok (message.Event p) → Opens m p w ts
 opens_of m p event ts e = opens {ts = ts} cc
 opens_of m p req ts e = absurd (let z : ◌≡◌ {A = ℕ} 0 1 = cc in omega arith)
 opens_of m p close ts e = absurd (let z : ◌≡◌ {A = ℕ} 0 1 = cc in omega arith)
 opens_of m p other ts e = absurd (let z : ◌≡◌ {A = ℕ} 0 1 = cc in omega arith)
 
-module _ (m : List ℕ) (p : EventParts) (e : read_of m ≡ message.Event p) where
+module _ (m : List ℕ) (p : EventParts) (e : read_of m ≡ Ok (message.Event p)) where
   row_0 : message_row m ≡ 0
-  row_0 = row_of m (message.Event p) e
+  row_0 = row_of m (Ok (message.Event p)) e
 
   event_tree : (t : Json) × (n : ℕ) × Clean m t n × Opens m p (opened m t).first (opened m t).rest
   event_tree =
@@ -271,17 +271,17 @@ large_rows false false r e z = (omega arith, omega arith)
 abbrev pub Last : Refusal → Type 0
 Last r = (9 ≤ r.row) × (r.row ≤ 12) × (r.offset ≡ None)
 
-last_is : {x r : Refusal} → offered.Refused x ≡ offered.Refused r → Last x → Last r
+last_is : {x r : Refusal} → ◌≡◌ {A = Result Offered Refusal} (Err x) (Err r) → Last x → Last r
 last_is {x} {r} e h = let z : x ≡ r = cc in subst Last z h
 
-first_rows : (r x : Refusal) (a i n l : Bool) → offered_by x (first_verdict a i n l) ≡ offered.Refused r → Last r
+first_rows : (r x : Refusal) (a i n l : Bool) → offered_by x (first_verdict a i n l) ≡ Err r → Last r
 first_rows r x true i n l e = absurd (false≢true (sym (ap is_accepted e)))
 first_rows r x false true n l e = absurd (false≢true (sym (ap is_accepted e)))
 first_rows r x false false true l e = absurd (false≢true (sym (ap is_accepted e)))
 first_rows r x false false false true e = last_is e (omega arith, omega arith, refl)
 first_rows r x false false false false e = absurd (false≢true (sym (ap is_accepted e)))
 
-pub verdict_rows : (r x : Refusal) (N : ℕ) (t : List SignedEvent) (e : SignedEvent) → offered_by x (verdict signed_events N t (Some e)) ≡ offered.Refused r → Last r
+pub verdict_rows : (r x : Refusal) (N : ℕ) (t : List SignedEvent) (e : SignedEvent) → offered_by x (verdict signed_events N t (Some e)) ≡ Err r → Last r
 unfolding verdict
 verdict_rows r x N t e q =
     first_rows r x (is_ephemeral (signed_events.class_of e)) (any (law.has_id signed_events e) t) (any (has_key_newer signed_events e) t) (lacks_slot signed_events N t e) q
@@ -290,7 +290,7 @@ pub last_rows : LastRows
 unfolding answer verdict_on judge verdict
 last_rows b m p r e a = go (is_valid (as_message m)) refl (sound b) a
   where
-    go : (v : Bool) → is_valid (as_message m) ≡ v → (s : Bool) → cond (v && not s) (offered.Refused (plain_refusal 11)) (offered_by (offers.offering_refusal (as_message m)) (verdict_on b (as_message m))) ≡ offered.Refused r → Last r
+    go : (v : Bool) → is_valid (as_message m) ≡ v → (s : Bool) → cond (v && not s) (Err (plain_refusal 11)) (offered_by (offers.offering_refusal (as_message m)) (verdict_on b (as_message m))) ≡ Err r → Last r
     go true v false q = last_is q (omega arith, omega arith, refl)
     go true v true q = verdict_rows r (offers.offering_refusal (as_message m)) (capacity_of b) (view b) (of_held (offers.offered_of (as_message m))) (rw v at q)
     go false v s q =
@@ -302,25 +302,25 @@ pub read_event : ReadEvent
 unfolding replies_to table_after refusal
 read_event b m p e = (rw e (ap (◌∷ []) (go (answer b (as_message m)) refl)), rw e)
   where
-    late : (r : Refusal) → answer b (as_message m) ≡ offered.Refused r → refusal m r.row ≡ ok (said m p.id) false (refusal_reason r)
+    late : (r : Refusal) → answer b (as_message m) ≡ Err r → refusal m r.row ≡ ok (said m p.id) false (refusal_reason r)
     late r a =
         let (l, h, n) = last_rows b m p r e a in
         let z = offset_plain m r.row (λ q. omega arith) (λ q. omega arith) ∙ sym n in
         rw (lt-leb r.row 5 (omega arith), names_id m p e) (ap (λ x. ok (said m p.id) false (reason_of r.row ++ offset_text x)) z)
 
-    go : (a : Offered) → answer b (as_message m) ≡ a → offer_reply m (said m p.id) a ≡ ok (said m p.id) (is_accepted a) (verdict_reason a)
-    go offered.Ephemeral a = refl
-    go offered.Duplicate a = refl
-    go offered.Older a = refl
-    go offered.Stored a = refl
-    go (offered.Refused r) a = late r a
+    go : (a : Result Offered Refusal) → answer b (as_message m) ≡ a → offer_reply m (said m p.id) a ≡ ok (said m p.id) (is_accepted a) (verdict_reason a)
+    go (Ok offered.Ephemeral) a = refl
+    go (Ok offered.Duplicate) a = refl
+    go (Ok offered.Older) a = refl
+    go (Ok offered.Stored) a = refl
+    go (Err r) a = late r a
 
 -- ---- CLOSE and REQ
 pub read_close : ReadClose
 unfolding replies_to table_after
 read_close b m p e = (rw e, rw e)
 
-subscription_named_lem : (m : List ℕ) (r : ReqParts) (w : Word) (ts : Items) → message_parts m w ts ≡ message.Req r → has_shape m w ts ≡ true → wrong_request m w ts ≡ false
+subscription_named_lem : (m : List ℕ) (r : ReqParts) (w : Word) (ts : Items) → message_parts m w ts ≡ Ok (message.Req r) → has_shape m w ts ≡ true → wrong_request m w ts ≡ false
     → named_in m w ts ≡ names.Subscription r.subscription
 subscription_named_lem m r event ts e h x = absurd (let z : ◌≡◌ {A = ℕ} 0 1 = cc in omega arith)
 subscription_named_lem m r req nil e h x = absurd (false≢true h)
@@ -331,7 +331,7 @@ subscription_named_lem m r other ts e h x = absurd (false≢true h)
 pub names_subscription : NamesSubscription
 unfolding row8
 names_subscription m r e =
-    let z = row_of m (message.Req r) e in
+    let z = row_of m (Ok (message.Req r)) e in
     let (t, n, c) = clean_of m z in
     named_tree m t n z c.tree
     ∙ subscription_named_lem m r (opened m t).first (opened m t).rest (sym (read_tree m t n z c.tree) ∙ e) c.shape (or_left _ _ c.a8)
@@ -348,22 +348,22 @@ pub only_stored : OnlyStored
 unfolding table_after next
 only_stored b m = go (read_of m) refl
   where
-    stored : (p : EventParts) → read_of m ≡ message.Event p → (a : Offered) → answer b (as_message m) ≡ a
-        → (cond (is_stored a) (offers.stored_in b (offers.offered_of (as_message m))) b ≡ b) ⊎ ((p : EventParts) × (read_of m ≡ message.Event p) × (answer b (as_message m) ≡ offered.Stored))
-    stored p e offered.Ephemeral a = inl refl
-    stored p e offered.Duplicate a = inl refl
-    stored p e offered.Older a = inl refl
-    stored p e offered.Stored a = inr (p, e, a)
-    stored p e (offered.Refused r) a = inl refl
+    stored : (p : EventParts) → read_of m ≡ Ok (message.Event p) → (a : Result Offered Refusal) → answer b (as_message m) ≡ a
+        → (cond (is_stored a) (offers.stored_in b (offers.offered_of (as_message m))) b ≡ b) ⊎ ((p : EventParts) × (read_of m ≡ Ok (message.Event p)) × (answer b (as_message m) ≡ Ok offered.Stored))
+    stored p e (Ok offered.Ephemeral) a = inl refl
+    stored p e (Ok offered.Duplicate) a = inl refl
+    stored p e (Ok offered.Older) a = inl refl
+    stored p e (Ok offered.Stored) a = inr (p, e, a)
+    stored p e (Err r) a = inl refl
 
-    go : (x : Message) → read_of m ≡ x → (table_in b m x ≡ b) ⊎ ((p : EventParts) × (read_of m ≡ message.Event p) × (answer b (as_message m) ≡ offered.Stored))
-    go (message.Event p) e = stored p e (answer b (as_message m)) refl
-    go (message.Req r) e = inl refl
-    go (message.Close p) e = inl refl
-    go (message.Refused r) e = inl refl
+    go : (x : Result Message Refusal) → read_of m ≡ x → (table_in b m x ≡ b) ⊎ ((p : EventParts) × (read_of m ≡ Ok (message.Event p)) × (answer b (as_message m) ≡ Ok offered.Stored))
+    go (Ok (message.Event p)) e = stored p e (answer b (as_message m)) refl
+    go (Ok (message.Req r)) e = inl refl
+    go (Ok (message.Close p)) e = inl refl
+    go (Err r) e = inl refl
 
 -- ---- every line is offered: an offer of what is no EVENT that was read is refused, and changes nothing
-valid_read : (m : List ℕ) → offers.offering_row (as_message m) ≡ 0 → (p : EventParts) × (read_of m ≡ message.Event p)
+valid_read : (m : List ℕ) → offers.offering_row (as_message m) ≡ 0 → (p : EventParts) × (read_of m ≡ Ok (message.Event p))
 unfolding message_offer_row is_event
 valid_read m e =
     let (x, e₁) = or_else_lem (text_row m) _ e in
@@ -377,13 +377,13 @@ valid_read m e =
     is_event_lem true r e = (refl, e)
     is_event_lem false r e = absurd (omega arith)
 
-    word : (w : Word) (ts : Items) → is_event_word w ≡ true → (p : EventParts) × (message_parts m w ts ≡ message.Event p)
+    word : (w : Word) (ts : Items) → is_event_word w ≡ true → (p : EventParts) × (message_parts m w ts ≡ Ok (message.Event p))
     word event ts h = (_, refl)
     word req ts h = absurd (false≢true h)
     word close ts h = absurd (false≢true h)
     word other ts h = absurd (false≢true h)
 
-no_offer : (b m : List ℕ) → ((p : EventParts) → read_of m ≢ message.Event p) → b ≡ next b (as_message m)
+no_offer : (b m : List ℕ) → ((p : EventParts) → read_of m ≢ Ok (message.Event p)) → b ≡ next b (as_message m)
 unfolding next answer verdict_on judge verdict
 no_offer b m n =
     let v : is_valid (as_message m) ≡ false = ne_eqb (offers.offering_row (as_message m)) 0 (λ e. let (p, q) = valid_read m e in n p q) in
@@ -393,11 +393,11 @@ one_offered : (b m : List ℕ) → table_after b m ≡ next b (as_message m)
 unfolding table_after
 one_offered b m = go (read_of m) refl
   where
-    go : (x : Message) → read_of m ≡ x → table_in b m x ≡ next b (as_message m)
-    go (message.Event p) e = refl
-    go (message.Req r) e = no_offer b m (λ p q. let z : ◌≡◌ {A = ℕ} 0 1 = cc in omega arith)
-    go (message.Close r) e = no_offer b m (λ p q. let z : ◌≡◌ {A = ℕ} 0 1 = cc in omega arith)
-    go (message.Refused r) e = no_offer b m (λ p q. let z : ◌≡◌ {A = ℕ} 0 1 = cc in omega arith)
+    go : (x : Result Message Refusal) → read_of m ≡ x → table_in b m x ≡ next b (as_message m)
+    go (Ok (message.Event p)) e = refl
+    go (Ok (message.Req r)) e = no_offer b m (λ p q. let z : ◌≡◌ {A = ℕ} 0 1 = cc in omega arith)
+    go (Ok (message.Close r)) e = no_offer b m (λ p q. let z : ◌≡◌ {A = ℕ} 0 1 = cc in omega arith)
+    go (Err r) e = no_offer b m (λ p q. let z : ◌≡◌ {A = ℕ} 0 1 = cc in omega arith)
 
 pub all_offered : AllOffered
 unfolding run_on

@@ -1,14 +1,13 @@
 -- The program as a state that bytes are fed to, and one turn of feeding over lent buffers. 01: "One program reads
 -- messages from standard input, one a line, over a fresh table of 8 slots. 0A ends a line and is no part of the
 -- message; a last line without it counts if not empty; an overlong line gives one reply."
-use Rattle.std.specs.Prelude.{Bool, cond, List, [], ◌∷◌, ◌++◌, ℕ, suc, ◌-◌, min, eqb, ltb, length, take}
+use Rattle.std.specs.Prelude.{Bool, cond, List, [], ◌∷◌, ◌++◌, ℕ, suc, ◌-◌, min, eqb, ltb, length, take, Result, Ok, Err}
 use Rattle.wire.specs.Limits.{most_message}
 use Rattle.wire.specs.Put.{put}
 use Rattle.reply.specs.Lent.{short_row, output_after}
 use Rattle.program.specs.Program.{table_after, fresh_table}
 use Rattle.program.specs.Respond.{response}
-use Rattle.program.specs.declared.Turned.{Turned}
-use Rattle.program.specs.declared.Turned.TheVariants as turning
+use Rattle.program.specs.declared.Fed.{Fed}
 use Rattle.wire.specs.Bytes.{Bytes, Row}
 
 pub record State : Type 0 where
@@ -80,11 +79,11 @@ unfoldable pub turn_row : (b line : Bytes) (n : ℕ) (piece out : Bytes) → Row
 turn_row b line n piece out = cond (ltb (length line) most_line) 13 (short_row (turn_text b line n piece) out)
 
 -- how many bytes of the piece are used up, how many the line has then, how many are written
-unfoldable pub turned : (b line : Bytes) (n : ℕ) (piece out : Bytes) → Turned
+unfoldable pub turned : (b line : Bytes) (n : ℕ) (piece out : Bytes) → Result Fed ℕ
 turned b line n piece out =
     cond (eqb (turn_row b line n piece out) 0)
-    (turning.Fed (used_of piece) (length (turn_state b line n piece).line) (length (turn_text b line n piece)))
-    (turning.Refused (turn_row b line n piece out))
+    (Ok (record { used = used_of piece; kept = length (turn_state b line n piece).line; written = length (turn_text b line n piece) }))
+    (Err (turn_row b line n piece out))
 
 unfoldable pub turn_table : (b line : Bytes) (n : ℕ) (piece out : Bytes) → Bytes
 turn_table b line n piece out = cond (eqb (turn_row b line n piece out) 0) (turn_state b line n piece).table b
@@ -99,18 +98,18 @@ unfoldable pub turn_out : (b line : Bytes) (n : ℕ) (piece out : Bytes) → Byt
 turn_out b line n piece out = output_after (turn_row b line n piece out) (turn_text b line n piece) out
 
 -- the number of 01, and the values
-abbrev pub turned_number : Turned → ℕ
-turned_number (turning.Fed u k n) = 0
-turned_number (turning.Refused r) = r
+abbrev pub turned_number : Result Fed ℕ → ℕ
+turned_number (Ok f) = 0
+turned_number (Err r) = r
 
-abbrev pub turned_used : Turned → ℕ
-turned_used (turning.Fed u k n) = u
-turned_used (turning.Refused r) = 0
+abbrev pub turned_used : Result Fed ℕ → ℕ
+turned_used (Ok f) = f.used
+turned_used (Err r) = 0
 
-abbrev pub turned_line : Turned → ℕ
-turned_line (turning.Fed u k n) = k
-turned_line (turning.Refused r) = 0
+abbrev pub turned_line : Result Fed ℕ → ℕ
+turned_line (Ok f) = f.kept
+turned_line (Err r) = 0
 
-abbrev pub turned_bytes : Turned → ℕ
-turned_bytes (turning.Fed u k n) = n
-turned_bytes (turning.Refused r) = 0
+abbrev pub turned_bytes : Result Fed ℕ → ℕ
+turned_bytes (Ok f) = f.written
+turned_bytes (Err r) = 0

@@ -1,7 +1,8 @@
 -- What a message is replied to, and the program: 01, "Filters and replies" and "What the floor relay does".
-use Rattle.std.specs.Prelude.{Bool, true, false, cond, List, [], ◌∷◌, ◌++◌, ℕ, eqb, leb, replicate}
+use Rattle.std.specs.Prelude.{Bool, true, false, cond, List, [], ◌∷◌, ◌++◌, ℕ, eqb, leb, replicate, Result, Ok, Err}
 use Rattle.text.specs.Read.{Read, too_large, wrong_shape, read, read_text}
 use Rattle.message.specs.Read.{read_of, named_of}
+use Rattle.shape.specs.declared.Refusal.{Refusal}
 use Rattle.message.specs.declared.Message.{Message}
 use Rattle.message.specs.declared.Message.TheVariants as message
 use Rattle.message.specs.declared.Named.{Named}
@@ -21,19 +22,19 @@ use Rattle.wire.specs.Bytes.{Bytes}
 use Rattle.wire.specs.Ascii.{ascii}
 
 -- ---- "Replies: ephemeral and stored `true,""`; duplicate .. ; older .."
-abbrev pub is_accepted : Offered → Bool
-is_accepted offered.Ephemeral = true
-is_accepted offered.Stored = true
-is_accepted offered.Duplicate = true
-is_accepted offered.Older = true
-is_accepted (offered.Refused r) = false
+abbrev pub is_accepted : Result Offered Refusal → Bool
+is_accepted (Ok offered.Ephemeral) = true
+is_accepted (Ok offered.Stored) = true
+is_accepted (Ok offered.Duplicate) = true
+is_accepted (Ok offered.Older) = true
+is_accepted (Err r) = false
 
-abbrev pub verdict_reason : Offered → Bytes
-verdict_reason offered.Ephemeral = []
-verdict_reason offered.Stored = []
-verdict_reason offered.Duplicate = ascii "duplicate: already have this event"
-verdict_reason offered.Older = ascii "duplicate: have a newer version"
-verdict_reason (offered.Refused r) = refusal_reason r
+abbrev pub verdict_reason : Result Offered Refusal → Bytes
+verdict_reason (Ok offered.Ephemeral) = []
+verdict_reason (Ok offered.Stored) = []
+verdict_reason (Ok offered.Duplicate) = ascii "duplicate: already have this event"
+verdict_reason (Ok offered.Older) = ascii "duplicate: have a newer version"
+verdict_reason (Err r) = refusal_reason r
 
 -- ---- "Rows 1-5 give NOTICE. Rows 6-12 give OK with false if the id field is 64 lower-case hex; CLOSED for a REQ whose
 -- subscription id is within bounds; otherwise NOTICE."
@@ -50,12 +51,12 @@ unfoldable pub refusal : Bytes → ℕ → Reply
 refusal m r = cond (leb r 5) (notice (reason_for m r)) (refusal_naming m (named_of m) (reason_for m r))
 
 -- ---- an EVENT message: the verdict on the event, whose id is i
-abbrev pub offer_reply : (m i : Bytes) (x : Offered) → Reply
-offer_reply m i offered.Ephemeral = ok i true (verdict_reason offered.Ephemeral)
-offer_reply m i offered.Duplicate = ok i true (verdict_reason offered.Duplicate)
-offer_reply m i offered.Older = ok i true (verdict_reason offered.Older)
-offer_reply m i offered.Stored = ok i true (verdict_reason offered.Stored)
-offer_reply m i (offered.Refused r) = refusal m r.row
+abbrev pub offer_reply : (m i : Bytes) (x : Result Offered Refusal) → Reply
+offer_reply m i (Ok offered.Ephemeral) = ok i true (verdict_reason (Ok offered.Ephemeral))
+offer_reply m i (Ok offered.Duplicate) = ok i true (verdict_reason (Ok offered.Duplicate))
+offer_reply m i (Ok offered.Older) = ok i true (verdict_reason (Ok offered.Older))
+offer_reply m i (Ok offered.Stored) = ok i true (verdict_reason (Ok offered.Stored))
+offer_reply m i (Err r) = refusal m r.row
 
 -- ---- "An accepted REQ gives its EVENTs, then EOSE."
 -- every held text of a sound table reads, so no slot is left out: specs/Claims/Replies, `ReadRequest`
@@ -76,21 +77,21 @@ unfoldable pub request_replies : (b m sub : Bytes) (v : ℕ) → List Reply
 request_replies b m sub v = request_replies_if (sound b) b m sub v
 
 -- ---- one message m to the table b: the replies, and the table afterwards
-abbrev pub replies_in : (b m : Bytes) (x : Message) → List Reply
-replies_in b m (message.Event p) = offer_reply m (said m p.id) (answer b (as_message m)) ∷ []
-replies_in b m (message.Req r) = request_replies b m (said m r.subscription) r.filters
+abbrev pub replies_in : (b m : Bytes) (x : Result Message Refusal) → List Reply
+replies_in b m (Ok (message.Event p)) = offer_reply m (said m p.id) (answer b (as_message m)) ∷ []
+replies_in b m (Ok (message.Req r)) = request_replies b m (said m r.subscription) r.filters
 -- "CLOSE gives nothing."
-replies_in b m (message.Close p) = []
-replies_in b m (message.Refused r) = refusal m r.row ∷ []
+replies_in b m (Ok (message.Close p)) = []
+replies_in b m (Err r) = refusal m r.row ∷ []
 
 unfoldable pub replies_to : Bytes → Bytes → List Reply
 replies_to b m = replies_in b m (read_of m)
 
-abbrev pub table_in : (b m : Bytes) (x : Message) → Bytes
-table_in b m (message.Event p) = next b (as_message m)
-table_in b m (message.Req r) = b
-table_in b m (message.Close p) = b
-table_in b m (message.Refused r) = b
+abbrev pub table_in : (b m : Bytes) (x : Result Message Refusal) → Bytes
+table_in b m (Ok (message.Event p)) = next b (as_message m)
+table_in b m (Ok (message.Req r)) = b
+table_in b m (Ok (message.Close p)) = b
+table_in b m (Err r) = b
 
 unfoldable pub table_after : Bytes → Bytes → Bytes
 table_after b m = table_in b m (read_of m)

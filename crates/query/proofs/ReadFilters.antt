@@ -1,5 +1,6 @@
 -- The filters that were read from an accepted REQ: they are all the elements of its array after the subscription id,
 -- and lent as parts they pass the test of lent filters (message/proofs/Passes has each filter and their number).
+use Rattle.std.specs.Prelude.{Ok}
 use mathlib.Core.Path.{◌≡◌, refl, sym, ap, ap₂, ◌∙◌}
 use mathlib.Core.Bool.{Bool, true, false, cond, false≢true}
 use mathlib.Core.List.Memᴰ
@@ -98,7 +99,7 @@ opened_rest s p v (obj us) ts = refl
 
 module _ (s : List ℕ) (r : ReqParts) where
   -- a REQ has a third element, and it is the first filter
-  on_word : (x : Word) {at p v q w n : ℕ} {t u : Json} (us : Items) → Group s at false (item p v t (item q w u us)) n → message_parts s x (item q w u us) ≡ message.Req r
+  on_word : (x : Word) {at p v q w n : ℕ} {t u : Json} (us : Items) → Group s at false (item p v t (item q w u us)) n → message_parts s x (item q w u us) ≡ Ok (message.Req r)
       → wrong_request s x (item q w u us) ≡ false → filter_places s r.filters ≡ places_of us
   unfolding count_items
   on_word req {u = u} nil g e c = absurd (false≢true (sym (no_right (wrong_subscription s u) true c)))
@@ -107,7 +108,7 @@ module _ (s : List ℕ) (r : ReqParts) where
   on_word close us g e c = absurd (let z : ◌≡◌ {A = ℕ} 0 1 = cc in omega arith)
   on_word other us g e c = absurd (let z : ◌≡◌ {A = ℕ} 0 1 = cc in omega arith)
 
-  module _ (e : read_of s ≡ message.Req r) {p v q w n : ℕ} {t u : Json} {ts : Items} (tree : root s ≡ got (arr (item p v t (item q w u ts))) n) where
+  module _ (e : read_of s ≡ Ok (message.Req r)) {p v q w n : ℕ} {t u : Json} {ts : Items} (tree : root s ≡ got (arr (item p v t (item q w u ts))) n) where
     row_0 : message_row s ≡ 0
     row_0 = sym (row_read s) ∙ ap read_number e
 
@@ -118,7 +119,7 @@ module _ (s : List ℕ) (r : ReqParts) where
     unfolding read_of row8
     all_places =
         let rest = opened_rest s p v t (item q w u ts) in
-        let is : in_root s (root s) ≡ message.Req r = rw row_0 at e in
+        let is : in_root s (root s) ≡ Ok (message.Req r) = rw row_0 at e in
         let x = (opened s (arr (item p v t (item q w u ts)))).first in
         let y = (opened s (arr (item p v t (item q w u ts)))).rest in
         let c : wrong_request s x y ≡ false = no_left (wrong_request s x y) _ (counts_pass s (arr (item p v t (item q w u ts))) n tree row_0) in

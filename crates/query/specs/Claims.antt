@@ -1,7 +1,7 @@
 -- What the definitions of this crate mean, as claims; proofs/Matching, Answers, Tables, Lent, ReadFilters, Asked,
 -- Listings and Unread prove them.
 -- Quotes are from 01, "Filters and replies", where nothing else is said.
-use Rattle.std.specs.Prelude.{◌≡◌, Bool, true, false, cond, ◌↔◌, ◌⊎◌, ◌≢◌, List, [], ◌∷◌, ◌++◌, ℕ, min, ◌≤◌, ◌<◌, T}
+use Rattle.std.specs.Prelude.{◌≡◌, Bool, true, false, cond, ◌↔◌, ◌⊎◌, ◌≢◌, List, [], ◌∷◌, ◌++◌, ℕ, min, ◌≤◌, ◌<◌, T, Ok}
 use Rattle.std.specs.Prelude.{eqb, ltb, ℤ, pos, ◌≤ℤ◌, length, take, drop, Option, Some, None}
 use Rattle.json_tree.specs.Tree.{Json, arr, Items, nil, item, got, root}
 use Rattle.shape.specs.Shape.{count}
@@ -253,7 +253,7 @@ filters_of_items m (item p v t ts) = filter_of m (parts.filter_parts_of m v (mem
 -- a REQ is answered by all its filters, in their order: those after the first word and the subscription id, as many as
 -- there are
 abbrev pub AllFilters : Type 0
-AllFilters = (m : List ℕ) (r : ReqParts) → read_of m ≡ Req r →
+AllFilters = (m : List ℕ) (r : ReqParts) → read_of m ≡ Ok (Req r) →
     (p v q w n : ℕ) (first subscription : Json) (ts : Items) →
     root m ≡ got (arr (item p v first (item q w subscription ts))) n →
     (filters_meant m r.filters ≡ filters_of_items m ts) × (length (filters_meant m r.filters) ≡ count ts)
@@ -288,7 +288,7 @@ LentPass = (m : List ℕ) (fs : List FilterParts) (n : ℕ) → (filters_row m f
 -- what was read from an accepted REQ passes as lent parts, so the program's own call is never refused by rows 2 and 4
 -- to 8
 abbrev pub ReadPasses : Type 0
-ReadPasses = (m : List ℕ) (r : ReqParts) → read_of m ≡ Req r →
+ReadPasses = (m : List ℕ) (r : ReqParts) → read_of m ≡ Ok (Req r) →
     (fs : List FilterParts) (n : ℕ) → n ≤ length fs → take n fs ≡ filter_parts_at m r.filters → filters_row m fs n ≡ 0
 
 -- ---- what a filter may ask
@@ -358,7 +358,7 @@ SameListing = (b m : List ℕ) (fs : List FilterParts) (n : ℕ) (row : List ℕ
 
 -- of the filters of an accepted REQ, lent as parts: 11, 13, or the answer to the filters of its text
 abbrev pub ReadListing : Type 0
-ReadListing = (b m : List ℕ) (r : ReqParts) → read_of m ≡ Req r →
+ReadListing = (b m : List ℕ) (r : ReqParts) → read_of m ≡ Ok (Req r) →
     (fs : List FilterParts) (n : ℕ) → n ≤ length fs → take n fs ≡ filter_parts_at m r.filters → (row : List ℕ) →
     (answer_to b m fs n ≡ answer_list b (filters_meant m r.filters))
     × (listing_row b m fs n row ≡ cond (sound b)

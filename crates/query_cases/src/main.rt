@@ -136,25 +136,25 @@ fn put_list(
 fn put_req(out: &mut [u8], line: &[u8], lent: &[u8], table: &[u8]) -> usize {
     let m = wire::piece(lent, fields::count(line, 3), fields::count(line, 4));
     match message::read(m) {
-        Message::Req(p) => {
+        Ok(Message::Req(p)) => {
             let f = message::filters_at(m, p.filters);
             let fs = f.parts;
             put_list(out, line, table, m, fs, f.n)
         }
-        Message::Refused(x) => fields::put_refusal(out, 0, x),
-        Message::Event(_) | Message::Close(_) => wire::put(out, 0, b"no REQ"),
+        Err(x) => fields::put_refusal(out, 0, x),
+        Ok(Message::Event(_)) | Ok(Message::Close(_)) => wire::put(out, 0, b"no REQ"),
     }
 }
 
 fn put_asked(out: &mut [u8], b: &[u8], p: EventParts, m: &[u8]) -> usize {
     match message::read(m) {
-        Message::Req(q) => {
+        Ok(Message::Req(q)) => {
             let f = message::filters_at(m, q.filters);
             let fs = f.parts;
             put_matched(out, matching::matched(b, p, m, fs, f.n))
         }
-        Message::Refused(x) => fields::put_refusal(out, 0, x),
-        Message::Event(_) | Message::Close(_) => wire::put(out, 0, b"no REQ"),
+        Err(x) => fields::put_refusal(out, 0, x),
+        Ok(Message::Event(_)) | Ok(Message::Close(_)) => wire::put(out, 0, b"no REQ"),
     }
 }
 
@@ -162,15 +162,15 @@ fn put_met(out: &mut [u8], line: &[u8], lent: &[u8]) -> usize {
     let b = wire::piece(lent, fields::count(line, 1), fields::count(line, 2));
     let m = wire::piece(lent, fields::count(line, 3), fields::count(line, 4));
     match message::read(b) {
-        Message::Event(p) => put_asked(out, b, p, m),
-        Message::Refused(x) => fields::put_refusal(out, 0, x),
-        Message::Req(_) | Message::Close(_) => wire::put(out, 0, b"no EVENT"),
+        Ok(Message::Event(p)) => put_asked(out, b, p, m),
+        Err(x) => fields::put_refusal(out, 0, x),
+        Ok(Message::Req(_)) | Ok(Message::Close(_)) => wire::put(out, 0, b"no EVENT"),
     }
 }
 
-fn put_offered(out: &mut [u8], x: Offered) -> usize {
+fn put_offered(out: &mut [u8], x: Result<Offered, shape::Refusal>) -> usize {
     match x {
-        Offered::Refused(r) => fields::put_refusal(out, 0, r),
+        Err(r) => fields::put_refusal(out, 0, r),
         _ => fields::put_number(out, 0, 0),
     }
 }

@@ -1,6 +1,6 @@
 -- A turn leaves the buffers ready, and goes on in the chunk or writes what waits. With the whole output free it is
 -- never refused.
-use Rattle.std.specs.Prelude.{Result, Ok}
+use Rattle.std.specs.Prelude.{Result, Ok, Err}
 use mathlib.Core.Path.{◌≡◌, refl, sym, ap, ◌∙◌}
 use mathlib.Core.List.{List}
 use Prim.Native.Nat.{ℕ, ◌+◌, ◌-◌, ◌≤◌, ◌<◌}
@@ -17,8 +17,7 @@ use Rattle.program.specs.Claims.Respond.{enough_for}
 use Rattle.program.specs.Program.{program_slots, fresh_table}
 use Rattle.program.specs.Feed.{most_line, used_of, turn_text, turn_state, turned, turn_row, turn_table, turn_line, turn_out}
 use Rattle.program.specs.Feed.{turned_number, turned_used, turned_bytes}
-use Rattle.program.specs.declared.Turned.{Turned}
-use Rattle.program.specs.declared.Turned.TheVariants as turning
+use Rattle.program.specs.declared.Fed.{Fed}
 use Rattle.program.proofs.Example.{row_0}
 use Rattle.program.proofs.Respond.{fits_if}
 use Rattle.program.proofs.Feed.{turn_means, turn_row_is, turned_means}
@@ -40,7 +39,7 @@ module _ (b line chunk out : List ℕ) (p : Place) (piece rest : List ℕ) where
   abbrev seen : List ℕ
   seen = looked_at p.n piece
 
-  abbrev Gives : Turned → (b' line' rest' : List ℕ) → Type 0
+  abbrev Gives : Result Fed ℕ → (b' line' rest' : List ℕ) → Type 0
   Gives r b' line' rest' =
       (r ≡ turned b line p.n seen rest)
       × ((turned_number r ≡ turn_row b line p.n seen rest)
@@ -49,25 +48,25 @@ module _ (b line chunk out : List ℕ) (p : Place) (piece rest : List ℕ) where
   abbrev Left : Type 0
   Left = (length piece ≡ length chunk - p.at) × (length rest ≡ length out - p.w)
 
-  stays_ready : {r : Turned} {b' line' rest' out' : List ℕ} → Ready b line out → Gives r b' line' rest' → length out' ≡ length out → Ready b' line' out'
+  stays_ready : {r : Result Fed ℕ} {b' line' rest' out' : List ℕ} → Ready b line out → Gives r b' line' rest' → length out' ≡ length out → Ready b' line' out'
   stays_ready a (x, (y, (t, (l, o)))) e = record {
     slots = ap capacity_of t ∙ slots_stay b line p.n seen rest ∙ a.slots;
     wide = omega (arith, a.wide, ap length l, (turned_means b line p.n seen rest).as_long.1);
     enough = omega (arith, a.enough);
   }
 
-  module _ {r : Turned} {b' line' rest' : List ℕ} (a : Ready b line out) (s : Stands chunk out p) (h : p.at < length chunk) (l : Left) (t : Gives r b' line' rest') where
-    module _ {u k w : ℕ} (f : r ≡ turning.Fed u k w) where
+  module _ {r : Result Fed ℕ} {b' line' rest' : List ℕ} (a : Ready b line out) (s : Stands chunk out p) (h : p.at < length chunk) (l : Left) (t : Gives r b' line' rest') where
+    module _ {g : Fed} (f : r ≡ Ok g) where
       passes : turn_row b line p.n seen rest ≡ 0
       passes = sym t.1.0 ∙ ap turned_number f
 
-      used-is : u ≡ used_of seen
+      used-is : g.used ≡ used_of seen
       used-is = sym (ap turned_used (sym t.0 ∙ f)) ∙ (turned_means b line p.n seen rest).used passes
 
-      bytes_are : w ≡ length (turn_text b line p.n seen)
+      bytes_are : g.written ≡ length (turn_text b line p.n seen)
       bytes_are = sym (ap turned_bytes (sym t.0 ∙ f)) ∙ (turned_means b line p.n seen rest).bytes passes
 
-      pub goes : (p.at + u ≤ length chunk) × (1 ≤ u) × (p.w + w ≤ length out)
+      pub goes : (p.at + g.used ≤ length chunk) × (1 ≤ g.used) × (p.w + g.written ≤ length out)
       goes =
           let some : 1 ≤ used_of seen = (turn_means b line p.n seen).progress (λ e. let z = ap length e in omega (arith, looked_some piece p.n (omega (arith, l.0)), z)) in (
             omega (arith, used-is, (turn_means b line p.n seen).used, looked_few piece p.n, l.0),
@@ -75,18 +74,18 @@ module _ (b line chunk out : List ℕ) (p : Place) (piece rest : List ℕ) where
             omega (arith, bytes_are, ((turn_row_is b line p.n seen rest).0 passes).1, l.1, s.waits),
           )
 
-      pub step_fed : {out' : List ℕ} → length out' ≡ length out → let q : Place = record { at = p.at + u; n = k; w = p.w + w } in
+      pub step_fed : {out' : List ℕ} → length out' ≡ length out → let q : Place = record { at = p.at + g.used; n = g.kept; w = p.w + g.written } in
           Ready b' line' out' × (Stands chunk out' q × (waiting_from chunk q < waiting_from chunk p))
       step_fed e =
           let (i, j, m) = goes in
           (stays_ready a t e, (record { used = i; waits = omega arith }, omega arith))
 
     -- a refusal: something waits
-    module _ {k : ℕ} (f : r ≡ turning.Refused k) where
+    module _ {k : ℕ} (f : r ≡ Err k) where
       is_fed : turn_row b line p.n seen rest ≡ 0 → ⊥
       unfolding turned
       is_fed e =
-          let z : turned b line p.n seen rest ≡ turning.Fed (used_of seen) (length (turn_state b line p.n seen).line) (length (turn_text b line p.n seen)) =
+          let z : turned b line p.n seen rest ≡ Ok (record { used = used_of seen; kept = length (turn_state b line p.n seen).line; written = length (turn_text b line p.n seen) }) =
           rw (eq-eqb (turn_row b line p.n seen rest) 0 e) refl in
           let x = t.0 in
           let y : ◌≡◌ {A = ℕ} 0 1 = cc in

@@ -8,7 +8,6 @@ ghost use Rattle.program.specs.Feed.{most_line};
 ghost use Rattle.program.specs.Claims.Respond.{enough_for};
 ghost use Rattle.relay.specs.Inner.{Ready, Stands, waiting_from};
 
-use program::Turned;
 use std::io;
 use std::io::{Read, Write};
 
@@ -46,16 +45,16 @@ fn step<W: Write>(
     let at = p.at;
     let w = p.w;
     match feed::turn(table, line, p.n, &chunk[at..], &mut out[w..]) {
-        Turned::Fed(used, n, k) => {
-            let next = at + used;
-            let filled = w + k;
+        Ok(f) => {
+            let next = at + f.used;
+            let filled = w + f.written;
             Ok(Place {
                 at: next,
-                n,
+                n: f.kept,
                 w: filled,
             })
         }
-        Turned::Refused(_) => {
+        Err(_) => {
             write(output, out, w)?;
             Ok(Place { at, n: p.n, w: 0 })
         }

@@ -15,7 +15,6 @@ ghost use Rattle.program.specs.Feed.{most_line};
 
 use lines::{Input, Output};
 use numeral::Whole;
-use program::Turned;
 use std::io;
 use std::io::{Read, Write};
 
@@ -60,16 +59,12 @@ fn feed_piece<W: Write>(
             return Ok(k);
         }
         let left = piece.len() - at;
-        match feed::turn(table, line, k, &piece[at..], out) {
-            Turned::Fed(used, m, w) => {
-                write_out(output, out, w)?;
-                at = at + used.min(left);
-                k = m;
-            }
-            Turned::Refused(_) => {
-                return Ok(k);
-            }
-        }
+        let Ok(f) = feed::turn(table, line, k, &piece[at..], out) else {
+            return Ok(k);
+        };
+        write_out(output, out, f.written)?;
+        at = at + f.used.min(left);
+        k = f.kept;
     }
     Ok(k)
 }

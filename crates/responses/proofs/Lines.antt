@@ -1,5 +1,5 @@
 -- The pieces of a short reply in a row, and how long it is.
-use Rattle.std.specs.Prelude.{Option, Some, None}
+use Rattle.std.specs.Prelude.{Option, Some, None, Result, Ok, Err}
 use mathlib.Core.Path.{◌≡◌, refl, sym, ap, ap₂, ◌∙◌}
 use mathlib.Core.Bool.{Bool, true, false, cond}
 use mathlib.Core.List.{List, [], ◌∷◌, ◌++◌, map, append_assoc}
@@ -9,7 +9,7 @@ use borrow.Author.Tests.{le-leb, lt-leb}
 use lib.Dec.{leb, lit≤}
 use lib.ListN.{length, get_or, length-append}
 use Rattle.wire.specs.Put.{Puts}
-use Rattle.wire.specs.Escape.{letter_of, esc_one, escape, json_one, json_of}
+use Rattle.wire.specs.Escape.{escape, json_of}
 use Rattle.wire.proofs.Laws.{puts_then}
 use Rattle.text.specs.Event.{quoted}
 use Rattle.numeral.specs.Decimal.{digits}
@@ -25,7 +25,6 @@ use Rattle.message.specs.declared.Naming.{Naming}
 use Rattle.message.specs.declared.Named.TheVariants.{Id, Subscription, Nothing}
 use Rattle.event.specs.Lent.{said, most_length, length_of}
 use Rattle.table.specs.declared.Offered.{Offered}
-use Rattle.table.specs.declared.Offered.TheVariants.{Refused}
 use Rattle.wire.specs.Ascii.{ascii}
 use Rattle.reply.specs.Replies.{notice, string_json, reply_text, truth, reasons, reason_of, offset_text, refusal_reason}
 use Rattle.reply.proofs.Reasons.{row_short, reason_json, reason_length}
@@ -111,26 +110,28 @@ module _ (x : Refusal) where
   reason_sum (e, h) (f, l) = (omega (arith, e, f, reason_length x), omega arith)
 
 -- ---- verdicts
-pub verdict_put : {a : Offered} (b : Offered) {d o : List ℕ} {i r : ℕ} → a ≡ b → Puts d i (verdict_text b) r o → Puts d i (verdict_text a) r o
-verdict_put b e p = rw e p
+pub verdict_put : {a : Result Offered Refusal} {v : Offered} (w : Offered) {d o : List ℕ} {i r : ℕ} → a ≡ Ok v → v ≡ w → Puts d i (verdict_text (Ok w)) r o
+    → Puts d i (verdict_text a) r o
+verdict_put w e f p = rw (e, f) p
 
-pub false_put : {a : Offered} (x : Refusal) {d o₁ o₂ : List ℕ} {i k r : ℕ} → a ≡ Refused x → Puts d i (ascii "false,") k o₁ → Puts o₁ k (string_json (refusal_reason x)) r o₂
+pub false_put : {a : Result Offered Refusal} (x : Refusal) {d o₁ o₂ : List ℕ} {i k r : ℕ} → a ≡ Err x → Puts d i (ascii "false,") k o₁ → Puts o₁ k (string_json (refusal_reason x)) r o₂
     → Puts d i (verdict_text a) r o₂
 unfolding verdict_text
 false_put x e y z = rw e (puts_then y z)
 
-pub refused_length : (x : Refusal) → length (verdict_text (Refused x)) ≡ 6 + length (string_json (refusal_reason x))
+pub refused_length : (x : Refusal) → length (verdict_text (Err x)) ≡ 6 + length (string_json (refusal_reason x))
 unfolding verdict_text
 refused_length x = simp length-append (omega arith)
 
-pub verdict_length : {a : Offered} (b : Offered) (n : ℕ) → a ≡ b → n ≡ length (verdict_text b) → n ≤ 59 → (n ≡ length (verdict_text a)) × (n ≤ 59)
-verdict_length b n e q h = (rw e q, h)
+pub verdict_length : {a : Result Offered Refusal} {v : Offered} (w : Offered) (n : ℕ) → a ≡ Ok v → v ≡ w → n ≡ length (verdict_text (Ok w)) → n ≤ 59
+    → (n ≡ length (verdict_text a)) × (n ≤ 59)
+verdict_length w n e f q h = (rw (e, f) q, h)
 
-pub false_length : {a : Offered} (x : Refusal) {n : ℕ} → a ≡ Refused x → (n ≡ length (string_json (refusal_reason x))) × (n ≤ 53) → (6 + n ≡ length (verdict_text a)) × (6 + n ≤ 59)
+pub false_length : {a : Result Offered Refusal} (x : Refusal) {n : ℕ} → a ≡ Err x → (n ≡ length (string_json (refusal_reason x))) × (n ≤ 53) → (6 + n ≡ length (verdict_text a)) × (6 + n ≤ 59)
 false_length x e (f, h) = (rw e (omega (arith, f, refused_length x)), omega arith)
 
 -- ---- the short replies
-pub ok_put : (i : List ℕ) (a : Offered) {d o₁ o₂ o₃ o₄ o₅ : List ℕ} {j a₁ a₂ a₃ a₄ r : ℕ} → Puts d j (ascii "[\"OK\",") a₁ o₁ → Puts o₁ a₁ (json_of (quoted i)) a₂ o₂ → Puts o₂ a₂ (ascii ",") a₃ o₃
+pub ok_put : (i : List ℕ) (a : Result Offered Refusal) {d o₁ o₂ o₃ o₄ o₅ : List ℕ} {j a₁ a₂ a₃ a₄ r : ℕ} → Puts d j (ascii "[\"OK\",") a₁ o₁ → Puts o₁ a₁ (json_of (quoted i)) a₂ o₂ → Puts o₂ a₂ (ascii ",") a₃ o₃
     → Puts o₃ a₃ (verdict_text a) a₄ o₄ → Puts o₄ a₄ (ascii "]") r o₅ → Puts d j (ok_text i a) r o₅
 unfolding ok_text reply_text verdict_text string_json
 ok_put i a x₁ x₂ x₃ x₄ x₅ =
@@ -155,7 +156,7 @@ unfolding eose_line reply_text string_json
 eose_put s x₁ x₂ x₃ = rw (append_assoc (string_json s) (ascii "]") (0x0a ∷ [])) (puts_then x₁ (puts_then x₂ x₃))
 
 -- ---- how long they are
-pub ok_length : (i : List ℕ) (a : Offered) → length (ok_text i a) ≡ 8 + length (string_json i) + length (verdict_text a)
+pub ok_length : (i : List ℕ) (a : Result Offered Refusal) → length (ok_text i a) ≡ 8 + length (string_json i) + length (verdict_text a)
 unfolding ok_text reply_text verdict_text
 ok_length i a = simp length-append (omega arith)
 
@@ -184,7 +185,7 @@ module _ (m : List ℕ) (x : Naming) where
   why = x.refusal
 
   module _ {d o : List ℕ} {r : ℕ} where
-    pub id_put : (p : Span) → x.named ≡ Id p → Puts d 0 (ok_text (said m p) (Refused why)) r o → Puts d 0 (naming_text m x) r o
+    pub id_put : (p : Span) → x.named ≡ Id p → Puts d 0 (ok_text (said m p) (Err why)) r o → Puts d 0 (naming_text m x) r o
     unfolding naming_text ok_text
     id_put p e y = rw e y
 
@@ -205,8 +206,8 @@ module _ (m : List ℕ) (x : Naming) where
     unfolding ok_text
     id_room p e {h} f w = room_as (is ∙ naming_length (Id p) e) (cut_room (16 + k) (length (json_of (escape (said m p)))) h room (omega arith) few f w)
       where
-        is : 16 + k + length (json_of (escape (said m p))) ≡ length (ok_text (said m p) (Refused why))
-        is = omega (arith, l.0, ok_length (said m p) (Refused why), refused_length why, string_length (said m p))
+        is : 16 + k + length (json_of (escape (said m p))) ≡ length (ok_text (said m p) (Err why))
+        is = omega (arith, l.0, ok_length (said m p) (Err why), refused_length why, string_length (said m p))
 
     pub sub_room : (p : Span) → x.named ≡ Subscription p → {h : ℕ} → h ≡ length_of (json_of (escape (said m p))) → Room (14 + k + h) room r → Room (length (naming_text m x)) room r
     unfolding closed_text

@@ -146,20 +146,20 @@ named_hex m p = early (is_early (message_row m))
     early false e = tree (root m) e
 
 -- what a verdict and a refusal without an offset say
-verdict_most : (a : Offered) → ((x : Refusal) → a ≡ offered.Refused x → x.offset ≡ None) → length (verdict_text a) ≤ 41
+verdict_most : (a : Result Offered Refusal) → ((x : Refusal) → a ≡ Err x → x.offset ≡ None) → length (verdict_text a) ≤ 41
 unfolding verdict_text string_json quoted json_of json_one escape esc_one letter_of
-verdict_most offered.Ephemeral n = omega arith
-verdict_most offered.Duplicate n = omega arith
-verdict_most offered.Older n = omega arith
-verdict_most offered.Stored n = omega arith
-verdict_most (offered.Refused x) n =
+verdict_most (Ok offered.Ephemeral) n = omega arith
+verdict_most (Ok offered.Duplicate) n = omega arith
+verdict_most (Ok offered.Older) n = omega arith
+verdict_most (Ok offered.Stored) n = omega arith
+verdict_most (Err x) n =
     omega (arith, refused_length x, reason_length x, ap (λ y. length (offset_text y)) (n x refl), row_short x.row)
 
 one_written : (r : Reply) → written (r ∷ []) ≡ ended (reply_text r)
 unfolding written
 one_written r = append-nil (ended (reply_text r))
 
-module _ (b m : List ℕ) (p : EventParts) (e : read_of m ≡ message.Event p) where
+module _ (b m : List ℕ) (p : EventParts) (e : read_of m ≡ Ok (message.Event p)) where
   -- no row refuses what was read, and so no row has an offset
   no_offset : (row : ℕ) → offset_for m row ≡ None
   no_offset row = go (eqb row 0) refl
@@ -194,7 +194,7 @@ module _ (b m : List ℕ) (p : EventParts) (e : read_of m ≡ message.Event p) w
   pub longest_fits : (room : ℕ) → 116 ≤ room → Room (length (response b m)) room true
   longest_fits room h = record { yes = λ q. omega (arith, ok_line_length, verdict_most (answer b (as_message m)) (λ x a. (last_rows b m p x e a).2)); no = λ q. absurd (false≢true (sym q)) }
 
-  pub verdict_fits : (room : ℕ) {a : Offered} {n : ℕ} → a ≡ answer b (as_message m) → (n ≡ length (verdict_text a)) × (n ≤ 59) → Room (length (response b m)) room (leb (75 + n) room)
+  pub verdict_fits : (room : ℕ) {a : Result Offered Refusal} {n : ℕ} → a ≡ answer b (as_message m) → (n ≡ length (verdict_text a)) × (n ≤ 59) → Room (length (response b m)) room (leb (75 + n) room)
   verdict_fits room {a} {n} ea (f, h) =
       let g = ap (λ x. length (verdict_text x)) ea in
       record {
@@ -207,7 +207,7 @@ module _ (b m : List ℕ) (p : EventParts) (e : read_of m ≡ message.Event p) w
     unfolding responded_table respond_row
     event_short q = (said_short (response b m) out (room.no q), rw (lt-ltb (length out) (length (response b m)) (room.no q)) refl)
 
-    pub event_said : f ≡ true → {a : Offered} {t o₁ o₂ : List ℕ} {n r : ℕ} → a ≡ answer b (as_message m) → t ≡ next b (as_message m) → Puts out 0 (ok_text (said m p.id) a) n o₁
+    pub event_said : f ≡ true → {a : Result Offered Refusal} {t o₁ o₂ : List ℕ} {n r : ℕ} → a ≡ answer b (as_message m) → t ≡ next b (as_message m) → Puts out 0 (ok_text (said m p.id) a) n o₁
         → Puts o₁ n (0x0a ∷ []) r o₂ → Said (response b m) out (Ok r) o₂ × (t ≡ responded_table b m out)
     unfolding responded_table respond_row
     event_said q {a} ea et x y =
@@ -217,7 +217,7 @@ module _ (b m : List ℕ) (p : EventParts) (e : read_of m ≡ message.Event p) w
           rw (le-ltb (length out) (length (response b m)) h) (et ∙ sym (read_event b m p e).1),
         )
 
-    pub event_put : f ≡ true → {a : Offered} {t o₁ o₂ : List ℕ} {n r : ℕ} → a ≡ answer b (as_parts m p) → t ≡ next b (as_parts m p) → Puts out 0 (ok_text (said m p.id) a) n o₁
+    pub event_put : f ≡ true → {a : Result Offered Refusal} {t o₁ o₂ : List ℕ} {n r : ℕ} → a ≡ answer b (as_parts m p) → t ≡ next b (as_parts m p) → Puts out 0 (ok_text (said m p.id) a) n o₁
         → Puts o₁ n (0x0a ∷ []) r o₂ → Said (response b m) out (Ok r) o₂ × (t ≡ responded_table b m out)
     event_put q ea et x y = event_said q (ea ∙ parts_answer) (et ∙ parts_next) x y
 
@@ -278,7 +278,7 @@ module _ (b m : List ℕ) (s : Span) (ks : List ℕ) (held : AllHeld b ks) (out 
 
 -- ---- a REQ
 -- its filters, as values, are tested and lent; x is what is answered of them
-module _ (b m : List ℕ) (q : ReqParts) (e : read_of m ≡ message.Req q) {fs : Filters} (ef : fs ≡ parts.filters_at m q.filters) (row : List ℕ) (wide : length row ≡ most_slots)
+module _ (b m : List ℕ) (q : ReqParts) (e : read_of m ≡ Ok (message.Req q)) {fs : Filters} (ef : fs ≡ parts.filters_at m q.filters) (row : List ℕ) (wide : length row ≡ most_slots)
     {x : Result ℕ ℕ} (a : x ≡ listed b m fs.parts fs.n row) where
   abbrev sub : List ℕ
   sub = said m q.subscription
@@ -364,19 +364,19 @@ module _ (b m out : List ℕ) {r : Result ℕ ℕ} {o : List ℕ} where
   unfolding responded responded_out respond_row
   responds s e = (s.answer, (ap written_number s.answer ∙ number_is (short_row (response b m) out) (length (response b m)), (s.bytes, e)))
 
-  module _ {x : Message} (a : x ≡ read_of m) where
-    pub responds_request : {q : ReqParts} → x ≡ message.Req q → Said (response b m) out r o → Responds b m out r o b
+  module _ {x : Result Message Refusal} (a : x ≡ read_of m) where
+    pub responds_request : {q : ReqParts} → x ≡ Ok (message.Req q) → Said (response b m) out r o → Responds b m out r o b
     unfolding table_after
     responds_request e s = responds s (table_stays b m out (rw (sym a ∙ e)))
 
-    pub responds_refused : {k : Refusal} {n : Naming} → x ≡ message.Refused k → n ≡ naming_for m k.row → Said (ended (naming_text m n)) out r o → Responds b m out r o b
+    pub responds_refused : {k : Refusal} {n : Naming} → x ≡ Err k → n ≡ naming_for m k.row → Said (ended (naming_text m n)) out r o → Responds b m out r o b
     unfolding table_after response replies_to refused_text
     responds_refused {k} {n} e en s =
         let f = sym a ∙ e in
         let z : ended (naming_text m n) ≡ response b m = ap ended (ap (naming_text m) en ∙ naming_is m k.row) ∙ sym (rw f (one_written (refusal m k.row))) in
         responds (said_as z s) (table_stays b m out (rw f))
 
-pub responds_close : (b m out : List ℕ) {x : Message} {p : Span} → x ≡ read_of m → x ≡ message.Close p → Responds b m out (Ok 0) out b
+pub responds_close : (b m out : List ℕ) {x : Result Message Refusal} {p : Span} → x ≡ read_of m → x ≡ Ok (message.Close p) → Responds b m out (Ok 0) out b
 unfolding response written
 responds_close b m out {x} {p} a e =
     let (y, t) = read_close b m p (sym a ∙ e) in
@@ -384,11 +384,11 @@ responds_close b m out {x} {p} a e =
     responds b m out (said_as (sym z) (said_put [] out (omega arith) (puts_none out 0 (omega arith)))) (table_stays b m out t)
 
 -- ---- a message that was taken; t is the table at exit
-module _ (b m out : List ℕ) {x : Taken} (a : x ≡ taking.taken b m) {t : List ℕ} (et : t ≡ taking.taken_table b m) where
+module _ (b m out : List ℕ) {x : Result Taken Refusal} (a : x ≡ taking.taken b m) {t : List ℕ} (et : t ≡ taking.taken_table b m) where
   with_table : {r : Result ℕ ℕ} {o : List ℕ} → t ≡ b → Responds b m out r o b → Responds b m out r o t
   with_table z k = (k.0, (k.1.0, (k.1.1.0, z ∙ k.1.1.1)))
 
-  pub taken_event : 116 ≤ length out → {i : Span} {v : Offered} → x ≡ takes.Event i v → {o₁ o₂ : List ℕ} {n r : ℕ} → Puts out 0 (ok_text (said m i) v) n o₁
+  pub taken_event : 116 ≤ length out → {i : Span} {v : Result Offered Refusal} → x ≡ Ok (takes.Event i v) → {o₁ o₂ : List ℕ} {n r : ℕ} → Puts out 0 (ok_text (said m i) v) n o₁
       → Puts o₁ n (0x0a ∷ []) r o₂ → Responds b m out (Ok r) o₂ t
   taken_event h {i} {v} e {o₁} {o₂} {n} {r} y z =
       let k = took_event b m a e in
@@ -396,18 +396,18 @@ module _ (b m out : List ℕ) {x : Taken} (a : x ≡ taking.taken b m) {t : List
       let (f, g) = event_said b m k.parts k.is out (longest_fits b m k.parts k.is (length out) h) refl k.says (et ∙ table_event b m k.is) w z in
       responds b m out f g
 
-  pub taken_req : {q : ReqParts} → x ≡ takes.Req q → read_of m ≡ message.Req q
+  pub taken_req : {q : ReqParts} → x ≡ Ok (takes.Req q) → read_of m ≡ Ok (message.Req q)
   taken_req e = took_req b m a e
 
-  pub taken_request : {q : ReqParts} → x ≡ takes.Req q → {r : Result ℕ ℕ} {o : List ℕ} → Said (response t m) out r o → Responds b m out r o t
+  pub taken_request : {q : ReqParts} → x ≡ Ok (takes.Req q) → {r : Result ℕ ℕ} {o : List ℕ} → Said (response t m) out r o → Responds b m out r o t
   taken_request {q} e {r} {o} s =
       let f = took_req b m a e in
       let z : t ≡ b = et ∙ table_req b m f in
       let y : Said (response b m) out r o = rw z at s in
       with_table z (responds_request b m out refl f y)
 
-  pub taken_close : {p : Span} → x ≡ takes.Close p → Responds b m out (Ok 0) out t
+  pub taken_close : {p : Span} → x ≡ Ok (takes.Close p) → Responds b m out (Ok 0) out t
   taken_close e = let f = took_close b m a e in with_table (et ∙ table_close b m f) (responds_close b m out refl f)
 
-  pub taken_refused : {k : Refusal} {n : Naming} → x ≡ takes.Refused k → n ≡ naming_for m k.row → {r : Result ℕ ℕ} {o : List ℕ} → Said (ended (naming_text m n)) out r o → Responds b m out r o t
+  pub taken_refused : {k : Refusal} {n : Naming} → x ≡ Err k → n ≡ naming_for m k.row → {r : Result ℕ ℕ} {o : List ℕ} → Said (ended (naming_text m n)) out r o → Responds b m out r o t
   taken_refused e en s = let f = took_refused b m a e in with_table (et ∙ table_refused b m f) (responds_refused b m out refl f en s)

@@ -29,10 +29,10 @@ end_text x = offset_text x ++ (34 ∷ [])
 
 -- ---- the replies
 -- ACCEPTED,REASON of an offer that was answered a
-unfoldable pub verdict_text : Offered → Bytes
+unfoldable pub verdict_text : Result Offered Refusal → Bytes
 verdict_text a = truth (is_accepted a) ++ (ascii "," ++ string_json (verdict_reason a))
 
-unfoldable pub ok_text : (id : Bytes) (a : Offered) → Bytes
+unfoldable pub ok_text : (id : Bytes) (a : Result Offered Refusal) → Bytes
 ok_text i a = reply_text (ok i (is_accepted a) (verdict_reason a))
 
 unfoldable pub closed_text : (sub : Bytes) (x : Refusal) → Bytes

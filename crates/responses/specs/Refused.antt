@@ -1,6 +1,6 @@
 -- The reply to the message m that a row of 01 refuses, alone and without 0A, to a lent output: `refusal` of
 -- program/specs/Program. The call is refused by row 13 alone.
-use Rattle.std.specs.Prelude.{List, ℕ, length, Result}
+use Rattle.std.specs.Prelude.{ℕ, length, Result}
 use Rattle.event.specs.Answer.{answered}
 use Rattle.reply.specs.Replies.{reply_text}
 use Rattle.reply.specs.Lent.{short_row, output_after}

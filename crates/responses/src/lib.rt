@@ -2,7 +2,7 @@
 // length is known before its first byte is written.
 #![tactic(auto)]
 
-ghost use Rattle.std.specs.Prelude.{◌≡◌, true, ◌+◌, ◌≤◌, length};
+ghost use Rattle.std.specs.Prelude.{◌≡◌, true, ◌+◌, ◌≤◌, length, Ok};
 ghost use Rattle.wire.specs.Put.{Puts};
 ghost use Rattle.message.specs.Read.{read_of};
 ghost use Rattle.message.specs.declared.Message.TheVariants as message;
@@ -102,30 +102,34 @@ fn reason_len(x: Refusal) -> usize
 }
 
 // ACCEPTED,REASON of an OK, by what the offer was answered.
-fn put_verdict(out: &mut [u8], at: usize, a: Offered) -> usize
+fn put_verdict(out: &mut [u8], at: usize, a: Result<Offered, Refusal>) -> usize
     ensures { Puts out.old at (verdict_text a) result out.new }
 {
     match a {
-        Offered::Ephemeral => wire::put(out, at, b"true,\"\""),
-        Offered::Duplicate => wire::put(out, at, b"true,\"duplicate: already have this event\""),
-        Offered::Older => wire::put(out, at, b"true,\"duplicate: have a newer version\""),
-        Offered::Stored => wire::put(out, at, b"true,\"\""),
-        Offered::Refused(x) => {
+        Ok(Offered::Ephemeral) => wire::put(out, at, b"true,\"\""),
+        Ok(Offered::Duplicate) => wire::put(
+            out,
+            at,
+            b"true,\"duplicate: already have this event\"",
+        ),
+        Ok(Offered::Older) => wire::put(out, at, b"true,\"duplicate: have a newer version\""),
+        Ok(Offered::Stored) => wire::put(out, at, b"true,\"\""),
+        Err(x) => {
             let b = wire::put(out, at, b"false,");
             put_reason(out, b, x)
         }
     }
 }
 
-fn verdict_len(a: Offered) -> usize
+fn verdict_len(a: Result<Offered, Refusal>) -> usize
     ensures { (result ≡ length (verdict_text a)) × (result ≤ 59) }
 {
     match a {
-        Offered::Ephemeral => 7,
-        Offered::Duplicate => 41,
-        Offered::Older => 38,
-        Offered::Stored => 7,
-        Offered::Refused(x) => 6 + reason_len(x),
+        Ok(Offered::Ephemeral) => 7,
+        Ok(Offered::Duplicate) => 41,
+        Ok(Offered::Older) => 38,
+        Ok(Offered::Stored) => 7,
+        Err(x) => 6 + reason_len(x),
     }
 }
 
@@ -141,7 +145,7 @@ fn has_room(room: usize, m: usize, n: usize) -> bool
 
 // ---- the short replies
 // ["OK",ID,ACCEPTED,REASON]
-fn put_ok(out: &mut [u8], m: &[u8], id: Span, a: Offered) -> usize
+fn put_ok(out: &mut [u8], m: &[u8], id: Span, a: Result<Offered, Refusal>) -> usize
     ensures { Puts out.old 0 (ok_text (said m.now id) a) result out.new }
 {
     let b = wire::put(out, 0, b"[\"OK\",");
@@ -151,7 +155,8 @@ fn put_ok(out: &mut [u8], m: &[u8], id: Span, a: Offered) -> usize
     wire::put(out, e, b"]")
 }
 
-// ["CLOSED",SUB,REASON]
+// ["CLOSED",SUB,REASON]. Like `put_ok` but for the head and what is put last: one function for both would be handed these
+// two, and be no plainer.
 fn put_closed(out: &mut [u8], m: &[u8], sub: Span, x: Refusal) -> usize
     ensures { Puts out.old 0 (closed_text (said m.now sub) x) result out.new }
 {
@@ -212,7 +217,7 @@ fn put_refusal(out: &mut [u8], m: &[u8], x: Naming) -> usize
     let refusal = x.refusal;
     let named = x.named;
     match named {
-        Named::Id(p) => put_ok(out, m, p, Offered::Refused(refusal)),
+        Named::Id(p) => put_ok(out, m, p, Err(refusal)),
         Named::Subscription(p) => put_closed(out, m, p, refusal),
         Named::Nothing => put_notice(out, refusal),
     }
@@ -263,7 +268,7 @@ fn respond_refused(m: &[u8], x: Naming, out: &mut [u8]) -> Result<usize, u8>
 // Whether the OK to an EVENT that was read has room. Its length depends on the verdict, which is asked for before the
 // offer only where the longest OK has no room.
 fn ok_fits(table: &[u8], m: &[u8], p: EventParts, room: usize) -> bool
-    requires { read_of m.now ≡ message.Event p }
+    requires { read_of m.now ≡ Ok (message.Event p) }
     ensures { Room (length (response table.now m.now)) room result }
 {
     if LONGEST_OK <= room {
@@ -274,7 +279,7 @@ fn ok_fits(table: &[u8], m: &[u8], p: EventParts, room: usize) -> bool
 
 // An EVENT that was read: the table stays as found where the reply has no room.
 fn respond_event(table: &mut [u8], m: &[u8], p: EventParts, out: &mut [u8]) -> Result<usize, u8>
-    requires { read_of m.now ≡ message.Event p }
+    requires { read_of m.now ≡ Ok (message.Event p) }
     ensures said { Said (response table.old m.now) out.old result out.new }
     ensures table_after { table.new ≡ responded_table table.old m.now out.old }
 {
@@ -306,7 +311,7 @@ fn put_answer(table: &[u8], m: &[u8], sub: Span, ks: &[u16], out: &mut [u8]) -> 
 
 // A REQ that was read.
 fn respond_request(table: &[u8], m: &[u8], q: ReqParts, out: &mut [u8]) -> Result<usize, u8>
-    requires { read_of m.now ≡ message.Req q }
+    requires { read_of m.now ≡ Ok (message.Req q) }
     ensures { Said (response table.now m.now) out.old result out.new }
 {
     let sub = q.subscription;
@@ -347,13 +352,13 @@ fn respond_taken(table: &mut [u8], m: &[u8], out: &mut [u8]) -> Result<usize, u8
     ensures table_after { table.new ≡ responded_table table.old m.now out.old }
 {
     match offers::take(table, m) {
-        Taken::Event(id, a) => {
+        Ok(Taken::Event(id, a)) => {
             let n = put_ok(out, m, id, a);
             Ok(wire::put(out, n, b"\n"))
         }
-        Taken::Req(q) => respond_request(table, m, q, out),
-        Taken::Close(_) => Ok(0),
-        Taken::Refused(x) => respond_refused(m, naming_for(m, x.row), out),
+        Ok(Taken::Req(q)) => respond_request(table, m, q, out),
+        Ok(Taken::Close(_)) => Ok(0),
+        Err(x) => respond_refused(m, naming_for(m, x.row), out),
     }
 }
 
@@ -369,9 +374,9 @@ pub fn respond(table: &mut [u8], m: &[u8], out: &mut [u8]) -> Result<usize, u8>
         return respond_taken(table, m, out);
     }
     match message::read(m) {
-        Message::Event(p) => respond_event(table, m, p, out),
-        Message::Req(q) => respond_request(table, m, q, out),
-        Message::Close(_) => Ok(0),
-        Message::Refused(x) => respond_refused(m, naming_for(m, x.row), out),
+        Ok(Message::Event(p)) => respond_event(table, m, p, out),
+        Ok(Message::Req(q)) => respond_request(table, m, q, out),
+        Ok(Message::Close(_)) => Ok(0),
+        Err(x) => respond_refused(m, naming_for(m, x.row), out),
     }
 }

@@ -55,6 +55,7 @@ fn last_words(d: &[u8]) -> u64
     (a ^ b) ^ (c ^ e)
 }
 
+// Like `last_words`, from the other end and by other numbers, which are a part of the definitions.
 fn first_words(d: &[u8]) -> u64
     ensures { result ≡ first_words d.now }
 {

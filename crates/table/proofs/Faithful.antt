@@ -1,6 +1,6 @@
 -- One offer does at the table's bytes what the law says of the events that they hold, and writes no byte but those of
 -- one slot and the count.
-use Rattle.std.specs.Prelude.{None, Some}
+use Rattle.std.specs.Prelude.{None, Some, Result, Ok, Err}
 use mathlib.Core.Path.{◌≡◌, refl, sym, ap, ◌∙◌}
 use mathlib.Core.Bool.{Bool, true, false, cond, not, false≢true}
 use mathlib.Core.Logic.{◌⊎◌, inl, inr, ⊎_elim}
@@ -30,7 +30,7 @@ use Rattle.table.specs.Offer.{judge, offered_by, verdict_on, answer, is_stored, 
 use Rattle.table.specs.Demand3.{verdict_of, relay}
 use Rattle.table.specs.Claims.{Unchanged, OtherBytes, BytesAfter}
 use Rattle.table.specs.declared.Offered.{Offered}
-use Rattle.table.specs.declared.Offered.TheVariants.{Ephemeral, Duplicate, Older, Stored, Refused}
+use Rattle.table.specs.declared.Offered.TheVariants.{Ephemeral, Duplicate, Older, Stored}
 use Rattle.table.proofs.Lists.{is_true}
 use Rattle.table.proofs.Distinct.{class_lasts, signed_event_laws, distinct}
 use Rattle.table.proofs.Bytes.{Clauses, clauses, written_after, written_byte}
@@ -50,12 +50,12 @@ answer_stored r stored e = refl
 answer_stored r no_room e = absurd (false≢true e)
 
 -- the verdict of an answer is stored if the answer is
-stored_as : (a : Offered) → law.is_stored (verdict_of a) ≡ is_stored a
-stored_as Ephemeral = refl
-stored_as Duplicate = refl
-stored_as Older = refl
-stored_as Stored = refl
-stored_as (Refused r) = go (eqb r.row 12)
+stored_as : (a : Result Offered Refusal) → law.is_stored (verdict_of a) ≡ is_stored a
+stored_as (Ok Ephemeral) = refl
+stored_as (Ok Duplicate) = refl
+stored_as (Ok Older) = refl
+stored_as (Ok Stored) = refl
+stored_as (Err r) = go (eqb r.row 12)
   where
     go : (t : Bool) → law.is_stored (cond t no_room refused) ≡ false
     go true = refl
@@ -89,11 +89,11 @@ module _ (b : List ℕ) (o : Offering) where
   abbrev offered : SignedEvent
   offered = of_held (offered_of o)
 
-  pub answer_invalid : is_valid o ≡ false → answer b o ≡ Refused (offering_refusal o)
+  pub answer_invalid : is_valid o ≡ false → answer b o ≡ Err (offering_refusal o)
   unfolding answer verdict_on judge verdict
   answer_invalid e = rw e
 
-  pub answer_unsound : is_valid o ≡ true → sound b ≡ false → answer b o ≡ Refused (plain_refusal 11)
+  pub answer_unsound : is_valid o ≡ true → sound b ≡ false → answer b o ≡ Err (plain_refusal 11)
   unfolding answer
   answer_unsound e s = rw (e, s)
 

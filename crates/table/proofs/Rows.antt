@@ -1,4 +1,5 @@
 -- The rows of an offer stand in their order: RowsInOrder of specs/Claims.
+use Rattle.std.specs.Prelude.{Ok, Err}
 use mathlib.Core.Path.{◌≡◌, refl, ap, ◌∙◌}
 use mathlib.Core.Bool.{Bool, true, false, cond}
 use mathlib.Core.Logic.{◌≢◌}
@@ -77,22 +78,22 @@ text_clean : (m : List ℕ) → message_row m ≡ 0 → text_row m ≡ 0
 unfolding message_row text_row rows.row4
 text_clean m e = first_three (row1 m) (row2 m) (row3 m) (root_row m (root m)) _ (fourth m (root m)) e
 
-event_first : (m : List ℕ) (p : EventParts) (g : Got Json) → in_root m g ≡ message.Event p → on_root (λ t. is_event_word (opened m t).first) g ≡ true
+event_first : (m : List ℕ) (p : EventParts) (g : Got Json) → in_root m g ≡ Ok (message.Event p) → on_root (λ t. is_event_word (opened m t).first) g ≡ true
 event_first m p none e = absurd (let z : ◌≡◌ {A = ℕ} 0 1 = cc in omega arith)
 event_first m p (got t n) e = go (opened m t).first e
   where
-    go : (w : Word) → message_parts m w (opened m t).rest ≡ message.Event p → is_event_word w ≡ true
+    go : (w : Word) → message_parts m w (opened m t).rest ≡ Ok (message.Event p) → is_event_word w ≡ true
     go event e = refl
     go req e = absurd (let z : ◌≡◌ {A = ℕ} 0 1 = cc in omega arith)
     go close e = absurd (let z : ◌≡◌ {A = ℕ} 0 1 = cc in omega arith)
     go other e = absurd (let z : ◌≡◌ {A = ℕ} 0 1 = cc in omega arith)
 
-module _ (m : List ℕ) (p : EventParts) (e : read_of m ≡ message.Event p) where
+module _ (m : List ℕ) (p : EventParts) (e : read_of m ≡ Ok (message.Event p)) where
   accepted : (message_row m ≡ 0) × (is_event m ≡ true)
   unfolding read_of is_event
   accepted = go (eqb (message_row m) 0) refl e
     where
-      go : (t : Bool) → eqb (message_row m) 0 ≡ t → cond t (in_root m (root m)) (message.Refused (refusal_of m)) ≡ message.Event p
+      go : (t : Bool) → eqb (message_row m) 0 ≡ t → cond t (in_root m (root m)) (Err (refusal_of m)) ≡ Ok (message.Event p)
           → (message_row m ≡ 0) × (on_root (λ t. is_event_word (opened m t).first) (root m) ≡ true)
       go true q z = (eqb-true (message_row m) 0 q, event_first m p (root m) z)
       go false q z = absurd (let y : ◌≡◌ {A = ℕ} 0 1 = cc in omega arith)

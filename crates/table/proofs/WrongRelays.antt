@@ -1,6 +1,6 @@
 -- Relays over the same table, offers and judge that do not meet the claims of demand 3, and that this one does: 01,
 -- "How far each promise must reach". Law's WrongRelays, with two events and a fresh table in bytes.
-use Rattle.std.specs.Prelude.{Some}
+use Rattle.std.specs.Prelude.{Some, Result}
 use mathlib.Core.Path.{◌≡◌, refl, sym, ap, ◌∙◌}
 use mathlib.Core.Bool.{false}
 use mathlib.Core.Logic.{◌≢◌}
@@ -23,6 +23,7 @@ use Rattle.table.specs.Events.{SignedEvent, Signature, table_events, class_of_te
 use Rattle.table.specs.Offer.{Offering, as_parts, is_stored, judge, answer, next}
 use Rattle.table.specs.Format.{format_row, formatted}
 use Rattle.table.specs.Demand3.{Fresh, verdict_of, relay_with, relay}
+use Rattle.shape.specs.declared.Refusal.{Refusal}
 use Rattle.table.specs.declared.Offered.{Offered}
 use Rattle.table.proofs.Texts.{text_says}
 use Rattle.table.proofs.Formatted.{formatted_capacity, just_formatted}
@@ -72,7 +73,7 @@ table_two : capacity_of table ≡ 2
 table_two = formatted_capacity 2 buffer two_pass
 
 -- ---- a relay with answers and a next table of its own
-module _ (answer' : List ℕ → Offering → Offered) (next' : List ℕ → Offering → List ℕ) where
+module _ (answer' : List ℕ → Offering → Result Offered Refusal) (next' : List ℕ → Offering → List ℕ) where
   abbrev pub another : Machine table_events Signature
   another = relay_with answer' next'
 

@@ -1,7 +1,7 @@
 -- What is claimed of a table beside demand 3 (specs/Demand3). Quotes are from 01. Proofs: Formatted, Rows, Faithful,
 -- Unread, Texts, Clauses, StillSound, SoundBytes, DPlaces, Shown, Tellable, Fair.
 use Rattle.std.specs.Prelude.{◌≡◌, true, false, ◌↔◌, ◌⊎◌, ◌≢◌, List, [], ◌++◌, ℕ, ◌+◌, ◌*◌, ◌<◌, ◌≤◌, length, get_or}
-use Rattle.std.specs.Prelude.{drop, Some}
+use Rattle.std.specs.Prelude.{drop, Some, Ok, Err}
 use Rattle.wire.specs.Limits.{most_text, most_slots}
 use Rattle.wire.specs.Escape.{escape}
 use Rattle.wire.specs.Field.{unsigned}
@@ -33,7 +33,6 @@ use Rattle.table.specs.Offer.{offering_refusal, is_valid, is_stored, judge, offe
 use Rattle.table.specs.Offer.{slot_for, next}
 use Rattle.table.specs.Format.{format_row, formatted, shown_row_if, shown_row, shown}
 use Rattle.table.specs.Demand3.{relay, Fresh, Tells, AsParts}
-use Rattle.table.specs.declared.Offered.TheVariants.{Refused}
 
 -- ---- formatting
 -- "A fresh table is one just formatted ..; its C is 0." It is sound and has the capacity asked for, and bytes after it
@@ -59,8 +58,8 @@ pub record FormatRows (N : ℕ) (b : List ℕ) : Type 0 where
 -- verdict; and "Verdicts of an offer after row 11"
 pub record OfferRows (b : List ℕ) (o : Offering) : Type 0 where
   pub early : is_valid o ≡ false →
-      (1 ≤ offering_row o) × (offering_row o ≤ 10) × (answer b o ≡ Refused (offering_refusal o))
-  pub unsound : is_valid o ≡ true → sound b ≡ false → answer b o ≡ Refused (plain_refusal 11)
+      (1 ≤ offering_row o) × (offering_row o ≤ 10) × (answer b o ≡ Err (offering_refusal o))
+  pub unsound : is_valid o ≡ true → sound b ≡ false → answer b o ≡ Err (plain_refusal 11)
   pub judged : is_valid o ≡ true → sound b ≡ true →
       answer b o
       ≡ offered_by (plain_refusal 0) (verdict signed_events (capacity_of b) (view b) (Some (of_held (offered_of o))))
@@ -86,7 +85,7 @@ pub record EventRows (m : List ℕ) (p : EventParts) : Type 0 where
 abbrev pub RowsInOrder : Type 0
 RowsInOrder =
     ((b : List ℕ) (o : Offering) → OfferRows b o) × ((m : List ℕ) → MessageRows m) ×
-    ((m : List ℕ) (p : EventParts) → read_of m ≡ message.Event p → EventRows m p)
+    ((m : List ℕ) (p : EventParts) → read_of m ≡ Ok (message.Event p) → EventRows m p)
 
 -- ---- offers
 -- "every lent buffer stays as found" on a refusal, and where nothing is stored

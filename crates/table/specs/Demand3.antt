@@ -1,6 +1,6 @@
 -- Demand 3 at the table's bytes. Law/Demand3 has its claims for a relay in any form; here the relay is a table in a
 -- buffer, with the answers and the bytes of specs/Offer. Quotes are from 01.
-use Rattle.std.specs.Prelude.{◌≡◌, true, false, cond, List, ℕ, eqb, pos}
+use Rattle.std.specs.Prelude.{◌≡◌, true, false, cond, List, ℕ, eqb, pos, Result, Ok, Err}
 use Rattle.utf8.specs.Utf8.{is_utf8}
 use Rattle.json_tree.specs.Grammar.{is_spelling}
 use Rattle.text.specs.Event.{Tag, Event}
@@ -16,8 +16,9 @@ use Rattle.table.specs.Layout.{capacity_of}
 use Rattle.table.specs.Events.{SignedEvent, Signature, table_events, view}
 use Rattle.table.specs.Offer.{Offering, as_message, as_parts, judge, answer, next}
 use Rattle.table.specs.Format.{format_row, formatted}
+use Rattle.shape.specs.declared.Refusal.{Refusal}
 use Rattle.table.specs.declared.Offered.{Offered}
-use Rattle.table.specs.declared.Offered.TheVariants.{Ephemeral, Duplicate, Older, Stored, Refused}
+use Rattle.table.specs.declared.Offered.TheVariants.{Ephemeral, Duplicate, Older, Stored}
 
 -- ---- an offer, as parts, of what is held
 -- the part p of b spells the string v: "A string part is a place holding what stands between its quotes, as spelled"
@@ -58,19 +59,20 @@ pub record Fresh (b : List ℕ) : Type 0 where
   pub is : b ≡ formatted capacity buffer
 
 -- "An offer lacks room when its answer is 12."
-abbrev pub verdict_of : Offered → Verdict
-verdict_of Ephemeral = was_ephemeral
-verdict_of Duplicate = duplicate
-verdict_of Older = older
-verdict_of Stored = stored
-verdict_of (Refused r) = cond (eqb r.row 12) no_room refused
+abbrev pub verdict_of : Result Offered Refusal → Verdict
+verdict_of (Ok Ephemeral) = was_ephemeral
+verdict_of (Ok Duplicate) = duplicate
+verdict_of (Ok Older) = older
+verdict_of (Ok Stored) = stored
+verdict_of (Err r) = cond (eqb r.row 12) no_room refused
 
 -- a relay over such tables and offers, by what it answers and the table that an offer leaves
-abbrev pub relay_with : (List ℕ → Offering → Offered) → (List ℕ → Offering → List ℕ) → Machine table_events Signature
+abbrev pub relay_with : (List ℕ → Offering → Result Offered Refusal) → (List ℕ → Offering → List ℕ) →
+    Machine table_events Signature
 relay_with answers leaves = record {
   State = List ℕ;
   Offering = Offering;
-  Answer = Offered;
+  Answer = Result Offered Refusal;
   Fresh = Fresh;
   answer = answers;
   next = leaves;

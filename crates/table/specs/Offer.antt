@@ -1,6 +1,7 @@
 -- 01, "The table": what an offer is answered, and the table's bytes afterwards. "Valid is judged from what is offered,
 -- whatever the table holds."
-use Rattle.std.specs.Prelude.{Bool, true, false, cond, not, ◌&&◌, List, ℕ, ◌+◌, eqb, ltb, pos, None, Some}
+use Rattle.std.specs.Prelude.{Bool, true, false, cond, not, ◌&&◌, List, ℕ, ◌+◌, eqb, ltb, pos}
+use Rattle.std.specs.Prelude.{None, Some, Result, Ok, Err}
 use Rattle.wire.specs.Put.{put}
 use Rattle.wire.specs.Field.{le_bytes}
 use Rattle.rows.specs.Rows.{text_row}
@@ -23,7 +24,7 @@ use Rattle.table.specs.Layout.{Held, capacity_of, count_of, count_place, slot_pl
 use Rattle.table.specs.Events.{signed_events, of_held, view}
 use Rattle.table.specs.Sound.{sound}
 use Rattle.table.specs.declared.Offered.{Offered}
-use Rattle.table.specs.declared.Offered.TheVariants.{Ephemeral, Duplicate, Older, Stored, Refused}
+use Rattle.table.specs.declared.Offered.TheVariants.{Ephemeral, Duplicate, Older, Stored}
 use Rattle.wire.specs.Bytes.{Bytes, Row}
 
 -- "Offers of any bytes as a message and of any parts", which lie in a buffer
@@ -40,11 +41,11 @@ no_parts = record {
   sig = nowhere;
 }
 
-abbrev pub parts_in : Message → EventParts
-parts_in (message.Event p) = p
-parts_in (message.Req r) = no_parts
-parts_in (message.Close p) = no_parts
-parts_in (message.Refused r) = no_parts
+abbrev pub parts_in : Result Message Refusal → EventParts
+parts_in (Ok (message.Event p)) = p
+parts_in (Ok (message.Req r)) = no_parts
+parts_in (Ok (message.Close p)) = no_parts
+parts_in (Err r) = no_parts
 
 unfoldable pub parts_of : Bytes → EventParts
 parts_of m = parts_in (read_of m)
@@ -79,40 +80,40 @@ judge o = cond (is_valid o) (Some (of_held (offered_of o))) None
 
 -- ---- the answer
 -- 01's number of a verdict that has one, and what refused the offer
-abbrev pub offered_by : Refusal → Verdict → Offered
-offered_by r refused = Refused r
-offered_by r was_ephemeral = Ephemeral
-offered_by r duplicate = Duplicate
-offered_by r older = Older
-offered_by r stored = Stored
-offered_by r no_room = Refused (plain_refusal 12)
+abbrev pub offered_by : Refusal → Verdict → Result Offered Refusal
+offered_by r refused = Err r
+offered_by r was_ephemeral = Ok Ephemeral
+offered_by r duplicate = Ok Duplicate
+offered_by r older = Ok Older
+offered_by r stored = Ok Stored
+offered_by r no_room = Err (plain_refusal 12)
 
 -- "Verdicts of an offer after row 11": law/Table, `verdict`
 unfoldable pub verdict_on : Bytes → Offering → Verdict
 verdict_on b o = verdict signed_events (capacity_of b) (view b) (judge o)
 
 -- rows 1 to 10, then 11, where the table is told not to be sound, then the verdict
-abbrev pub answer_if : (isSound : Bool) (b : Bytes) (o : Offering) → Offered
+abbrev pub answer_if : (isSound : Bool) (b : Bytes) (o : Offering) → Result Offered Refusal
 answer_if isSound b o =
-    cond (is_valid o && not isSound) (Refused (plain_refusal 11)) (offered_by (offering_refusal o) (verdict_on b o))
+    cond (is_valid o && not isSound) (Err (plain_refusal 11)) (offered_by (offering_refusal o) (verdict_on b o))
 
-unfoldable pub answer : Bytes → Offering → Offered
+unfoldable pub answer : Bytes → Offering → Result Offered Refusal
 answer b o = answer_if (sound b) b o
 
 -- the number of 01
-abbrev pub offer_number : Offered → ℕ
-offer_number Ephemeral = 0
-offer_number Duplicate = 0
-offer_number Older = 0
-offer_number Stored = 0
-offer_number (Refused r) = r.row
+abbrev pub offer_number : Result Offered Refusal → ℕ
+offer_number (Ok Ephemeral) = 0
+offer_number (Ok Duplicate) = 0
+offer_number (Ok Older) = 0
+offer_number (Ok Stored) = 0
+offer_number (Err r) = r.row
 
-abbrev pub is_stored : Offered → Bool
-is_stored Ephemeral = false
-is_stored Duplicate = false
-is_stored Older = false
-is_stored Stored = true
-is_stored (Refused r) = false
+abbrev pub is_stored : Result Offered Refusal → Bool
+is_stored (Ok Ephemeral) = false
+is_stored (Ok Duplicate) = false
+is_stored (Ok Older) = false
+is_stored (Ok Stored) = true
+is_stored (Err r) = false
 
 -- ---- the table afterwards
 -- "over the slot with its key, else in slot C"

@@ -53,13 +53,13 @@ fn put_shown(out: &mut [u8], table: &[u8], slot: usize) -> usize {
     }
 }
 
-fn put_offered(out: &mut [u8], x: Offered) -> usize {
+fn put_offered(out: &mut [u8], x: Result<Offered, shape::Refusal>) -> usize {
     match x {
-        Offered::Ephemeral => fields::put_word(out, 0, b"0 ephemeral"),
-        Offered::Duplicate => fields::put_word(out, 0, b"0 duplicate"),
-        Offered::Older => fields::put_word(out, 0, b"0 older"),
-        Offered::Stored => fields::put_word(out, 0, b"0 stored"),
-        Offered::Refused(r) => {
+        Ok(Offered::Ephemeral) => fields::put_word(out, 0, b"0 ephemeral"),
+        Ok(Offered::Duplicate) => fields::put_word(out, 0, b"0 duplicate"),
+        Ok(Offered::Older) => fields::put_word(out, 0, b"0 older"),
+        Ok(Offered::Stored) => fields::put_word(out, 0, b"0 stored"),
+        Err(r) => {
             let a = fields::put_refusal(out, 0, r);
             fields::put_word(out, a, b"refused")
         }

@@ -2,10 +2,10 @@
 use Rattle.capi_relay.proofs.Laws.{said_turn}
 use Rattle.capi_relay.proofs.plavdrosa_turn.Goals as goal
 
-pub returns-in-Fed : goal.returns-in-Fed
-returns-in-Fed c =
+pub returns-in-Ok : goal.returns-in-Ok
+returns-in-Ok c =
     let x = c.turn.ensures in
-    let s = said_turn _ _ _ _ _ _ _ _ x.value x.result_value c.in-Fed.is in
+    let s = said_turn _ _ _ _ _ _ _ _ x.value x.result_value c.in-Ok.is in
     record {
       value = s.0;
       table_after = x.table_after;
@@ -16,10 +16,10 @@ returns-in-Fed c =
       written_after = s.1.1.1;
     }
 
-pub returns-in-Refused : goal.returns-in-Refused
-returns-in-Refused c =
+pub returns-in-Err : goal.returns-in-Err
+returns-in-Err c =
     let x = c.turn.ensures in
-    let s = said_turn _ _ _ _ _ _ _ _ x.value x.result_value c.in-Refused.is in
+    let s = said_turn _ _ _ _ _ _ _ _ x.value x.result_value c.in-Err.is in
     record {
       value = s.0;
       table_after = x.table_after;

@@ -1,4 +1,5 @@
 -- A law for each way out.
+use Rattle.std.proofs.lemmas.Result.{err_from_is_err_and}
 use mathlib.Core.Path.{sym}
 use native.Mathlib.Omega.{arith}
 use lib.Seq.{length-take-le}
@@ -20,8 +21,11 @@ slice_bounds-keep-end c = sym (length-take-le _ _ (omega (arith, c.if-piece-e.fa
 pub answer_line-requires : goal.answer_line-requires
 answer_line-requires c = record { most_line_in_bounds = omega (arith, c.if-line-lt-MOST_LINE.false); part_len = part_empty c.args.table.now c.args.line.now _ _ c.args.out.now c.if-line-lt-MOST_LINE.false c.end_at-e.ensures c.if-piece-e.false c.requires }
 
-pub returns-in-Ok : goal.returns-in-Ok
-returns-in-Ok c = let both = ended _ _ _ _ _ c.if-line-lt-MOST_LINE.false c.end_at-e.ensures c.if-piece-e.false c.answer_line.ensures c.in-Ok.is c.keep.ensures in record { value = both.0; result_value = both.1.0; table_after = both.1.1.0; line_after = both.1.1.1.0; out_after = both.1.1.1.1 }
+pub returns : goal.returns
+returns c = let both = ended _ _ _ _ _ c.if-line-lt-MOST_LINE.false c.end_at-e.ensures c.if-piece-e.false c.answer_line.ensures c.in_ok-w.was c.keep.ensures in record { value = both.0; result_value = both.1.0; table_after = both.1.1.0; line_after = both.1.1.1.0; out_after = both.1.1.1.1 }
 
-pub returns-in-Err : goal.returns-in-Err
-returns-in-Err c = let both = ended_refused _ _ _ _ _ c.if-line-lt-MOST_LINE.false c.end_at-e.ensures c.if-piece-e.false c.answer_line.ensures c.in-Err.is in record { value = both.0; result_value = both.1.0; table_after = both.1.1.0; line_after = both.1.1.1.0; out_after = both.1.1.1.1 }
+pub returns-in_err-w : goal.returns-in_err-w
+returns-in_err-w c =
+    let q = err_from_is_err_and c.from_residual.result c.from_residual.ensures.1 in
+    let both = ended_refused _ _ _ _ _ c.if-line-lt-MOST_LINE.false c.end_at-e.ensures c.if-piece-e.false c.answer_line.ensures c.in_err-w.was in
+    rw (q.1, q.2) record { value = both.0; result_value = both.1.0; table_after = both.1.1.0; line_after = both.1.1.1.0; out_after = both.1.1.1.1 }

@@ -1,7 +1,7 @@
 -- What specs/Program, Replies and Lent mean, in the sentences of 01: proved in proofs/Which, Shown, Lines, Plain, Kept,
 -- Lent and Sendable, each under its own name in small letters (EarlyRow: early-row).
 use Rattle.std.specs.Prelude.{◌≡◌, true, false, cond, ◌↔◌, ◌⊎◌, ◌≢◌, List, [], ◌∷◌, ◌++◌, map, ℕ, ◌≤◌, ◌<◌, ltb, length}
-use Rattle.std.specs.Prelude.{Option, None, Some}
+use Rattle.std.specs.Prelude.{Option, None, Some, Ok, Err}
 use Rattle.wire.specs.Limits.{hex_length, most_message, most_text}
 use Rattle.json_tree.specs.Tree.{Json, Items, nil, Got, none, got, root}
 use Rattle.spell.specs.Spell.{is_hex_of}
@@ -33,7 +33,7 @@ use Rattle.table.specs.Sound.{sound_up_to, sound}
 use Rattle.table.specs.Demand3.{relay}
 use Rattle.table.specs.Offer as offers
 use Rattle.table.specs.Offer.{Offering, as_message, as_parts, answer, next}
-use Rattle.table.specs.declared.Offered.TheVariants.{Stored, Refused}
+use Rattle.table.specs.declared.Offered.TheVariants.{Stored}
 use Rattle.query.specs.Filter.{Filter}
 use Rattle.query.specs.Answer.{answer_list, filters_meant}
 use Rattle.wire.specs.Ascii.{ascii}
@@ -64,7 +64,7 @@ subscription_field m = span_of (first_item (rest_items m))
 
 -- ---- a message is refused by one of rows 1 to 8, or it is read
 abbrev pub Covered : Type 0
-Covered = (m : List ℕ) → ((1 ≤ message_row m) × (message_row m ≤ 8)) ⊎ ((r : Refusal) → read_of m ≢ message.Refused r)
+Covered = (m : List ℕ) → ((1 ≤ message_row m) × (message_row m ≤ 8)) ⊎ ((r : Refusal) → read_of m ≢ Err r)
 
 -- ---- refused by rows 1 to 8: one reply, and the table stays
 -- "Rows 1-5 give NOTICE."
@@ -103,29 +103,29 @@ LateClose =
 
 -- ---- read: what rows 9 to 12 would name is there
 abbrev pub NamesId : Type 0
-NamesId = (m : List ℕ) (p : EventParts) → read_of m ≡ message.Event p → named_of m ≡ names.Id p.id
+NamesId = (m : List ℕ) (p : EventParts) → read_of m ≡ Ok (message.Event p) → named_of m ≡ names.Id p.id
 
 abbrev pub NamesSubscription : Type 0
 NamesSubscription =
-    (m : List ℕ) (r : ReqParts) → read_of m ≡ message.Req r → named_of m ≡ names.Subscription r.subscription
+    (m : List ℕ) (r : ReqParts) → read_of m ≡ Ok (message.Req r) → named_of m ≡ names.Subscription r.subscription
 
 -- an EVENT that was read is refused, if at all, by one of rows 9 to 12, which carry no offset
 abbrev pub LastRows : Type 0
 LastRows =
-    (b m : List ℕ) (p : EventParts) (r : Refusal) → read_of m ≡ message.Event p → answer b (as_message m) ≡ Refused r →
+    (b m : List ℕ) (p : EventParts) (r : Refusal) → read_of m ≡ Ok (message.Event p) → answer b (as_message m) ≡ Err r →
     (9 ≤ r.row) × (r.row ≤ 12) × (r.offset ≡ None)
 
 -- one OK that names its id: true with a verdict, false on a refusal; "Replies: ephemeral and stored `true,""`;
 -- duplicate .. older .."
 abbrev pub ReadEvent : Type 0
-ReadEvent = (b m : List ℕ) (p : EventParts) → read_of m ≡ message.Event p →
+ReadEvent = (b m : List ℕ) (p : EventParts) → read_of m ≡ Ok (message.Event p) →
     (replies_to b m ≡ ok (said m p.id) (is_accepted (answer b (as_message m))) (verdict_reason (answer b (as_message m)))
     ∷ [])
     × (table_after b m ≡ next b (as_message m))
 
 -- "CLOSE gives nothing."
 abbrev pub ReadClose : Type 0
-ReadClose = (b m : List ℕ) (p : Span) → read_of m ≡ message.Close p → (replies_to b m ≡ []) × (table_after b m ≡ b)
+ReadClose = (b m : List ℕ) (p : Span) → read_of m ≡ Ok (message.Close p) → (replies_to b m ≡ []) × (table_after b m ≡ b)
 
 -- an EVENT for each slot number, in their order, with the event, id and signature that the slot holds
 pub data Shows (b sub : List ℕ) : List ℕ → List Reply → Type 0 where
@@ -136,7 +136,7 @@ pub data Shows (b sub : List ℕ) : List ℕ → List Reply → Type 0 where
 
 -- "An accepted REQ gives its EVENTs, then EOSE."
 abbrev pub ReadRequest : Type 0
-ReadRequest = (b m : List ℕ) (r : ReqParts) → read_of m ≡ message.Req r → sound b ≡ true →
+ReadRequest = (b m : List ℕ) (r : ReqParts) → read_of m ≡ Ok (message.Req r) → sound b ≡ true →
     (es : List Reply)
     × Shows b (said m r.subscription) (answer_list b (filters_meant m r.filters)) es
     × (length es ≡ length (answer_list b (filters_meant m r.filters)))
@@ -149,14 +149,14 @@ AnswersHeld = (b : List ℕ) (fs : List Filter) (k : ℕ) → k ∈ answer_list 
 
 -- row 11, "table not sound", of a REQ
 abbrev pub BadTable : Type 0
-BadTable = (b m : List ℕ) (r : ReqParts) → read_of m ≡ message.Req r → sound b ≡ false →
+BadTable = (b m : List ℕ) (r : ReqParts) → read_of m ≡ Ok (message.Req r) → sound b ≡ false →
     (replies_to b m ≡ closed (said m r.subscription) (reason_of 11) ∷ []) × (table_after b m ≡ b)
 
 -- only an EVENT that is stored changes the table
 abbrev pub OnlyStored : Type 0
 OnlyStored =
     (b m : List ℕ) → (table_after b m ≡ b) ⊎
-    ((p : EventParts) × (read_of m ≡ message.Event p) × (answer b (as_message m) ≡ Stored))
+    ((p : EventParts) × (read_of m ≡ Ok (message.Event p)) × (answer b (as_message m) ≡ Ok Stored))
 
 -- ---- messages that are valid
 -- "EVENT: two elements, the second an object with id, pubkey, created_at, kind, tags, content, sig": the object spelled
@@ -272,5 +272,5 @@ offset_at (as_parts b p) row = None
 abbrev pub OfferedNumber : Type 0
 OfferedNumber = (b : List ℕ) (o : Offering) →
     ((r : ℕ) → 1 ≤ r → (offers.offer_number (answer b o) ≡ r) ↔
-    (answer b o ≡ Refused (record { row = r; offset = offset_at o r })))
-    × ((offers.offer_number (answer b o) ≡ 0) ↔ ((r : Refusal) → answer b o ≢ Refused r))
+    (answer b o ≡ Err (record { row = r; offset = offset_at o r })))
+    × ((offers.offer_number (answer b o) ≡ 0) ↔ ((r : Refusal) → answer b o ≢ Err r))

@@ -1,6 +1,7 @@
 -- What specs/Respond and Feed mean: proved in proofs/Respond, Streamed, Feed and Enough, each under its own name in
 -- small letters.
-use Rattle.std.specs.Prelude.{◌≡◌, true, false, cond, ◌↔◌, ◌≢◌, List, [], ◌∷◌, ◌++◌, ℕ, ◌*◌, ◌+◌, ◌≤◌, ◌<◌, length, take, drop}
+use Rattle.std.specs.Prelude.{◌≡◌, true, false, cond, ◌↔◌, ◌≢◌, List, [], ◌∷◌, ◌++◌, ℕ, ◌*◌, ◌+◌, ◌≤◌, ◌<◌}
+use Rattle.std.specs.Prelude.{length, take, drop, Ok}
 use Rattle.text.specs.Event.{Event}
 use Rattle.text.specs.Read.{read, read_text}
 use Rattle.message.specs.Read.{read_of}
@@ -51,7 +52,7 @@ Enough = (b m out : List ℕ) → enough_for (capacity_of b) ≤ length out → 
 -- "An accepted REQ gives its EVENTs, then EOSE": what is answered at once is what the calls for one slot after the
 -- other and for EOSE write
 abbrev pub OneByOne : Type 0
-OneByOne = (b m : List ℕ) (r : ReqParts) → read_of m ≡ message.Req r → sound b ≡ true →
+OneByOne = (b m : List ℕ) (r : ReqParts) → read_of m ≡ Ok (message.Req r) → sound b ≡ true →
     response b m
     ≡ joined (slot_lines b (said m r.subscription) (answer_list b (filters_meant m r.filters))) ++ reply_line
     (eose (said m r.subscription))

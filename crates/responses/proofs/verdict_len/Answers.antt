@@ -8,21 +8,21 @@ use Rattle.responses.proofs.Lines.{verdict_length, false_length}
 use Rattle.responses.specs.Inner.{verdict_text}
 use Rattle.responses.proofs.verdict_len.Goals as goal
 
-pub returns-in-Ephemeral : goal.returns-in-Ephemeral
+pub returns-in-Ok-Ephemeral : goal.returns-in-Ok-Ephemeral
 unfolding verdict_text string_json quoted json_of json_one escape esc_one letter_of
-returns-in-Ephemeral c = verdict_length _ _ c.in-Ephemeral.is refl (lit≤ tt)
+returns-in-Ok-Ephemeral c = verdict_length _ _ c.in-Ok-Ephemeral.is (rw c.in-Ok-Ephemeral.is at c.in-Ok-Ephemeral.field-0-is) refl (lit≤ tt)
 
-pub returns-in-Duplicate : goal.returns-in-Duplicate
+pub returns-in-Ok-Duplicate : goal.returns-in-Ok-Duplicate
 unfolding verdict_text string_json quoted json_of json_one escape esc_one letter_of
-returns-in-Duplicate c = verdict_length _ _ c.in-Duplicate.is refl (lit≤ tt)
+returns-in-Ok-Duplicate c = verdict_length _ _ c.in-Ok-Duplicate.is (rw c.in-Ok-Duplicate.is at c.in-Ok-Duplicate.field-0-is) refl (lit≤ tt)
 
-pub returns-in-Older : goal.returns-in-Older
+pub returns-in-Ok-Older : goal.returns-in-Ok-Older
 unfolding verdict_text string_json quoted json_of json_one escape esc_one letter_of
-returns-in-Older c = verdict_length _ _ c.in-Older.is refl (lit≤ tt)
+returns-in-Ok-Older c = verdict_length _ _ c.in-Ok-Older.is (rw c.in-Ok-Older.is at c.in-Ok-Older.field-0-is) refl (lit≤ tt)
 
-pub returns-in-Stored : goal.returns-in-Stored
+pub returns-in-Ok-Stored : goal.returns-in-Ok-Stored
 unfolding verdict_text string_json quoted json_of json_one escape esc_one letter_of
-returns-in-Stored c = verdict_length _ _ c.in-Stored.is refl (lit≤ tt)
+returns-in-Ok-Stored c = verdict_length _ _ c.in-Ok-Stored.is (rw c.in-Ok-Stored.is at c.in-Ok-Stored.field-0-is) refl (lit≤ tt)
 
-pub returns-in-Refused : goal.returns-in-Refused
-returns-in-Refused c = false_length _ c.in-Refused.is c.reason_len.ensures
+pub returns-in-Err : goal.returns-in-Err
+returns-in-Err c = false_length _ c.in-Err.is c.reason_len.ensures

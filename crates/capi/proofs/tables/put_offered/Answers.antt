@@ -2,5 +2,5 @@
 use Rattle.capi.proofs.Table.{offset_told}
 use Rattle.capi.proofs.tables.put_offered.Goals as goal
 
-pub returns-in-Refused : goal.returns-in-Refused
-returns-in-Refused c = offset_told _ c.in-Refused.is c.put_offset.ensures
+pub returns-in-Err : goal.returns-in-Err
+returns-in-Err c = offset_told _ c.in-Err.is c.put_offset.ensures
