@@ -26,7 +26,7 @@ use Rattle.rows.specs.Strings.{spelled_at, refused_in, refused_items}
 use Rattle.wire.specs.Limits.{most_message}
 use Rattle.wire.specs.Bytes.{has_control}
 use Rattle.rows.specs.Rows.{on_root, row4, text_row}
-use Rattle.rows.specs.Inner.{made, seen_of, name_seen, seen_told}
+use Rattle.rows.specs.Inner.{made, seen_of, seen_at, seen_after, name_seen, seen_told}
 
 -- ---- strings
 module _ (s : List ℕ) where
@@ -80,6 +80,16 @@ module _ (s : List ℕ) where
   pub seen_refused : (g : Got Json) (x : Seen) (t : Json) (n : ℕ) → Some x ≡ seen_of s g → g ≡ got t n → x.refused ≡ refused_in s t
   seen_refused g x t n e q = let z : x ≡ record { end = n; refused = refused_in s t } = cc in ap (λ y. y.refused) z
 
+-- what an end and a mark say of a value, where something may have been refused before
+module _ (a r : Bool) where
+  pub after_none : (o : Option Seen) → seen_at None r ≡ seen_after a o → None ≡ o
+  after_none None e = refl
+  after_none (Some x) e = cc
+
+  pub after_some : (n : ℕ) (o : Option Seen) → seen_at (Some n) r ≡ seen_after a o → (x : Seen) × (Some x ≡ o) × (n ≡ x.end) × (r ≡ (a || x.refused))
+  after_some n None e = cc
+  after_some n (Some x) e = let z : ◌≡◌ {A = Seen} (record { end = n; refused = r }) (record { end = x.end; refused = a || x.refused }) = cc in (x, refl, ap (λ y. y.end) z, ap (λ y. y.refused) z)
+
 -- ---- items
 -- an item more: its name, where it has one, and its value
 abbrev pub joined : List ℕ → Bool → Bool → ℕ → ℕ → Json → Bool
@@ -94,46 +104,67 @@ or_four true x y z = refl
 or_four false true y z = refl
 or_four false false y z = refl
 
+or_three : (a x y : Bool) → ((a || x) || y) ≡ (a || (x || y))
+or_three true x y = refl
+or_three false x y = refl
+
 fold_refused : (s : List ℕ) (named a : Bool) (ts : Items) → fold_items (joined s named) a ts ≡ (a || refused_items s named ts)
 unfolding refused_in
 fold_refused s named a nil = sym (or-false a)
 fold_refused s named a (item p v t ts) =
     fold_refused s named (joined s named a p v t) ts ∙ or_four a (named && refuses (spelled_at s p)) (refused_in s t) (refused_items s named ts)
 
-seen_items_lem : (s : List ℕ) (named : Bool) (g : Got Items) → seen_items s named false g ≡ seen_of s (bind g λ ts n. got (node named ts) n)
+seen_items_lem : (s : List ℕ) (named a : Bool) (g : Got Items) → seen_items s named a g ≡ seen_after a (seen_of s (bind g λ ts n. got (node named ts) n))
 unfolding refused_in
-seen_items_lem s named none = refl
-seen_items_lem s true (got ts n) = ap (made n) (fold_refused s true false ts)
-seen_items_lem s false (got ts n) = ap (made n) (fold_refused s false false ts)
+seen_items_lem s named a none = refl
+seen_items_lem s true a (got ts n) = ap (made n) (fold_refused s true a ts)
+seen_items_lem s false a (got ts n) = ap (made n) (fold_refused s false a ts)
 
-pub seen_empty : (s : List ℕ) (d at n : ℕ) (named : Bool) → (d ≡ 0 → ⊥) → Empty n named ≡ start_at s at → made n false ≡ seen_of s (tree_at s d at)
-seen_empty s d at n named ne e = seen_items_lem s named (got nil n) ∙ ap (seen_of s) (value_open s d at (Empty n named) ne e)
+pub seen_empty : (s : List ℕ) (d at n : ℕ) (named a : Bool) → (d ≡ 0 → ⊥) → Empty n named ≡ start_at s at → made n a ≡ seen_after a (seen_of s (tree_at s d at))
+seen_empty s d at n named a ne e = seen_items_lem s named a (got nil n) ∙ ap (λ g. seen_after a (seen_of s g)) (value_open s d at (Empty n named) ne e)
 
-pub seen_many : (s : List ℕ) (d at first : ℕ) (named : Bool) → (d ≡ 0 → ⊥) → Many first named ≡ start_at s at
-    → seen_items s named false (items_at (tree_at s (d - 1)) s named (length s - 0) first) ≡ seen_of s (tree_at s d at)
-seen_many s d at first named ne e =
-    rw sub-zero (seen_items_lem s named (items_at (tree_at s (d - 1)) s named (length s) first) ∙ ap (seen_of s) (value_open s d at (Many first named) ne e))
+pub seen_many : (s : List ℕ) (d at first : ℕ) (named a : Bool) → (d ≡ 0 → ⊥) → Many first named ≡ start_at s at
+    → seen_items s named a (items_at (tree_at s (d - 1)) s named (length s - 0) first) ≡ seen_after a (seen_of s (tree_at s d at))
+seen_many s d at first named a ne e =
+    rw sub-zero (seen_items_lem s named a (items_at (tree_at s (d - 1)) s named (length s) first) ∙ ap (λ g. seen_after a (seen_of s g)) (value_open s d at (Many first named) ne e))
 
 module _ (value : ℕ → Got Json) (s : List ℕ) (named : Bool) (k i : ℕ) (a : Bool) where
   pub seen_gone : length s ≤ k → seen_items s named a (items_at value s named (length s - k) i) ≡ None
   seen_gone h = fold_gone (joined s named) None (λ b n. made n b) a value s named k i h
 
   module _ (h : k < length s) where
-    pub seen_unnamed : None ≡ name_seen s i named → seen_items s named a (items_at value s named (length s - k) i) ≡ None
-    seen_unnamed e = fold_unnamed (joined s named) None (λ b n. made n b) a value s named k i h (name_bad s i named e)
+    unnamed : None ≡ name_seen s i named → seen_items s named a (items_at value s named (length s - k) i) ≡ None
+    unnamed e = fold_unnamed (joined s named) None (λ b n. made n b) a value s named k i h (name_bad s i named e)
+
+    pub seen_unnamed : (r : Bool) → seen_at None r ≡ seen_after a (name_seen s i named) → seen_items s named a (items_at value s named (length s - k) i) ≡ None
+    seen_unnamed r e = unnamed (after_none a r (name_seen s i named) e)
 
     module _ (x : Seen) (ex : Some x ≡ name_seen s i named) where
-      pub seen_no_value : None ≡ seen_of s (value x.end) → seen_items s named a (items_at value s named (length s - k) i) ≡ None
-      seen_no_value e = fold_bad (joined s named) None (λ b n. made n b) a value s named k i x.end h (name_end s i named x ex).0 (seen_bad s (value x.end) e)
+      no_value : None ≡ seen_of s (value x.end) → seen_items s named a (items_at value s named (length s - k) i) ≡ None
+      no_value e = fold_bad (joined s named) None (λ b n. made n b) a value s named k i x.end h (name_end s i named x ex).0 (seen_bad s (value x.end) e)
 
-      pub seen_next : (y : Seen) (z : Next) (b : Bool) → Some y ≡ seen_of s (value x.end) → next_at s y.end named ≡ z
+      next : (y : Seen) (z : Next) (b : Bool) → Some y ≡ seen_of s (value x.end) → next_at s y.end named ≡ z
           → b ≡ (a || (x.refused || y.refused))
           → seen_items s named a (items_at value s named (length s - k) i)
           ≡ turned z None (λ e. made e b) (λ j. seen_items s named b (items_at value s named (length s - (k + 1)) j))
-      seen_next y z b ey w eb =
+      next y z b ey w eb =
           let d = name_end s i named x ex in
           fold_next (joined s named) None (λ b n. made n b) a value s named k i x.end y.end z b h d.0 (seen_end s (value x.end) y ey) w
           λ t r. eb ∙ rw (d.1, seen_refused s (value x.end) y t y.end ey r)
+
+    module _ (v : ℕ) (r : Bool) (ex : seen_at (Some v) r ≡ seen_after a (name_seen s i named)) where
+      pub seen_no_value : (q : Bool) → seen_at None q ≡ seen_after r (seen_of s (value v)) → seen_items s named a (items_at value s named (length s - k) i) ≡ None
+      seen_no_value q e =
+          let x = after_some a r v (name_seen s i named) ex in
+          no_value x.0 x.1 (after_none r q (seen_of s (value x.0.end)) (rw x.2 at e))
+
+      pub seen_next : (n : ℕ) (z : Next) (q : Bool) → seen_at (Some n) q ≡ seen_after r (seen_of s (value v)) → next_at s n named ≡ z
+          → seen_items s named a (items_at value s named (length s - k) i)
+          ≡ turned z None (λ e. made e q) (λ j. seen_items s named q (items_at value s named (length s - (k + 1)) j))
+      seen_next n z q e w =
+          let x = after_some a r v (name_seen s i named) ex in
+          let y = after_some r q n (seen_of s (value x.0.end)) (rw x.2 at e) in
+          next x.0 x.1 y.0 z q y.1 (rw y.2 at w) (y.3 ∙ ap (λ b. b || y.0.refused) x.3 ∙ or_three a x.0.refused y.0.refused)
 
 -- ---- the text
 module _ (s : List ℕ) where

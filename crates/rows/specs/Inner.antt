@@ -1,5 +1,5 @@
 -- What one walk over a value answers: where the value ends, and whether row 4 refuses some string in it.
-use Rattle.std.specs.Prelude.{ℕ, Bool, cond, ◌&&◌, eqb, Option, Some, None}
+use Rattle.std.specs.Prelude.{ℕ, Bool, cond, ◌&&◌, ◌||◌, eqb, Option, Some, None}
 use Rattle.json_tree.specs.Grammar.{case, head_at}
 use Rattle.json_tree.specs.Tree.{Json, Got, none, got}
 use Rattle.spell.specs.Spell.{refuses}
@@ -13,6 +13,16 @@ made n b = Some (record { end = n; refused = b })
 abbrev pub seen_of : Bytes → Got Json → Option Seen
 seen_of s none = None
 seen_of s (got t n) = made n (refused_in s t)
+
+-- an end, where there is one, and what was refused by then
+abbrev pub seen_at : Option ℕ → Bool → Option Seen
+seen_at (Some n) b = made n b
+seen_at None b = None
+
+-- the same, where something may have been refused before
+abbrev pub seen_after : Bool → Option Seen → Option Seen
+seen_after b (Some x) = made x.end (b || x.refused)
+seen_after b None = None
 
 -- an item up to its value: where the value begins, and whether the item's name is refused
 abbrev pub name_seen : (s : Bytes) (at : Place) (named : Bool) → Option Seen

@@ -6,7 +6,7 @@ ghost use Rattle.json_tree.specs.Grammar.{scalar_at, token_at};
 ghost use Rattle.json_tree.specs.Tree.{on_leaf, tree_at, root};
 ghost use Rattle.rows.specs.Strings.{part, spelled_at};
 ghost use Rattle.rows.specs.Rows.{row4, text_row};
-ghost use Rattle.rows.specs.Inner.{seen_of, name_seen, seen_told};
+ghost use Rattle.rows.specs.Inner.{seen_of, seen_at, seen_after, name_seen, seen_told};
 
 use json_tree::{Kind, Next, Start};
 
@@ -35,18 +35,19 @@ pub fn spelled(s: &[u8], at: usize) -> &[u8]
     }
 }
 
-// A value that holds no value.
-fn leaf(s: &[u8], at: usize) -> Option<Seen>
-    ensures { result ≡ seen_of s.now (on_leaf s.now at (scalar_at s.now at)) }
+// A value that holds no value. Whether row 4 refuses it is added to what was refused before, in place: an answer of two
+// numbers behind an Option would be handed over in memory, at every value.
+fn leaf(s: &[u8], at: usize, refused: &mut bool) -> Option<usize>
+    ensures { seen_at result refused.new ≡ seen_after refused.old (seen_of s.now (on_leaf s.now at (scalar_at s.now at))) }
 {
-    let (n, refused) = match json_tree::scalar(s, at)? {
-        Kind::Str(n) => (n, spell::refused(inner(s, at, n))),
-        Kind::Num(n) | Kind::Word(n) => (n, false),
+    let n = match json_tree::scalar(s, at)? {
+        Kind::Str(n) => {
+            *refused |= spell::refused(inner(s, at, n));
+            n
+        }
+        Kind::Num(n) | Kind::Word(n) => n,
     };
-    Some(Seen {
-        end: json_tree::space(s, n),
-        refused,
-    })
+    Some(json_tree::space(s, n))
 }
 
 // A colon, and the white space after it.
@@ -61,47 +62,37 @@ fn colon(s: &[u8], at: usize) -> Option<usize>
 }
 
 // The place of an item's value, and row 4 of its name.
-fn name(s: &[u8], at: usize, named: bool) -> Option<Seen>
-    ensures { result ≡ name_seen s.now at named }
+fn name(s: &[u8], at: usize, named: bool, refused: &mut bool) -> Option<usize>
+    ensures { seen_at result refused.new ≡ seen_after refused.old (name_seen s.now at named) }
 {
     if !named {
-        return Some(Seen {
-            end: at,
-            refused: false,
-        });
+        return Some(at);
     }
-    let n = json_tree::string(s, at)?;
-    let end = colon(s, json_tree::space(s, n))?;
-    Some(Seen {
-        end,
-        refused: spell::refused(inner(s, at, n)),
-    })
+    let end = json_tree::string(s, at)?;
+    let v = colon(s, json_tree::space(s, end))?;
+    *refused |= spell::refused(inner(s, at, end));
+    Some(v)
 }
 
 // A value, with at most d brackets and braces open at once, and the white space after it.
-fn walk(s: &[u8], at: usize, d: usize) -> Option<Seen>
-    ensures { result ≡ seen_of s.now (tree_at s.now d at) }
+fn walk(s: &[u8], at: usize, d: usize, refused: &mut bool) -> Option<usize>
+    ensures { seen_at result refused.new ≡ seen_after refused.old (seen_of s.now (tree_at s.now d at)) }
 {
     if d == 0 {
-        return leaf(s, at);
+        return leaf(s, at, refused);
     }
     match json_tree::begin(s, at) {
-        Start::Leaf => leaf(s, at),
-        Start::Empty(end, _) => Some(Seen {
-            end,
-            refused: false,
-        }),
+        Start::Leaf => leaf(s, at, refused),
+        Start::Empty(end, _) => Some(end),
         Start::Many(first, named) => {
-            let mut refused = false;
             let mut i = first;
             // An item takes a byte at least, so these turns are enough.
             for _turn in 0..s.len() {
-                let x = name(s, i, named)?;
-                let y = walk(s, x.end, d - 1)?;
-                refused |= x.refused | y.refused;
-                match json_tree::after(s, y.end, named) {
+                let v = name(s, i, named, refused)?;
+                let n = walk(s, v, d - 1, refused)?;
+                match json_tree::after(s, n, named) {
                     Next::More(j) => i = j,
-                    Next::Done(end) => return Some(Seen { end, refused }),
+                    Next::Done(end) => return Some(end),
                     Next::Wrong => return None,
                 }
             }
@@ -114,7 +105,9 @@ fn walk(s: &[u8], at: usize, d: usize) -> Option<Seen>
 fn whole(s: &[u8]) -> Option<Seen>
     ensures { result ≡ seen_of s.now (root s.now) }
 {
-    walk(s, json_tree::space(s, 0), json_tree::DEPTH)
+    let mut refused = false;
+    let end = walk(s, json_tree::space(s, 0), json_tree::DEPTH, &mut refused)?;
+    Some(Seen { end, refused })
 }
 
 // Row 4: whether some string of a text, names included, decodes to what no string may have; false where the text has no
