@@ -86,8 +86,12 @@ fn holds(b: &[u8], tags: usize, letter: u8, m: &[u8], spans: &[usize]) -> bool
             continue;
         };
         let value = wire::piece(b, start, len);
-        if among(value, m, spans) {
-            return true;
+        // `same_bytes` has no way out past the first byte, so it costs more here than it saves: most tags are not asked
+        // for, and differ early.
+        'members: for k in 0..spans.len() / 2 {
+            if spell::same(value, wire::piece(m, spans[k * 2], spans[k * 2 + 1])) {
+                return true;
+            }
         }
     }
     false
