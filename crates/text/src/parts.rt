@@ -24,7 +24,10 @@ pub(crate) fn tag_end(s: &[u8], at: usize) -> Option<usize>
     }
     let mut i = at + 1;
     for _ in 0..wire::MOST_STRINGS {
-        let n = body::string_end(s, i)?;
+        // Not `?`, which comes to a select in place of a branch: strings of no bytes take a quarter more by it.
+        let Some(n) = body::string_end(s, i) else {
+            return None;
+        };
         match wire::byte(s, n) {
             b',' => i = n + 1,
             b']' => return Some(n + 1),
