@@ -1,3 +1,3 @@
 -- Fields: a line's fields, and what is written. Numbers: the digits of a number.
-mod Fields
-mod Numbers
+pub mod Fields
+pub mod Numbers

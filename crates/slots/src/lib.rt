@@ -57,7 +57,7 @@ pub fn slot(table: &[u8], k: usize) -> &[u8]
     ensures { result.now ≡ slot_at table.now k }
 {
     if table.len() < HEADER_SIZE || (table.len() - HEADER_SIZE) / SLOT_SIZE < k {
-        return &[];
+        return &table[..0];
     }
     wire::piece(table, HEADER_SIZE + k * SLOT_SIZE, SLOT_SIZE)
 }
@@ -133,6 +133,6 @@ pub fn show(table: &[u8], slot: usize) -> &[u8]
 {
     match shown_at(table, slot) {
         Ok((at, len)) => wire::piece(table, at, len),
-        Err(_) => &[],
+        Err(_) => &table[..0],
     }
 }
